@@ -1,0 +1,11 @@
+pub mod Data
+pub mod DataCode
+pub mod Written
+pub mod Rising
+pub mod Scan
+pub mod Json
+pub mod Folding
+pub mod Members
+pub mod Scalars
+pub mod Rows
+pub mod Codes
