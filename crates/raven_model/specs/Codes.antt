@@ -1,0 +1,55 @@
+-- Codes of what the types of the crates above are seen as.
+use Rattle.std.specs.Prelude.{◌≡◌, ℕ, List, refl}
+use Rattle.std.specs.Coded.{Coded, coded_ℕ, coded_list, coded×, code_by}
+use Rattle.std.specs.FinMap as map
+use Rattle.raven_data.specs.Codes.{text_code, row_code}
+use Rattle.raven_data.specs.Members.{Path}
+use Rattle.raven_data.specs.Rows.{Row}
+use Rattle.raven_model.specs.Store.{Store}
+use Rattle.raven_model.specs.Index.{Table}
+use Rattle.raven_model.specs.Mapping.{Definition, Auto}
+use Rattle.raven_model.specs.Commit.{Setting}
+use Rattle.raven_model.specs.World.{Version, Slot, Note, World}
+use Rattle.raven_model.specs.Machine.{Machine}
+
+abbrev pub store_code : Coded Store
+store_code = code_by (List Row) (coded_list row_code) (λ S. S.rows) (λ rows. record { rows = rows }) (λ _. refl)
+
+abbrev pub table_code : Coded Table
+table_code = map.code text_code row_code
+
+abbrev pub path_code : Coded Path
+path_code = coded_list text_code
+
+abbrev definition_parts : Definition → List ℕ × List Path
+definition_parts (Auto collection fields) = (collection, fields)
+
+pub definition_back : (d : Definition) → Auto (definition_parts d).0 (definition_parts d).1 ≡ d
+definition_back (Auto collection fields) = refl
+
+abbrev pub definition_code : Coded Definition
+definition_code = code_by (List ℕ × List Path) (coded× text_code (coded_list path_code)) definition_parts (λ p. Auto p.0 p.1) definition_back
+
+abbrev pub version_code : Coded Version
+version_code = code_by (Definition × (ℕ × Table)) (coded× definition_code (coded× coded_ℕ table_code))
+    (λ v. (v.definition, (v.etag, v.table))) (λ p. record { definition = p.0; etag = p.1.0; table = p.1.1 }) (λ _. refl)
+
+abbrev pub slot_code : Coded Slot
+slot_code = code_by (ℕ × (List ℕ × (Version × ℕ))) (coded× coded_ℕ (coded× text_code (coded× version_code coded_ℕ)))
+    (λ s. (s.number, (s.name, (s.version, s.row)))) (λ p. record { number = p.0; name = p.1.0; version = p.1.1.0; row = p.1.1.1 }) (λ _. refl)
+
+abbrev pub note_code : Coded Note
+note_code = code_by (ℕ × (List ℕ × (ℕ × (ℕ × (ℕ × ℕ))))) (coded× coded_ℕ (coded× text_code (coded× coded_ℕ (coded× coded_ℕ (coded× coded_ℕ coded_ℕ)))))
+    (λ n. (n.etag, (n.name, (n.old, (n.new, (n.index_etag, n.newest))))))
+    (λ p. record { etag = p.0; name = p.1.0; old = p.1.1.0; new = p.1.1.1.0; index_etag = p.1.1.1.1.0; newest = p.1.1.1.1.1 }) (λ _. refl)
+
+abbrev pub setting_code : Coded Setting
+setting_code = code_by (List ℕ × (ℕ × (ℕ × ℕ))) (coded× text_code (coded× coded_ℕ (coded× coded_ℕ coded_ℕ)))
+    (λ s. (s.base, (s.max_rows, (s.max_slots, s.max_notes)))) (λ p. record { base = p.0; max_rows = p.1.0; max_slots = p.1.1.0; max_notes = p.1.1.1 }) (λ _. refl)
+
+abbrev pub world_code : Coded World
+world_code = code_by (Setting × (Store × (List Slot × List Note))) (coded× setting_code (coded× store_code (coded× (coded_list slot_code) (coded_list note_code))))
+    (λ w. (w.setting, (w.store, (w.slots, w.notes)))) (λ p. record { setting = p.0; store = p.1.0; slots = p.1.1.0; notes = p.1.1.1 }) (λ _. refl)
+
+abbrev pub machine_code : Coded Machine
+machine_code = code_by World world_code (λ m. m.world) (λ w. record { world = w }) (λ _. refl)

@@ -1,0 +1,14 @@
+pub mod Store
+pub mod Later
+pub mod Commit
+pub mod Index
+pub mod Mapping
+pub mod World
+pub mod Optimiser
+pub mod Replies
+pub mod Machine
+pub mod Sound
+pub mod Lines
+pub mod Script
+pub mod Words
+pub mod Codes
