@@ -9,3 +9,5 @@ pub mod Members
 pub mod Scalars
 pub mod Rows
 pub mod Codes
+pub mod Faults
+pub mod Orders

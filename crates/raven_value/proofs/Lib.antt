@@ -1,0 +1,5 @@
+pub mod Puts
+pub mod PlacesLemmas
+pub mod Ends
+pub mod ScalarLemmas
+pub mod Fits
