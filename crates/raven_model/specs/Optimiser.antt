@@ -4,11 +4,12 @@ use Rattle.std.specs.List.{list_any, list_all}
 use Rattle.std.specs.Str.{bytes_eq}
 use Rattle.std.specs.Fmt.{decimal}
 use Rattle.std.specs.Cmp.Lexicographic.{pointwise}
+use Rattle.raven_data.specs.Faults.{is_fit}
 use Rattle.raven_data.specs.Members.{Path}
 use Rattle.raven_model.specs.Store.{Store, last}
 use Rattle.raven_model.specs.Index.{stale}
 use Rattle.raven_model.specs.Mapping.{Definition, Auto, joined}
-use Rattle.raven_model.specs.World.{Slot, World, reads, serving, is_name}
+use Rattle.raven_model.specs.World.{Slot, World, reads, serving}
 
 -- what a query asks of an index
 pub record Shape : Type 0 where
@@ -94,7 +95,8 @@ free_name (suc more) n name slots =
 abbrev pub first_free : List ℕ → List Slot → List ℕ
 first_free name slots = if is_some (serving slots name) then free_name (length slots) 2 name slots else name
 
+-- where the plain name is too long or has control characters, the number stands in its place
 abbrev pub name_of : World → Shape → List ℕ
 name_of W shape =
-    if is_name 200 (first_free (plain_name shape) W.slots) then first_free (plain_name shape) W.slots
+    if is_fit 200 (first_free (plain_name shape) W.slots) then first_free (plain_name shape) W.slots
     else first_free (codes "Auto/" ++ decimal (last W.store + 1)) W.slots

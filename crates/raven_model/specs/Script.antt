@@ -3,9 +3,9 @@ use Rattle.std.specs.Prelude.{ℕ, ◌+◌, ◌-◌, ◌*◌, List, [], ◌∷�
 use Rattle.std.specs.List.{list_any, list_all, filter_map}
 use Rattle.std.specs.Str.{bytes_eq, is_utf8}
 use Rattle.raven_data.specs.Data.{Data, object}
+use Rattle.raven_data.specs.Faults.{is_fit, max_id, max_name}
 use Rattle.raven_data.specs.Json.{JsonRefusal, reading}
 use Rattle.raven_model.specs.Commit.{AnyVector}
-use Rattle.raven_model.specs.World.{is_name}
 use Rattle.raven_model.specs.Replies.{Reply, printed}
 use Rattle.raven_model.specs.Machine.{Machine, Request, Put, Auto, Find, Pump, Event, step}
 use Rattle.raven_model.specs.Lines.{begins_with}
@@ -52,7 +52,7 @@ put_body id other = None
 
 abbrev pub put_of : List ℕ → Option (List ℕ) → Option Request
 put_of id None = None
-put_of id (Some body) = if is_name 512 id then put_body id (reading body) else None
+put_of id (Some body) = if is_fit max_id id then put_body id (reading body) else None
 
 -- a collection does not begin with `@`, unless it is `@empty`
 abbrev pub is_collection : List ℕ → Bool
@@ -76,7 +76,7 @@ pump_of (Some max) = if nat_le 1 max && nat_le max 65536 then Some (Pump max) el
 abbrev pub find_text : List ℕ → List ℕ → Option (List ℕ) → Option Request
 find_text index field None = None
 find_text index field (Some text) =
-    if is_name 214 index && nat_lt 0 (length field) && nat_lt 0 (length text) then Some (Find index field text) else None
+    if is_fit max_name index && nat_lt 0 (length field) && nat_lt 0 (length text) then Some (Find index field text) else None
 
 abbrev pub find_of : List ℕ → Option (List ℕ) → Option Request
 find_of index None = None

@@ -1,6 +1,5 @@
 -- A database: its store, its indexes and the notes of their switches.
-use Rattle.std.specs.Prelude.{ℕ, ◌+◌, List, [], ◌∷◌, ◌++◌, Bool, not, ◌&&◌, ◌||◌, nat_lt, nat_le, ◌==◌, if◌then◌else◌, Option, Some, None, is_some, Result, Ok, Err, length, codes, find, map}
-use Rattle.std.specs.List.{list_any}
+use Rattle.std.specs.Prelude.{ℕ, ◌+◌, List, [], ◌∷◌, ◌++◌, nat_le, ◌==◌, if◌then◌else◌, Option, Some, None, is_some, Result, Ok, Err, length, codes, find, map}
 use Rattle.std.specs.FinMap.{empty}
 use Rattle.raven_data.specs.Data.{Data, text, array, object, items_of, entries_of}
 use Rattle.raven_data.specs.Folding.{folded, same_key}
@@ -57,10 +56,6 @@ abbrev pub batch : Version → Store → ℕ → Option Version
 batch v S max = advanced v (taken (reads v) v.etag S max) (etag_of_batch (reads v) v.etag S max)
 
 -- SLOTS
-
--- a name has some bytes, no more than these, and no control characters
-abbrev pub is_name : ℕ → List ℕ → Bool
-is_name most name = nat_lt 0 (length name) && nat_le (length name) most && not (list_any (λ b. nat_lt b 32 || (b == 127)) name)
 
 -- names are compared as ids are
 abbrev pub serving : List Slot → List ℕ → Option Slot
