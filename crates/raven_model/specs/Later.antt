@@ -1,7 +1,7 @@
 -- What a later store keeps of an earlier one.
-use Rattle.std.specs.Prelude.{◌≡◌, ℕ, ◌≤◌, ◌+◌, List, Some}
+use Rattle.std.specs.Prelude.{◌≡◌, ℕ, ◌≤◌, ◌+◌, List, [], ◌∷◌, Some}
 use Rattle.raven_data.specs.Rows.{Row, key}
-use Rattle.raven_model.specs.Store.{row_at, Store, last}
+use Rattle.raven_model.specs.Store.{row_at, Store, last, with_row}
 
 -- the id still has a row, which is no older and has kept its collection and its spelling
 pub record StillHas (rows : List Row) (q : List ℕ) (old : Row) : Type 0 where
@@ -22,3 +22,8 @@ pub record MayFollow (S : Store) (r : Row) : Type 0 where
   pub next : r.etag ≡ last S + 1
   pub same : (x : Row) → row_at (key r) S.rows ≡ Some x → r.collection ≡ x.collection
   pub spelled : (x : Row) → row_at (key r) S.rows ≡ Some x → r.id ≡ x.id
+
+-- rows that may be written one after another
+abbrev pub MayFollowAll : Store → List Row → Type 0
+MayFollowAll S [] = Unit {0}
+MayFollowAll S (r ∷ rows) = MayFollow S r × MayFollowAll (with_row S r) rows

@@ -1,0 +1,7 @@
+//! The store: the rows of a database, of which each change makes a new one and leaves the old one.
+#![tactic(auto)]
+
+mod rows;
+mod store;
+
+pub use store::Store;
