@@ -1,0 +1,6 @@
+pub mod StoreLemmas
+pub mod LaterLemmas
+pub mod CommitLemmas
+pub mod StaleLemmas
+pub mod IndexLemmas
+pub mod MappingLemmas
