@@ -4,3 +4,4 @@ pub mod CommitLemmas
 pub mod StaleLemmas
 pub mod IndexLemmas
 pub mod MappingLemmas
+pub mod KeyedLemmas
