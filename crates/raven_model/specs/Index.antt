@@ -1,8 +1,8 @@
 -- What an index has recorded, and how a batch brings it on.
-use Rattle.std.specs.Prelude.{◌≡◌, ℕ, ◌≤◌, List, [], ◌∷◌, Bool, true, ◌&&◌, nat_lt, nat_le, Option, Some, None, filter, take, drop, if◌then◌else◌, IsTrue}
+use Rattle.std.specs.Prelude.{◌≡◌, ℕ, ◌≤◌, List, [], ◌∷◌, Bool, true, ◌&&◌, nat_lt, nat_le, Option, Some, None, filter, take, drop, if◌then◌else◌, IsTrue, map}
 use Rattle.std.specs.Str.{bytes_eq}
 use Rattle.std.specs.List.{list_any}
-use Rattle.std.specs.FinMap.{FinMap, empty, get, insert, remove}
+use Rattle.std.specs.FinMap.{FinMap, empty, get, insert, remove, from_entries}
 use Rattle.raven_data.specs.Folding.{key_cmp}
 use Rattle.raven_data.specs.Rows.{Row, key, is_document}
 use Rattle.raven_model.specs.Store.{row_at, Store, last, last_of}
@@ -11,6 +11,10 @@ use Rattle.raven_model.specs.Later.{StillHas}
 -- the recorded documents by their folded ids
 abbrev pub Table : Type 0
 Table = FinMap key_cmp Row
+
+-- the table of rows of which no two have one id
+abbrev pub table_of : List Row → Table
+table_of rows = from_entries (map (λ r. (key r, r)) rows)
 
 -- the collections that an index reads
 abbrev pub Scope : Type 0
