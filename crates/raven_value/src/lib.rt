@@ -16,7 +16,7 @@ mod value;
 
 pub use fault::IdRefusal;
 pub use id::Id;
-pub use lists::{Bytes, Ids, Names, Numbers, Paths, Rows, Scope};
+pub use lists::{Ids, Names, Paths, Rows, Scope};
 pub use matching::{Scalars, Test, matches};
 pub use name::Name;
 pub use path::Path;

@@ -5,7 +5,7 @@ ghost use Rattle.raven_value.specs.View.{data_of};
 use crate::id::Id;
 use crate::text::Text;
 use crate::value::Value;
-use raven_base::NoMemory;
+use raven_base::{Exact, NoMemory};
 use std::alloc::{AllocError, Global};
 use std::marker::Model;
 use std::sync::Arc;
@@ -97,4 +97,12 @@ impl Clone for Row {
             changed: self.changed,
         })
     }
+}
+
+impl Exact for Document {
+    ghost exact = { λ x y same. same };
+}
+
+impl Exact for Row {
+    ghost exact = { λ x y same. same };
 }

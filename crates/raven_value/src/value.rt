@@ -11,7 +11,7 @@ ghost use Rattle.raven_value.specs.ScalarView.{scalar_view};
 use crate::path::Path;
 use crate::scalar::Scalar;
 use crate::text::Text;
-use raven_base::NoMemory;
+use raven_base::{Exact, NoMemory};
 use std::alloc::{AllocError, Global};
 use std::cmp::Ordering;
 use std::marker::Model;
@@ -175,6 +175,7 @@ fn insert_at(
 }
 
 impl Members {
+    /// No members.
     pub fn new(alloc: Global) -> Members
         ensures { result ≡ [] }
     {
@@ -183,8 +184,10 @@ impl Members {
         }
     }
 
+    /// The members as a slice.
     pub fn as_slice(&self) -> &[(Text, Value)]
-        ensures { map pair_of result.now ≡ self.now }
+        ensures members { map pair_of result.now ≡ self.now }
+        ensures rising { IsRising self.now }
     {
         &self.items
     }
@@ -201,6 +204,21 @@ impl Members {
             }
             Err(i) => insert_at(&mut self.items, i, name, value),
         }
+    }
+
+    /// The members of this list, which rises by the bytes of the names. It takes no memory.
+    pub fn of(items: Vec<(Text, Value)>) -> Members
+        requires { IsRising (map pair_of items.items) }
+        ensures { result ≡ map pair_of items.items }
+    {
+        Members { items }
+    }
+
+    /// The members as a list. It takes no memory.
+    pub fn into_vec(self) -> Vec<(Text, Value)>
+        ensures { map pair_of result.items ≡ self }
+    {
+        self.items
     }
 
     /// The value of the member of that name.
@@ -310,4 +328,8 @@ fn copy_members(members: &Members) -> Result<Members, AllocError>
         items.push((member.0.clone()?, copy(&member.1)?))?;
     }
     Ok(Members { items })
+}
+
+impl Exact for Value {
+    ghost exact = { λ x y same. same };
 }

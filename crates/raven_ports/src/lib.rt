@@ -1,0 +1,8 @@
+//! The outside: where bytes come from and go to, and memory that stands for it.
+#![tactic(auto)]
+
+mod memory;
+mod ports;
+
+pub use memory::{ByteSink, ByteSource};
+pub use ports::{Failed, Sink, SinkFault, Source};
