@@ -8,3 +8,5 @@ pub mod KeyedLemmas
 pub mod SlotLemmas
 pub mod ListedLemmas
 pub mod WorldLemmas
+pub mod MachineLemmas
+pub mod OrderLemmas
