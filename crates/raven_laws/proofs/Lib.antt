@@ -5,3 +5,8 @@ pub mod StaleLemmas
 pub mod IndexLemmas
 pub mod MappingLemmas
 pub mod KeyedLemmas
+pub mod SlotLemmas
+pub mod ListedLemmas
+pub mod WorldLemmas
+pub mod MachineLemmas
+pub mod OrderLemmas

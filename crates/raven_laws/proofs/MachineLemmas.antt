@@ -1,0 +1,198 @@
+-- Each step of the machine leaves a sound and later world.
+use Rattle.std.proofs.Common.{◌≡◌, ℕ, ◌+◌, ◌<◌, ◌≤◌, List, [], ◌∷◌, ◌++◌, Option, Some, None, Result, Ok, Err, map, refl, sym, ap, ◌∙◌, subst, arith, inl, inr}
+use Rattle.raven_data.specs.Rows.{Row}
+use Rattle.raven_model.specs.Store.{Store, last, IsStore}
+use Rattle.raven_model.specs.Later.{Later}
+use Rattle.raven_model.specs.Index.{taken, etag_of_batch}
+use Rattle.raven_model.specs.Mapping.{Definition}
+use Rattle.raven_model.specs.Optimiser.{Shape, Choice, Use, Make, Merge, offers, pick, name_of}
+use Rattle.raven_model.specs.Commit.{Command, Put, Delete, Writer, Client, Server, Setting, Refused, Written, refusal_of, row_of, with_written, unless, commit_from, commit}
+use Rattle.raven_model.specs.World.{Version, Slot, Note, World, reads, advanced, batch, SlotChange, SlotRefusal, define}
+use Rattle.raven_model.specs.Machine.{Machine, Request, Put as PutOne, Auto, Find, Pump, Event, wrote, rewrote, defined, use_or_make, one_field, or_as_before, brought_on, pump, step, start, after, run}
+use Rattle.raven_model.specs.Sound.{Has, NumbersRise, NamesApart, AreListed, Sound, LaterW}
+use Rattle.raven_laws.proofs.LaterLemmas.{Later-itself, IsStore-with, last-with}
+use Rattle.raven_laws.proofs.CommitLemmas.{row_of-follows, commit-Commits}
+use Rattle.raven_laws.proofs.SlotLemmas.{Has-map, Has-append, NumbersRise-map, NamesApart-map, Brought, batch-Brought}
+use Rattle.raven_laws.proofs.ListedLemmas.{commit_from-applied, clients-AreListed, map-AreListed}
+use Rattle.raven_laws.proofs.WorldLemmas.{append-none, LaterW-itself, LaterW-then, Comes, stays, StartsWithPut, Onto, Settles, define-Settles}
+
+-- from a sound world to a sound and later one
+pub record Moves (W V : World) : Type 0 where
+  pub sound : Sound V
+  pub later : LaterW W V
+
+pub Moves-itself : (W : World) → Sound W → Moves W W
+Moves-itself W o = record { sound = o; later = LaterW-itself W }
+
+pub Moves-then : (W V X : World) → Moves W V → Moves V X → Moves W X
+Moves-then W V X f g = record { sound = g.sound; later = LaterW-then W V X f.later g.later }
+
+-- what a change of the store and of the slots must show
+pub record Turns (W : World) (S : Store) (slots : List Slot) : Type 0 where
+  pub store : IsStore S
+  pub later : Later W.store S
+  pub comes : (s : Slot) → Has slots s → Comes W S [] s
+  pub rising : NumbersRise 0 slots
+  pub apart : NamesApart slots
+  pub listed : AreListed S slots
+
+Turns-Moves : (W : World) (S : Store) (slots : List Slot) → Sound W → Turns W S slots → Moves W (record { setting = W.setting; store = S; slots = slots; notes = W.notes })
+Turns-Moves W S slots o t = record {
+  sound = record {
+    store = t.store;
+    fits = λ s h. let c = t.comes s h in c.fits;
+    numbers = λ s h. let c = t.comes s h in c.within;
+    rising = t.rising;
+    apart = t.apart;
+    listed = t.listed;
+    notes = λ n h. let f = o.notes n h in (f.0, let a = f.1 in let b = t.later.grown in omega arith);
+  };
+  later = record {
+    store = t.later;
+    setting = refl;
+    noted = [];
+    notes = append-none W.notes;
+    numbers = λ s h. let c = t.comes s h in c.old;
+    names = λ s h. let c = t.comes s h in c.named;
+  };
+}
+
+-- WRITES
+
+wrote-Moves : (now : ℕ) (M : Machine) (commands : List Command) (o : Result Written Refused) → Sound M.world → commit M.world.setting Client now commands M.world.store ≡ o → Moves M.world (wrote M o).machine.world
+wrote-Moves now M commands (Err refused) o is = Moves-itself M.world o
+wrote-Moves now M commands (Ok w) o is =
+    let c = commit-Commits M.world.setting Client now commands M.world.store w o.store is in
+    Turns-Moves M.world w.store M.world.slots o (record {
+      store = c.sound;
+      later = c.later;
+      comes = λ s h. stays M.world w.store [] s o c.later h;
+      rising = o.rising;
+      apart = o.apart;
+      listed = clients-AreListed 0 M.world.setting now commands _ w M.world.slots is o.listed;
+    })
+
+-- CHANGES OF INDEXES
+
+commit_from-grows : (at : ℕ) (s : Setting) (w : Writer) (now : ℕ) (cs : List Command) (done new : Written) → IsStore done.store → commit_from at s w now cs done ≡ Ok new → last done.store ≤ last new.store
+commit_from-grows at s w now [] done new o h = let same : done ≡ new = cc in let e = ap (λ (x : Written). last x.store) same in omega arith
+commit_from-grows at s w now (c ∷ cs) done new o h =
+    elim (refusal_of s w done.store c) as (λ r. refusal_of s w done.store c ≡ r → unless r at (commit_from (at + 1) s w now cs (with_written (row_of now done.store c) done)) ≡ Ok new → last done.store ≤ last new.store) [
+      | None ↦ λ e g. elim (row_of now done.store c) as (λ r. row_of now done.store c ≡ r → commit_from (at + 1) s w now cs (with_written r done) ≡ Ok new → last done.store ≤ last new.store) [
+        | None ↦ λ f k. commit_from-grows (at + 1) s w now cs done new o k
+        | Some r ↦ λ f k.
+            let m = row_of-follows s w now done.store c r e f in
+            let rest = commit_from-grows (at + 1) s w now cs (with_written (Some r) done) new (IsStore-with done.store r o m) k in
+            let a = last-with done.store r in let b = m.next in omega arith
+      ] refl g
+      | Some kind ↦ λ e g. absurd cc
+    ] refl h
+
+put-grows : (s : Setting) (w : Writer) (now : ℕ) (cs : List Command) (S : Store) (new : Written) → IsStore S → commit s w now cs S ≡ Ok new → StartsWithPut cs → last S < last new.store
+put-grows s w now [] S new o h p = absurd p
+put-grows s w now (Delete id expected ∷ cs) S new o h p = absurd p
+put-grows s w now (Put id expected body ∷ cs) S new o h p =
+    elim (refusal_of s w S (Put id expected body)) as (λ r. refusal_of s w S (Put id expected body) ≡ r → unless r 0 (commit_from (0 + 1) s w now cs (with_written (row_of now S (Put id expected body)) (record { store = S; rows = [] }))) ≡ Ok new → last S < last new.store) [
+      | None ↦ λ e g. elim (row_of now S (Put id expected body)) as (λ r. row_of now S (Put id expected body) ≡ r → commit_from (0 + 1) s w now cs (with_written r (record { store = S; rows = [] })) ≡ Ok new → last S < last new.store) [
+        | None ↦ λ f k. absurd cc
+        | Some r ↦ λ f k.
+            let m = row_of-follows s w now S (Put id expected body) r e f in
+            let rest = commit_from-grows (0 + 1) s w now cs (with_written (Some r) (record { store = S; rows = [] })) new (IsStore-with S r o m) k in
+            let a = last-with S r in let b = m.next in omega arith
+      ] refl g
+      | Some kind ↦ λ e g. absurd cc
+    ] refl h
+
+rewrote-Moves : (now : ℕ) (M : Machine) (name : List ℕ) (c : SlotChange) (o : Result Written Refused) → Sound M.world → ((S : Store) → Onto M.world c S → Settles M.world c S)
+    → commit M.world.setting Server now c.commands M.world.store ≡ o → Moves M.world (rewrote M name c.slots o).machine.world
+rewrote-Moves now M name c (Err refused) o by is = Moves-itself M.world o
+rewrote-Moves now M name c (Ok w) o by is =
+    let k = commit-Commits M.world.setting Server now c.commands M.world.store w o.store is in
+    let t = by w.store (record {
+      store = k.sound;
+      later = k.later;
+      grown = put-grows M.world.setting Server now c.commands M.world.store w o.store is;
+      now = now;
+      written = commit_from-applied 0 M.world.setting Server now c.commands _ w is;
+    }) in
+    Turns-Moves M.world w.store c.slots o (record { store = k.sound; later = k.later; comes = t.slots; rising = t.rising; apart = t.apart; listed = t.listed })
+
+defined-Moves : (now : ℕ) (M : Machine) (name : List ℕ) (r : Result SlotChange SlotRefusal) → Sound M.world → ((c : SlotChange) → r ≡ Ok c → (S : Store) → Onto M.world c S → Settles M.world c S) → Moves M.world (defined M now name r).machine.world
+defined-Moves now M name (Err refusal) o by = Moves-itself M.world o
+defined-Moves now M name (Ok c) o by = rewrote-Moves now M name c (commit M.world.setting Server now c.commands M.world.store) o (by c refl) refl
+
+auto-Moves : (now : ℕ) (M : Machine) (c : Choice) → Sound M.world → Moves M.world (use_or_make M now c).machine.world
+auto-Moves now M (Use n) o = Moves-itself M.world o
+auto-Moves now M (Make shape) o =
+    defined-Moves now M (name_of M.world shape) (define M.world (name_of M.world shape) (Definition.Auto shape.collection shape.fields)) o
+    (λ c h. define-Settles M.world (name_of M.world shape) (Definition.Auto shape.collection shape.fields) c h o)
+auto-Moves now M Merge o = Moves-itself M.world o
+
+-- BATCHES
+
+brought-Comes : (W : World) (x : Slot) (max : ℕ) → Sound W → Has W.slots x → Comes W W.store [] (brought_on W.store max x)
+brought-Comes W x max o h =
+    elim (batch x.version W.store max) as (λ b. batch x.version W.store max ≡ b → Comes W W.store [] (record { number = x.number; name = x.name; version = or_as_before x.version b; row = x.row })) [
+      | None ↦ λ e. stays W W.store [] x o (Later-itself W.store) h
+      | Some v ↦ λ e. let b = batch-Brought W.store x.version v max o.store (o.fits x h) e in record {
+        fits = b.fits;
+        within = o.numbers x h;
+        old = inl (x, h, record { number = refl; definition = b.definition; onward = b.onward });
+        named = inl (x, h, refl, refl);
+      }
+    ] refl
+
+-- to be brought on keeps the definition
+same_definition : (S : Store) (v : Version) (max : ℕ) → (or_as_before v (batch v S max)).definition ≡ v.definition
+same_definition S v max = by (taken (reads v) v.etag S max)
+  where
+    by : (rows : List Row) → (or_as_before v (advanced v rows (etag_of_batch (reads v) v.etag S max))).definition ≡ v.definition
+    by [] = refl
+    by (r ∷ rows) = refl
+
+pump-Moves : (M : Machine) (max : ℕ) → Sound M.world → Moves M.world (pump M max).machine.world
+pump-Moves M max o = Turns-Moves M.world M.world.store (map (brought_on M.world.store max) M.world.slots) o (record {
+  store = o.store;
+  later = Later-itself M.world.store;
+  comes = λ s h. let x = Has-map (brought_on M.world.store max) M.world.slots s h in subst (Comes M.world M.world.store []) x.2 (brought-Comes M.world x.0 max o x.1);
+  rising = NumbersRise-map 0 (brought_on M.world.store max) M.world.slots (λ x. refl) o.rising;
+  apart = NamesApart-map (brought_on M.world.store max) M.world.slots (λ x. refl) o.apart;
+  listed = map-AreListed M.world.store (brought_on M.world.store max) M.world.slots (λ x h. (refl, refl, same_definition M.world.store x.version max)) o.listed;
+})
+
+-- RUNS
+
+pub step-Moves : (M : Machine) (now : ℕ) (r : Request) → Sound M.world → Moves M.world (step M now r).machine.world
+step-Moves M now (PutOne id expected body) o =
+    wrote-Moves now M (Command.Put id expected body ∷ []) (commit M.world.setting Client now (Command.Put id expected body ∷ []) M.world.store) o refl
+step-Moves M now (Auto collection field) o = auto-Moves now M (pick (one_field collection field) (offers M.world)) o
+step-Moves M now (Find index field ws) o = Moves-itself M.world o
+step-Moves M now (Pump max) o = pump-Moves M max o
+
+pub run-Moves : (es : List Event) (M : Machine) → Sound M.world → Moves M.world (run es M).world
+run-Moves [] M o = Moves-itself M.world o
+run-Moves (e ∷ es) M o =
+    let one = step-Moves M e.now e.request o in Moves-then M.world (after M e).world (run es (after M e)).world one (run-Moves es (after M e) one.sound)
+
+pub start-Sound : (setting : Setting) → Sound (start setting).world
+start-Sound setting = record {
+  store = record { rising = tt; apart = tt };
+  fits = λ s h. absurd h;
+  numbers = λ s h. absurd h;
+  rising = tt;
+  apart = λ s t h. absurd h;
+  listed = record { each = λ s h. absurd h; only = λ q r h. absurd (let e = h in cc) };
+  notes = λ n h. absurd h;
+}
+
+pub run-Sound : (setting : Setting) (es : List Event) → Sound (run es (start setting)).world
+run-Sound setting es = let m = run-Moves es (start setting) (start-Sound setting) in m.sound
+
+pub run-append : (es fs : List Event) (M : Machine) → run (es ++ fs) M ≡ run fs (run es M)
+run-append [] fs M = refl
+run-append (e ∷ es) fs M = run-append es fs (after M e)
+
+pub run-LaterW : (setting : Setting) (es fs : List Event) → LaterW (run es (start setting)).world (run (es ++ fs) (start setting)).world
+run-LaterW setting es fs =
+    let n = run-Moves fs (run es (start setting)) (run-Sound setting es) in
+    subst (λ (N : Machine). LaterW (run es (start setting)).world N.world) (sym (run-append es fs (start setting))) n.later

@@ -1,0 +1,148 @@
+-- Lists of slots, and versions that are brought on.
+use Rattle.std.proofs.Common.{◌≡◌, ℕ, ◌<◌, ◌≤◌, List, [], ◌∷◌, ◌++◌, Bool, true, false, cond, Some, None, filter, find, map, refl, sym, ap, ◌∙◌, subst, arith, ◌⊎◌, inl, inr}
+use Rattle.std.specs.FinMap.{get, get-empty}
+use Rattle.raven_data.specs.Folding.{folded, key_cmp, same_key}
+use Rattle.raven_data.specs.Rows.{Row}
+use Rattle.raven_model.specs.Store.{Store, IsStore}
+use Rattle.raven_model.specs.Later.{Later}
+use Rattle.raven_model.specs.Index.{Agrees, taken, note_rows, etag_of_batch}
+use Rattle.raven_model.specs.Mapping.{Definition}
+use Rattle.raven_model.specs.World.{Version, Slot, reads, fresh, advanced, batch, serving}
+use Rattle.raven_model.specs.Sound.{Has, Fits, NumbersRise, NamesApart}
+use Rattle.raven_laws.proofs.StoreLemmas.{found_etag, same_itself, same_means}
+use Rattle.raven_laws.proofs.IndexLemmas.{Taken, Agrees-later, Agrees-batch, Taken-batch}
+
+-- MEMBERSHIP
+
+pub Has-append : {X : Type 0} (xs ys : List X) (x : X) → Has (xs ++ ys) x → Has xs x ⊎ Has ys x
+Has-append [] ys x h = inr h
+Has-append (y ∷ xs) ys x (inl e) = inl (inl e)
+Has-append (y ∷ xs) ys x (inr h) = elim (Has-append xs ys x h) [ inl a ↦ inl (inr a) | inr b ↦ inr b ]
+
+pub Has-left : {X : Type 0} (xs ys : List X) (x : X) → Has xs x → Has (xs ++ ys) x
+Has-left [] ys x h = absurd h
+Has-left (y ∷ xs) ys x (inl e) = inl e
+Has-left (y ∷ xs) ys x (inr h) = inr (Has-left xs ys x h)
+
+pub Has-right : {X : Type 0} (xs ys : List X) (x : X) → Has ys x → Has (xs ++ ys) x
+Has-right [] ys x h = h
+Has-right (y ∷ xs) ys x h = inr (Has-right xs ys x h)
+
+pub Has-filter : {X : Type 0} (p : X → Bool) (xs : List X) (x : X) → Has (filter p xs) x → Has xs x
+Has-filter p [] x h = h
+Has-filter p (y ∷ xs) x h =
+    elim (p y) as (λ b. Has (cond b (y ∷ filter p xs) (filter p xs)) x → (y ≡ x) ⊎ Has xs x) [
+      | true ↦ λ g. elim g [ inl e ↦ inl e | inr k ↦ inr (Has-filter p xs x k) ]
+      | false ↦ λ g. inr (Has-filter p xs x g)
+    ] h
+
+-- what a mapped list has comes from what the list has
+pub Has-map : {X Y : Type 0} (f : X → Y) (xs : List X) (y : Y) → Has (map f xs) y → (x : X) × Has xs x × (f x ≡ y)
+Has-map f [] y h = absurd h
+Has-map f (x ∷ xs) y (inl e) = (x, inl refl, e)
+Has-map f (x ∷ xs) y (inr h) = let r = Has-map f xs y h in (r.0, inr r.1, r.2)
+
+pub Has-mapped : {X Y : Type 0} (f : X → Y) (xs : List X) (x : X) → Has xs x → Has (map f xs) (f x)
+Has-mapped f [] x h = absurd h
+Has-mapped f (y ∷ xs) x (inl e) = inl (ap f e)
+Has-mapped f (y ∷ xs) x (inr h) = inr (Has-mapped f xs x h)
+
+pub find-Has : {X : Type 0} (p : X → Bool) (xs : List X) (x : X) → find p xs ≡ Some x → Has xs x × (p x ≡ true)
+find-Has p [] x h = absurd cc
+find-Has p (y ∷ xs) x h =
+    elim (p y) as (λ b. p y ≡ b → cond b (Some y) (find p xs) ≡ Some x → ((y ≡ x) ⊎ Has xs x) × (p x ≡ true)) [
+      | true ↦ λ e is. let same : y ≡ x = cc in (inl same, subst (λ z. p z ≡ true) same e)
+      | false ↦ λ e is. let r = find-Has p xs x is in (inr r.0, r.1)
+    ] refl h
+
+-- NUMBERS
+
+pub NumbersRise-map : (low : ℕ) (f : Slot → Slot) (slots : List Slot) → ((s : Slot) → (f s).number ≡ s.number) → NumbersRise low slots → NumbersRise low (map f slots)
+NumbersRise-map low f [] keeps up = tt
+NumbersRise-map low f (s ∷ slots) keeps up =
+    (let a = up.0 in let e = keeps s in omega arith, subst (λ n. NumbersRise n (map f slots)) (sym (keeps s)) (NumbersRise-map s.number f slots keeps up.1))
+
+pub NumbersRise-push : (low : ℕ) (slots : List Slot) (new : Slot) → NumbersRise low slots → low < new.number → ((s : Slot) → Has slots s → s.number < new.number) → NumbersRise low (slots ++ new ∷ [])
+NumbersRise-push low [] new up h below = (h, tt)
+NumbersRise-push low (s ∷ slots) new up h below = (up.0, NumbersRise-push s.number slots new up.1 (below s (inl refl)) (λ x at. below x (inr at)))
+
+-- NAMES
+
+pub NamesApart-map : (f : Slot → Slot) (slots : List Slot) → ((s : Slot) → (f s).name ≡ s.name) → NamesApart slots → NamesApart (map f slots)
+NamesApart-map f slots keeps apart s t h g e =
+    let x = Has-map f slots s h in
+    let y = Has-map f slots t g in
+    let same = apart x.0 y.0 x.1 y.1 (ap folded (sym (keeps x.0) ∙ ap (λ (z : Slot). z.name) x.2) ∙ e ∙ ap folded (sym (ap (λ (z : Slot). z.name) y.2) ∙ keeps y.0)) in
+    sym x.2 ∙ ap f same ∙ y.2
+
+pub NamesApart-push : (slots : List Slot) (new : Slot) → NamesApart slots → ((s : Slot) → Has slots s → folded s.name ≡ folded new.name → ⊥) → NamesApart (slots ++ new ∷ [])
+NamesApart-push slots new apart free s t h g e = elim (Has-append slots (new ∷ []) s h) [
+  | inl a ↦ elim (Has-append slots (new ∷ []) t g) [
+    | inl b ↦ apart s t a b e
+    | inr (inl k) ↦ absurd (free s a (e ∙ ap (λ (z : Slot). folded z.name) (sym k)))
+    | inr (inr no_more) ↦ absurd no_more
+  ]
+  | inr (inl k) ↦ elim (Has-append slots (new ∷ []) t g) [
+    | inl b ↦ absurd (free t b (sym e ∙ ap (λ (z : Slot). folded z.name) (sym k)))
+    | inr (inl l) ↦ sym k ∙ l
+    | inr (inr no_more) ↦ absurd no_more
+  ]
+  | inr (inr no_more) ↦ absurd no_more
+]
+
+-- a name that nothing serves is no slot's
+pub unserved : (slots : List Slot) (name : List ℕ) → serving slots name ≡ None → (s : Slot) → Has slots s → folded s.name ≡ folded name → ⊥
+unserved [] name h s at e = at
+unserved (x ∷ slots) name h s (inl k) e =
+    let t = subst (λ q. same_key q (folded x.name) ≡ true) (ap (λ (z : Slot). folded z.name) k ∙ e) (same_itself (folded x.name)) in
+    let f = sym (ap (λ b. cond b (Some x) (serving slots name)) t) ∙ h in cc
+unserved (x ∷ slots) name h s (inr k) e =
+    unserved slots name (elim (same_key (folded name) (folded x.name)) as (λ b. cond b (Some x) (serving slots name) ≡ None → serving slots name ≡ None) [ true ↦ λ f. absurd cc | false ↦ λ f. f ] h) s k e
+
+-- the slot that serves a name has it
+pub served : (slots : List Slot) (name : List ℕ) (s : Slot) → serving slots name ≡ Some s → Has slots s × (folded name ≡ folded s.name)
+served slots name s h = let f = find-Has (λ x. same_key (folded name) (folded x.name)) slots s h in (f.0, same_means (folded name) (folded s.name) f.1)
+
+-- each slot serves its own name
+pub serves : (slots : List Slot) (s : Slot) → NamesApart slots → Has slots s → serving slots s.name ≡ Some s
+serves slots s apart h = elim (serving slots s.name) as (λ o. serving slots s.name ≡ o → o ≡ Some s) [
+  | None ↦ λ e. absurd (unserved slots s.name e s h refl)
+  | Some t ↦ λ e. let f = served slots s.name t e in ap Some (apart t s f.0 h (sym f.1))
+] refl
+
+-- VERSIONS
+
+pub Fits-later : (S N : Store) (v : Version) → Fits S v → Later S N → Fits N v
+Fits-later S N v f l = record { agrees = Agrees-later (reads v) v.table S N v.etag f.agrees l f.within; within = let a = f.within in let b = l.grown in omega arith }
+
+pub Fits-fresh : (S : Store) (d : Definition) → IsStore S → Fits S (fresh d)
+Fits-fresh S d s = record {
+  agrees = record {
+    known = λ q t h. absurd (none q t h);
+    exact = λ q r h le. absurd (let a = (found_etag 0 q S.rows r s.rising h).0 in omega arith);
+    filed = λ q t h. absurd (none q t h);
+    scoped = λ q t h. absurd (none q t h);
+    dated = λ q t h. absurd (none q t h);
+  };
+  within = omega arith;
+}
+  where
+    none : (q : List ℕ) (t : Row) → get (fresh d).table q ≡ Some t → ⊥
+    none q t h = let e = sym (get-empty key_cmp q) ∙ h in cc
+
+pub record Brought (S : Store) (v new : Version) : Type 0 where
+  pub fits : Fits S new
+  pub definition : v.definition ≡ new.definition
+  pub onward : v.etag ≤ new.etag
+
+pub batch-Brought : (S : Store) (v new : Version) (max : ℕ) → IsStore S → Fits S v → batch v S max ≡ Some new → Brought S v new
+batch-Brought S v new max s f is = by (taken (reads v) v.etag S max) (Agrees-batch (reads v) v.table S v.etag max s f.agrees f.within) is
+  where
+    t : Taken (reads v) S v.etag (taken (reads v) v.etag S max) (etag_of_batch (reads v) v.etag S max)
+    t = Taken-batch (reads v) S v.etag max s f.within
+
+    by : (rows : List Row) → Agrees (reads v) (note_rows v.table rows) S (etag_of_batch (reads v) v.etag S max) → advanced v rows (etag_of_batch (reads v) v.etag S max) ≡ Some new → Brought S v new
+    by [] a h = absurd cc
+    by (r ∷ rows) a h =
+        let same : (let x : Version = record { definition = v.definition; etag = etag_of_batch (reads v) v.etag S max; table = note_rows v.table (r ∷ rows) } in x) ≡ new = cc in
+        subst (Brought S v) same (record { fits = record { agrees = a; within = t.within }; definition = refl; onward = t.onward })

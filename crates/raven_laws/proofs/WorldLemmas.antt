@@ -1,0 +1,130 @@
+-- Later worlds, and the change of a world in which an index is added.
+use Rattle.std.proofs.Common.{◌≡◌, ℕ, ◌+◌, ◌<◌, ◌≤◌, List, [], ◌∷◌, ◌++◌, Bool, true, false, cond, nat_le, length, is_some, Option, Some, None, Result, Ok, Err, refl, sym, ap, ◌∙◌, subst, arith, ◌⊎◌, inl, inr, append_assoc}
+use Rattle.raven_data.specs.Folding.{folded}
+use Rattle.raven_model.specs.Store.{Store, last, IsStore}
+use Rattle.raven_model.specs.Later.{Later}
+use Rattle.raven_model.specs.Mapping.{Definition}
+use Rattle.raven_model.specs.Commit.{Command, Put, Delete}
+use Rattle.raven_model.specs.World.{Slot, Note, World, fresh, serving, SlotChange, SlotRefusal, NameServes, TooManyIndexes, added, define}
+use Rattle.raven_model.specs.Sound.{Has, Fits, NumbersRise, NamesApart, AreListed, Sound, IsOldOrNew, HasItsName, LaterW}
+use Rattle.raven_laws.proofs.LaterLemmas.{Later-itself, Later-then}
+use Rattle.raven_laws.proofs.ListedLemmas.{applied, put-AreListed}
+use Rattle.raven_laws.proofs.SlotLemmas.{Has-append, Has-left, Has-right, NumbersRise-push, NamesApart-push, unserved, Fits-later, Fits-fresh}
+
+-- LATER WORLDS
+
+pub append-none : (ns : List Note) → ns ≡ ns ++ []
+append-none [] = refl
+append-none (n ∷ ns) = ap (λ ms. n ∷ ms) (append-none ns)
+
+pub LaterW-itself : (W : World) → LaterW W W
+LaterW-itself W = record {
+  store = Later-itself W.store;
+  setting = refl;
+  noted = [];
+  notes = append-none W.notes;
+  numbers = λ s h. inl (s, h, record { number = refl; definition = refl; onward = omega arith });
+  names = λ s h. inl (s, h, refl, refl);
+}
+
+pub LaterW-then : (W N P : World) → LaterW W N → LaterW N P → LaterW W P
+LaterW-then W N P f g = record {
+  store = Later-then W.store N.store P.store f.store g.store;
+  setting = g.setting ∙ f.setting;
+  noted = f.noted ++ g.noted;
+  notes = g.notes ∙ ap (λ ns. ns ++ g.noted) f.notes ∙ append_assoc W.notes f.noted g.noted;
+  numbers = λ s h. elim (g.numbers s h) [
+    | inl n ↦ let c = n.2 in elim (f.numbers n.0 n.1) [
+      | inl w ↦ let b = w.2 in inl (w.0, w.1, record { number = b.number ∙ c.number; definition = b.definition ∙ c.definition; onward = let x = b.onward in let y = c.onward in omega arith })
+      | inr new ↦ inr (let e = c.number in omega arith)
+    ]
+    | inr new ↦ inr (let le = f.store.grown in omega arith)
+  ];
+  names = λ s h. elim (g.names s h) [
+    | inl n ↦ elim (f.names n.0 n.1) [
+      | inl w ↦ inl (w.0, w.1, w.2 ∙ n.2, w.3 ∙ n.3)
+      | inr (inl new) ↦ inr (inl (let e = n.2 in omega arith))
+      | inr (inr m) ↦ inr (inr (m.0, Has-left f.noted g.noted m.0 m.1, m.2 ∙ n.3, m.3 ∙ n.2))
+    ]
+    | inr (inl new) ↦ inr (inl (let le = f.store.grown in omega arith))
+    | inr (inr m) ↦ inr (inr (m.0, Has-right f.noted g.noted m.0 m.1, m.2, m.3))
+  ];
+}
+
+-- what is to be shown of a slot of a later world
+pub record Comes (W : World) (S : Store) (noted : List Note) (s : Slot) : Type 0 where
+  pub fits : Fits S s.version
+  pub within : s.number ≤ last S
+  pub old : IsOldOrNew W s
+  pub named : HasItsName W noted s
+
+pub stays : (W : World) (S : Store) (noted : List Note) (s : Slot) → Sound W → Later W.store S → Has W.slots s → Comes W S noted s
+stays W S noted s o l h = record {
+  fits = Fits-later W.store S s.version (o.fits s h) l;
+  within = let a = o.numbers s h in let b = l.grown in omega arith;
+  old = inl (s, h, record { number = refl; definition = refl; onward = omega arith });
+  named = inl (s, h, refl, refl);
+}
+
+-- CHANGES OF THE SLOTS
+
+abbrev pub StartsWithPut : List Command → Type 0
+StartsWithPut [] = ⊥
+StartsWithPut (Put id expected body ∷ cs) = Unit {0}
+StartsWithPut (Delete id expected ∷ cs) = ⊥
+
+-- a store in which the rows of a change were written
+pub record Onto (W : World) (c : SlotChange) (S : Store) : Type 0 where
+  pub store : IsStore S
+  pub later : Later W.store S
+  pub grown : StartsWithPut c.commands → last W.store < last S
+  pub now : ℕ
+  pub written : S ≡ applied now c.commands W.store
+
+-- what a change of the slots must show
+pub record Settles (W : World) (c : SlotChange) (S : Store) : Type 0 where
+  pub slots : (s : Slot) → Has c.slots s → Comes W S [] s
+  pub rising : NumbersRise 0 c.slots
+  pub apart : NamesApart c.slots
+  pub listed : AreListed S c.slots
+
+pub added-Settles : (W : World) (S : Store) (name : List ℕ) (d : Definition) → Sound W → ((s : Slot) → Has W.slots s → folded s.name ≡ folded name → ⊥) → Onto W (added W name d) S → Settles W (added W name d) S
+added-Settles W S name d o free t = record {
+  slots = λ s h. elim (Has-append W.slots (new ∷ []) s h) [
+    | inl old ↦ stays W S [] s o t.later old
+    | inr (inl e) ↦ subst (Comes W S []) e (record {
+      fits = Fits-fresh S d t.store;
+      within = let a = t.grown tt in omega arith;
+      old = inr (omega arith);
+      named = inr (inl (omega arith));
+    })
+    | inr (inr no_more) ↦ absurd no_more
+  ];
+  rising = NumbersRise-push 0 W.slots new o.rising (omega arith) (λ s h. let a = o.numbers s h in omega arith);
+  apart = NamesApart-push W.slots new o.apart free;
+  listed = subst (λ T. AreListed T (W.slots ++ new ∷ [])) (sym t.written) (put-AreListed W.store W.slots (W.slots ++ new ∷ []) t.now name d new o.listed
+      (Has-right W.slots (new ∷ []) new (inl refl)) refl refl refl
+      (λ x h. elim (Has-append W.slots (new ∷ []) x h) [ inl a ↦ inr (a, free x a) | inr (inl e) ↦ inl e | inr (inr no_more) ↦ absurd no_more ])
+      (λ x h. inl (Has-left W.slots (new ∷ []) x h)));
+}
+  where
+    new : Slot
+    new = record { number = last W.store + 1; name = name; version = fresh d; row = last W.store + 1 }
+
+same_change : (a c : SlotChange) → (let r : Result SlotChange SlotRefusal = Ok a in r) ≡ Ok c → a ≡ c
+same_change a c h = cc
+
+past_test : (b : Bool) (refusal : SlotRefusal) (rest : Result SlotChange SlotRefusal) (c : SlotChange) → cond b (Err refusal) rest ≡ Ok c → (b ≡ false) × (rest ≡ Ok c)
+past_test true refusal rest c h = absurd cc
+past_test false refusal rest c h = (refl, h)
+
+not_some : (o : Option Slot) → is_some o ≡ false → o ≡ None
+not_some None h = refl
+not_some (Some s) h = absurd cc
+
+pub define-Settles : (W : World) (name : List ℕ) (d : Definition) (c : SlotChange) → define W name d ≡ Ok c → Sound W → (S : Store) → Onto W c S → Settles W c S
+define-Settles W name d c h o S =
+    let free = past_test (is_some (serving W.slots name)) NameServes (cond (nat_le W.setting.max_slots (length W.slots)) (Err TooManyIndexes) (Ok (added W name d))) c h in
+    let room = past_test (nat_le W.setting.max_slots (length W.slots)) TooManyIndexes (Ok (added W name d)) c free.1 in
+    subst (λ x. Onto W x S → Settles W x S) (same_change (added W name d) c room.1)
+    (added-Settles W S name d o (unserved W.slots name (not_some (serving W.slots name) free.0)))
