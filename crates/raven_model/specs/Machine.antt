@@ -1,16 +1,16 @@
 -- The plain machine: one request after another.
-use Rattle.std.specs.Prelude.{ℕ, List, [], ◌∷◌, Bool, false, if◌then◌else◌, Option, Some, None, Result, Ok, Err, filter, map}
+use Rattle.std.specs.Prelude.{ℕ, ◌+◌, List, [], ◌∷◌, Bool, false, if◌then◌else◌, Option, Some, None, Result, Ok, Err, filter, map}
 use Rattle.std.specs.Str.{bytes_eq}
 use Rattle.raven_data.specs.Data.{Data}
 use Rattle.raven_data.specs.Rows.{Row}
 use Rattle.raven_data.specs.Scalars.{Scalar, words, Is, holds}
-use Rattle.raven_model.specs.Store.{Store, empty_store}
+use Rattle.raven_model.specs.Store.{Store, last, empty_store}
 use Rattle.raven_model.specs.Index.{Table, stale}
 use Rattle.raven_model.specs.Mapping.{Definition, Mapper, Fields, mapper_of, scratch}
 use Rattle.raven_model.specs.Commit.{Command, Expect, Client, Server, Setting, Written, Refused, commit, vector_of}
-use Rattle.raven_model.specs.Optimiser.{Shape, Choice, Use, Make, Merge, offers, pick, name_of}
+use Rattle.raven_model.specs.Optimiser.{Shape, Choice, Use, Make, Merge, pick, name_of}
 use Rattle.raven_model.specs.Replies.{Reply, Index, Pumped, Pumping, Found, NoIndex, UnknownLine}
-use Rattle.raven_model.specs.World.{Version, Slot, World, reads, batch, serving, numbered, SlotChange, SlotRefusal, define}
+use Rattle.raven_model.specs.World.{Version, Slot, World, reads, batch, serving, SlotChange, SlotRefusal, define}
 
 pub record Machine : Type 0 where
   pub world : World
@@ -67,15 +67,12 @@ abbrev pub defined : Machine → ℕ → List ℕ → Result SlotChange SlotRefu
 defined M now name (Err refusal) = same_machine M (slot_refused refusal)
 defined M now name (Ok c) = rewrote M name c.slots (commit M.world.setting Server now c.commands M.world.store)
 
-abbrev pub name_of_slot : Option Slot → Reply
-name_of_slot None = UnknownLine
-name_of_slot (Some s) = Index s.name
-
 -- the index that is picked, or a new one
 abbrev pub use_or_make : Machine → ℕ → Choice → Replied
-use_or_make M now (Use n) = same_machine M (name_of_slot (numbered M.world.slots n))
+use_or_make M now (Use s) = same_machine M (Index s.name)
 use_or_make M now (Make shape) =
-    defined M now (name_of M.world shape) (define M.world (name_of M.world shape) (Definition.Auto shape.collection shape.fields))
+    let name = name_of M.world.slots (last M.world.store + 1) shape in
+    defined M now name (define M.world name (Definition.Auto shape.collection shape.fields))
 use_or_make M now Merge = same_machine M UnknownLine
 
 -- the shape of one field
@@ -136,7 +133,7 @@ answer_find W index name ws (Some s) = Found (found_in (mapper_of s.version.defi
 
 abbrev pub step : Machine → ℕ → Request → Replied
 step M now (Put id expected body) = wrote M (commit M.world.setting Client now (Command.Put id expected body ∷ []) M.world.store)
-step M now (Auto collection field) = use_or_make M now (pick (one_field collection field) (offers M.world))
+step M now (Auto collection field) = use_or_make M now (pick (one_field collection field) M.world.store M.world.slots)
 step M now (Find index field ws) = same_machine M (answer_find M.world index field ws (serving M.world.slots index))
 step M now (Pump max) = pump M max
 

@@ -1,79 +1,71 @@
--- Which automatic index answers a query, and what a new one is called.
-use Rattle.std.specs.Prelude.{ℕ, ◌+◌, suc, zero, List, [], ◌∷◌, ◌++◌, Bool, not, ◌&&◌, ◌||◌, nat_lt, if◌then◌else◌, Option, Some, None, is_some, length, codes, filter, map}
+-- Which automatic index answers a query, and what a new one is called. A slot is fresh where it is not stale without a cutoff.
+use Rattle.std.specs.Prelude.{ℕ, ◌+◌, suc, zero, List, [], ◌∷◌, ◌++◌, Bool, not, ◌&&◌, ◌||◌, nat_lt, if◌then◌else◌, Option, Some, None, is_some, length, codes, filter}
 use Rattle.std.specs.List.{list_any, list_all}
 use Rattle.std.specs.Str.{bytes_eq}
 use Rattle.std.specs.Fmt.{decimal}
 use Rattle.std.specs.Cmp.Lexicographic.{pointwise}
 use Rattle.raven_data.specs.Faults.{is_fit}
 use Rattle.raven_data.specs.Members.{Path}
-use Rattle.raven_model.specs.Store.{Store, last}
+use Rattle.raven_model.specs.Store.{Store}
 use Rattle.raven_model.specs.Index.{stale}
 use Rattle.raven_model.specs.Mapping.{Definition, Auto, joined}
-use Rattle.raven_model.specs.World.{Slot, World, reads, serving}
+use Rattle.raven_model.specs.World.{Slot, reads, serving}
 
 -- what a query asks of an index
 pub record Shape : Type 0 where
   pub collection : List ℕ
   pub fields : List Path
 
--- a live automatic index, as it is offered to a query
-pub record Offer : Type 0 where
-  pub number : ℕ
-  pub shape : Shape
-  pub etag : ℕ
-  pub fresh : Bool
-
 abbrev pub shape_of : Definition → Shape
 shape_of (Auto collection fields) = record { collection = collection; fields = fields }
 
-abbrev pub offered : Store → Slot → Offer
-offered S s = record {
-  number = s.number;
-  shape = shape_of s.version.definition;
-  etag = s.version.etag;
-  fresh = not (stale S (reads s.version) s.version.etag None);
-}
+abbrev pub slot_shape : Slot → Shape
+slot_shape s = shape_of s.version.definition
 
--- by number
-abbrev pub offers : World → List Offer
-offers W = map (offered W.store) W.slots
+abbrev pub is_fresh : Store → Slot → Bool
+is_fresh S s = not (stale S (reads s.version) s.version.etag None)
 
 abbrev pub has_path : List Path → Path → Bool
 has_path fields path = list_any (pointwise bytes_eq path) fields
 
+-- an index of the shape a can answer what the shape b asks
 abbrev pub covers : Shape → Shape → Bool
 covers a b = bytes_eq a.collection b.collection && list_all (has_path a.fields) b.fields
 
+abbrev pub width : Slot → ℕ
+width s = length (slot_shape s).fields
+
 -- the fresh before the stale, then the fewer fields
-abbrev pub beats : Offer → Offer → Bool
-beats a b = (a.fresh && not b.fresh) || ((a.fresh || not b.fresh) && nat_lt (length a.shape.fields) (length b.shape.fields))
+abbrev pub beats : Store → Slot → Slot → Bool
+beats S a b = (is_fresh S a && not (is_fresh S b)) || ((is_fresh S a || not (is_fresh S b)) && nat_lt (width a) (width b))
 
 -- the first that no later one beats
-abbrev pub better : Offer → Option Offer → Option Offer
-better a None = Some a
-better a (Some b) = if beats b a then Some b else Some a
+abbrev pub better : Store → Slot → Option Slot → Option Slot
+better S a None = Some a
+better S a (Some b) = if beats S b a then Some b else Some a
 
-abbrev pub best : List Offer → Option Offer
-best [] = None
-best (a ∷ more) = better a (best more)
+abbrev pub best : Store → List Slot → Option Slot
+best S [] = None
+best S (a ∷ more) = better S a (best S more)
 
 pub data Choice : Type 0 where
-  -- the index of this number
-  Use : (number : ℕ) → Choice
+  -- this index
+  Use : (slot : Slot) → Choice
   -- a new one for this shape
   Make : (shape : Shape) → Choice
   -- a new one that takes in the fields of the others of its collection, which is not built yet
   Merge : Choice
 
-abbrev pub is_of : List ℕ → Offer → Bool
-is_of collection o = bytes_eq o.shape.collection collection
+abbrev pub is_of : List ℕ → Slot → Bool
+is_of collection s = bytes_eq (slot_shape s).collection collection
 
-abbrev pub chosen : Shape → List Offer → Option Offer → Choice
-chosen shape more (Some o) = Use o.number
-chosen shape more None = if list_any (is_of shape.collection) more then Merge else Make shape
+abbrev pub chosen : Shape → List Slot → Option Slot → Choice
+chosen shape slots (Some s) = Use s
+chosen shape slots None = if list_any (is_of shape.collection) slots then Merge else Make shape
 
-abbrev pub pick : Shape → List Offer → Choice
-pick shape more = chosen shape more (best (filter (λ o. covers o.shape shape) more))
+-- of the live automatic indexes, by number
+abbrev pub pick : Shape → Store → List Slot → Choice
+pick shape S slots = chosen shape slots (best S (filter (λ s. covers (slot_shape s) shape) slots))
 
 -- NAMES
 
@@ -95,8 +87,8 @@ free_name (suc more) n name slots =
 abbrev pub first_free : List ℕ → List Slot → List ℕ
 first_free name slots = if is_some (serving slots name) then free_name (length slots) 2 name slots else name
 
--- where the plain name is too long or has control characters, the number stands in its place
-abbrev pub name_of : World → Shape → List ℕ
-name_of W shape =
-    if is_fit 200 (first_free (plain_name shape) W.slots) then first_free (plain_name shape) W.slots
-    else first_free (codes "Auto/" ++ decimal (last W.store + 1)) W.slots
+-- of a new slot of this number; where the plain name is too long or has control characters, the number stands in its place
+abbrev pub name_of : List Slot → ℕ → Shape → List ℕ
+name_of slots number shape =
+    if is_fit 200 (first_free (plain_name shape) slots) then first_free (plain_name shape) slots
+    else first_free (codes "Auto/" ++ decimal number) slots
