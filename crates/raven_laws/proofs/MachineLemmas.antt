@@ -5,7 +5,7 @@ use Rattle.raven_model.specs.Store.{Store, last, IsStore}
 use Rattle.raven_model.specs.Later.{Later}
 use Rattle.raven_model.specs.Index.{taken, etag_of_batch}
 use Rattle.raven_model.specs.Mapping.{Definition}
-use Rattle.raven_model.specs.Optimiser.{Shape, Choice, Use, Make, Merge, offers, pick, name_of}
+use Rattle.raven_model.specs.Optimiser.{Shape, Choice, Use, Make, Merge, pick, name_of}
 use Rattle.raven_model.specs.Commit.{Command, Put, Delete, Writer, Client, Server, Setting, Refused, Written, refusal_of, row_of, with_written, unless, commit_from, commit}
 use Rattle.raven_model.specs.World.{Version, Slot, Note, World, reads, advanced, batch, SlotChange, SlotRefusal, define}
 use Rattle.raven_model.specs.Machine.{Machine, Request, Put as PutOne, Auto, Find, Pump, Event, wrote, rewrote, defined, use_or_make, one_field, or_as_before, brought_on, pump, step, start, after, run}
@@ -122,10 +122,11 @@ defined-Moves now M name (Err refusal) o by = Moves-itself M.world o
 defined-Moves now M name (Ok c) o by = rewrote-Moves now M name c (commit M.world.setting Server now c.commands M.world.store) o (by c refl) refl
 
 auto-Moves : (now : ℕ) (M : Machine) (c : Choice) → Sound M.world → Moves M.world (use_or_make M now c).machine.world
-auto-Moves now M (Use n) o = Moves-itself M.world o
+auto-Moves now M (Use s) o = Moves-itself M.world o
 auto-Moves now M (Make shape) o =
-    defined-Moves now M (name_of M.world shape) (define M.world (name_of M.world shape) (Definition.Auto shape.collection shape.fields)) o
-    (λ c h. define-Settles M.world (name_of M.world shape) (Definition.Auto shape.collection shape.fields) c h o)
+    let name = name_of M.world.slots (last M.world.store + 1) shape in
+    defined-Moves now M name (define M.world name (Definition.Auto shape.collection shape.fields)) o
+    (λ c h. define-Settles M.world name (Definition.Auto shape.collection shape.fields) c h o)
 auto-Moves now M Merge o = Moves-itself M.world o
 
 -- BATCHES
@@ -165,7 +166,7 @@ pump-Moves M max o = Turns-Moves M.world M.world.store (map (brought_on M.world.
 pub step-Moves : (M : Machine) (now : ℕ) (r : Request) → Sound M.world → Moves M.world (step M now r).machine.world
 step-Moves M now (PutOne id expected body) o =
     wrote-Moves now M (Command.Put id expected body ∷ []) (commit M.world.setting Client now (Command.Put id expected body ∷ []) M.world.store) o refl
-step-Moves M now (Auto collection field) o = auto-Moves now M (pick (one_field collection field) (offers M.world)) o
+step-Moves M now (Auto collection field) o = auto-Moves now M (pick (one_field collection field) M.world.store M.world.slots) o
 step-Moves M now (Find index field ws) o = Moves-itself M.world o
 step-Moves M now (Pump max) o = pump-Moves M max o
 
