@@ -10,7 +10,7 @@ use raven_base::NoMemory;
 use raven_value::{Id, Row, Text};
 use std::alloc::Global;
 
-/// The last etag, or 0.
+/// The etag of the last row, or 0 where there is none.
 pub fn last_etag(rows: &[Row]) -> u64
     ensures { result ≡ last_of 0 rows.now }
 {

@@ -1,11 +1,24 @@
 //! Batches: how an index is brought on.
-ghost use Rattle.std.specs.Prelude.{◌≡◌, IfOk};
+ghost use Rattle.std.specs.Prelude.{◌≡◌, IfOk, cond};
+ghost use Rattle.raven_model.specs.Store.{last, last_of};
 ghost use Rattle.raven_model.specs.World.{batch};
 
+use crate::definition::share;
 use crate::version::IndexVersion;
-use doc_store::Store;
+use doc_store::{Store, last_etag};
 use raven_base::NoMemory;
+use raven_value::Row;
 use std::alloc::Global;
+
+fn etag_after(taken: &[Row], more: bool, store: &Store) -> u64
+    ensures { result ≡ cond more (last_of 0 taken.now) (last store.now) }
+{
+    if more {
+        last_etag(taken)
+    } else {
+        store.last()
+    }
+}
 
 /// The version after the first `max` rows that it has not seen, and nothing where there is none.
 /// Its etag is that of the last of them where more remain, and else the store's last.
@@ -19,11 +32,11 @@ pub fn next(
 {
     let scope = version.scope(alloc)?;
     let (taken, more) = store.rows_after(alloc, version.etag(), &scope, max)?;
-    let Some(last) = taken.as_slice().last() else {
+    if taken.is_empty() {
         return Ok(None);
-    };
-    let etag = if more { last.etag } else { store.last() };
+    }
+    let etag = etag_after(taken.as_slice(), more, store);
     let table = version.table().after(alloc, taken.as_slice())?;
-    let next = IndexVersion::over(alloc, version.definition().clone()?, etag, table)?;
+    let next = IndexVersion::over(alloc, share(version.definition())?, etag, table)?;
     Ok(Some(next))
 }

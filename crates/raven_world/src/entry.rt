@@ -58,7 +58,7 @@ fn has_words_in(fields: &[(Text, Scalar)], name: &str, words: &str) -> bool
     ensures { result ≡ has_words name.now words.now (fields_view fields.now) }
 {
     for field in fields {
-        if field.0.as_str() == name {
+        if name == field.0.as_str() {
             return is_words(&field.1, words);
         }
     }
