@@ -1,0 +1,50 @@
+//! From bytes to a value.
+ghost use Rattle.std.specs.Prelude.{◌≡◌, Ok, IfOk, IfErr};
+ghost use Rattle.raven_data.specs.Json.{reading};
+ghost use Rattle.raven_json.specs.Refusal.{Refuses};
+ghost use Rattle.raven_value.specs.View.{data_of};
+
+use crate::convert::value_of;
+use crate::scan::is_too_deep;
+use raven_value::Value;
+use serde_json::Value as Json;
+use std::alloc::Global;
+use thiserror::Error;
+
+/// Why bytes are not read. `TooDeep` is tested first, then `NotJson`, then `NumberNotWhole`.
+#[derive(Clone, Copy, Debug, Error, PartialEq, Eq)]
+pub enum JsonRefusal {
+    /// The bytes are not the JSON text of one value, or a number in them is beyond every float.
+    #[error("the bytes are not JSON")]
+    NotJson,
+
+    /// A number is written with a fraction or an exponent or as `-0`, or does not fit in 64 bits.
+    #[error("a number is not a whole number of 64 bits")]
+    NumberNotWhole,
+
+    /// More than a hundred brackets are open at once.
+    #[error("more than a hundred brackets are open at once")]
+    TooDeep,
+
+    /// No memory was found.
+    #[error("no memory was found")]
+    NoMemory,
+}
+
+/// The value that the bytes are. Of members of one name the last is kept.
+pub fn read(alloc: Global, bytes: &[u8]) -> Result<Value, JsonRefusal>
+    ensures ok { IfOk result (λ value. reading bytes.now ≡ Ok (data_of value)) }
+    ensures refused { IfErr result (λ refusal. Refuses refusal (reading bytes.now)) }
+{
+    if is_too_deep(bytes) {
+        return Err(JsonRefusal::TooDeep);
+    }
+    match Json::from_slice(alloc, bytes) {
+        Ok(json) => value_of(alloc, &json),
+        Err(error) => if error.is_memory() {
+            Err(JsonRefusal::NoMemory)
+        } else {
+            Err(JsonRefusal::NotJson)
+        },
+    }
+}

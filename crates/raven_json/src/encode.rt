@@ -1,0 +1,114 @@
+//! From a value to its text.
+ghost use Rattle.std.specs.Prelude.{◌≡◌, ◌<◌, ◌++◌, OnOk, IfOk, false};
+ghost use Rattle.std.specs.Char.{digit_char};
+ghost use Rattle.raven_value.specs.View.{data_of};
+ghost use Rattle.raven_data.specs.Data.{items_of, entries_of};
+ghost use Rattle.raven_data.specs.Written.{escaped, quoted, text_of, items_text, entries_text};
+
+use raven_base::NoMemory;
+use raven_value::{Members, Value, Values};
+use std::alloc::{AllocError, Global};
+
+fn hex_digit(n: u8) -> u8
+    requires { n < 16 }
+    ensures { result ≡ digit_char n }
+{
+    if n < 10 { b'0' + n } else { b'a' + (n - 10) }
+}
+
+fn write_byte(out: &mut Vec<u8>, byte: u8) -> Result<(), AllocError>
+    ensures { OnOk result (out.new.items ≡ out.old.items ++ escaped byte) }
+{
+    match byte {
+        b'"' => out.extend_from_slice(b"\\\"")?,
+        b'\\' => out.extend_from_slice(b"\\\\")?,
+        8 => out.extend_from_slice(b"\\b")?,
+        b'\t' => out.extend_from_slice(b"\\t")?,
+        b'\n' => out.extend_from_slice(b"\\n")?,
+        12 => out.extend_from_slice(b"\\f")?,
+        b'\r' => out.extend_from_slice(b"\\r")?,
+        0..32 => {
+            out.extend_from_slice(b"\\u00")?;
+            out.push(hex_digit(byte / 16))?;
+            out.push(hex_digit(byte % 16))?;
+        }
+        _ => out.push(byte)?,
+    }
+    Ok(())
+}
+
+fn write_quoted(out: &mut Vec<u8>, text: &str) -> Result<(), AllocError>
+    ensures { OnOk result (out.new.items ≡ out.old.items ++ quoted text.now) }
+{
+    out.push(b'"')?;
+    for byte in text.as_bytes() {
+        write_byte(out, *byte)?;
+    }
+    out.push(b'"')?;
+    Ok(())
+}
+
+#[cycle(write)]
+fn write_value(alloc: Global, out: &mut Vec<u8>, value: &Value) -> Result<(), AllocError>
+    ensures { OnOk result (out.new.items ≡ out.old.items ++ text_of (data_of value.now)) }
+{
+    match value {
+        Value::Null => out.extend_from_slice(b"null")?,
+        Value::Flag(true) => out.extend_from_slice(b"true")?,
+        Value::Flag(false) => out.extend_from_slice(b"false")?,
+        Value::Num(n) => out.extend_from_slice(n.to_string(alloc)?.as_bytes())?,
+        Value::Text(text) => write_quoted(out, text.as_str())?,
+        Value::List(items) => {
+            out.push(b'[')?;
+            write_items(alloc, out, items)?;
+            out.push(b']')?;
+        }
+        Value::Map(members) => {
+            out.push(b'{')?;
+            write_members(alloc, out, members)?;
+            out.push(b'}')?;
+        }
+    }
+    Ok(())
+}
+
+#[cycle(write)]
+fn write_items(alloc: Global, out: &mut Vec<u8>, items: &Values) -> Result<(), AllocError>
+    ensures { OnOk result (out.new.items ≡ out.old.items ++ items_text false (items_of items.now)) }
+{
+    let mut later = false;
+    for item in items.as_slice() {
+        if later {
+            out.push(b',')?;
+        }
+        write_value(alloc, out, item)?;
+        later = true;
+    }
+    Ok(())
+}
+
+#[cycle(write)]
+fn write_members(alloc: Global, out: &mut Vec<u8>, members: &Members) -> Result<(), AllocError>
+    ensures { OnOk result (out.new.items ≡ out.old.items ++ entries_text false (entries_of members.now)) }
+{
+    let mut later = false;
+    for member in members.as_slice() {
+        if later {
+            out.push(b',')?;
+        }
+        write_quoted(out, member.0.as_str())?;
+        out.push(b':')?;
+        write_value(alloc, out, &member.1)?;
+        later = true;
+    }
+    Ok(())
+}
+
+/// The compact text of a value.
+pub fn write(alloc: Global, value: &Value) -> Result<Vec<u8>, NoMemory>
+    ensures { IfOk result (λ bytes. bytes.items ≡ text_of (data_of value.now)) }
+{
+    let mut out = Vec::new(alloc);
+    write_value(alloc, &mut out, value)?;
+    Ok(out)
+}
