@@ -12,16 +12,18 @@ use Rattle.raven_data.specs.Rows.{Row, key}
 use Rattle.raven_model.specs.Store.{row_at, Store}
 use Rattle.raven_model.specs.Index.{Table, stale, documents}
 use Rattle.raven_model.specs.Mapping.{Fields, Outcome, Entry, NoEntry, Failed, Mapper, mapper_of, is_mapped, mapped_documents, entry_of, scratch}
+use Rattle.raven_model.specs.Commit.{Setting}
 use Rattle.raven_model.specs.World.{Slot, World, reads, serving}
 use Rattle.raven_model.specs.Replies.{Reply, Found}
-use Rattle.raven_model.specs.Machine.{Machine, answer_find, has_words, found_in, is_stale}
+use Rattle.raven_model.specs.Machine.{Machine, Event, start, run, answer_find, has_words, found_in, is_stale}
 use Rattle.raven_model.specs.Sound.{Has, Sound}
 use Rattle.raven_laws.specs.Claims.{Unseen, IsAsKept, ids_in, flag_in, find_reply, FreshIsFromScratch, FlagsAreExact, IdsAreAsKept}
 use Rattle.raven_laws.proofs.StoreLemmas.{same_itself}
 use Rattle.raven_laws.proofs.IndexLemmas.{tied, fresh_whole}
 use Rattle.raven_laws.proofs.KeyedLemmas.{differ_less}
 use Rattle.raven_laws.proofs.StaleLemmas.{stale-Unseen, Unseen-stale, fresh-seen, seen-fresh}
-use Rattle.raven_laws.proofs.SlotLemmas.{Has-filter, Has-map, served}
+use Rattle.raven_laws.proofs.SlotLemmas.{Has-filter, Has-map, served, serves}
+use Rattle.raven_laws.proofs.MachineLemmas.{run-Sound}
 
 -- FRESH ANSWERS
 
@@ -127,3 +129,22 @@ Sound-ids M o index field ws id = by (serving M.world.slots index) refl
         let e = Has-map (λ x. x.0) (filter (λ x. has_words field ws x.1) (scratch m s.version.table)) id h in
         subst (IsAsKept M.world.store) e.2
         (entries-IsAsKept M.world s e.0 o (served M.world.slots index s is).0 (Has-filter (λ x. has_words field ws x.1) (scratch m s.version.table) e.0 e.1))
+
+-- AFTER A RUN
+
+pub run-serves : (setting : Setting) (events : List Event) (s : Slot) → let W = (run events (start setting)).world in Has W.slots s → serving W.slots s.name ≡ Some s
+run-serves setting events s =
+    let o = run-Sound setting events in serves (run events (start setting)).world.slots s o.apart
+
+pub run-fresh : (setting : Setting) (events : List Event) → FreshIsFromScratch (run events (start setting))
+run-fresh setting events = Sound-fresh (run events (start setting)) (run-Sound setting events)
+
+pub run-flags : (setting : Setting) (events : List Event) → FlagsAreExact (run events (start setting))
+run-flags setting events = Sound-flags (run events (start setting)) (run-Sound setting events)
+
+pub run-ids : (setting : Setting) (events : List Event) → IdsAreAsKept (run events (start setting))
+run-ids setting events = Sound-ids (run events (start setting)) (run-Sound setting events)
+
+pub run-entries : (setting : Setting) (events : List Event) (s : Slot) (e : List ℕ × Fields) → let W = (run events (start setting)).world in
+    Has W.slots s → Has (scratch (mapper_of s.version.definition) s.version.table) e → IsAsKept W.store e.0
+run-entries setting events s e = entries-IsAsKept (run events (start setting)).world s e (run-Sound setting events)

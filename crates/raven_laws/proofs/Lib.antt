@@ -11,3 +11,4 @@ pub mod WorldLemmas
 pub mod MachineLemmas
 pub mod OrderLemmas
 pub mod AnswerLemmas
+pub mod ScriptLemmas

@@ -1,5 +1,5 @@
 -- Staleness: by the newest row, and by any row that was not seen.
-use Rattle.std.proofs.Common.{◌≡◌, ℕ, ◌≤◌, List, [], ◌∷◌, Bool, true, false, cond, ◌&&◌, ◌||◌, nat_lt, Option, Some, None, filter, refl, sym, ap, ◌∙◌, subst, arith}
+use Rattle.std.proofs.Common.{◌≡◌, ℕ, ◌≤◌, List, [], ◌∷◌, Bool, true, false, cond, ◌&&◌, ◌||◌, nat_lt, Option, Some, None, filter, refl, sym, ap, ◌∙◌, subst, arith, ◌↔◌}
 use Rattle.std.specs.List.{list_any}
 use Rattle.std.proofs.lemmas.Bool.{ltb-false, ltb-true, lt-ltb, le-ltb}
 use Rattle.raven_data.specs.Folding.{same_key}
@@ -83,3 +83,9 @@ seen-fresh S scope e cutoff s never = elim (stale S scope e cutoff) as (λ b. st
   | true ↦ λ h. absurd (never (stale-Unseen S scope e cutoff s h))
   | false ↦ λ h. refl
 ] refl
+
+pub stale-iff : (S : Store) (scope : Scope) (e : ℕ) (cutoff : Option ℕ) → IsStore S → (stale S scope e cutoff ≡ true) ↔ Unseen S scope e cutoff
+stale-iff S scope e cutoff s = (stale-Unseen S scope e cutoff s, Unseen-stale S scope e cutoff)
+
+pub fresh-iff : (S : Store) (scope : Scope) (e : ℕ) (cutoff : Option ℕ) → IsStore S → (stale S scope e cutoff ≡ false) ↔ (Unseen S scope e cutoff → ⊥)
+fresh-iff S scope e cutoff s = (fresh-seen S scope e cutoff, seen-fresh S scope e cutoff s)
