@@ -12,3 +12,4 @@ pub mod MachineLemmas
 pub mod OrderLemmas
 pub mod AnswerLemmas
 pub mod ScriptLemmas
+pub mod WorkedRows
