@@ -13,3 +13,4 @@ pub mod OrderLemmas
 pub mod AnswerLemmas
 pub mod ScriptLemmas
 pub mod WorkedRows
+pub mod WorkedScript
