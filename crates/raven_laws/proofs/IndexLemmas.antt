@@ -53,7 +53,7 @@ get-note_rows T (r ∷ rows) q h =
       | false ↦ λ e. refl
     ] refl
 
-both_true : (a b : Bool) → a && b ≡ true → (a ≡ true) × (b ≡ true)
+pub both_true : (a b : Bool) → a && b ≡ true → (a ≡ true) × (b ≡ true)
 both_true true b h = (refl, h)
 both_true false b h = absurd cc
 
@@ -204,7 +204,7 @@ pub either_false : (a b : Bool) → a || b ≡ false → (a ≡ false) × (b ≡
 either_false true b h = absurd cc
 either_false false b h = (refl, h)
 
-any_false : (p : Row → Bool) (q : List ℕ) (rows : List Row) (r : Row) → list_any p rows ≡ false → row_at q rows ≡ Some r → p r ≡ false
+pub any_false : (p : Row → Bool) (q : List ℕ) (rows : List Row) (r : Row) → list_any p rows ≡ false → row_at q rows ≡ Some r → p r ≡ false
 any_false p q [] r h g = absurd cc
 any_false p q (x ∷ rows) r h g =
     elim (same_key q (key x)) as (λ b. cond b (Some x) (row_at q rows) ≡ Some r → p r ≡ false) [

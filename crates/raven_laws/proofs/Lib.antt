@@ -1,8 +1,8 @@
 pub mod StoreLemmas
 pub mod LaterLemmas
 pub mod CommitLemmas
-pub mod StaleLemmas
 pub mod IndexLemmas
+pub mod StaleLemmas
 pub mod MappingLemmas
 pub mod KeyedLemmas
 pub mod SlotLemmas
@@ -10,3 +10,7 @@ pub mod ListedLemmas
 pub mod WorldLemmas
 pub mod MachineLemmas
 pub mod OrderLemmas
+pub mod AnswerLemmas
+pub mod ScriptLemmas
+pub mod WorkedRows
+pub mod WorkedScript

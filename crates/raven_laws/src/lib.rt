@@ -1,2 +1,12 @@
-//! The laws of the model over all runs, each the contract of a function without a body.
+//! The laws of the database, each the contract of a function without a body: they speak of no code, and every state that the model can reach meets them.
 #![tactic(auto)]
+
+mod indexes;
+mod runs;
+mod scripts;
+mod stores;
+
+pub use indexes::{agreement_survives, batch_agrees, fresh_is_whole, orders_are_total, stale_by_newest, stale_is_unseen, touched_is_enough};
+pub use runs::{every_index_serves_its_name, every_run_goes_on, every_run_is_sound, flags_are_exact, fresh_answers_are_from_scratch, ids_are_as_kept, later_worlds_order};
+pub use scripts::{every_script_is_sound, scripts_are_runs};
+pub use stores::{commit_grows, later_orders};

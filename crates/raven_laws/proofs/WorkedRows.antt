@@ -1,0 +1,124 @@
+-- The definitions at work: what is answered to requests that were worked out by hand, and what is printed.
+use Rattle.std.proofs.Common.{◌≡◌, ℕ, List, [], ◌∷◌, ◌++◌, true, false, Some, filter, refl, ap, codes}
+use Rattle.std.specs.List.{filter_map}
+use Rattle.std.specs.Fmt.{digits}
+use Rattle.std.specs.FinMap.{empty}
+use Rattle.raven_data.specs.Data.{Data, object, text, entry, no_entries}
+use Rattle.raven_data.specs.Rows.{Row, doc}
+use Rattle.raven_model.specs.Mapping.{Definition, Mapper, mapper_of, is_mapped, entry_of}
+use Rattle.raven_model.specs.Commit.{AnyVector}
+use Rattle.raven_model.specs.Replies.{Reply, Index, Pumped, Pumping, Found, NoIndex, UnknownLine, printed}
+use Rattle.raven_model.specs.Machine.{Machine, Request, Put, Auto, Find, Pump, found, start, step}
+use Rattle.raven_model.specs.Words.{program}
+use Rattle.raven_laws.proofs.KeyedLemmas.{values-table_of}
+
+-- REQUESTS, one after another, from an empty database
+
+abbrev pub replies_from : Machine → List Request → List Reply
+replies_from M [] = []
+replies_from M (r ∷ rs) = (step M 0 r).reply ∷ replies_from (step M 0 r).machine rs
+
+abbrev pub replies : List Request → List Reply
+replies rs = replies_from (start program) rs
+
+-- a document of the collection with one further member
+abbrev pub put : List ℕ → List ℕ → List ℕ → List ℕ → Request
+put collection id name value = Put id AnyVector (object (entry (codes "@metadata") (object (entry (codes "@collection") (text collection) no_entries)) (entry name (text value) no_entries)))
+
+abbrev pub was_put : List ℕ → List ℕ → Reply
+was_put etag id = Reply.Put (codes "A:" ++ etag ++ codes "-AAAAAAAAAAAAAAAAAAAAAA") id
+
+abbrev pub moved : ℕ → List ℕ → ℕ → Pumping
+moved from name to = record { from = from; index = name; to = to }
+
+-- one of two rows is taken, and the etag stays below the one that remains
+one_at_a_time : replies (Auto (codes "C") (codes "F") ∷ put (codes "C") (codes "x") (codes "F") (codes "a") ∷ put (codes "C") (codes "y") (codes "F") (codes "b") ∷ put (codes "C") (codes "X") (codes "F") (codes "c") ∷ Pump 1 ∷ Pump 1 ∷ Pump 1 ∷ [])
+    ≡ Index (codes "Auto/C/ByF") ∷ was_put (codes "2") (codes "x") ∷ was_put (codes "3") (codes "y") ∷ was_put (codes "4") (codes "x")
+    ∷ Pumped (moved 0 (codes "Auto/C/ByF") 3 ∷ []) ∷ Pumped (moved 3 (codes "Auto/C/ByF") 4 ∷ []) ∷ Pumped (moved 4 (codes "Auto/C/ByF") 4 ∷ []) ∷ []
+unfolding digits
+one_at_a_time = refl
+
+-- a row of another collection moves no index, until a row that it reads is taken
+other_collection : replies (Auto (codes "C") (codes "F") ∷ put (codes "D") (codes "x") (codes "F") (codes "a") ∷ Pump 64 ∷ put (codes "C") (codes "y") (codes "F") (codes "b") ∷ put (codes "D") (codes "z") (codes "F") (codes "c") ∷ Pump 1 ∷ [])
+    ≡ Index (codes "Auto/C/ByF") ∷ was_put (codes "2") (codes "x") ∷ Pumped (moved 0 (codes "Auto/C/ByF") 0 ∷ [])
+    ∷ was_put (codes "3") (codes "y") ∷ was_put (codes "4") (codes "z") ∷ Pumped (moved 0 (codes "Auto/C/ByF") 4 ∷ []) ∷ []
+unfolding digits
+other_collection = refl
+
+-- without an index there is nothing to bring on, and nothing to ask
+no_index : replies (Pump 64 ∷ Find (codes "X") (codes "F") (codes "a") ∷ []) ≡ Pumped [] ∷ NoIndex (codes "X") ∷ []
+no_index = refl
+
+-- a field that is asked for twice has one index; for another field of the collection none is made yet
+asked_again : replies (Auto (codes "Users") (codes "Name") ∷ Auto (codes "Users") (codes "Name") ∷ Auto (codes "Users") (codes "Age") ∷ Auto (codes "Teams") (codes "Age") ∷ [])
+    ≡ Index (codes "Auto/Users/ByName") ∷ Index (codes "Auto/Users/ByName") ∷ UnknownLine ∷ Index (codes "Auto/Teams/ByAge") ∷ []
+unfolding digits
+asked_again = refl
+
+-- collections are told apart by case, and names of indexes are not
+one_name : replies (Auto (codes "Users") (codes "Name") ∷ Auto (codes "users") (codes "name") ∷ Auto (codes "USERS") (codes "NAME") ∷ [])
+    ≡ Index (codes "Auto/Users/ByName") ∷ Index (codes "Auto/users/Byname/2") ∷ Index (codes "Auto/USERS/ByNAME/3") ∷ []
+unfolding digits
+one_name = refl
+
+-- an id keeps its collection and its first spelling, and what belongs to an index is the server's
+ids_kept : replies (put (codes "Users") (codes "users/1") (codes "Name") (codes "Ada") ∷ put (codes "Teams") (codes "Users/1") (codes "Name") (codes "Ada") ∷ put (codes "Users") (codes "USERS/1") (codes "Name") (codes "Bo")
+    ∷ put (codes "Users") (codes "@Index/a") (codes "Name") (codes "Ada") ∷ put (codes "@indexes") (codes "a") (codes "Name") (codes "Ada") ∷ [])
+    ≡ was_put (codes "1") (codes "users/1") ∷ UnknownLine ∷ was_put (codes "2") (codes "users/1") ∷ UnknownLine ∷ UnknownLine ∷ []
+unfolding digits
+ids_kept = refl
+
+-- QUERIES: what a table lists is said of the list of its rows
+
+abbrev users_by_name : Mapper
+users_by_name = mapper_of (Definition.Auto (codes "Users") ((codes "Name" ∷ []) ∷ []))
+
+abbrev pub found_among : List Row → List (List ℕ)
+found_among rows = found (filter_map (λ d. entry_of d.id (users_by_name.meaning d empty).outcome) (filter (is_mapped users_by_name) rows)) (codes "Name") (codes "ada")
+
+abbrev pub ada : Row
+ada = record { etag = 1; id = codes "users/1"; collection = codes "Users"; body = doc (object (entry (codes "@metadata") (object no_entries) (entry (codes "Name") (text (codes "Ada")) no_entries))); changed = 0 }
+
+-- a document that was brought in is found, whatever the case of its text
+first_run : replies (put (codes "Users") (codes "users/1") (codes "Name") (codes "Ada") ∷ Auto (codes "Users") (codes "Name") ∷ Pump 64 ∷ Find (codes "auto/users/byname") (codes "Name") (codes "ada") ∷ [])
+    ≡ was_put (codes "1") (codes "users/1") ∷ Index (codes "Auto/Users/ByName") ∷ Pumped (moved 0 (codes "Auto/Users/ByName") 2 ∷ []) ∷ Found (codes "users/1" ∷ []) 2 false ∷ []
+unfolding digits
+first_run = ap (λ rows. was_put (codes "1") (codes "users/1") ∷ Index (codes "Auto/Users/ByName") ∷ Pumped (moved 0 (codes "Auto/Users/ByName") 2 ∷ []) ∷ Found (found_among rows) 2 false ∷ []) (values-table_of (ada ∷ []) (tt, tt))
+
+-- before a batch there is nothing to find, and the answer is stale
+not_brought_on : replies (put (codes "Users") (codes "users/1") (codes "Name") (codes "Ada") ∷ Auto (codes "Users") (codes "Name") ∷ Find (codes "Auto/Users/ByName") (codes "Name") (codes "ada") ∷ [])
+    ≡ was_put (codes "1") (codes "users/1") ∷ Index (codes "Auto/Users/ByName") ∷ Found [] 0 true ∷ []
+unfolding digits
+not_brought_on = ap (λ rows. was_put (codes "1") (codes "users/1") ∷ Index (codes "Auto/Users/ByName") ∷ Found (found_among rows) 0 true ∷ []) (values-table_of [] tt)
+
+-- what is written after a batch makes the answer stale, and is not found yet
+behind : replies (put (codes "Users") (codes "users/1") (codes "Name") (codes "Ada") ∷ Auto (codes "Users") (codes "Name") ∷ Pump 64 ∷ put (codes "Users") (codes "users/2") (codes "Name") (codes "ADA") ∷ Find (codes "Auto/Users/ByName") (codes "Name") (codes "ada") ∷ [])
+    ≡ was_put (codes "1") (codes "users/1") ∷ Index (codes "Auto/Users/ByName") ∷ Pumped (moved 0 (codes "Auto/Users/ByName") 2 ∷ []) ∷ was_put (codes "3") (codes "users/2") ∷ Found (codes "users/1" ∷ []) 2 true ∷ []
+unfolding digits
+behind = ap (λ rows. was_put (codes "1") (codes "users/1") ∷ Index (codes "Auto/Users/ByName") ∷ Pumped (moved 0 (codes "Auto/Users/ByName") 2 ∷ []) ∷ was_put (codes "3") (codes "users/2") ∷ Found (found_among rows) 2 true ∷ []) (values-table_of (ada ∷ []) (tt, tt))
+
+-- WHAT IS PRINTED
+
+put_text : printed (was_put (codes "1") (codes "users/1")) ≡ codes "{\"ChangeVector\":\"A:1-AAAAAAAAAAAAAAAAAAAAAA\",\"Id\":\"users/1\"}\n"
+put_text = refl
+
+index_text : printed (Index (codes "Auto/Users/ByName")) ≡ codes "{\"Index\":\"Auto/Users/ByName\"}\n"
+index_text = refl
+
+pumped_text : printed (Pumped (moved 0 (codes "Auto/Users/ByName") 2 ∷ [])) ≡ codes "{\"Pumped\":[{\"From\":0,\"Index\":\"Auto/Users/ByName\",\"To\":2}]}\n"
+unfolding digits
+pumped_text = refl
+
+found_text : printed (Found (codes "users/1" ∷ []) 2 false) ≡ codes "{\"Ids\":[\"users/1\"],\"IndexEtag\":2,\"IsStale\":false}\n"
+unfolding digits
+found_text = refl
+
+stale_text : printed (Found [] 0 true) ≡ codes "{\"Ids\":[],\"IndexEtag\":0,\"IsStale\":true}\n"
+unfolding digits
+stale_text = refl
+
+unknown_text : printed UnknownLine ≡ codes "{\"Error\":\"UnknownLine\"}\n"
+unknown_text = refl
+
+no_index_text : printed (NoIndex (codes "X")) ≡ codes "{\"Error\":\"NoIndex\",\"Name\":\"X\"}\n"
+no_index_text = refl

@@ -1,0 +1,17 @@
+use Rattle.raven_laws.proofs.ScriptLemmas.{lines-Sound, lines-LaterW, lines-fresh, lines-flags, lines-ids}
+use Rattle.raven_laws.proofs.scripts.every_script_is_sound.Goals as goal
+
+pub returns-clause-sound : goal.returns-clause-sound
+returns-clause-sound c = lines-Sound
+
+pub returns-clause-goes_on : goal.returns-clause-goes_on
+returns-clause-goes_on c = lines-LaterW
+
+pub returns-clause-fresh : goal.returns-clause-fresh
+returns-clause-fresh c = lines-fresh
+
+pub returns-clause-flags : goal.returns-clause-flags
+returns-clause-flags c = lines-flags
+
+pub returns-clause-ids : goal.returns-clause-ids
+returns-clause-ids c = lines-ids

@@ -1,0 +1,5 @@
+use Rattle.raven_laws.proofs.CommitLemmas.{commit-Commits}
+use Rattle.raven_laws.proofs.stores.commit_grows.Goals as goal
+
+pub returns : goal.returns
+returns c = commit-Commits

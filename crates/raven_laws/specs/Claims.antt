@@ -1,0 +1,54 @@
+-- What the laws say of the answers of a machine.
+use Rattle.std.specs.Prelude.{◌≡◌, ℕ, ◌<◌, List, [], Bool, true, false, Option, Some, None, IsTrue, ◌↔◌}
+use Rattle.raven_data.specs.Folding.{folded}
+use Rattle.raven_data.specs.Rows.{Row}
+use Rattle.raven_model.specs.Store.{row_at, Store}
+use Rattle.raven_model.specs.Index.{Scope, in_scope, up_to, documents}
+use Rattle.raven_model.specs.Mapping.{mapper_of}
+use Rattle.raven_model.specs.World.{Slot, reads, serving}
+use Rattle.raven_model.specs.Replies.{Reply, Put, Index, Pumped, Found, NoIndex, UnknownLine}
+use Rattle.raven_model.specs.Machine.{Machine, Find, step, found_in, is_stale}
+use Rattle.raven_model.specs.Sound.{Has}
+
+-- a row in scope past the etag, and no newer than the cutoff
+pub record Unseen (S : Store) (scope : Scope) (e : ℕ) (cutoff : Option ℕ) : Type 0 where
+  pub id : List ℕ
+  pub row : Row
+  pub found : row_at id S.rows ≡ Some row
+  pub read : IsTrue (in_scope scope row)
+  pub past : e < row.etag
+  pub before : IsTrue (up_to cutoff row.etag)
+
+-- the id is spelled as the store keeps it
+pub record IsAsKept (S : Store) (id : List ℕ) : Type 0 where
+  pub row : Row
+  pub found : row_at (folded id) S.rows ≡ Some row
+  pub spelled : row.id ≡ id
+
+-- the ids and the flag of an answer
+abbrev pub ids_in : Reply → List (List ℕ)
+ids_in (Found ids etag is_stale) = ids
+ids_in other = []
+
+abbrev pub flag_in : Reply → Option Bool
+flag_in (Found ids etag is_stale) = Some is_stale
+flag_in other = None
+
+abbrev pub find_reply : Machine → List ℕ → List ℕ → List ℕ → Reply
+find_reply M index field words = (step M 0 (Find index field words)).reply
+
+-- an index that is not stale answers what its map gives for all documents of the store
+abbrev pub FreshIsFromScratch : Machine → Type 0
+FreshIsFromScratch M = (index field words : List ℕ) (s : Slot) → serving M.world.slots index ≡ Some s → is_stale M.world.store s ≡ false
+    → find_reply M index field words ≡ Found (found_in (mapper_of s.version.definition) (documents (reads s.version) M.world.store) field words) s.version.etag false
+
+-- an answer is stale exactly where the store has a row that the index reads and has not seen
+pub record FlagsAreExact (M : Machine) : Type 0 where
+  pub stale : (index field words : List ℕ) (s : Slot) → serving M.world.slots index ≡ Some s
+      → (flag_in (find_reply M index field words) ≡ Some true) ↔ Unseen M.world.store (reads s.version) s.version.etag None
+  pub fresh : (index field words : List ℕ) (s : Slot) → serving M.world.slots index ≡ Some s
+      → (flag_in (find_reply M index field words) ≡ Some false) ↔ (Unseen M.world.store (reads s.version) s.version.etag None → ⊥)
+
+-- each id of an answer is spelled as the store keeps it
+abbrev pub IdsAreAsKept : Machine → Type 0
+IdsAreAsKept M = (index field words id : List ℕ) → Has (ids_in (find_reply M index field words)) id → IsAsKept M.world.store id

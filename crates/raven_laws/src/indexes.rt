@@ -1,0 +1,58 @@
+//! What an index has recorded, and when it is stale.
+
+ghost use Rattle.std.specs.Prelude.{◌≡◌, ◌≤◌, ◌↔◌, ℕ, nat_lt, List, Option, Some, None, true, false};
+ghost use Rattle.std.specs.Cmp.{IsTotalOrder};
+ghost use Rattle.std.specs.FinMap.{get};
+ghost use Rattle.raven_data.specs.Rows.{Row};
+ghost use Rattle.raven_data.specs.Scalars.{order};
+ghost use Rattle.raven_model.specs.Store.{Store, IsStore, last, row_at};
+ghost use Rattle.raven_model.specs.Later.{Later};
+ghost use Rattle.raven_model.specs.Index.{Scope, Table, Agrees, taken, etag_of_batch, note_rows, stale, newest, up_to, record_of, documents};
+ghost use Rattle.raven_model.specs.Mapping.{Mapper, Results, AreResults, scope_of, remapped, touched};
+ghost use Rattle.raven_laws.specs.Claims.{Unseen};
+
+/// What an index has recorded stays right in every later store, which is not read again.
+pub fn agreement_survives()
+    ensures { (scope : Scope) (T : Table) (S N : Store) (e : ℕ) → Agrees scope T S e → Later S N → e ≤ last S → Agrees scope T N e }
+{}
+
+/// A batch keeps agreement with the store that it read, up to the batch's etag.
+pub fn batch_agrees()
+    ensures { (scope : Scope) (T : Table) (S : Store) (e max : ℕ) → IsStore S → Agrees scope T S e → e ≤ last S →
+        Agrees scope (note_rows T (taken scope e S max)) S (etag_of_batch scope e S max) }
+{}
+
+/// An index that is not stale has recorded all documents of the store that it reads; for a cutoff, all up to the cutoff.
+pub fn fresh_is_whole()
+    ensures whole { (scope : Scope) (T : Table) (S : Store) (e : ℕ) → IsStore S → Agrees scope T S e →
+        stale S scope e None ≡ false → T ≡ documents scope S }
+    ensures up_to_cutoff { (scope : Scope) (T : Table) (S : Store) (e : ℕ) (cutoff : Option ℕ) → Agrees scope T S e →
+        stale S scope e cutoff ≡ false → (q : List ℕ) (r : Row) → row_at q S.rows ≡ Some r →
+        up_to cutoff r.etag ≡ true → get T q ≡ record_of scope r }
+{}
+
+/// An index is stale exactly where the store has a row that it reads past its etag, and no newer than the cutoff.
+pub fn stale_is_unseen()
+    ensures stale { (S : Store) (scope : Scope) (e : ℕ) (cutoff : Option ℕ) → IsStore S →
+        (stale S scope e cutoff ≡ true) ↔ Unseen S scope e cutoff }
+    ensures fresh { (S : Store) (scope : Scope) (e : ℕ) (cutoff : Option ℕ) → IsStore S →
+        (stale S scope e cutoff ≡ false) ↔ (Unseen S scope e cutoff → ⊥) }
+{}
+
+/// An index is stale exactly where the newest row that it reads, up to the cutoff, is past its etag.
+pub fn stale_by_newest()
+    ensures { (S : Store) (scope : Scope) (e : ℕ) (cutoff : Option ℕ) → IsStore S → stale S scope e cutoff ≡ nat_lt e (newest S scope cutoff) }
+{}
+
+/// To map again what a batch touches, and no other document, leaves what mapping the new table from scratch gives.
+pub fn touched_is_enough()
+    ensures { (m : Mapper) (T : Table) (S : Store) (e max : ℕ) (K : Results) →
+        IsStore S → Agrees (scope_of m) T S e → e ≤ last S → AreResults m T K →
+        let rows = taken (scope_of m) e S max in
+        AreResults m (note_rows T rows) (remapped m (note_rows T rows) (touched m T rows) K) }
+{}
+
+/// The order of scalars is total: any two compare, and in one way.
+pub fn orders_are_total()
+    ensures { IsTotalOrder order }
+{}

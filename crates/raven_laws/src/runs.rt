@@ -1,0 +1,50 @@
+//! What holds after every run: whatever is asked, in whatever order.
+
+ghost use Rattle.std.specs.Prelude.{◌≡◌, ◌++◌, ℕ, List, Some};
+ghost use Rattle.raven_model.specs.Mapping.{Fields, mapper_of, scratch};
+ghost use Rattle.raven_model.specs.Commit.{Setting};
+ghost use Rattle.raven_model.specs.World.{Slot, World, serving};
+ghost use Rattle.raven_model.specs.Machine.{Event, run, start};
+ghost use Rattle.raven_model.specs.Sound.{Has, LaterW, Sound};
+ghost use Rattle.raven_laws.specs.Claims.{FlagsAreExact, FreshIsFromScratch, IdsAreAsKept, IsAsKept};
+
+/// Each index has recorded what the store has up to its etag, has its row among the indexes' rows, and shares its number and its name with no other.
+pub fn every_run_is_sound()
+    ensures { (setting : Setting) (events : List Event) → Sound (run events (start setting)).world }
+{}
+
+/// Each state is later than those before: rows stay or are replaced, indexes go forward, and a name keeps its index.
+pub fn every_run_goes_on()
+    ensures { (setting : Setting) (events more : List Event) →
+        LaterW (run events (start setting)).world (run (events ++ more) (start setting)).world }
+{}
+
+/// To be a later world is an order: each world is later than itself, and what is later than a later world is later.
+pub fn later_worlds_order()
+    ensures itself { (W : World) → LaterW W W }
+    ensures steps { (W N P : World) → LaterW W N → LaterW N P → LaterW W P }
+{}
+
+/// Each index is the one that is found under its name.
+pub fn every_index_serves_its_name()
+    ensures { (setting : Setting) (events : List Event) (s : Slot) →
+        let W = (run events (start setting)).world in Has W.slots s → serving W.slots s.name ≡ Some s }
+{}
+
+/// An answer that is not stale is what mapping all documents of the store from scratch gives.
+pub fn fresh_answers_are_from_scratch()
+    ensures { (setting : Setting) (events : List Event) → FreshIsFromScratch (run events (start setting)) }
+{}
+
+/// An answer is stale exactly where the store has a row that its index reads and has not seen.
+pub fn flags_are_exact()
+    ensures { (setting : Setting) (events : List Event) → FlagsAreExact (run events (start setting)) }
+{}
+
+/// Ids are spelled as the store keeps them: in the entries of each index, and in each answer.
+pub fn ids_are_as_kept()
+    ensures entries { (setting : Setting) (events : List Event) (s : Slot) (e : List ℕ × Fields) →
+        let W = (run events (start setting)).world in
+        Has W.slots s → Has (scratch (mapper_of s.version.definition) s.version.table) e → IsAsKept W.store e.0 }
+    ensures answers { (setting : Setting) (events : List Event) → IdsAreAsKept (run events (start setting)) }
+{}
