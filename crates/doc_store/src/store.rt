@@ -1,9 +1,9 @@
 //! The store.
-ghost use Rattle.std.specs.Prelude.{◌≡◌, ◌≤◌, ◌<◌, ◌^◌, ◌↔◌, IfOk, IsTrue, length, Some, None, option_copied};
+ghost use Rattle.std.specs.Prelude.{◌≡◌, ◌≤◌, ◌<◌, ◌↔◌, ℕ, IfOk, IsTrue, length, nat_lt, option_copied};
 ghost use Rattle.raven_data.specs.Folding.{folded};
 ghost use Rattle.raven_model.specs.Store.{empty_store, last, row_at, with_rows};
 ghost use Rattle.raven_model.specs.Later.{MayFollowAll};
-ghost use Rattle.raven_model.specs.Index.{newest, past, taken};
+ghost use Rattle.raven_model.specs.Index.{newest, past, stale, taken};
 ghost use Rattle.doc_store.specs.Bounds.{IsWithin, max_etag};
 
 use crate::rows::{find_row, first_past, last_etag, newest_etag, with_each};
@@ -87,9 +87,11 @@ impl Store {
         Ok((Rows::of(rows), more))
     }
 
-    /// The greatest etag of a row in scope up to a bound, or 0. It takes no memory.
+    /// The greatest etag of a row in scope up to a bound, or 0. An index is stale up to that bound exactly where its etag is less.
+    /// It takes no memory.
     pub fn newest(&self, scope: &Scope, upto: Option<u64>) -> u64
-        ensures { result ≡ newest self.now scope.now upto }
+        ensures newest { result ≡ newest self.now scope.now upto }
+        ensures stale { (etag : ℕ) → stale self.now scope.now etag upto ≡ nat_lt etag result }
     {
         newest_etag(&self.rows, scope.as_slice(), upto)
     }

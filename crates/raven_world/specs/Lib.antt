@@ -1,2 +1,3 @@
 pub mod DefinitionView
 pub mod EntryView
+pub mod ChoiceView

@@ -5,8 +5,14 @@ mod batch;
 mod definition;
 mod entry;
 mod mapping;
+mod naming;
+mod choice;
+mod slot;
 mod table;
 mod version;
 
 pub use definition::Definition;
+pub use choice::{Choice, is_stale, pick};
+pub use naming::auto_name;
+pub use slot::Slot;
 pub use version::IndexVersion;

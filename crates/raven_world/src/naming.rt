@@ -1,0 +1,107 @@
+//! What a new automatic index is called.
+ghost use Rattle.std.specs.Prelude.{◌≡◌, ◌++◌, ◌<◌, ◌^◌, IfOk, None, codes, decimal, is_some, length, string_bytes};
+ghost use Rattle.raven_model.specs.Machine.{one_field};
+ghost use Rattle.raven_model.specs.Optimiser.{first_free as spec_first_free, name_of, plain_name as spec_plain_name};
+ghost use Rattle.raven_value.specs.Refusal.{fault_in};
+ghost use Rattle.raven_model.specs.World.{serving as spec_serving};
+
+use crate::slot::{Slot, serving};
+use raven_base::NoMemory;
+use raven_value::{IdRefusal, Name, Text};
+use std::alloc::Global;
+
+const LONGEST: usize = 200;
+
+fn is_served(slots: &[Slot], name: &str) -> bool
+    ensures { result ≡ is_some (spec_serving slots.now name.now) }
+{
+    serving(slots, name).is_some()
+}
+
+fn with_number(alloc: Global, name: &str, number: u64) -> Result<String, NoMemory>
+    ensures { IfOk result (λ text. string_bytes text ≡ name.now ++ (codes "/" ++ decimal number)) }
+{
+    let mut text = String::from_str(alloc, name)?;
+    text.push_str("/")?;
+    text.push_str(number.to_string(alloc)?.as_str())?;
+    Ok(text)
+}
+
+#[tactic(auto, using(crate::proofs::Clean::tries))]
+// The name, or with the least number from 2 on behind it that no slot serves.
+fn first_free(alloc: Global, slots: &[Slot], name: String) -> Result<String, NoMemory>
+    requires { length slots.now < 2 ^ 32 }
+    ensures { IfOk result (λ text. string_bytes text ≡ spec_first_free (string_bytes name) slots.now) }
+{
+    if !is_served(slots, name.as_str()) {
+        return Ok(name);
+    }
+    for tries in 0..slots.len() {
+        let text = with_number(alloc, name.as_str(), tries as u64 + 2)?;
+        if !is_served(slots, text.as_str()) {
+            return Ok(text);
+        }
+    }
+    with_number(alloc, name.as_str(), slots.len() as u64 + 2)
+}
+
+fn plain_name(alloc: Global, collection: &Text, field: &Text) -> Result<String, NoMemory>
+    ensures { IfOk result (λ text. string_bytes text ≡ spec_plain_name (one_field collection.now field.now)) }
+{
+    let mut text = String::from_str(alloc, "Auto/")?;
+    text.push_str(collection.as_str())?;
+    text.push_str("/By")?;
+    text.push_str(field.as_str())?;
+    Ok(text)
+}
+
+/// The name of a new automatic index of one field, whose number is this.
+pub fn auto_name(
+    alloc: Global,
+    slots: &[Slot],
+    number: u64,
+    collection: &Text,
+    field: &Text,
+) -> Result<Name, NoMemory>
+    requires { length slots.now < 2 ^ 32 }
+    ensures { IfOk result (λ name. name ≡ name_of slots.now number (one_field collection.now field.now)) }
+{
+    let plain = first_free(alloc, slots, plain_name(alloc, collection, field)?)?;
+    if plain.len() <= LONGEST {
+        match Name::new(alloc, plain.as_str()) {
+            Ok(name) => return Ok(name),
+            Err(IdRefusal::NoMemory) => return Err(NoMemory),
+            Err(_) => {}
+        }
+    }
+    numbered_name(alloc, slots, number)
+}
+
+fn auto_number(alloc: Global, number: u64) -> Result<String, NoMemory>
+    ensures { IfOk result (λ text. string_bytes text ≡ codes "Auto/" ++ decimal number) }
+{
+    let mut text = String::from_str(alloc, "Auto/")?;
+    text.push_str(number.to_string(alloc)?.as_str())?;
+    Ok(text)
+}
+
+fn numbered_name(alloc: Global, slots: &[Slot], number: u64) -> Result<Name, NoMemory>
+    requires { length slots.now < 2 ^ 32 }
+    ensures { IfOk result (λ name. name ≡ spec_first_free (codes "Auto/" ++ decimal number) slots.now) }
+{
+    let free = first_free(alloc, slots, auto_number(alloc, number)?)?;
+    match Name::new(alloc, free.as_str()) {
+        Ok(name) => Ok(name),
+        Err(refusal) => Err(memory_alone(refusal)),
+    }
+}
+
+// What is left of a refusal of a text that has no fault.
+fn memory_alone(refusal: IdRefusal) -> NoMemory
+    requires { fault_in refusal ≡ None }
+{
+    match refusal {
+        IdRefusal::NoMemory => NoMemory,
+        IdRefusal::Empty | IdRefusal::TooLong { .. } | IdRefusal::Control { .. } => unreachable!(),
+    }
+}

@@ -1,0 +1,68 @@
+//! Live indexes.
+ghost use Rattle.std.specs.Prelude.{◌≡◌, option_copied};
+ghost use Rattle.raven_data.specs.Folding.{folded, same_key};
+ghost use Rattle.raven_model.specs.World.{serving as spec_serving};
+
+use crate::version::IndexVersion;
+use raven_value::Name;
+use std::alloc::AllocError;
+use std::marker::Model;
+use std::sync::Arc;
+
+/// A live index, which its copies share.
+#[derive(Drop)]
+pub struct Slot {
+    /// The etag at which it was made, by which it is told from every other.
+    pub number: u64,
+
+    /// The name that it serves.
+    pub name: Name,
+
+    /// How far it has come.
+    pub version: Arc<IndexVersion>,
+
+    /// The etag of the row of its definition.
+    pub row: u64,
+}
+
+impl Model for Slot {
+    ghost use Rattle.raven_model.specs.World as world;
+    ghost use Rattle.raven_model.specs.Codes.{slot_code};
+
+    ghost Value = { world.Slot };
+
+    ghost coded = { slot_code };
+
+    ghost view = { λ a. record { number = a.number; name = a.name; version = a.version.value; row = a.row } };
+}
+
+impl Clone for Slot {
+    ghost is_clone = { λ s t. t ≡ s };
+
+    fn clone(&self) -> Result<Slot, AllocError> {
+        Ok(Slot {
+            number: self.number,
+            name: self.name.clone()?,
+            version: self.version.clone()?,
+            row: self.row,
+        })
+    }
+}
+
+fn is_named(slot: &Slot, name: &str) -> bool
+    ensures { result ≡ same_key (folded name.now) (folded slot.now.name) }
+{
+    name.eq_ignore_ascii_case(slot.name.as_str())
+}
+
+/// The slot that serves a name, which is compared without regard to case.
+pub fn serving<'a>(slots: &'a [Slot], name: &str) -> Option<&'a Slot>
+    ensures { option_copied result ≡ spec_serving slots.now name.now }
+{
+    for slot in slots {
+        if is_named(slot, name) {
+            return Some(slot);
+        }
+    }
+    None
+}
