@@ -63,6 +63,9 @@ fn members_and_paths(rt: HostRuntime) -> Result<(), Fail> {
     assert_eq!(rt; members.as_slice().len(), 3);
     assert_eq!(rt; members.as_slice()[0].0.as_str(), "Ship");
     assert_eq!(rt; members.as_slice()[2].0.as_str(), "b");
+    assert_eq!(rt; members.remove(&text(alloc, "a")?).is_some(), true);
+    assert_eq!(rt; members.remove(&text(alloc, "A")?).is_none(), true);
+    assert_eq!(rt; members.as_slice().len(), 2);
     let document = Document::of(alloc, Value::Map(members))?;
     let shared = document.clone()?;
     let value = shared.value();
