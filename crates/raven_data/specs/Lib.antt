@@ -11,3 +11,4 @@ pub mod Rows
 pub mod Codes
 pub mod Faults
 pub mod Orders
+pub mod Sound

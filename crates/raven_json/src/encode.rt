@@ -1,8 +1,13 @@
 //! From a value to its text.
-ghost use Rattle.std.specs.Prelude.{◌≡◌, ◌<◌, ◌++◌, OnOk, IfOk, false};
+ghost use Rattle.std.specs.Prelude.{◌≡◌, ◌<◌, ◌≤◌, ◌++◌, OnOk, IfOk, Ok, IsUtf8, FitsSigned, false};
 ghost use Rattle.std.specs.Char.{digit_char};
+ghost use Rattle.std.specs.Fmt.{signed_decimal};
+ghost use Rattle.std.specs.Int.{w64};
 ghost use Rattle.raven_value.specs.View.{data_of};
-ghost use Rattle.raven_data.specs.Data.{items_of, entries_of};
+ghost use Rattle.raven_data.specs.Data.{depth, items_of, entries_of};
+ghost use Rattle.raven_data.specs.Json.{reading};
+ghost use Rattle.raven_data.specs.Rising.{IsRising};
+ghost use Rattle.raven_data.specs.Sound.{IsSound, AreSound, HasSound};
 ghost use Rattle.raven_data.specs.Written.{escaped, quoted, text_of, items_text, entries_text};
 
 use raven_base::NoMemory;
@@ -38,7 +43,8 @@ fn write_byte(out: &mut Vec<u8>, byte: u8) -> Result<(), AllocError>
 }
 
 fn write_quoted(out: &mut Vec<u8>, text: &str) -> Result<(), AllocError>
-    ensures { OnOk result (out.new.items ≡ out.old.items ++ quoted text.now) }
+    ensures text { OnOk result (out.new.items ≡ out.old.items ++ quoted text.now) }
+    ensures utf8 { OnOk result (IsUtf8 text.now) }
 {
     out.push(b'"')?;
     for byte in text.as_bytes() {
@@ -48,15 +54,25 @@ fn write_quoted(out: &mut Vec<u8>, text: &str) -> Result<(), AllocError>
     Ok(())
 }
 
+fn write_number(alloc: Global, out: &mut Vec<u8>, number: i64) -> Result<(), AllocError>
+    ensures text { OnOk result (out.new.items ≡ out.old.items ++ signed_decimal number) }
+    ensures fits { FitsSigned w64 number }
+{
+    out.extend_from_slice(number.to_string(alloc)?.as_bytes())?;
+    Ok(())
+}
+
+#[tactic(auto, using(crate::proofs::Sounds::sounds))]
 #[cycle(write)]
 fn write_value(alloc: Global, out: &mut Vec<u8>, value: &Value) -> Result<(), AllocError>
-    ensures { OnOk result (out.new.items ≡ out.old.items ++ text_of (data_of value.now)) }
+    ensures text { OnOk result (out.new.items ≡ out.old.items ++ text_of (data_of value.now)) }
+    ensures sound { OnOk result (IsSound (data_of value.now)) }
 {
     match value {
         Value::Null => out.extend_from_slice(b"null")?,
         Value::Flag(true) => out.extend_from_slice(b"true")?,
         Value::Flag(false) => out.extend_from_slice(b"false")?,
-        Value::Num(n) => out.extend_from_slice(n.to_string(alloc)?.as_bytes())?,
+        Value::Num(number) => write_number(alloc, out, *number)?,
         Value::Text(text) => write_quoted(out, text.as_str())?,
         Value::List(items) => {
             out.push(b'[')?;
@@ -74,7 +90,8 @@ fn write_value(alloc: Global, out: &mut Vec<u8>, value: &Value) -> Result<(), Al
 
 #[cycle(write)]
 fn write_items(alloc: Global, out: &mut Vec<u8>, items: &Values) -> Result<(), AllocError>
-    ensures { OnOk result (out.new.items ≡ out.old.items ++ items_text false (items_of items.now)) }
+    ensures text { OnOk result (out.new.items ≡ out.old.items ++ items_text false (items_of items.now)) }
+    ensures sound { OnOk result (AreSound (items_of items.now)) }
 {
     let mut later = false;
     for item in items.as_slice() {
@@ -87,9 +104,12 @@ fn write_items(alloc: Global, out: &mut Vec<u8>, items: &Values) -> Result<(), A
     Ok(())
 }
 
+#[tactic(auto, using(crate::proofs::Sounds::sounds))]
 #[cycle(write)]
 fn write_members(alloc: Global, out: &mut Vec<u8>, members: &Members) -> Result<(), AllocError>
-    ensures { OnOk result (out.new.items ≡ out.old.items ++ entries_text false (entries_of members.now)) }
+    ensures text { OnOk result (out.new.items ≡ out.old.items ++ entries_text false (entries_of members.now)) }
+    ensures rising { IsRising members.now }
+    ensures sound { OnOk result (HasSound (entries_of members.now)) }
 {
     let mut later = false;
     for member in members.as_slice() {
@@ -104,9 +124,11 @@ fn write_members(alloc: Global, out: &mut Vec<u8>, members: &Members) -> Result<
     Ok(())
 }
 
-/// The compact text of a value.
+/// The compact text of a value. Where the value is at most a hundred deep, the text is read as that value.
+#[tactic(auto, using(crate::proofs::RoundTrip::read_back))]
 pub fn write(alloc: Global, value: &Value) -> Result<Vec<u8>, NoMemory>
-    ensures { IfOk result (λ bytes. bytes.items ≡ text_of (data_of value.now)) }
+    ensures text { IfOk result (λ bytes. bytes.items ≡ text_of (data_of value.now)) }
+    ensures reads_back { IfOk result (λ bytes. depth (data_of value.now) ≤ 100 → reading bytes.items ≡ Ok (data_of value.now)) }
 {
     let mut out = Vec::new(alloc);
     write_value(alloc, &mut out, value)?;

@@ -4,10 +4,12 @@
 mod convert;
 mod decode;
 mod encode;
+mod laws;
 mod scan;
 
 pub use decode::{JsonRefusal, read};
 pub use encode::write;
+pub use laws::written_is_read;
 
 #[cfg(test)]
 mod tests;

@@ -6,3 +6,6 @@ mod ports;
 
 pub use memory::{ByteSink, ByteSource};
 pub use ports::{Failed, Sink, SinkFault, Source};
+
+#[cfg(test)]
+mod tests;

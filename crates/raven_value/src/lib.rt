@@ -24,3 +24,6 @@ pub use row::{Body, Document, Row};
 pub use scalar::{Scalar, compare};
 pub use text::Text;
 pub use value::{Members, Value, Values};
+
+#[cfg(test)]
+mod tests;

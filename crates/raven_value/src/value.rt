@@ -1,11 +1,11 @@
 //! A JSON value.
-ghost use Rattle.std.specs.Prelude.{◌≡◌, ◌++◌, ◌<◌, ◌^◌, [], ◌∷◌, IfOk, OnOk, OnErr, length, map, option_map, MatchResult, slice_set, insert, ◌≤◌};
+ghost use Rattle.std.specs.Prelude.{◌≡◌, ◌++◌, ◌<◌, ◌^◌, [], ◌∷◌, IfOk, OnOk, OnErr, length, map, option_map, MatchResult, MatchOption, Some, remove, slice_get};
 ghost use Rattle.raven_data.specs.Data.{depth, entries_of};
 ghost use Rattle.raven_value.specs.View.{data_of, pair_of};
 ghost use Rattle.raven_data.specs.Members.{value_at, member};
-ghost use Rattle.raven_data.specs.Rising.{put, IsRising};
+ghost use Rattle.raven_data.specs.Rising.{put, without, IsRising};
 ghost use Rattle.raven_data.specs.Scalars.{scalar_of};
-ghost use Rattle.raven_value.specs.Places.{IsPlace, IsGap};
+ghost use Rattle.raven_value.specs.Places.{IsPlace, IsGap, IsMember, IsAbsent};
 ghost use Rattle.raven_value.specs.ScalarView.{scalar_view};
 
 use crate::path::Path;
@@ -174,6 +174,29 @@ fn insert_at(
     Ok(())
 }
 
+// Where the member of a name stands.
+fn index_of(items: &[(Text, Value)], name: &Text) -> Option<usize>
+    ensures { MatchOption result (IsAbsent name.now (map pair_of items.now)) (IsMember name.now (map pair_of items.now)) }
+{
+    for (i, member) in items.iter().enumerate() {
+        if member.0 == *name {
+            return Some(i);
+        }
+    }
+    None
+}
+
+// Takes the member at a place out.
+#[tactic(auto, using(crate::proofs::MemberLemmas::map_remove))]
+fn take_out(items: &mut Vec<(Text, Value)>, i: usize) -> Value
+    requires { i < length items.old.items }
+    ensures rest { map pair_of items.new.items ≡ remove (map pair_of items.old.items) i }
+    ensures value { option_map (λ m. m.1) (slice_get (map pair_of items.old.items) i) ≡ Some (data_of result) }
+{
+    let (_, value) = items.remove(i);
+    value
+}
+
 impl Members {
     /// No members.
     pub fn new(alloc: Global) -> Members
@@ -219,6 +242,16 @@ impl Members {
         ensures { map pair_of result.items ≡ self }
     {
         self.items
+    }
+
+    /// Takes the member of that name out, and gives its value.
+    #[tactic(auto, using(crate::proofs::MemberLemmas::rising_by_without))]
+    pub fn remove(&mut self, name: &Text) -> Option<Value>
+        ensures value { option_map (λ v. data_of v) result ≡ member name.now (entries_of self.old) }
+        ensures rest { self.new ≡ without name.now self.old }
+    {
+        let i = index_of(&self.items, name)?;
+        Some(take_out(&mut self.items, i))
     }
 
     /// The value of the member of that name.
