@@ -10,6 +10,7 @@ use Rattle.raven_model.specs.Index.{Table}
 use Rattle.raven_model.specs.Mapping.{Definition, Auto}
 use Rattle.raven_model.specs.Commit.{Setting}
 use Rattle.raven_model.specs.World.{Version, Slot, Note, World}
+use Rattle.raven_model.specs.Replies.{Pumping}
 use Rattle.raven_model.specs.Machine.{Machine}
 
 abbrev pub store_code : Coded Store
@@ -53,3 +54,7 @@ world_code = code_by (Setting × (Store × (List Slot × List Note))) (coded× s
 
 abbrev pub machine_code : Coded Machine
 machine_code = code_by World world_code (λ m. m.world) (λ w. record { world = w }) (λ _. refl)
+
+abbrev pub pumping_code : Coded Pumping
+pumping_code = code_by (ℕ × (List ℕ × ℕ)) (coded× coded_ℕ (coded× text_code coded_ℕ))
+    (λ p. (p.from, (p.index, p.to))) (λ q. record { from = q.0; index = q.1.0; to = q.1.1 }) (λ _. refl)

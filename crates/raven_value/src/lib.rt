@@ -15,6 +15,7 @@ mod text;
 mod value;
 
 pub use fault::IdRefusal;
+pub use folded::starts_folded;
 pub use id::Id;
 pub use lists::{Ids, Names, Paths, Rows, Scope};
 pub use matching::{Scalars, Test, matches};

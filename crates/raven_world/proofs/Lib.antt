@@ -1,3 +1,5 @@
 pub mod Joins
 pub mod Batches
 pub mod Clean
+pub mod Printed
+pub mod Pairs

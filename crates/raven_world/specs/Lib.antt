@@ -1,3 +1,4 @@
 pub mod DefinitionView
 pub mod EntryView
 pub mod ChoiceView
+pub mod ReplyView

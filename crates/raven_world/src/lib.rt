@@ -3,16 +3,20 @@
 
 mod batch;
 mod definition;
+mod document;
 mod entry;
 mod mapping;
 mod naming;
+mod reply;
 mod choice;
 mod slot;
 mod table;
 mod version;
 
 pub use definition::Definition;
+pub use document::{collection_of, is_index_id, stored};
 pub use choice::{Choice, is_stale, pick};
 pub use naming::auto_name;
+pub use reply::{Pumping, Pumpings, Reply, reply_text};
 pub use slot::Slot;
 pub use version::IndexVersion;
