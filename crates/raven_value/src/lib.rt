@@ -7,6 +7,7 @@ mod folded;
 mod id;
 mod lists;
 mod matching;
+mod member_list;
 mod name;
 mod path;
 mod row;
