@@ -134,3 +134,11 @@ pub fn write(alloc: Global, value: &Value) -> Result<Vec<u8>, NoMemory>
     write_value(alloc, &mut out, value)?;
     Ok(out)
 }
+
+/// Adds the JSON text of a text to bytes.
+pub fn write_text(out: &mut Vec<u8>, text: &str) -> Result<(), NoMemory>
+    ensures { OnOk result (out.new.items ≡ out.old.items ++ quoted text.now) }
+{
+    write_quoted(out, text)?;
+    Ok(())
+}

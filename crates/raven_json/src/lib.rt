@@ -8,7 +8,7 @@ mod laws;
 mod scan;
 
 pub use decode::{JsonRefusal, read};
-pub use encode::write;
+pub use encode::{write, write_text};
 pub use laws::written_is_read;
 
 #[cfg(test)]
