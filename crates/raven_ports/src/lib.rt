@@ -1,6 +1,7 @@
 //! The outside: where bytes come from and go to, and memory that stands for it.
 #![tactic(auto)]
 
+mod calls;
 mod memory;
 mod ports;
 
