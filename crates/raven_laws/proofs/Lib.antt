@@ -7,6 +7,7 @@ pub mod MappingLemmas
 pub mod KeyedLemmas
 pub mod SlotLemmas
 pub mod ListedLemmas
+pub mod LimitLemmas
 pub mod WorldLemmas
 pub mod MachineLemmas
 pub mod OrderLemmas
