@@ -12,6 +12,7 @@ pub mod WorldLemmas
 pub mod MachineLemmas
 pub mod OrderLemmas
 pub mod AnswerLemmas
+pub mod NameLemmas
 pub mod ScriptLemmas
 pub mod WorkedRows
 pub mod WorkedScript
