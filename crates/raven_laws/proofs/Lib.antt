@@ -13,6 +13,7 @@ pub mod MachineLemmas
 pub mod OrderLemmas
 pub mod AnswerLemmas
 pub mod NameLemmas
+pub mod PumpLemmas
 pub mod ScriptLemmas
 pub mod WorkedRows
 pub mod WorkedScript

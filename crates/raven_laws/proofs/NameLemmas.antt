@@ -8,12 +8,15 @@ use Rattle.std.specs.Char.{to_ascii_lowercase, digit_value}
 use Rattle.std.specs.Fmt.{decimal}
 use Rattle.std.specs.Str.Parse.{AllDigits}
 use Rattle.raven_data.specs.Folding.{folded, same_key}
+use Rattle.raven_model.specs.Commit.{Setting}
+use Rattle.raven_model.specs.Machine.{Event, start, run}
 use Rattle.raven_model.specs.Store.{last}
 use Rattle.raven_model.specs.World.{Slot, World, serving, is_name}
 use Rattle.raven_model.specs.Optimiser.{Shape, plain_name, free_name, first_free, name_of}
-use Rattle.raven_model.specs.Sound.{Has}
+use Rattle.raven_model.specs.Sound.{Has, Sound, LaterW}
 use Rattle.raven_laws.proofs.StoreLemmas.{same_itself, same_means}
 use Rattle.raven_laws.proofs.SlotLemmas.{served}
+use Rattle.raven_laws.proofs.MachineLemmas.{run-Sound, run-LaterW}
 
 -- NUMBERED NAMES ARE APART
 
@@ -130,3 +133,10 @@ name_of-free W shape small =
       | true ↦ first_free-free (plain_name shape) W.slots small
       | false ↦ first_free-free (codes "Auto/" ++ decimal (last W.store + 1)) W.slots small
     ]
+
+pub run-free : (setting : Setting) (events : List Event) (shape : Shape) → setting.max_slots < 2 ^ 32 → let W = (run events (start setting)).world in serving W.slots (name_of W shape) ≡ None
+run-free setting events shape few =
+    let W = (run events (start setting)).world in
+    let o = run-Sound setting events in
+    let l = run-LaterW setting [] events in
+    name_of-free W shape (let a = o.limits.slots in let b : W.setting.max_slots ≡ setting.max_slots = ap (λ (s : Setting). s.max_slots) l.setting in omega arith)

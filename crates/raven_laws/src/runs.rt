@@ -1,10 +1,11 @@
 //! What holds after every run: whatever is asked, in whatever order.
 
-ghost use Rattle.std.specs.Prelude.{◌≡◌, ◌++◌, ℕ, List, Some};
+ghost use Rattle.std.specs.Prelude.{◌≡◌, ◌↔◌, ◌<◌, ◌≤◌, ◌^◌, ◌++◌, ℕ, List, Some, None, false, length};
 ghost use Rattle.raven_model.specs.Mapping.{Fields, mapper_of, scratch};
 ghost use Rattle.raven_model.specs.Commit.{Setting};
 ghost use Rattle.raven_model.specs.World.{Slot, World, serving};
-ghost use Rattle.raven_model.specs.Machine.{Event, run, start};
+ghost use Rattle.raven_model.specs.Optimiser.{Shape, name_of};
+ghost use Rattle.raven_model.specs.Machine.{Event, is_stale, pump, pumping, run, start};
 ghost use Rattle.raven_model.specs.Sound.{Has, LaterW, Sound};
 ghost use Rattle.raven_laws.specs.Claims.{FlagsAreExact, FreshIsFromScratch, IdsAreAsKept, IsAsKept};
 
@@ -47,4 +48,24 @@ pub fn ids_are_as_kept()
         let W = (run events (start setting)).world in
         Has W.slots s → Has (scratch (mapper_of s.version.definition) s.version.table) e → IsAsKept W.store e.0 }
     ensures answers { (setting : Setting) (events : List Event) → IdsAreAsKept (run events (start setting)) }
+{}
+
+/// The name that is chosen for a new index is free, so no index is refused for its name.
+pub fn new_names_are_free()
+    ensures { (setting : Setting) (events : List Event) (shape : Shape) → setting.max_slots < 2 ^ 32 →
+        let W = (run events (start setting)).world in serving W.slots (name_of W shape) ≡ None }
+{}
+
+/// A batch moves an index exactly where the index is stale.
+pub fn batches_move_what_is_stale()
+    ensures { (setting : Setting) (events : List Event) (s : Slot) (max : ℕ) → 1 ≤ max →
+        let W = (run events (start setting)).world in Has W.slots s →
+        ((pumping W.store max s).to ≡ (pumping W.store max s).from) ↔ (is_stale W.store s ≡ false) }
+{}
+
+/// A batch as large as the store leaves no index stale.
+pub fn large_batches_are_enough()
+    ensures { (setting : Setting) (events : List Event) (s : Slot) (max : ℕ) → 1 ≤ max →
+        let M = run events (start setting) in let N = (pump M max).machine in
+        length M.world.store.rows ≤ max → Has N.world.slots s → is_stale N.world.store s ≡ false }
 {}
