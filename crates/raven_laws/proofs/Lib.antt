@@ -10,7 +10,6 @@ pub mod ListedLemmas
 pub mod LimitLemmas
 pub mod WorldLemmas
 pub mod MachineLemmas
-pub mod OrderLemmas
 pub mod AnswerLemmas
 pub mod NameLemmas
 pub mod PumpLemmas

@@ -11,7 +11,8 @@ use Rattle.raven_data.specs.Folding.{folded, same_key}
 use Rattle.raven_model.specs.Commit.{Setting}
 use Rattle.raven_model.specs.Machine.{Event, start, run}
 use Rattle.raven_model.specs.Store.{last}
-use Rattle.raven_model.specs.World.{Slot, World, serving, is_name}
+use Rattle.raven_data.specs.Faults.{is_fit}
+use Rattle.raven_model.specs.World.{Slot, World, serving}
 use Rattle.raven_model.specs.Optimiser.{Shape, plain_name, free_name, first_free, name_of}
 use Rattle.raven_model.specs.Sound.{Has, Sound, LaterW}
 use Rattle.raven_laws.proofs.StoreLemmas.{same_itself, same_means}
@@ -127,16 +128,18 @@ first_free-free name slots small =
       ]
     ] refl
 
-pub name_of-free : (W : World) (shape : Shape) → length W.slots + 3 < 2 ^ 64 → serving W.slots (name_of W shape) ≡ None
-name_of-free W shape small =
-    elim (is_name 200 (first_free (plain_name shape) W.slots)) as (λ b. serving W.slots (cond b (first_free (plain_name shape) W.slots) (first_free (codes "Auto/" ++ decimal (last W.store + 1)) W.slots)) ≡ None) [
-      | true ↦ first_free-free (plain_name shape) W.slots small
-      | false ↦ first_free-free (codes "Auto/" ++ decimal (last W.store + 1)) W.slots small
+pub name_of-free : (slots : List Slot) (number : ℕ) (shape : Shape) → length slots + 3 < 2 ^ 64 → serving slots (name_of slots number shape) ≡ None
+name_of-free slots number shape small =
+    elim (is_fit 200 (first_free (plain_name shape) slots)) as (λ b. serving slots (cond b (first_free (plain_name shape) slots) (first_free (codes "Auto/" ++ decimal number) slots)) ≡ None) [
+      | true ↦ first_free-free (plain_name shape) slots small
+      | false ↦ first_free-free (codes "Auto/" ++ decimal number) slots small
     ]
 
-pub run-free : (setting : Setting) (events : List Event) (shape : Shape) → setting.max_slots < 2 ^ 32 → let W = (run events (start setting)).world in serving W.slots (name_of W shape) ≡ None
+-- AFTER A RUN
+
+pub run-free : (setting : Setting) (events : List Event) (shape : Shape) → setting.max_slots < 2 ^ 32 → let W = (run events (start setting)).world in serving W.slots (name_of W.slots (last W.store + 1) shape) ≡ None
 run-free setting events shape few =
     let W = (run events (start setting)).world in
     let o = run-Sound setting events in
     let l = run-LaterW setting [] events in
-    name_of-free W shape (let a = o.limits.slots in let b : W.setting.max_slots ≡ setting.max_slots = ap (λ (s : Setting). s.max_slots) l.setting in omega arith)
+    name_of-free W.slots (last W.store + 1) shape (let a = o.limits.slots in let b : W.setting.max_slots ≡ setting.max_slots = ap (λ (s : Setting). s.max_slots) l.setting in omega arith)

@@ -1,6 +1,7 @@
 //! What holds after every run: whatever is asked, in whatever order.
 
-ghost use Rattle.std.specs.Prelude.{◌≡◌, ◌↔◌, ◌<◌, ◌≤◌, ◌^◌, ◌++◌, ℕ, List, Some, None, false, length};
+ghost use Rattle.std.specs.Prelude.{◌≡◌, ◌↔◌, ◌<◌, ◌≤◌, ◌^◌, ◌+◌, ◌++◌, ℕ, List, Some, None, false, length};
+ghost use Rattle.raven_model.specs.Store.{last};
 ghost use Rattle.raven_model.specs.Mapping.{Fields, mapper_of, scratch};
 ghost use Rattle.raven_model.specs.Commit.{Setting};
 ghost use Rattle.raven_model.specs.World.{Slot, World, serving};
@@ -53,7 +54,7 @@ pub fn ids_are_as_kept()
 /// The name that is chosen for a new index is free, so no index is refused for its name.
 pub fn new_names_are_free()
     ensures { (setting : Setting) (events : List Event) (shape : Shape) → setting.max_slots < 2 ^ 32 →
-        let W = (run events (start setting)).world in serving W.slots (name_of W shape) ≡ None }
+        let W = (run events (start setting)).world in serving W.slots (name_of W.slots (last W.store + 1) shape) ≡ None }
 {}
 
 /// A batch moves an index exactly where the index is stale.
