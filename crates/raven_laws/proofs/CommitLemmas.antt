@@ -72,6 +72,7 @@ row_of-follows s w now S (Delete id expected) r h is =
                 ap (λ (y : Row). y.id) (same_row d x both);
           })
     ] refl is
+
 with_rows-push : (S : Store) (rows : List Row) (r : Row) → with_rows S (rows ++ r ∷ []) ≡ with_row (with_rows S rows) r
 with_rows-push S [] r = refl
 with_rows-push S (x ∷ rows) r = with_rows-push (with_row S x) rows r

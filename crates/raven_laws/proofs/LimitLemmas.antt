@@ -1,11 +1,11 @@
 -- A store never has more rows than its setting allows.
-use Rattle.std.proofs.Common.{◌≡◌, ℕ, suc, ◌+◌, ◌<◌, ◌≤◌, List, [], ◌∷◌, ◌++◌, length, Bool, true, false, not, cond, ◌&&◌, nat_le, is_none, Option, Some, None, Result, Ok, filter, map, refl, sym, ap, ◌∙◌, subst, arith, inl, inr, length-append}
+use Rattle.std.proofs.Common.{◌≡◌, ℕ, suc, ◌+◌, ◌<◌, ◌≤◌, List, [], ◌∷◌, length, true, false, not, cond, ◌&&◌, nat_le, is_none, Option, Some, None, Ok, filter, map, refl, sym, ap, subst, arith, inl, inr, length-append}
 use Rattle.std.proofs.lemmas.Bool.{leb-false}
 use Rattle.std.specs.Option.{option_map}
 use Rattle.raven_data.specs.Folding.{folded, same_key}
 use Rattle.raven_data.specs.Rows.{Row, key}
 use Rattle.raven_model.specs.Store.{row_at, put, Store, last}
-use Rattle.raven_model.specs.Commit.{Command, Put, Delete, Writer, Setting, Refusal, StoreFull, Written, first_of, refusal_of, reserved, too_large, collection_changed, conflict, store_full, etags_spent, document_at, tombstone, row_of, with_written, unless, commit_from, commit}
+use Rattle.raven_model.specs.Commit.{Command, Put, Delete, Writer, Setting, Refusal, StoreFull, Written, first_of, refusal_of, reserved, too_large, collection_changed, conflict, store_full, etags_spent, document_at, tombstone, row_of, with_written, unless, commit_from}
 use Rattle.raven_model.specs.Sound.{Has}
 use Rattle.raven_laws.proofs.StoreLemmas.{found_key}
 use Rattle.raven_laws.proofs.CommitLemmas.{put_key, document_found}

@@ -1,18 +1,18 @@
 -- Each step of the machine leaves a sound and later world.
-use Rattle.std.proofs.Common.{◌≡◌, ℕ, ◌+◌, ◌<◌, ◌≤◌, List, [], ◌∷◌, ◌++◌, length, Option, Some, None, Result, Ok, Err, map, refl, sym, ap, ◌∙◌, subst, arith, inl, inr}
+use Rattle.std.proofs.Common.{◌≡◌, ℕ, ◌+◌, ◌<◌, ◌≤◌, List, [], ◌∷◌, ◌++◌, length, Some, None, Result, Ok, Err, map, refl, sym, ap, subst, arith, inl}
 use Rattle.raven_data.specs.Rows.{Row}
 use Rattle.raven_model.specs.Store.{Store, last, IsStore}
 use Rattle.raven_model.specs.Later.{Later}
 use Rattle.raven_model.specs.Index.{taken, etag_of_batch}
 use Rattle.raven_model.specs.Mapping.{Definition}
-use Rattle.raven_model.specs.Optimiser.{Shape, Choice, Use, Make, Merge, pick, name_of}
+use Rattle.raven_model.specs.Optimiser.{Choice, Use, Make, Merge, pick, name_of}
 use Rattle.raven_model.specs.Commit.{Command, Put, Delete, Writer, Client, Server, Setting, Refused, Written, refusal_of, row_of, with_written, unless, commit_from, commit}
-use Rattle.raven_model.specs.World.{Version, Slot, Note, World, reads, advanced, batch, SlotChange, SlotRefusal, define}
+use Rattle.raven_model.specs.World.{Version, Slot, World, reads, advanced, batch, SlotChange, SlotRefusal, define}
 use Rattle.raven_model.specs.Machine.{Machine, Request, Put as PutOne, Auto, Find, Pump, Event, wrote, rewrote, defined, use_or_make, one_field, or_as_before, brought_on, pump, step, start, after, run}
 use Rattle.raven_model.specs.Sound.{Has, NumbersRise, NamesApart, AreListed, Sound, LaterW}
 use Rattle.raven_laws.proofs.LaterLemmas.{Later-itself, IsStore-with, last-with}
 use Rattle.raven_laws.proofs.CommitLemmas.{row_of-follows, commit-Commits}
-use Rattle.raven_laws.proofs.SlotLemmas.{Has-map, Has-append, NumbersRise-map, NamesApart-map, Brought, batch-Brought}
+use Rattle.raven_laws.proofs.SlotLemmas.{Has-map, NumbersRise-map, NamesApart-map, batch-Brought}
 use Rattle.raven_laws.proofs.ListedLemmas.{commit_from-applied, clients-AreListed, map-AreListed}
 use Rattle.raven_laws.proofs.LimitLemmas.{commit_from-fits, length_mapped}
 use Rattle.raven_laws.proofs.WorldLemmas.{append-none, LaterW-itself, LaterW-then, Comes, stays, StartsWithPut, Onto, Settles, define-Settles}

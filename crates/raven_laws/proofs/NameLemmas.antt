@@ -1,6 +1,6 @@
 -- The name of a new index serves none yet.
-use Rattle.std.proofs.Common.{◌≡◌, ℕ, zero, suc, ◌+◌, ◌^◌, ◌<◌, ◌≤◌, List, [], ◌∷◌, ◌++◌, length, Bool, true, false, not, cond, nat_lt, is_some, Option, Some, None, filter, map, refl, sym, ap, ◌∙◌, subst, arith, ◌⊎◌, inl, inr, codes}
-use Rattle.std.proofs.lemmas.Bool.{ltb-false, ltb-true, lt-ltb}
+use Rattle.std.proofs.Common.{◌≡◌, ℕ, zero, suc, ◌+◌, ◌^◌, ◌<◌, ◌≤◌, List, [], ◌∷◌, ◌++◌, length, true, false, not, cond, nat_lt, is_some, Some, None, filter, refl, sym, ap, ◌∙◌, subst, arith, ◌⊎◌, inl, inr, codes}
+use Rattle.std.proofs.lemmas.Bool.{ltb-false, ltb-true}
 use Rattle.std.proofs.lemmas.Bool.Decides.{nat_tests}
 use Rattle.std.proofs.lemmas.List.{append_cancel_left}
 use Rattle.std.proofs.lemmas.Fmt.{decimal_is_IsNumeral, decimal_injective}
@@ -12,9 +12,9 @@ use Rattle.raven_model.specs.Commit.{Setting}
 use Rattle.raven_model.specs.Machine.{Event, start, run}
 use Rattle.raven_model.specs.Store.{last}
 use Rattle.raven_data.specs.Faults.{is_fit}
-use Rattle.raven_model.specs.World.{Slot, World, serving}
+use Rattle.raven_model.specs.World.{Slot, serving}
 use Rattle.raven_model.specs.Optimiser.{Shape, plain_name, free_name, first_free, name_of}
-use Rattle.raven_model.specs.Sound.{Has, Sound, LaterW}
+use Rattle.raven_model.specs.Sound.{Has}
 use Rattle.raven_laws.proofs.StoreLemmas.{same_itself, same_means}
 use Rattle.raven_laws.proofs.SlotLemmas.{served}
 use Rattle.raven_laws.proofs.MachineLemmas.{run-Sound, run-LaterW}
@@ -84,8 +84,8 @@ enough name n (suc k) slots small all =
     let q = folded (numbered name (n + k)) in
     let fewer = one_fewer q slots top.0 top.1 top.2 in
     let rest = enough name n k (others q slots) (omega arith) (λ m low high.
-        let s = all m low (omega arith) in
-        (s.0, stays q slots s.0 s.1 (differ (folded s.0.name) q (λ e. let f : n + k ≡ m = numbered_apart name (n + k) m (omega arith) (omega arith) (sym e ∙ s.2) in omega arith)), s.2)) in
+    let s = all m low (omega arith) in
+    (s.0, stays q slots s.0 s.1 (differ (folded s.0.name) q (λ e. let f : n + k ≡ m = numbered_apart name (n + k) m (omega arith) (omega arith) (sym e ∙ s.2) in omega arith)), s.2)) in
     omega arith
   where
     differ : (a q : List ℕ) → (a ≡ q → ⊥) → same_key q a ≡ false

@@ -1,5 +1,5 @@
 -- What a batch moves, and what it leaves.
-use Rattle.std.proofs.Common.{◌≡◌, ℕ, zero, suc, ◌+◌, ◌<◌, ◌≤◌, List, [], ◌∷◌, length, take, drop, Bool, true, false, cond, ◌&&◌, ◌||◌, nat_lt, Some, None, filter, refl, sym, ap, ◌∙◌, subst, arith, ◌↔◌}
+use Rattle.std.proofs.Common.{◌≡◌, ℕ, zero, suc, ◌≤◌, List, [], ◌∷◌, length, take, Bool, true, false, cond, ◌&&◌, ◌||◌, nat_lt, Some, None, filter, refl, sym, ap, ◌∙◌, subst, arith, ◌↔◌}
 use Rattle.std.specs.List.{list_any}
 use Rattle.std.proofs.lemmas.Bool.{ltb-true}
 use Rattle.std.proofs.lemmas.List.{drop_all}
@@ -9,8 +9,7 @@ use Rattle.raven_model.specs.Index.{Scope, in_scope, past, taken, left_over, eta
 use Rattle.raven_model.specs.World.{Version, Slot, reads, advanced}
 use Rattle.raven_model.specs.Machine.{Event, or_as_before, brought_on, pumping, pump, is_stale, start, run}
 use Rattle.raven_model.specs.Commit.{Setting}
-use Rattle.raven_model.specs.Sound.{Has, Sound}
-use Rattle.raven_laws.specs.Claims.{Unseen}
+use Rattle.raven_model.specs.Sound.{Has}
 use Rattle.raven_laws.proofs.StoreLemmas.{same_itself, found_etag}
 use Rattle.raven_laws.proofs.IndexLemmas.{either_false, Taken, Taken-batch}
 use Rattle.raven_laws.proofs.StaleLemmas.{seen-fresh}

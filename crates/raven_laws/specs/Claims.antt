@@ -6,7 +6,7 @@ use Rattle.raven_model.specs.Store.{row_at, Store}
 use Rattle.raven_model.specs.Index.{Scope, in_scope, up_to, documents}
 use Rattle.raven_model.specs.Mapping.{mapper_of}
 use Rattle.raven_model.specs.World.{Slot, reads, serving}
-use Rattle.raven_model.specs.Replies.{Reply, Put, Index, Pumped, Found, NoIndex, UnknownLine}
+use Rattle.raven_model.specs.Replies.{Reply, Found}
 use Rattle.raven_model.specs.Machine.{Machine, Find, step, found_in, is_stale}
 use Rattle.raven_model.specs.Sound.{Has}
 
