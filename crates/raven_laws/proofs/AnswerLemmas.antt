@@ -90,7 +90,7 @@ value_found U d h =
 
 -- IDS
 
-Has-filter_map : {X Y : Type 0} (f : X → Option Y) (xs : List X) (y : Y) → Has (filter_map f xs) y → (x : X) × Has xs x × (f x ≡ Some y)
+pub Has-filter_map : {X Y : Type 0} (f : X → Option Y) (xs : List X) (y : Y) → Has (filter_map f xs) y → (x : X) × Has xs x × (f x ≡ Some y)
 Has-filter_map f [] y h = absurd h
 Has-filter_map f (x ∷ xs) y h =
     elim (f x) as (λ o. f x ≡ o → Has (cons_option o (filter_map f xs)) y → (z : _) × ((x ≡ z) ⊎ Has xs z) × (f z ≡ Some y)) [

@@ -11,6 +11,7 @@ pub mod LimitLemmas
 pub mod WorldLemmas
 pub mod MachineLemmas
 pub mod AnswerLemmas
+pub mod MatchLemmas
 pub mod NameLemmas
 pub mod PumpLemmas
 pub mod ScriptLemmas

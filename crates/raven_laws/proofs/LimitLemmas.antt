@@ -7,7 +7,7 @@ use Rattle.raven_data.specs.Rows.{Row, key}
 use Rattle.raven_model.specs.Store.{row_at, put, Store, last}
 use Rattle.raven_model.specs.Commit.{Command, Put, Delete, Writer, Setting, Refusal, StoreFull, Written, first_of, refusal_of, reserved, too_large, collection_changed, conflict, store_full, etags_spent, document_at, tombstone, row_of, with_written, unless, commit_from}
 use Rattle.raven_model.specs.Sound.{Has}
-use Rattle.raven_laws.proofs.StoreLemmas.{found_key}
+use Rattle.raven_laws.proofs.StoreLemmas.{same_row, found_key}
 use Rattle.raven_laws.proofs.CommitLemmas.{put_key, document_found}
 
 -- WHAT IS LEFT WITHOUT AN ID
@@ -47,9 +47,6 @@ all_none (Some r ∷ os) o h at = absurd cc
 has_room : (s : Setting) (w : Writer) (S : Store) (c : Command) → refusal_of s w S c ≡ None → store_full s S c ≡ None
 has_room s w S c h =
     all_none (reserved w c ∷ too_large c ∷ collection_changed S c ∷ conflict s S c ∷ store_full s S c ∷ etags_spent S c ∷ []) (store_full s S c) h (inr (inr (inr (inr (inl refl)))))
-
-same_row : (a b : Row) → Some a ≡ Some b → a ≡ b
-same_row a b h = cc
 
 fits : (s : Setting) (S : Store) (o : Option Row) (r : Row) → length S.rows ≤ s.max_rows → row_at (key r) S.rows ≡ o
     → cond (is_none o && nat_le s.max_rows (length S.rows)) (Some (StoreFull (length S.rows))) None ≡ None → length (put r S.rows) ≤ s.max_rows

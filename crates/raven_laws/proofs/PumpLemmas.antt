@@ -10,8 +10,8 @@ use Rattle.raven_model.specs.World.{Version, Slot, reads, advanced}
 use Rattle.raven_model.specs.Machine.{Event, or_as_before, brought_on, pumping, pump, is_stale, start, run}
 use Rattle.raven_model.specs.Commit.{Setting}
 use Rattle.raven_model.specs.Sound.{Has}
-use Rattle.raven_laws.proofs.StoreLemmas.{same_itself, found_etag}
-use Rattle.raven_laws.proofs.IndexLemmas.{either_false, Taken, Taken-batch}
+use Rattle.raven_laws.proofs.StoreLemmas.{either_false, same_itself, found_etag}
+use Rattle.raven_laws.proofs.IndexLemmas.{Taken, Taken-batch}
 use Rattle.raven_laws.proofs.StaleLemmas.{seen-fresh}
 use Rattle.raven_laws.proofs.SlotLemmas.{Has-map}
 use Rattle.raven_laws.proofs.MachineLemmas.{run-Sound}

@@ -15,7 +15,7 @@ use Rattle.raven_model.specs.Machine.{Machine, Auto, Find, Pump, start}
 use Rattle.raven_model.specs.Lines.{lines}
 use Rattle.raven_model.specs.Script.{Line, Do, ReadRefusal, before_space, after_space, by_word, put_body, or_unknown, request_of, line_of, written_for, left_by, reply_to, after_line, replies_to}
 use Rattle.raven_model.specs.Words.{program}
-use Rattle.raven_laws.proofs.IndexLemmas.{both_true}
+use Rattle.raven_laws.proofs.StoreLemmas.{both_true}
 use Rattle.raven_laws.proofs.KeyedLemmas.{values-table_of}
 use Rattle.raven_laws.proofs.WorkedRows.{put, found_among, ada}
 

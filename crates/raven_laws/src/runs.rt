@@ -8,7 +8,7 @@ ghost use Rattle.raven_model.specs.World.{Slot, World, serving};
 ghost use Rattle.raven_model.specs.Optimiser.{Shape, name_of};
 ghost use Rattle.raven_model.specs.Machine.{Event, is_stale, pump, pumping, run, start};
 ghost use Rattle.raven_model.specs.Sound.{Has, LaterW, Sound};
-ghost use Rattle.raven_laws.specs.Claims.{FlagsAreExact, FreshIsFromScratch, IdsAreAsKept, IsAsKept};
+ghost use Rattle.raven_laws.specs.Claims.{FlagsAreExact, FreshIsExact, FreshIsFromScratch, IdsAreAsKept, IsAsKept};
 
 /// Each index has recorded what the store has up to its etag, has its row among the indexes' rows, and shares its number and its name with no other.
 pub fn every_run_is_sound()
@@ -36,6 +36,11 @@ pub fn every_index_serves_its_name()
 /// An answer that is not stale is what mapping all documents of the store from scratch gives.
 pub fn fresh_answers_are_from_scratch()
     ensures { (setting : Setting) (events : List Event) → FreshIsFromScratch (run events (start setting)) }
+{}
+
+/// An answer that is not stale has exactly the ids of the documents that the store has, that the index maps, and whose field is the text.
+pub fn fresh_answers_are_exact()
+    ensures { (setting : Setting) (events : List Event) → FreshIsExact (run events (start setting)) }
 {}
 
 /// An answer is stale exactly where the store has a row that its index reads and has not seen.
