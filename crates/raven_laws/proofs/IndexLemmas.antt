@@ -1,5 +1,5 @@
 -- What an index has recorded stays right, and a batch keeps it so.
-use Rattle.std.proofs.Common.{◌≡◌, ℕ, ◌≤◌, List, [], ◌∷◌, ◌++◌, Bool, true, false, cond, ◌&&◌, ◌||◌, nat_lt, Option, Some, None, filter, refl, sym, ap, ◌∙◌, subst, arith}
+use Rattle.std.proofs.Common.{◌≡◌, ℕ, ◌≤◌, List, [], ◌∷◌, ◌++◌, Bool, true, false, cond, ◌&&◌, nat_lt, Option, Some, None, filter, refl, sym, ap, ◌∙◌, subst, arith}
 use Rattle.std.specs.Bool.{IsTrue}
 use Rattle.std.proofs.lemmas.Bool.{ltb-true, ltb-false}
 use Rattle.std.proofs.lemmas.List.{take-append-drop}
@@ -15,7 +15,7 @@ use Rattle.raven_data.specs.Rows.{Row, key, is_document}
 use Rattle.raven_model.specs.Store.{row_at, last_of, AreRising, AreApart, Store, last, IsStore}
 use Rattle.raven_model.specs.Later.{StillHas, Later}
 use Rattle.raven_model.specs.Index.{Table, Scope, in_scope, record_of, Agrees, past, taken, left_over, note_row, note_rows, etag_after, etag_of_batch, up_to, stale, documents}
-use Rattle.raven_laws.proofs.StoreLemmas.{same_row, both_true, either_false, found_etag, found_key, same_means, row_at-append, found_passing, passing_found, AreApart-filter, AreApart-front, AreRising-filter, AreRising-front, AreRising-back, last_of-rising, last_of-append, last_of-filter, none_still, row_at-filter, only_if}
+use Rattle.raven_laws.proofs.StoreLemmas.{same_row, both_true, either_false, found_etag, found_key, same_means, row_at-append, found_passing, passing_found, AreApart-filter, AreApart-front, AreRising-filter, AreRising-front, AreRising-back, last_of-rising, last_of-append, last_of-filter, row_at-filter, only_if}
 use Rattle.raven_laws.proofs.LaterLemmas.{StillHas-then}
 
 pub Agrees-later : (scope : Scope) (T : Table) (S N : Store) (e : ℕ) → Agrees scope T S e → Later S N → e ≤ last S → Agrees scope T N e

@@ -1,5 +1,5 @@
 -- The rows of `@indexes` stay those of the slots.
-use Rattle.std.proofs.Common.{◌≡◌, ℕ, ◌+◌, List, [], ◌∷◌, ◌++◌, Bool, true, false, cond, nat_eq, ◌||◌, Option, Some, None, Ok, map, refl, sym, ap, ◌∙◌, subst, ◌⊎◌, inl, inr, codes}
+use Rattle.std.proofs.Common.{◌≡◌, ℕ, ◌+◌, List, [], ◌∷◌, ◌++◌, true, false, cond, nat_eq, Option, Some, None, Ok, map, refl, sym, ap, ◌∙◌, subst, ◌⊎◌, inl, inr, codes}
 use Rattle.std.specs.List.{starts_with}
 use Rattle.std.specs.Str.{bytes_eq}
 use Rattle.std.proofs.lemmas.Slice.Eq.{bytes_eq-Decides}

@@ -1,5 +1,5 @@
 -- A fresh answer has the ids of all documents that match, and no others.
-use Rattle.std.proofs.Common.{◌≡◌, ℕ, List, [], ◌∷◌, Bool, true, false, cond, ◌&&◌, ◌||◌, Option, Some, None, filter, refl, sym, ap, ◌∙◌, subst, ◌⊎◌, inl, inr, ◌↔◌}
+use Rattle.std.proofs.Common.{◌≡◌, ℕ, List, [], ◌∷◌, Bool, true, false, cond, ◌&&◌, ◌||◌, Option, Some, None, filter, refl, sym, ap, ◌∙◌, subst, ◌⊎◌, inl, inr}
 use Rattle.std.specs.List.{filter_map, cons_option, list_any}
 use Rattle.std.specs.Option.{option_and_then}
 use Rattle.std.specs.Ordering.{eq_by_cmp}
@@ -9,12 +9,11 @@ use Rattle.raven_data.specs.Folding.{folded, key_cmp}
 use Rattle.raven_data.specs.Rows.{Row, key, is_document}
 use Rattle.raven_model.specs.Store.{row_at, Store, IsStore}
 use Rattle.raven_model.specs.Index.{Table, Scope, in_scope, record_of, documents}
-use Rattle.raven_model.specs.Mapping.{Definition, Fields, Outcome, Entry, NoEntry, Failed, Mapper, mapper_of, scope_of, is_mapped, mapped_documents, entry_of, scratch}
+use Rattle.raven_model.specs.Mapping.{Definition, Fields, Outcome, Entry, NoEntry, Failed, mapper_of, scope_of, is_mapped, mapped_documents, entry_of, scratch}
 use Rattle.raven_model.specs.Commit.{Setting}
-use Rattle.raven_model.specs.World.{Slot, serving, reads}
 use Rattle.raven_model.specs.Machine.{Machine, Event, start, run, has_words, found_in}
 use Rattle.raven_model.specs.Sound.{Has, Sound}
-use Rattle.raven_laws.specs.Claims.{IsMatch, ids_in, find_reply, FreshIsExact}
+use Rattle.raven_laws.specs.Claims.{IsMatch, ids_in, FreshIsExact}
 use Rattle.raven_laws.proofs.StoreLemmas.{both_true, found_key}
 use Rattle.raven_laws.proofs.IndexLemmas.{get-documents}
 use Rattle.raven_laws.proofs.SlotLemmas.{Has-filter, Has-map, Has-mapped}
@@ -116,14 +115,13 @@ IsMatch-found S d field ws id s x =
     let inside : in_scope (scope_of m) x.row ≡ true = ap (λ b. b || list_any (bytes_eq x.row.collection) m.loaded) x.mapped in
     let there = row-document (scope_of m) S x.row s (subst (λ q. row_at q S.rows ≡ Some x.row) (ap folded (sym x.spelled)) x.found) inside x.document in
     let listed = into-filter_map (λ y. entry_of y.id (m.meaning y U).outcome) (mapped_documents m U) x.row (x.row.id, x.fields)
-        (into-filter (is_mapped m) (values U) x.row there x.mapped) (ap (entry_of x.row.id) x.gives) in
+    (into-filter (is_mapped m) (values U) x.row there x.mapped) (ap (entry_of x.row.id) x.gives) in
     subst (Has (found_in m U field ws)) x.spelled
     (Has-mapped (λ y. y.0) (filter (λ y. has_words field ws y.1) (scratch m U)) (x.row.id, x.fields) (into-filter (λ y. has_words field ws y.1) (scratch m U) (x.row.id, x.fields) listed x.matches))
 
 pub Sound-exact : (M : Machine) → Sound M.world → FreshIsExact M
 Sound-exact M o index field ws id s h is_fresh =
-    let same = ap ids_in (Sound-fresh M o index field ws s h is_fresh) in
-    (
+    let same = ap ids_in (Sound-fresh M o index field ws s h is_fresh) in (
       λ at. found-IsMatch M.world.store s.version.definition field ws id o.store (subst (λ ids. Has ids id) same at),
       λ x. subst (λ ids. Has ids id) (sym same) (IsMatch-found M.world.store s.version.definition field ws id o.store x),
     )
