@@ -40,11 +40,12 @@ pub record AreListed (S : Store) (slots : List Slot) : Type 0 where
   pub each : (s : Slot) → Has slots s → IsListed S s
   pub only : (q : List ℕ) (r : Row) → row_at q S.rows ≡ Some r → IsTrue (is_document r) → r.collection ≡ codes "@indexes" → (s : Slot) × Has slots s × (q ≡ folded (index_id s.name))
 
--- no more rows, slots and notes than the setting allows
+-- no more rows, slots and notes than the setting allows, and no etag past the greatest that there is
 pub record IsWithinLimits (W : World) : Type 0 where
   pub rows : length W.store.rows ≤ W.setting.max_rows
   pub slots : length W.slots ≤ W.setting.max_slots
   pub notes : length W.notes ≤ W.setting.max_notes
+  pub etags : last W.store ≤ 9007199254740991
 
 pub record Sound (W : World) : Type 0 where
   pub store : IsStore W.store
