@@ -1,14 +1,15 @@
--- A store never has more rows than its setting allows.
-use Rattle.std.proofs.Common.{◌≡◌, ℕ, suc, ◌+◌, ◌<◌, ◌≤◌, List, [], ◌∷◌, length, true, false, not, cond, ◌&&◌, nat_le, is_none, Option, Some, None, Ok, filter, map, refl, sym, ap, subst, arith, inl, inr, length-append}
-use Rattle.std.proofs.lemmas.Bool.{leb-false}
+-- A store never has more rows than its setting allows, and no etag past the last that there is.
+use Rattle.std.proofs.Common.{◌≡◌, ℕ, suc, ◌+◌, ◌<◌, ◌≤◌, List, [], ◌∷◌, length, true, false, not, cond, ◌&&◌, ◌==◌, nat_lt, nat_le, is_none, is_some, Option, Some, None, Ok, filter, map, refl, sym, ap, ◌∙◌, subst, arith, inl, inr, length-append}
+use Rattle.std.proofs.lemmas.Bool.{leb-false, ltb-true, ltb-false, eq-eqb}
 use Rattle.std.specs.Option.{option_map}
 use Rattle.raven_data.specs.Folding.{folded, same_key}
 use Rattle.raven_data.specs.Rows.{Row, key}
 use Rattle.raven_model.specs.Store.{row_at, put, Store, last}
-use Rattle.raven_model.specs.Commit.{Command, Put, Delete, Writer, Setting, Refusal, StoreFull, Written, first_of, refusal_of, reserved, too_large, collection_changed, conflict, store_full, etags_spent, document_at, tombstone, row_of, with_written, unless, commit_from}
+use Rattle.raven_model.specs.Commit.{Command, Put, Delete, Writer, Setting, Refusal, StoreFull, Written, first_of, refusal_of, reserved, too_large, collection_changed, conflict, store_full, takes_etag, refuse_if, EtagsSpent, etags_spent, document_at, tombstone, row_of, with_written, unless, commit_from}
 use Rattle.raven_model.specs.Sound.{Has}
 use Rattle.raven_laws.proofs.StoreLemmas.{same_row, found_key}
-use Rattle.raven_laws.proofs.CommitLemmas.{put_key, document_found}
+use Rattle.raven_laws.proofs.LaterLemmas.{last-with}
+use Rattle.raven_laws.proofs.CommitLemmas.{put_key, document_found, row_of-follows}
 
 -- WHAT IS LEFT WITHOUT AN ID
 
@@ -80,6 +81,44 @@ commit_from-fits at s w now (c ∷ cs) done new le h =
       ] refl g
       | Some kind ↦ λ e g. absurd cc
     ] refl h
+
+-- THE LAST ETAG
+
+unspent : (s : Setting) (w : Writer) (S : Store) (c : Command) → refusal_of s w S c ≡ None → takes_etag S c ≡ true → last S ≤ 9007199254740991 → last S < 9007199254740991
+unspent s w S c h takes le =
+    elim (nat_lt (last S) 9007199254740991) as (λ b. nat_lt (last S) 9007199254740991 ≡ b → last S < 9007199254740991) [
+      | true ↦ λ e. ltb-true (last S) 9007199254740991 e
+      | false ↦ λ e.
+          let at = ltb-false (last S) 9007199254740991 e in
+          let is = eq-eqb (last S) 9007199254740991 (omega arith) in
+          let none = all_none (reserved w c ∷ too_large c ∷ collection_changed S c ∷ conflict s S c ∷ store_full s S c ∷ etags_spent S c ∷ []) (etags_spent S c) h (inr (inr (inr (inr (inr (inl refl)))))) in
+          let some : etags_spent S c ≡ Some (EtagsSpent (last S)) = ap (λ b. refuse_if (b && (last S == 9007199254740991)) (EtagsSpent (last S))) takes ∙ ap (λ b. refuse_if b (EtagsSpent (last S))) is in
+          absurd (let both = sym none ∙ some in cc)
+    ] refl
+
+takes : (now : ℕ) (S : Store) (c : Command) (r : Row) → row_of now S c ≡ Some r → takes_etag S c ≡ true
+takes now S (Put id expected body) r is = refl
+takes now S (Delete id expected) r is = elim (document_at S (folded id)) as (λ o. option_map (tombstone (last S + 1) now) o ≡ Some r → is_some o ≡ true) [
+  | None ↦ λ e. absurd cc
+  | Some d ↦ λ e. refl
+] is
+
+pub commit_from-last : (at : ℕ) (s : Setting) (w : Writer) (now : ℕ) (cs : List Command) (done new : Written) → last done.store ≤ 9007199254740991 → commit_from at s w now cs done ≡ Ok new → last new.store ≤ 9007199254740991
+commit_from-last at s w now [] done new le h = subst (λ (x : Written). last x.store ≤ 9007199254740991) (let e : done ≡ new = cc in e) le
+commit_from-last at s w now (c ∷ cs) done new le h =
+    elim (refusal_of s w done.store c) as (λ o. refusal_of s w done.store c ≡ o → unless o at (commit_from (at + 1) s w now cs (with_written (row_of now done.store c) done)) ≡ Ok new → last new.store ≤ 9007199254740991) [
+      | None ↦ λ e g. elim (row_of now done.store c) as (λ o. row_of now done.store c ≡ o → commit_from (at + 1) s w now cs (with_written o done) ≡ Ok new → last new.store ≤ 9007199254740991) [
+        | None ↦ λ f k. commit_from-last (at + 1) s w now cs done new le k
+        | Some r ↦ λ f k.
+            let m = row_of-follows s w now done.store c r e f in
+            let below = unspent s w done.store c e (takes now done.store c r f) le in
+            let next = last-with done.store r in
+            commit_from-last (at + 1) s w now cs (with_written (Some r) done) new (let n = m.next in omega arith) k
+      ] refl g
+      | Some kind ↦ λ e g. absurd cc
+    ] refl h
+
+-- LISTS
 
 pub length_mapped : {X Y : Type 0} (f : X → Y) (xs : List X) → length (map f xs) ≡ length xs
 length_mapped f [] = refl

@@ -10,7 +10,8 @@ ghost use Rattle.raven_model.specs.Machine.{Event, is_stale, pump, pumping, run,
 ghost use Rattle.raven_model.specs.Sound.{Has, LaterW, Sound};
 ghost use Rattle.raven_laws.specs.Claims.{FlagsAreExact, FreshIsExact, FreshIsFromScratch, IdsAreAsKept, IsAsKept};
 
-/// Each index has recorded what the store has up to its etag, has its row among the indexes' rows, and shares its number and its name with no other.
+/// Each index has recorded what the store has up to its etag, has its row among the indexes' rows, and shares its number and its name
+/// with no other. No limit is passed.
 pub fn every_run_is_sound()
     ensures { (setting : Setting) (events : List Event) → Sound (run events (start setting)).world }
 {}
