@@ -1,5 +1,5 @@
 -- What queries answer after any run.
-use Rattle.std.proofs.Common.{◌≡◌, ℕ, List, [], ◌∷◌, Bool, true, false, cond, ◌&&◌, T, Option, Some, None, filter, map, refl, sym, ap, ◌∙◌, subst, ◌⊎◌, inl, inr, ◌↔◌}
+use Rattle.std.proofs.Common.{◌≡◌, ℕ, List, [], ◌∷◌, Bool, true, false, cond, ◌&&◌, T, Option, Some, None, filter, refl, sym, ap, ◌∙◌, subst, ◌⊎◌, inl, inr}
 use Rattle.std.specs.declared.cmp.Ordering.{Ordering}
 use Rattle.std.specs.declared.cmp.Ordering.TheVariants.{Less, Equal, Greater}
 use Rattle.std.specs.Ordering.{is_lt, eq_by_cmp}
@@ -7,17 +7,17 @@ use Rattle.std.specs.List.{filter_map, cons_option}
 use Rattle.std.specs.Cmp.Lexicographic.{nat_list_eq_equiv}
 use Rattle.std.specs.FinMap.{get, values, entries, find as entry_at, is_sorted, get-entries, entries_sorted}
 use Rattle.std.specs.FinMap.Entries.{below_all}
-use Rattle.raven_data.specs.Folding.{folded, key_cmp, same_key}
-use Rattle.raven_data.specs.Rows.{Row, key}
-use Rattle.raven_model.specs.Store.{row_at, Store}
-use Rattle.raven_model.specs.Index.{Table, stale, documents}
-use Rattle.raven_model.specs.Mapping.{Fields, Outcome, Entry, NoEntry, Failed, Mapper, mapper_of, is_mapped, mapped_documents, entry_of, scratch}
+use Rattle.raven_data.specs.Folding.{key_cmp}
+use Rattle.raven_data.specs.Rows.{Row}
+use Rattle.raven_model.specs.Store.{row_at}
+use Rattle.raven_model.specs.Index.{Table, documents}
+use Rattle.raven_model.specs.Mapping.{Fields, Outcome, Entry, NoEntry, Failed, mapper_of, is_mapped, mapped_documents, entry_of, scratch}
 use Rattle.raven_model.specs.Commit.{Setting}
 use Rattle.raven_model.specs.World.{Slot, World, reads, serving}
-use Rattle.raven_model.specs.Replies.{Reply, Found}
+use Rattle.raven_model.specs.Replies.{Reply}
 use Rattle.raven_model.specs.Machine.{Machine, Event, start, run, answer_find, has_words, found_in, is_stale}
 use Rattle.raven_model.specs.Sound.{Has, Sound}
-use Rattle.raven_laws.specs.Claims.{Unseen, IsAsKept, ids_in, flag_in, find_reply, FreshIsFromScratch, FlagsAreExact, IdsAreAsKept}
+use Rattle.raven_laws.specs.Claims.{IsAsKept, ids_in, flag_in, find_reply, FreshIsFromScratch, FlagsAreExact, IdsAreAsKept}
 use Rattle.raven_laws.proofs.StoreLemmas.{same_itself}
 use Rattle.raven_laws.proofs.IndexLemmas.{tied, fresh_whole}
 use Rattle.raven_laws.proofs.KeyedLemmas.{differ_less}
@@ -90,7 +90,7 @@ value_found U d h =
 
 -- IDS
 
-Has-filter_map : {X Y : Type 0} (f : X → Option Y) (xs : List X) (y : Y) → Has (filter_map f xs) y → (x : X) × Has xs x × (f x ≡ Some y)
+pub Has-filter_map : {X Y : Type 0} (f : X → Option Y) (xs : List X) (y : Y) → Has (filter_map f xs) y → (x : X) × Has xs x × (f x ≡ Some y)
 Has-filter_map f [] y h = absurd h
 Has-filter_map f (x ∷ xs) y h =
     elim (f x) as (λ o. f x ≡ o → Has (cons_option o (filter_map f xs)) y → (z : _) × ((x ≡ z) ⊎ Has xs z) × (f z ≡ Some y)) [

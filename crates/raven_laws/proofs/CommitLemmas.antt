@@ -8,11 +8,8 @@ use Rattle.raven_data.specs.Rows.{Row, is_document}
 use Rattle.raven_model.specs.Store.{row_at, last_of, Store, last, IsStore, with_row, with_rows}
 use Rattle.raven_model.specs.Later.{MayFollow}
 use Rattle.raven_model.specs.Commit.{Command, Put, Delete, Writer, Setting, Refusal, Refused, Written, first_of, refusal_of, reserved, too_large, collection_changed, collection_of, other_collection, conflict, store_full, etags_spent, kept_spelling, document_at, row_of, tombstone, with_written, unless, commit_from, commit, AreNext, Commits}
-use Rattle.raven_laws.proofs.StoreLemmas.{found_key}
+use Rattle.raven_laws.proofs.StoreLemmas.{same_row, found_key}
 use Rattle.raven_laws.proofs.LaterLemmas.{IsStore-with, last-with, Later-with, Later-itself, Later-then}
-
-same_row : (a b : Row) → Some a ≡ Some b → a ≡ b
-same_row a b h = cc
 
 same_ok : (a b : Written) → (let x : Result Written Refused = Ok a in x) ≡ Ok b → a ≡ b
 same_ok a b h = cc
@@ -72,6 +69,7 @@ row_of-follows s w now S (Delete id expected) r h is =
                 ap (λ (y : Row). y.id) (same_row d x both);
           })
     ] refl is
+
 with_rows-push : (S : Store) (rows : List Row) (r : Row) → with_rows S (rows ++ r ∷ []) ≡ with_row (with_rows S rows) r
 with_rows-push S [] r = refl
 with_rows-push S (x ∷ rows) r = with_rows-push (with_row S x) rows r

@@ -1,5 +1,5 @@
 -- What an index has recorded stays right, and a batch keeps it so.
-use Rattle.std.proofs.Common.{◌≡◌, ℕ, ◌≤◌, List, [], ◌∷◌, ◌++◌, Bool, true, false, cond, ◌&&◌, ◌||◌, nat_lt, Option, Some, None, filter, refl, sym, ap, ◌∙◌, subst, arith}
+use Rattle.std.proofs.Common.{◌≡◌, ℕ, ◌≤◌, List, [], ◌∷◌, ◌++◌, Bool, true, false, cond, ◌&&◌, nat_lt, Option, Some, None, filter, refl, sym, ap, ◌∙◌, subst, arith}
 use Rattle.std.specs.Bool.{IsTrue}
 use Rattle.std.proofs.lemmas.Bool.{ltb-true, ltb-false}
 use Rattle.std.proofs.lemmas.List.{take-append-drop}
@@ -15,7 +15,7 @@ use Rattle.raven_data.specs.Rows.{Row, key, is_document}
 use Rattle.raven_model.specs.Store.{row_at, last_of, AreRising, AreApart, Store, last, IsStore}
 use Rattle.raven_model.specs.Later.{StillHas, Later}
 use Rattle.raven_model.specs.Index.{Table, Scope, in_scope, record_of, Agrees, past, taken, left_over, note_row, note_rows, etag_after, etag_of_batch, up_to, stale, documents}
-use Rattle.raven_laws.proofs.StoreLemmas.{found_etag, found_key, same_means, row_at-append, found_passing, passing_found, AreApart-filter, AreApart-front, AreRising-filter, AreRising-front, AreRising-back, last_of-rising, last_of-append, last_of-filter, none_still, row_at-filter, only_if}
+use Rattle.raven_laws.proofs.StoreLemmas.{same_row, both_true, either_false, found_etag, found_key, same_means, row_at-append, found_passing, passing_found, AreApart-filter, AreApart-front, AreRising-filter, AreRising-front, AreRising-back, last_of-rising, last_of-append, last_of-filter, row_at-filter, only_if}
 use Rattle.raven_laws.proofs.LaterLemmas.{StillHas-then}
 
 pub Agrees-later : (scope : Scope) (T : Table) (S N : Store) (e : ℕ) → Agrees scope T S e → Later S N → e ≤ last S → Agrees scope T N e
@@ -53,13 +53,6 @@ get-note_rows T (r ∷ rows) q h =
       | false ↦ λ e. refl
     ] refl
 
-pub both_true : (a b : Bool) → a && b ≡ true → (a ≡ true) × (b ≡ true)
-both_true true b h = (refl, h)
-both_true false b h = absurd cc
-
-same_option : (a b : Row) → Some a ≡ Some b → a ≡ b
-same_option a b h = cc
-
 -- the rows past an etag rise from it
 past_rising : (scope : Scope) (e low : ℕ) (rows : List Row) → AreRising low rows → AreRising e (filter (λ r. in_scope scope r && nat_lt e r.etag) rows)
 past_rising scope e low [] up = tt
@@ -76,13 +69,13 @@ unread scope T S e q r a h out =
       | None ↦ λ is. refl
       | Some t ↦ λ is.
           let s = a.known q t is in
-          let same : s.row ≡ r = same_option s.row r (sym s.found ∙ h) in
+          let same : s.row ≡ r = same_row s.row r (sym s.found ∙ h) in
           let c : t.collection ≡ r.collection = sym s.same ∙ ap (λ (x : Row). x.collection) same in
           let inside = subst (λ d. list_any (bytes_eq d) scope ≡ true) c (a.scoped q t is) in absurd cc
     ] refl
 
 same_found : (q : List ℕ) (rows : List Row) (a b : Row) → row_at q rows ≡ Some a → row_at q rows ≡ Some b → a ≡ b
-same_found q rows a b h g = same_option a b (sym h ∙ g)
+same_found q rows a b h g = same_row a b (sym h ∙ g)
 
 no_wait : (e low : ℕ) → low ≤ e → nat_lt e low ≡ true → ⊥
 no_wait e low h t = let lt = ltb-true e low t in omega arith
@@ -126,10 +119,10 @@ Agrees-taken scope T S e rows new s a t = record {
 }
   where
     kept_row : (r x : Row) → cond (is_document r) (Some r) None ≡ Some x → r ≡ x
-    kept_row r x g = elim (is_document r) as (λ b. cond b (Some r) None ≡ Some x → r ≡ x) [ true ↦ λ h. same_option r x h | false ↦ λ h. absurd cc ] g
+    kept_row r x g = elim (is_document r) as (λ b. cond b (Some r) None ≡ Some x → r ≡ x) [ true ↦ λ h. same_row r x h | false ↦ λ h. absurd cc ] g
 
     kept_document : (r x : Row) → cond (is_document r) (Some r) None ≡ Some x → is_document x ≡ true
-    kept_document r x g = elim (is_document r) as (λ b. is_document r ≡ b → cond b (Some r) None ≡ Some x → is_document x ≡ true) [ true ↦ λ e h. subst (λ y. is_document y ≡ true) (same_option r x h) e | false ↦ λ e h. absurd cc ] refl g
+    kept_document r x g = elim (is_document r) as (λ b. is_document r ≡ b → cond b (Some r) None ≡ Some x → is_document x ≡ true) [ true ↦ λ e h. subst (λ y. is_document y ≡ true) (same_row r x h) e | false ↦ λ e h. absurd cc ] refl g
 
     untaken : (q : List ℕ) (r : Row) → row_at q S.rows ≡ Some r → (row_at q rows ≡ Some r → ⊥) → noted (row_at q rows) (get T q) ≡ get T q
     untaken q r h never = elim (row_at q rows) as (λ o. row_at q rows ≡ o → noted o (get T q) ≡ get T q) [
@@ -200,15 +193,11 @@ pub Agrees-batch : (scope : Scope) (T : Table) (S : Store) (e max : ℕ) → IsS
     → Agrees scope (note_rows T (taken scope e S max)) S (etag_of_batch scope e S max)
 Agrees-batch scope T S e max s a le = Agrees-taken scope T S e (taken scope e S max) (etag_of_batch scope e S max) s a (Taken-batch scope S e max s le)
 
-pub either_false : (a b : Bool) → a || b ≡ false → (a ≡ false) × (b ≡ false)
-either_false true b h = absurd cc
-either_false false b h = (refl, h)
-
 pub any_false : (p : Row → Bool) (q : List ℕ) (rows : List Row) (r : Row) → list_any p rows ≡ false → row_at q rows ≡ Some r → p r ≡ false
 any_false p q [] r h g = absurd cc
 any_false p q (x ∷ rows) r h g =
     elim (same_key q (key x)) as (λ b. cond b (Some x) (row_at q rows) ≡ Some r → p r ≡ false) [
-      | true ↦ λ is. subst (λ y. p y ≡ false) (same_option x r is) (either_false (p x) (list_any p rows) h).0
+      | true ↦ λ is. subst (λ y. p y ≡ false) (same_row x r is) (either_false (p x) (list_any p rows) h).0
       | false ↦ λ is. any_false p q rows r (either_false (p x) (list_any p rows) h).1 is
     ] g
 
@@ -225,22 +214,29 @@ fresh_exact scope T S e cutoff a h q r is before =
       | false ↦ λ outside. unread scope T S e q r a is outside
     ] refl
 
+-- the documents of a store in scope: under each id the row that the store has, where it is one
+pub get-documents : (scope : Scope) (S : Store) (q : List ℕ) → IsStore S → get (documents scope S) q ≡ option_and_then (record_of scope) (row_at q S.rows)
+unfolding noted
+get-documents scope S q s =
+    get-note_rows empty (filter (in_scope scope) S.rows) q (AreApart-filter (in_scope scope) S.rows s.apart)
+    ∙ ap (noted (row_at q (filter (in_scope scope) S.rows))) (get-empty key_cmp q)
+    ∙ ap (λ o. noted o None) (row_at-filter (in_scope scope) q S.rows s.apart)
+    ∙ each (row_at q S.rows)
+  where
+    each : (o : Option Row) → noted (option_and_then (only_if (in_scope scope)) o) None ≡ option_and_then (record_of scope) o
+    each None = refl
+    each (Some r) = elim (in_scope scope r) as (λ b. noted (cond b (Some r) None) None ≡ cond (b && is_document r) (Some r) None) [ true ↦ refl | false ↦ refl ]
+
 -- without a cutoff it has exactly the documents of the store in scope
 pub fresh_whole : (scope : Scope) (T : Table) (S : Store) (e : ℕ) → IsStore S → Agrees scope T S e → stale S scope e None ≡ false → T ≡ documents scope S
-unfolding noted
-fresh_whole scope T S e s a h = same_map nat_list_cmp_total (slice_cmp-IsAntisymmetric nat_cmp-IsAntisymmetric) T (documents scope S) (λ q.
-    sym (get-note_rows empty (filter (in_scope scope) S.rows) q (AreApart-filter (in_scope scope) S.rows s.apart)
-    ∙ ap (noted (row_at q (filter (in_scope scope) S.rows))) (get-empty key_cmp q)
-    ∙ each q))
+fresh_whole scope T S e s a h =
+    same_map nat_list_cmp_total (slice_cmp-IsAntisymmetric nat_cmp-IsAntisymmetric) T (documents scope S) (λ q. as_kept q ∙ sym (get-documents scope S q s))
   where
     nothing : (q : List ℕ) → row_at q S.rows ≡ None → get T q ≡ None
     nothing q none = elim (get T q) as (λ o. get T q ≡ o → o ≡ None) [ None ↦ λ is. refl | Some t ↦ λ is. let f = (a.known q t is).found in absurd cc ] refl
 
-    some : (r : Row) → noted (only_if (in_scope scope) r) None ≡ record_of scope r
-    some r = elim (in_scope scope r) as (λ b. noted (cond b (Some r) None) None ≡ cond (b && is_document r) (Some r) None) [ true ↦ refl | false ↦ refl ]
-
-    each : (q : List ℕ) → noted (row_at q (filter (in_scope scope) S.rows)) None ≡ get T q
-    each q = elim (row_at q S.rows) as (λ o. row_at q S.rows ≡ o → noted (row_at q (filter (in_scope scope) S.rows)) None ≡ get T q) [
-      | None ↦ λ is. ap (λ o. noted o None) (none_still (in_scope scope) q S.rows s.apart is) ∙ sym (nothing q is)
-      | Some r ↦ λ is. ap (λ o. noted o None) (row_at-filter (in_scope scope) q S.rows s.apart ∙ ap (option_and_then (only_if (in_scope scope))) is) ∙ some r ∙ sym (fresh_exact scope T S e None a h q r is refl)
+    as_kept : (q : List ℕ) → get T q ≡ option_and_then (record_of scope) (row_at q S.rows)
+    as_kept q = elim (row_at q S.rows) as (λ o. row_at q S.rows ≡ o → get T q ≡ option_and_then (record_of scope) o) [
+      | None ↦ λ is. nothing q is
+      | Some r ↦ λ is. fresh_exact scope T S e None a h q r is refl
     ] refl

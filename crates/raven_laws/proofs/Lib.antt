@@ -7,10 +7,13 @@ pub mod MappingLemmas
 pub mod KeyedLemmas
 pub mod SlotLemmas
 pub mod ListedLemmas
+pub mod LimitLemmas
 pub mod WorldLemmas
 pub mod MachineLemmas
-pub mod OrderLemmas
 pub mod AnswerLemmas
+pub mod MatchLemmas
+pub mod NameLemmas
+pub mod PumpLemmas
 pub mod ScriptLemmas
 pub mod WorkedRows
 pub mod WorkedScript

@@ -1,5 +1,5 @@
 -- The rows of `@indexes` stay those of the slots.
-use Rattle.std.proofs.Common.{◌≡◌, ℕ, ◌+◌, List, [], ◌∷◌, ◌++◌, Bool, true, false, cond, nat_eq, ◌||◌, Option, Some, None, Ok, map, refl, sym, ap, ◌∙◌, subst, ◌⊎◌, inl, inr, codes}
+use Rattle.std.proofs.Common.{◌≡◌, ℕ, ◌+◌, List, [], ◌∷◌, ◌++◌, true, false, cond, nat_eq, Option, Some, None, Ok, map, refl, sym, ap, ◌∙◌, subst, ◌⊎◌, inl, inr, codes}
 use Rattle.std.specs.List.{starts_with}
 use Rattle.std.specs.Str.{bytes_eq}
 use Rattle.std.proofs.lemmas.Slice.Eq.{bytes_eq-Decides}
@@ -11,7 +11,7 @@ use Rattle.raven_model.specs.Mapping.{Definition, Auto}
 use Rattle.raven_model.specs.Commit.{Command, Put, Delete, AnyVector, Writer, Client, Setting, Refusal, Written, first_of, refusal_of, reserved, is_reserved, is_index_id, too_large, collection_changed, conflict, store_full, etags_spent, collection_of, stored, kept_spelling, document_at, tombstone, row_of, with_written, unless, commit_from}
 use Rattle.raven_model.specs.World.{Slot, index_id, row_body}
 use Rattle.raven_model.specs.Sound.{Has, IsListed, AreListed}
-use Rattle.raven_laws.proofs.StoreLemmas.{row_at-put, same_itself, same_means, found_key}
+use Rattle.raven_laws.proofs.StoreLemmas.{same_row, either_false, row_at-put, same_itself, same_means, found_key}
 use Rattle.raven_laws.proofs.CommitLemmas.{put_key, document_found}
 use Rattle.raven_laws.proofs.SlotLemmas.{Has-map, Has-mapped}
 
@@ -97,9 +97,6 @@ put-AreListed S slots more now name d new l there called under means from to = r
     found_at : (q : List ℕ) → row_at q (put r S.rows) ≡ cond (same_key q (folded (index_id name))) (Some r) (row_at q S.rows)
     found_at q = row_at-put q r S.rows ∙ ap (λ k. cond (same_key q k) (Some r) (row_at q S.rows)) (put_key (index_id name) S.rows)
 
-same_row : (a b : Row) → Some a ≡ Some b → a ≡ b
-same_row a b h = cc
-
 -- WHAT A CLIENT WRITES
 
 first_none : (a : Option Refusal) (more : List (Option Refusal)) → first_of (a ∷ more) ≡ None → a ≡ None
@@ -110,10 +107,6 @@ unreserved : (s : Setting) (S : Store) (c : Command) → refusal_of s Client S c
 unreserved s S c h =
     elim (is_reserved c) as (λ b. cond b (Some Refusal.ReservedId) None ≡ None → b ≡ false) [ true ↦ λ e. absurd cc | false ↦ λ e. refl ]
     (first_none (reserved Client c) (too_large c ∷ collection_changed S c ∷ conflict s S c ∷ store_full s S c ∷ etags_spent S c ∷ []) h)
-
-either : (a b : Bool) → a || b ≡ false → (a ≡ false) × (b ≡ false)
-either true b h = absurd cc
-either false b h = (refl, h)
 
 -- a row of no index's id, which is no live row of `@indexes`, changes nothing
 other-AreListed : (S : Store) (slots : List Slot) (r : Row) → AreListed S slots → starts_with nat_eq (key r) (codes "@index/") ≡ false → (is_document r ≡ true → r.collection ≡ codes "@indexes" → ⊥) → AreListed (with_row S r) slots
@@ -135,7 +128,7 @@ other-AreListed S slots r l apart never = record {
 
 client-AreListed : (s : Setting) (S : Store) (slots : List Slot) (now : ℕ) (c : Command) → refusal_of s Client S c ≡ None → AreListed S slots → AreListed (with_option S (row_of now S c)) slots
 client-AreListed s S slots now (Put id expected body) h l =
-    let f = either (is_index_id id) (bytes_eq (collection_of body) (codes "@indexes")) (unreserved s S (Put id expected body) h) in
+    let f = either_false (is_index_id id) (bytes_eq (collection_of body) (codes "@indexes")) (unreserved s S (Put id expected body) h) in
     other-AreListed S slots _ l (subst (λ k. starts_with nat_eq k (codes "@index/") ≡ false) (sym (put_key id S.rows)) f.0)
     (λ is c. let g = (bytes_eq-Decides (collection_of body) (codes "@indexes")).1 c in let k = f.1 in cc)
 client-AreListed s S slots now (Delete id expected) h l = by (document_at S (folded id)) refl

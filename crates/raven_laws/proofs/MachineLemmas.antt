@@ -1,19 +1,20 @@
 -- Each step of the machine leaves a sound and later world.
-use Rattle.std.proofs.Common.{◌≡◌, ℕ, ◌+◌, ◌<◌, ◌≤◌, List, [], ◌∷◌, ◌++◌, Option, Some, None, Result, Ok, Err, map, refl, sym, ap, ◌∙◌, subst, arith, inl, inr}
+use Rattle.std.proofs.Common.{◌≡◌, ℕ, ◌+◌, ◌<◌, ◌≤◌, List, [], ◌∷◌, ◌++◌, length, Some, None, Result, Ok, Err, map, refl, sym, ap, subst, arith, inl}
 use Rattle.raven_data.specs.Rows.{Row}
 use Rattle.raven_model.specs.Store.{Store, last, IsStore}
 use Rattle.raven_model.specs.Later.{Later}
 use Rattle.raven_model.specs.Index.{taken, etag_of_batch}
 use Rattle.raven_model.specs.Mapping.{Definition}
-use Rattle.raven_model.specs.Optimiser.{Shape, Choice, Use, Make, Merge, pick, name_of}
+use Rattle.raven_model.specs.Optimiser.{Choice, Use, Make, Merge, pick, name_of}
 use Rattle.raven_model.specs.Commit.{Command, Put, Delete, Writer, Client, Server, Setting, Refused, Written, refusal_of, row_of, with_written, unless, commit_from, commit}
-use Rattle.raven_model.specs.World.{Version, Slot, Note, World, reads, advanced, batch, SlotChange, SlotRefusal, define}
+use Rattle.raven_model.specs.World.{Version, Slot, World, reads, advanced, batch, SlotChange, SlotRefusal, define}
 use Rattle.raven_model.specs.Machine.{Machine, Request, Put as PutOne, Auto, Find, Pump, Event, wrote, rewrote, defined, use_or_make, one_field, or_as_before, brought_on, pump, step, start, after, run}
 use Rattle.raven_model.specs.Sound.{Has, NumbersRise, NamesApart, AreListed, Sound, LaterW}
 use Rattle.raven_laws.proofs.LaterLemmas.{Later-itself, IsStore-with, last-with}
 use Rattle.raven_laws.proofs.CommitLemmas.{row_of-follows, commit-Commits}
-use Rattle.raven_laws.proofs.SlotLemmas.{Has-map, Has-append, NumbersRise-map, NamesApart-map, Brought, batch-Brought}
+use Rattle.raven_laws.proofs.SlotLemmas.{Has-map, NumbersRise-map, NamesApart-map, batch-Brought}
 use Rattle.raven_laws.proofs.ListedLemmas.{commit_from-applied, clients-AreListed, map-AreListed}
+use Rattle.raven_laws.proofs.LimitLemmas.{commit_from-fits, commit_from-last, length_mapped}
 use Rattle.raven_laws.proofs.WorldLemmas.{append-none, LaterW-itself, LaterW-then, Comes, stays, StartsWithPut, Onto, Settles, define-Settles}
 
 -- from a sound world to a sound and later one
@@ -35,6 +36,9 @@ pub record Turns (W : World) (S : Store) (slots : List Slot) : Type 0 where
   pub rising : NumbersRise 0 slots
   pub apart : NamesApart slots
   pub listed : AreListed S slots
+  pub rows : length S.rows ≤ W.setting.max_rows
+  pub count : length slots ≤ W.setting.max_slots
+  pub etags : last S ≤ 9007199254740991
 
 Turns-Moves : (W : World) (S : Store) (slots : List Slot) → Sound W → Turns W S slots → Moves W (record { setting = W.setting; store = S; slots = slots; notes = W.notes })
 Turns-Moves W S slots o t = record {
@@ -46,6 +50,7 @@ Turns-Moves W S slots o t = record {
     apart = t.apart;
     listed = t.listed;
     notes = λ n h. let f = o.notes n h in (f.0, let a = f.1 in let b = t.later.grown in omega arith);
+    limits = record { rows = t.rows; slots = t.count; notes = o.limits.notes; etags = t.etags };
   };
   later = record {
     store = t.later;
@@ -70,6 +75,9 @@ wrote-Moves now M commands (Ok w) o is =
       rising = o.rising;
       apart = o.apart;
       listed = clients-AreListed 0 M.world.setting now commands _ w M.world.slots is o.listed;
+      rows = commit_from-fits 0 M.world.setting Client now commands _ w o.limits.rows is;
+      count = o.limits.slots;
+      etags = commit_from-last 0 M.world.setting Client now commands _ w o.limits.etags is;
     })
 
 -- CHANGES OF INDEXES
@@ -115,7 +123,17 @@ rewrote-Moves now M name c (Ok w) o by is =
       now = now;
       written = commit_from-applied 0 M.world.setting Server now c.commands _ w is;
     }) in
-    Turns-Moves M.world w.store c.slots o (record { store = k.sound; later = k.later; comes = t.slots; rising = t.rising; apart = t.apart; listed = t.listed })
+    Turns-Moves M.world w.store c.slots o (record {
+      store = k.sound;
+      later = k.later;
+      comes = t.slots;
+      rising = t.rising;
+      apart = t.apart;
+      listed = t.listed;
+      rows = commit_from-fits 0 M.world.setting Server now c.commands _ w o.limits.rows is;
+      count = t.count;
+      etags = commit_from-last 0 M.world.setting Server now c.commands _ w o.limits.etags is;
+    })
 
 defined-Moves : (now : ℕ) (M : Machine) (name : List ℕ) (r : Result SlotChange SlotRefusal) → Sound M.world → ((c : SlotChange) → r ≡ Ok c → (S : Store) → Onto M.world c S → Settles M.world c S) → Moves M.world (defined M now name r).machine.world
 defined-Moves now M name (Err refusal) o by = Moves-itself M.world o
@@ -159,6 +177,9 @@ pump-Moves M max o = Turns-Moves M.world M.world.store (map (brought_on M.world.
   rising = NumbersRise-map 0 (brought_on M.world.store max) M.world.slots (λ x. refl) o.rising;
   apart = NamesApart-map (brought_on M.world.store max) M.world.slots (λ x. refl) o.apart;
   listed = map-AreListed M.world.store (brought_on M.world.store max) M.world.slots (λ x h. (refl, refl, same_definition M.world.store x.version max)) o.listed;
+  rows = o.limits.rows;
+  count = let a = length_mapped (brought_on M.world.store max) M.world.slots in let b = o.limits.slots in omega arith;
+  etags = o.limits.etags;
 })
 
 -- RUNS
@@ -184,6 +205,7 @@ start-Sound setting = record {
   apart = λ s t h. absurd h;
   listed = record { each = λ s h. absurd h; only = λ q r h. absurd (let e = h in cc) };
   notes = λ n h. absurd h;
+  limits = record { rows = omega arith; slots = omega arith; notes = omega arith; etags = omega arith };
 }
 
 pub run-Sound : (setting : Setting) (es : List Event) → Sound (run es (start setting)).world

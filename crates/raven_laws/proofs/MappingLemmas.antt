@@ -11,8 +11,8 @@ use Rattle.raven_data.specs.Rows.{Row, key, is_document}
 use Rattle.raven_model.specs.Store.{row_at, AreApart, Store, last, IsStore}
 use Rattle.raven_model.specs.Index.{Table, Agrees, taken, etag_of_batch, note_rows}
 use Rattle.raven_model.specs.Mapping.{Mapped, Mapper, AlikeAt, scope_of, is_mapped, result_of, is_taken, loads_taken, touched, Results, set_result, remapped, AreResults}
-use Rattle.raven_laws.proofs.StoreLemmas.{same_itself, same_means}
-use Rattle.raven_laws.proofs.IndexLemmas.{noted, tied, get-note_rows, either_false, Taken, Taken-batch}
+use Rattle.raven_laws.proofs.StoreLemmas.{same_row, either_false, same_itself, same_means}
+use Rattle.raven_laws.proofs.IndexLemmas.{noted, tied, get-note_rows, Taken, Taken-batch}
 
 any-append : {X : Type 0} (p : X → Bool) (xs ys : List X) → list_any p (xs ++ ys) ≡ false → (list_any p xs ≡ false) × (list_any p ys ≡ false)
 any-append p [] ys h = (refl, h)
@@ -30,9 +30,6 @@ lacks p q (x ∷ rows) r h is =
       | false ↦ λ e f. lacks p q rows r later f
     ] refl is
   where
-    same_row : (a b : Row) → Some a ≡ Some b → a ≡ b
-    same_row a b e = cc
-
     here : (k : List ℕ) → same_key q (key x) ≡ true → p x ≡ false
     here k e = elim (p x) as (λ b. list_any (same_key q) (map key (cond b (x ∷ filter p rows) (filter p rows))) ≡ false → b ≡ false) [
       | true ↦ λ g. let f = (either_false (same_key q (key x)) (list_any (same_key q) (map key (filter p rows))) g).0 in cc
@@ -56,9 +53,6 @@ lacks_entry p q (x ∷ es) r h is own =
   where
     rest : List (List ℕ)
     rest = map key (filter p (map (λ e. e.1) es))
-
-    same_row : (a b : Row) → Some a ≡ Some b → a ≡ b
-    same_row a b e = cc
 
     here : same_key q (key x.1) ≡ true → p x.1 ≡ false
     here e = elim (p x.1) as (λ b. list_any (same_key q) (map key (cond b (x.1 ∷ filter p (map (λ e. e.1) es)) (filter p (map (λ e. e.1) es)))) ≡ false → b ≡ false) [
@@ -86,9 +80,6 @@ alike T rows (q ∷ qs) apart h =
 
 abbrev result : Mapper → Table → Option Row → Option Mapped
 result m T o = option_and_then (λ d. cond (is_mapped m d) (Some (m.meaning d T)) None) o
-
-same_row : (a b : Row) → Some a ≡ Some b → a ≡ b
-same_row a b h = cc
 
 and_true : (b : Bool) → b && true ≡ false → b ≡ false
 and_true true h = h

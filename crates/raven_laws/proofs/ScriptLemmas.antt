@@ -1,12 +1,13 @@
 -- A script is a run.
-use Rattle.std.proofs.Common.{◌≡◌, ℕ, List, [], ◌∷◌, ◌++◌, Option, Some, None, Result, Ok, Err, refl, sym, ap, ◌∙◌, subst}
-use Rattle.std.specs.List.{filter_map, cons_option}
+use Rattle.std.proofs.Common.{◌≡◌, ℕ, List, [], ◌∷◌, ◌++◌, Option, Some, None, Result, Ok, Err, refl, sym, ◌∙◌, subst}
+use Rattle.std.specs.List.{cons_option}
 use Rattle.raven_model.specs.Commit.{Setting}
 use Rattle.raven_model.specs.Machine.{Machine, Event, start, run}
 use Rattle.raven_model.specs.Sound.{Sound, LaterW}
 use Rattle.raven_model.specs.Script.{Line, Do, ReadRefusal, line_of, event_of, left_by, after_line, after_lines, events_of}
-use Rattle.raven_laws.specs.Claims.{FreshIsFromScratch, FlagsAreExact, IdsAreAsKept}
+use Rattle.raven_laws.specs.Claims.{FreshIsFromScratch, FreshIsExact, FlagsAreExact, IdsAreAsKept}
 use Rattle.raven_laws.proofs.MachineLemmas.{run-Sound, run-Moves}
+use Rattle.raven_laws.proofs.MatchLemmas.{Sound-exact}
 use Rattle.raven_laws.proofs.AnswerLemmas.{Sound-fresh, Sound-flags, Sound-ids}
 
 -- a line is no event or one
@@ -33,6 +34,9 @@ lines-LaterW setting all more =
 
 pub lines-fresh : (setting : Setting) (all : List (List ℕ)) → FreshIsFromScratch (after_lines all (start setting))
 lines-fresh setting all = Sound-fresh (after_lines all (start setting)) (lines-Sound setting all)
+
+pub lines-exact : (setting : Setting) (all : List (List ℕ)) → FreshIsExact (after_lines all (start setting))
+lines-exact setting all = Sound-exact (after_lines all (start setting)) (lines-Sound setting all)
 
 pub lines-flags : (setting : Setting) (all : List (List ℕ)) → FlagsAreExact (after_lines all (start setting))
 lines-flags setting all = Sound-flags (after_lines all (start setting)) (lines-Sound setting all)

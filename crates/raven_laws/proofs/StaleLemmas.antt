@@ -1,13 +1,13 @@
 -- Staleness: by the newest row, and by any row that was not seen.
-use Rattle.std.proofs.Common.{◌≡◌, ℕ, ◌≤◌, List, [], ◌∷◌, Bool, true, false, cond, ◌&&◌, ◌||◌, nat_lt, Option, Some, None, filter, refl, sym, ap, ◌∙◌, subst, arith, ◌↔◌}
+use Rattle.std.proofs.Common.{◌≡◌, ℕ, ◌≤◌, List, [], ◌∷◌, Bool, true, false, cond, ◌&&◌, ◌||◌, nat_lt, Option, Some, filter, refl, sym, ap, ◌∙◌, subst, arith, ◌↔◌}
 use Rattle.std.specs.List.{list_any}
 use Rattle.std.proofs.lemmas.Bool.{ltb-false, ltb-true, lt-ltb, le-ltb}
 use Rattle.raven_data.specs.Folding.{same_key}
 use Rattle.raven_data.specs.Rows.{Row, key}
 use Rattle.raven_model.specs.Store.{row_at, last_of, AreRising, AreApart, Store, IsStore}
 use Rattle.raven_model.specs.Index.{Scope, in_scope, up_to, stale, newest}
-use Rattle.raven_laws.proofs.StoreLemmas.{AreRising-lower, AreRising-filter, last_of-rising, same_itself, same_means}
-use Rattle.raven_laws.proofs.IndexLemmas.{any_false, both_true}
+use Rattle.raven_laws.proofs.StoreLemmas.{both_true, AreRising-lower, AreRising-filter, last_of-rising, same_itself, same_means}
+use Rattle.raven_laws.proofs.IndexLemmas.{any_false}
 use Rattle.raven_laws.specs.Claims.{Unseen}
 
 along : (scope : Scope) (e low : ℕ) (cutoff : Option ℕ) (rows : List Row) → AreRising low rows → low ≤ e

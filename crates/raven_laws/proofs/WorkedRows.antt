@@ -1,9 +1,9 @@
 -- The definitions at work: what is answered to requests that were worked out by hand, and what is printed.
-use Rattle.std.proofs.Common.{◌≡◌, ℕ, List, [], ◌∷◌, ◌++◌, true, false, Some, filter, refl, ap, codes}
+use Rattle.std.proofs.Common.{◌≡◌, ℕ, List, [], ◌∷◌, ◌++◌, true, false, filter, refl, ap, codes}
 use Rattle.std.specs.List.{filter_map}
 use Rattle.std.specs.Fmt.{digits}
 use Rattle.std.specs.FinMap.{empty}
-use Rattle.raven_data.specs.Data.{Data, object, text, entry, no_entries}
+use Rattle.raven_data.specs.Data.{object, text, entry, no_entries}
 use Rattle.raven_data.specs.Rows.{Row, doc}
 use Rattle.raven_model.specs.Mapping.{Definition, Mapper, mapper_of, is_mapped, entry_of}
 use Rattle.raven_model.specs.Commit.{AnyVector}

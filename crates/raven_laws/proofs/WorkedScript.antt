@@ -1,5 +1,5 @@
 -- The definitions at work on bytes: lines, what they ask, and a whole script with all that is written for it.
-use Rattle.std.proofs.Common.{◌≡◌, ℕ, zero, suc, ◌<◌, List, [], ◌∷◌, ◌++◌, true, false, if◌then◌else◌, nat_lt, Option, Some, None, Result, Ok, map, refl, ap, ◌∙◌, codes, arith}
+use Rattle.std.proofs.Common.{◌≡◌, ℕ, zero, suc, List, [], ◌∷◌, ◌++◌, true, false, if◌then◌else◌, nat_lt, Option, Some, None, Result, Ok, map, refl, ap, ◌∙◌, codes, arith}
 use Rattle.std.specs.List.{list_all}
 use Rattle.std.specs.Fmt.{digits}
 use Rattle.std.specs.Str.{is_utf8, IsAscii}
@@ -11,11 +11,11 @@ use Rattle.json.specs.Text.{content}
 use Rattle.serde_json.specs.Read as json
 use Rattle.raven_data.specs.Json.{whole}
 use Rattle.raven_model.specs.Replies.{Found, printed}
-use Rattle.raven_model.specs.Machine.{Machine, Request, Auto, Find, Pump, start}
+use Rattle.raven_model.specs.Machine.{Machine, Auto, Find, Pump, start}
 use Rattle.raven_model.specs.Lines.{lines}
 use Rattle.raven_model.specs.Script.{Line, Do, ReadRefusal, before_space, after_space, by_word, put_body, or_unknown, request_of, line_of, written_for, left_by, reply_to, after_line, replies_to}
 use Rattle.raven_model.specs.Words.{program}
-use Rattle.raven_laws.proofs.IndexLemmas.{both_true}
+use Rattle.raven_laws.proofs.StoreLemmas.{both_true}
 use Rattle.raven_laws.proofs.KeyedLemmas.{values-table_of}
 use Rattle.raven_laws.proofs.WorkedRows.{put, found_among, ada}
 

@@ -1,5 +1,6 @@
 -- Later worlds, and the change of a world in which an index is added.
-use Rattle.std.proofs.Common.{◌≡◌, ℕ, ◌+◌, ◌<◌, ◌≤◌, List, [], ◌∷◌, ◌++◌, Bool, true, false, cond, nat_le, length, is_some, Option, Some, None, Result, Ok, Err, refl, sym, ap, ◌∙◌, subst, arith, ◌⊎◌, inl, inr, append_assoc}
+use Rattle.std.proofs.Common.{◌≡◌, ℕ, ◌+◌, ◌<◌, ◌≤◌, List, [], ◌∷◌, ◌++◌, Bool, true, false, cond, nat_le, length, is_some, Option, Some, None, Result, Ok, Err, refl, sym, ap, ◌∙◌, subst, arith, inl, inr, append_assoc, length-append}
+use Rattle.std.proofs.lemmas.Bool.{leb-false}
 use Rattle.raven_data.specs.Folding.{folded}
 use Rattle.raven_model.specs.Store.{Store, last, IsStore}
 use Rattle.raven_model.specs.Later.{Later}
@@ -87,9 +88,10 @@ pub record Settles (W : World) (c : SlotChange) (S : Store) : Type 0 where
   pub rising : NumbersRise 0 c.slots
   pub apart : NamesApart c.slots
   pub listed : AreListed S c.slots
+  pub count : length c.slots ≤ W.setting.max_slots
 
-pub added-Settles : (W : World) (S : Store) (name : List ℕ) (d : Definition) → Sound W → ((s : Slot) → Has W.slots s → folded s.name ≡ folded name → ⊥) → Onto W (added W name d) S → Settles W (added W name d) S
-added-Settles W S name d o free t = record {
+pub added-Settles : (W : World) (S : Store) (name : List ℕ) (d : Definition) → Sound W → ((s : Slot) → Has W.slots s → folded s.name ≡ folded name → ⊥) → length W.slots < W.setting.max_slots → Onto W (added W name d) S → Settles W (added W name d) S
+added-Settles W S name d o free room t = record {
   slots = λ s h. elim (Has-append W.slots (new ∷ []) s h) [
     | inl old ↦ stays W S [] s o t.later old
     | inr (inl e) ↦ subst (Comes W S []) e (record {
@@ -106,6 +108,7 @@ added-Settles W S name d o free t = record {
       (Has-right W.slots (new ∷ []) new (inl refl)) refl refl refl
       (λ x h. elim (Has-append W.slots (new ∷ []) x h) [ inl a ↦ inr (a, free x a) | inr (inl e) ↦ inl e | inr (inr no_more) ↦ absurd no_more ])
       (λ x h. inl (Has-left W.slots (new ∷ []) x h)));
+  count = let a = length-append W.slots (new ∷ []) in omega arith;
 }
   where
     new : Slot
@@ -127,4 +130,4 @@ define-Settles W name d c h o S =
     let free = past_test (is_some (serving W.slots name)) NameServes (cond (nat_le W.setting.max_slots (length W.slots)) (Err TooManyIndexes) (Ok (added W name d))) c h in
     let room = past_test (nat_le W.setting.max_slots (length W.slots)) TooManyIndexes (Ok (added W name d)) c free.1 in
     subst (λ x. Onto W x S → Settles W x S) (same_change (added W name d) c room.1)
-    (added-Settles W S name d o (unserved W.slots name (not_some (serving W.slots name) free.0)))
+    (added-Settles W S name d o (unserved W.slots name (not_some (serving W.slots name) free.0)) (leb-false W.setting.max_slots (length W.slots) room.0))

@@ -1,13 +1,13 @@
 -- What the laws say of the answers of a machine.
 use Rattle.std.specs.Prelude.{◌≡◌, ℕ, ◌<◌, List, [], Bool, true, false, Option, Some, None, IsTrue, ◌↔◌}
 use Rattle.raven_data.specs.Folding.{folded}
-use Rattle.raven_data.specs.Rows.{Row}
+use Rattle.raven_data.specs.Rows.{Row, is_document}
 use Rattle.raven_model.specs.Store.{row_at, Store}
 use Rattle.raven_model.specs.Index.{Scope, in_scope, up_to, documents}
-use Rattle.raven_model.specs.Mapping.{mapper_of}
+use Rattle.raven_model.specs.Mapping.{Definition, Fields, Entry, mapper_of, scope_of, is_mapped}
 use Rattle.raven_model.specs.World.{Slot, reads, serving}
-use Rattle.raven_model.specs.Replies.{Reply, Put, Index, Pumped, Found, NoIndex, UnknownLine}
-use Rattle.raven_model.specs.Machine.{Machine, Find, step, found_in, is_stale}
+use Rattle.raven_model.specs.Replies.{Reply, Found}
+use Rattle.raven_model.specs.Machine.{Machine, Find, step, has_words, found_in, is_stale}
 use Rattle.raven_model.specs.Sound.{Has}
 
 -- a row in scope past the etag, and no newer than the cutoff
@@ -25,6 +25,17 @@ pub record IsAsKept (S : Store) (id : List ℕ) : Type 0 where
   pub found : row_at (folded id) S.rows ≡ Some row
   pub spelled : row.id ≡ id
 
+-- a document that the store has, that the map of the definition gives an entry, and whose field is that text
+pub record IsMatch (S : Store) (d : Definition) (field words id : List ℕ) : Type 0 where
+  pub row : Row
+  pub found : row_at (folded id) S.rows ≡ Some row
+  pub spelled : row.id ≡ id
+  pub document : IsTrue (is_document row)
+  pub mapped : IsTrue (is_mapped (mapper_of d) row)
+  pub fields : Fields
+  pub gives : ((mapper_of d).meaning row (documents (scope_of (mapper_of d)) S)).outcome ≡ Entry fields
+  pub matches : IsTrue (has_words field words fields)
+
 -- the ids and the flag of an answer
 abbrev pub ids_in : Reply → List (List ℕ)
 ids_in (Found ids etag is_stale) = ids
@@ -41,6 +52,11 @@ find_reply M index field words = (step M 0 (Find index field words)).reply
 abbrev pub FreshIsFromScratch : Machine → Type 0
 FreshIsFromScratch M = (index field words : List ℕ) (s : Slot) → serving M.world.slots index ≡ Some s → is_stale M.world.store s ≡ false
     → find_reply M index field words ≡ Found (found_in (mapper_of s.version.definition) (documents (reads s.version) M.world.store) field words) s.version.etag false
+
+-- and so it has exactly the ids of the documents that match
+abbrev pub FreshIsExact : Machine → Type 0
+FreshIsExact M = (index field words id : List ℕ) (s : Slot) → serving M.world.slots index ≡ Some s → is_stale M.world.store s ≡ false
+    → Has (ids_in (find_reply M index field words)) id ↔ IsMatch M.world.store s.version.definition field words id
 
 -- an answer is stale exactly where the store has a row that the index reads and has not seen
 pub record FlagsAreExact (M : Machine) : Type 0 where

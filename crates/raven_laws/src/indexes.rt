@@ -3,6 +3,7 @@
 ghost use Rattle.std.specs.Prelude.{◌≡◌, ◌≤◌, ◌↔◌, ℕ, nat_lt, List, Option, Some, None, true, false};
 ghost use Rattle.std.specs.Cmp.{IsTotalOrder};
 ghost use Rattle.std.specs.FinMap.{get};
+ghost use Rattle.std.specs.Option.{option_and_then};
 ghost use Rattle.raven_data.specs.Rows.{Row};
 ghost use Rattle.raven_data.specs.Scalars.{order};
 ghost use Rattle.raven_model.specs.Store.{Store, IsStore, last, row_at};
@@ -20,6 +21,11 @@ pub fn agreement_survives()
 pub fn batch_agrees()
     ensures { (scope : Scope) (T : Table) (S : Store) (e max : ℕ) → IsStore S → Agrees scope T S e → e ≤ last S →
         Agrees scope (note_rows T (taken scope e S max)) S (etag_of_batch scope e S max) }
+{}
+
+/// The documents of a store that an index reads: under each id the row that the store has, where it is such a document.
+pub fn documents_are_all()
+    ensures { (scope : Scope) (S : Store) (q : List ℕ) → IsStore S → get (documents scope S) q ≡ option_and_then (record_of scope) (row_at q S.rows) }
 {}
 
 /// An index that is not stale has recorded all documents of the store that it reads; for a cutoff, all up to the cutoff.

@@ -6,7 +6,14 @@ mod runs;
 mod scripts;
 mod stores;
 
-pub use indexes::{agreement_survives, batch_agrees, fresh_is_whole, orders_are_total, stale_by_newest, stale_is_unseen, touched_is_enough};
-pub use runs::{every_index_serves_its_name, every_run_goes_on, every_run_is_sound, flags_are_exact, fresh_answers_are_from_scratch, ids_are_as_kept, later_worlds_order};
+pub use indexes::{
+    agreement_survives, batch_agrees, documents_are_all, fresh_is_whole, orders_are_total,
+    stale_by_newest, stale_is_unseen, touched_is_enough,
+};
+pub use runs::{
+    batches_move_what_is_stale, every_index_serves_its_name, every_run_goes_on, every_run_is_sound,
+    flags_are_exact, fresh_answers_are_exact, fresh_answers_are_from_scratch, ids_are_as_kept,
+    large_batches_are_enough, later_worlds_order, new_names_are_free,
+};
 pub use scripts::{every_script_is_sound, scripts_are_runs};
 pub use stores::{commit_grows, later_orders};

@@ -1,14 +1,17 @@
 //! What holds after every run: whatever is asked, in whatever order.
 
-ghost use Rattle.std.specs.Prelude.{◌≡◌, ◌++◌, ℕ, List, Some};
+ghost use Rattle.std.specs.Prelude.{◌≡◌, ◌↔◌, ◌<◌, ◌≤◌, ◌^◌, ◌+◌, ◌++◌, ℕ, List, Some, None, false, length};
+ghost use Rattle.raven_model.specs.Store.{last};
 ghost use Rattle.raven_model.specs.Mapping.{Fields, mapper_of, scratch};
 ghost use Rattle.raven_model.specs.Commit.{Setting};
 ghost use Rattle.raven_model.specs.World.{Slot, World, serving};
-ghost use Rattle.raven_model.specs.Machine.{Event, run, start};
+ghost use Rattle.raven_model.specs.Optimiser.{Shape, name_of};
+ghost use Rattle.raven_model.specs.Machine.{Event, is_stale, pump, pumping, run, start};
 ghost use Rattle.raven_model.specs.Sound.{Has, LaterW, Sound};
-ghost use Rattle.raven_laws.specs.Claims.{FlagsAreExact, FreshIsFromScratch, IdsAreAsKept, IsAsKept};
+ghost use Rattle.raven_laws.specs.Claims.{FlagsAreExact, FreshIsExact, FreshIsFromScratch, IdsAreAsKept, IsAsKept};
 
-/// Each index has recorded what the store has up to its etag, has its row among the indexes' rows, and shares its number and its name with no other.
+/// Each index has recorded what the store has up to its etag, has its row among the indexes' rows, and shares its number and its name
+/// with no other. No limit is passed.
 pub fn every_run_is_sound()
     ensures { (setting : Setting) (events : List Event) → Sound (run events (start setting)).world }
 {}
@@ -36,6 +39,11 @@ pub fn fresh_answers_are_from_scratch()
     ensures { (setting : Setting) (events : List Event) → FreshIsFromScratch (run events (start setting)) }
 {}
 
+/// An answer that is not stale has exactly the ids of the documents that the store has, that the index maps, and whose field is the text.
+pub fn fresh_answers_are_exact()
+    ensures { (setting : Setting) (events : List Event) → FreshIsExact (run events (start setting)) }
+{}
+
 /// An answer is stale exactly where the store has a row that its index reads and has not seen.
 pub fn flags_are_exact()
     ensures { (setting : Setting) (events : List Event) → FlagsAreExact (run events (start setting)) }
@@ -47,4 +55,24 @@ pub fn ids_are_as_kept()
         let W = (run events (start setting)).world in
         Has W.slots s → Has (scratch (mapper_of s.version.definition) s.version.table) e → IsAsKept W.store e.0 }
     ensures answers { (setting : Setting) (events : List Event) → IdsAreAsKept (run events (start setting)) }
+{}
+
+/// The name that is chosen for a new index is free, so no index is refused for its name.
+pub fn new_names_are_free()
+    ensures { (setting : Setting) (events : List Event) (shape : Shape) → setting.max_slots < 2 ^ 32 →
+        let W = (run events (start setting)).world in serving W.slots (name_of W.slots (last W.store + 1) shape) ≡ None }
+{}
+
+/// A batch moves an index exactly where the index is stale.
+pub fn batches_move_what_is_stale()
+    ensures { (setting : Setting) (events : List Event) (s : Slot) (max : ℕ) → 1 ≤ max →
+        let W = (run events (start setting)).world in Has W.slots s →
+        ((pumping W.store max s).to ≡ (pumping W.store max s).from) ↔ (is_stale W.store s ≡ false) }
+{}
+
+/// A batch as large as the store leaves no index stale.
+pub fn large_batches_are_enough()
+    ensures { (setting : Setting) (events : List Event) (s : Slot) (max : ℕ) → 1 ≤ max →
+        let M = run events (start setting) in let N = (pump M max).machine in
+        length M.world.store.rows ≤ max → Has N.world.slots s → is_stale N.world.store s ≡ false }
 {}

@@ -5,7 +5,7 @@ ghost use Rattle.raven_model.specs.Commit.{Setting};
 ghost use Rattle.raven_model.specs.Machine.{Machine, run, start};
 ghost use Rattle.raven_model.specs.Script.{after_lines, events_of};
 ghost use Rattle.raven_model.specs.Sound.{LaterW, Sound};
-ghost use Rattle.raven_laws.specs.Claims.{FlagsAreExact, FreshIsFromScratch, IdsAreAsKept};
+ghost use Rattle.raven_laws.specs.Claims.{FlagsAreExact, FreshIsExact, FreshIsFromScratch, IdsAreAsKept};
 
 /// The state after lines is that of the run that they ask for.
 pub fn scripts_are_runs()
@@ -18,6 +18,7 @@ pub fn every_script_is_sound()
     ensures goes_on { (setting : Setting) (lines more : List (List ℕ)) →
         LaterW (after_lines lines (start setting)).world (after_lines (lines ++ more) (start setting)).world }
     ensures fresh { (setting : Setting) (lines : List (List ℕ)) → FreshIsFromScratch (after_lines lines (start setting)) }
+    ensures exact { (setting : Setting) (lines : List (List ℕ)) → FreshIsExact (after_lines lines (start setting)) }
     ensures flags { (setting : Setting) (lines : List (List ℕ)) → FlagsAreExact (after_lines lines (start setting)) }
     ensures ids { (setting : Setting) (lines : List (List ℕ)) → IdsAreAsKept (after_lines lines (start setting)) }
 {}

@@ -1,5 +1,5 @@
 -- What holds of each world, and between a world and a later one.
-use Rattle.std.specs.Prelude.{◌≡◌, ℕ, ◌≤◌, ◌<◌, List, [], ◌∷◌, ◌++◌, Some, ◌⊎◌, IsTrue, codes}
+use Rattle.std.specs.Prelude.{◌≡◌, ℕ, ◌≤◌, ◌<◌, List, [], ◌∷◌, ◌++◌, length, Some, ◌⊎◌, IsTrue, codes}
 use Rattle.raven_data.specs.Folding.{folded}
 use Rattle.raven_data.specs.Rows.{Row, doc, is_document}
 use Rattle.raven_model.specs.Store.{row_at, Store, last, IsStore}
@@ -40,6 +40,13 @@ pub record AreListed (S : Store) (slots : List Slot) : Type 0 where
   pub each : (s : Slot) → Has slots s → IsListed S s
   pub only : (q : List ℕ) (r : Row) → row_at q S.rows ≡ Some r → IsTrue (is_document r) → r.collection ≡ codes "@indexes" → (s : Slot) × Has slots s × (q ≡ folded (index_id s.name))
 
+-- no more rows, slots and notes than the setting allows, and no etag past the greatest that there is
+pub record IsWithinLimits (W : World) : Type 0 where
+  pub rows : length W.store.rows ≤ W.setting.max_rows
+  pub slots : length W.slots ≤ W.setting.max_slots
+  pub notes : length W.notes ≤ W.setting.max_notes
+  pub etags : last W.store ≤ 9007199254740991
+
 pub record Sound (W : World) : Type 0 where
   pub store : IsStore W.store
   pub fits : (s : Slot) → Has W.slots s → Fits W.store s.version
@@ -48,6 +55,7 @@ pub record Sound (W : World) : Type 0 where
   pub apart : NamesApart W.slots
   pub listed : AreListed W.store W.slots
   pub notes : (n : Note) → Has W.notes n → (n.newest ≤ n.index_etag) × (n.etag ≤ last W.store)
+  pub limits : IsWithinLimits W
 
 -- the slot is one of the earlier ones, no further back, or is new
 pub record Continues (w s : Slot) : Type 0 where

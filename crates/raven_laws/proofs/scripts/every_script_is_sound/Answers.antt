@@ -1,4 +1,4 @@
-use Rattle.raven_laws.proofs.ScriptLemmas.{lines-Sound, lines-LaterW, lines-fresh, lines-flags, lines-ids}
+use Rattle.raven_laws.proofs.ScriptLemmas.{lines-Sound, lines-LaterW, lines-fresh, lines-exact, lines-flags, lines-ids}
 use Rattle.raven_laws.proofs.scripts.every_script_is_sound.Goals as goal
 
 pub returns-clause-sound : goal.returns-clause-sound
@@ -9,6 +9,9 @@ returns-clause-goes_on c = lines-LaterW
 
 pub returns-clause-fresh : goal.returns-clause-fresh
 returns-clause-fresh c = lines-fresh
+
+pub returns-clause-exact : goal.returns-clause-exact
+returns-clause-exact c = lines-exact
 
 pub returns-clause-flags : goal.returns-clause-flags
 returns-clause-flags c = lines-flags
