@@ -3,3 +3,4 @@ pub mod Batches
 pub mod Clean
 pub mod Printed
 pub mod Pairs
+pub mod Refusals

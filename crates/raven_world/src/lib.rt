@@ -11,7 +11,9 @@ mod reply;
 mod choice;
 mod slot;
 mod table;
+mod transaction;
 mod version;
+mod world;
 
 pub use definition::Definition;
 pub use document::{collection_of, is_index_id, stored};
@@ -19,4 +21,6 @@ pub use choice::{Choice, is_stale, pick};
 pub use naming::auto_name;
 pub use reply::{Pumping, Pumpings, Reply, reply_text};
 pub use slot::Slot;
+pub use transaction::Writer;
 pub use version::IndexVersion;
+pub use world::{Answered, Change, Limits, World, WorldFault};

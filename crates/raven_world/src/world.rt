@@ -1,26 +1,19 @@
 //! The world.
-ghost use Rattle.std.specs.Prelude.{◌≡◌, ◌∷◌, [], ◌+◌, IfOk, IfSome, map};
-ghost use Rattle.raven_data.specs.Folding.{folded};
-ghost use Rattle.raven_value.specs.View.{data_of};
-ghost use Rattle.raven_model.specs.Commit as commits;
-ghost use Rattle.raven_model.specs.Machine.{answer_find, brought_on, one_field, pumping, start, step, Put as PutOne, Auto as AutoOne, Pump as PumpAll, Find as FindIn};
-ghost use Rattle.raven_model.specs.Optimiser.{Make, pick as spec_pick};
-ghost use Rattle.raven_model.specs.Store.{last, row_at, with_row};
+ghost use Rattle.std.specs.Prelude.{◌≡◌, IfOk};
+ghost use Rattle.raven_model.specs.Later.{MayFollow};
+ghost use Rattle.raven_model.specs.Machine.{in_world, start};
+ghost use Rattle.raven_model.specs.Store.{with_row as spec_with_row};
 ghost use Rattle.raven_model.specs.Words.{program};
-ghost use Rattle.raven_model.specs.World.{serving as spec_serving};
-ghost use Rattle.raven_world.specs.Told.{told, answer_told};
-ghost use Rattle.raven_world.specs.Allowed.{allowed_row};
-ghost use Rattle.raven_world.specs.ReplyView.{reply_view};
+ghost use Rattle.doc_store.specs.Bounds.{IsWithin};
+ghost use Rattle.raven_world.specs.declared.world.WorldFault.TheVariants.{NoMemory as OutOfMemory};
 
-use crate::choice::{Choice, is_stale, pick};
-use crate::reply::{Pumping, Pumpings, Reply};
-use crate::slot::{Slot, serving};
+use crate::reply::Reply;
+use crate::slot::Slot;
 use doc_store::Store;
 use raven_base::NoMemory;
-use raven_value::{Id, Name, Row, Rows, Text, Value};
+use raven_value::{Row, Rows, Text};
 use std::alloc::Global;
 use std::marker::Model;
-use std::sync::Arc;
 
 /// How much a database may hold.
 #[derive(Clone, Copy, Debug, PartialEq, Eq)]
@@ -38,10 +31,10 @@ pub struct Limits {
 /// A database: its store and its indexes, with the base id and the limits, which nothing changes.
 #[derive(Drop)]
 pub struct World {
-    store: Store,
-    slots: Vec<Slot>,
-    base: Text,
-    limits: Limits,
+    pub(crate) store: Store,
+    pub(crate) slots: Vec<Slot>,
+    pub(crate) base: Text,
+    pub(crate) limits: Limits,
 }
 
 impl Model for World {
@@ -55,4 +48,78 @@ impl Model for World {
     ghost coded = { world_code };
 
     ghost view = { λ a. record { setting = setting_of a.base a.limits; store = a.store; slots = a.slots.items; notes = [] } };
+}
+
+/// A new world, and the reply to what was asked.
+#[derive(Drop)]
+pub struct Change {
+    pub world: World,
+    pub reply: Reply,
+}
+
+/// Why a change was not made. The world is as it was.
+#[derive(Drop)]
+pub enum WorldFault {
+    /// The change is refused, with this reply.
+    Refused(Reply),
+
+    /// No memory was found.
+    NoMemory,
+}
+
+impl From<NoMemory> for WorldFault {
+    ghost from_gives = { λ _ fault. fault ≡ OutOfMemory };
+
+    fn from(_lack: NoMemory) -> WorldFault {
+        WorldFault::NoMemory
+    }
+}
+
+/// The answer to a query.
+#[derive(Drop)]
+pub enum Answered {
+    /// The reply.
+    Reply(Reply),
+
+    /// An index has to be made for the query first.
+    MustMake,
+}
+
+impl World {
+    /// An empty database with the base id of 22 letters `A` and the limits of the program.
+    pub fn empty(alloc: Global) -> Result<World, NoMemory>
+        ensures { IfOk result (λ world. world ≡ (start program).world) }
+    {
+        Ok(World {
+            store: Store::empty(alloc)?,
+            slots: Vec::new(alloc),
+            base: Text::of(alloc, "AAAAAAAAAAAAAAAAAAAAAA")?,
+            limits: Limits {
+                rows: 4_000_000,
+                slots: 256,
+                notes: 65_536,
+            },
+        })
+    }
+
+    /// The world with one further row, and these slots.
+    pub(crate) fn with_row(
+        &self,
+        alloc: Global,
+        row: Row,
+        slots: Vec<Slot>,
+    ) -> Result<World, NoMemory>
+        requires follows { MayFollow self.now.store row }
+        requires within { IsWithin (spec_with_row self.now.store row) }
+        ensures { IfOk result (λ world. world ≡ in_world self.now (spec_with_row self.now.store row) slots.items) }
+    {
+        let mut rows = Rows::new(alloc);
+        rows.push(row)?;
+        Ok(World {
+            store: self.store.with_rows(alloc, &rows)?,
+            slots,
+            base: self.base.clone()?,
+            limits: self.limits,
+        })
+    }
 }
