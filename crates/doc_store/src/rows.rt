@@ -8,7 +8,7 @@ ghost use Rattle.raven_model.specs.Index.{in_scope, up_to};
 
 use raven_base::NoMemory;
 use raven_value::{Id, Row, Text};
-use std::alloc::Global;
+use std::alloc::{AllocError, Global};
 
 /// The etag of the last row, or 0 where there is none.
 pub fn last_etag(rows: &[Row]) -> u64
@@ -100,7 +100,8 @@ fn put_row(rows: &mut Vec<Row>, row: Row) -> Result<(), NoMemory>
     Ok(())
 }
 
-fn copies(alloc: Global, rows: &[Row]) -> Result<Vec<Row>, NoMemory>
+/// The same rows once more.
+pub fn copies(alloc: Global, rows: &[Row]) -> Result<Vec<Row>, AllocError>
     ensures { IfOk result (λ new. new.items ≡ rows.now) }
 {
     let mut new = Vec::with_capacity(alloc, rows.len())?;

@@ -6,10 +6,10 @@ ghost use Rattle.raven_model.specs.Later.{MayFollowAll};
 ghost use Rattle.raven_model.specs.Index.{newest, past, stale, taken};
 ghost use Rattle.doc_store.specs.Bounds.{IsWithin, max_etag};
 
-use crate::rows::{find_row, first_past, last_etag, newest_etag, with_each};
+use crate::rows::{find_row, first_past, last_etag, copies, newest_etag, with_each};
 use raven_base::NoMemory;
 use raven_value::{Id, Row, Rows, Scope};
-use std::alloc::Global;
+use std::alloc::{AllocError, Global};
 use std::marker::Model;
 
 /// The rows of a database, one for each id, seen by contracts as their list in order of etag.
@@ -104,6 +104,16 @@ impl Store {
     {
         Ok(Store {
             rows: with_each(alloc, &self.rows, rows.as_slice())?,
+        })
+    }
+}
+
+impl Clone for Store {
+    ghost is_clone = { λ s t. t ≡ s };
+
+    fn clone(&self) -> Result<Store, AllocError> {
+        Ok(Store {
+            rows: copies(*self.rows.allocator(), &self.rows)?,
         })
     }
 }

@@ -4,3 +4,4 @@ pub mod Clean
 pub mod Printed
 pub mod Pairs
 pub mod Refusals
+pub mod Steps

@@ -6,3 +6,4 @@ pub mod SettingView
 pub mod Allowed
 pub mod Told
 pub mod Tests
+pub mod Roomy

@@ -48,6 +48,10 @@ impl Model for World {
     ghost coded = { world_code };
 
     ghost view = { λ a. record { setting = setting_of a.base a.limits; store = a.store; slots = a.slots.items; notes = [] } };
+
+    ghost use Rattle.raven_world.specs.Roomy.{IsRoomy};
+
+    ghost invariant = { λ a. IsRoomy a.store a.limits.rows };
 }
 
 /// A new world, and the reply to what was asked.

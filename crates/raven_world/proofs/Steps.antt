@@ -1,0 +1,70 @@
+-- The steps of the machine, by the row that is written.
+use Rattle.std.proofs.Common.{◌≡◌, ◌≤◌, ◌<◌, ◌+◌, ◌^◌, ℕ, List, [], ◌∷◌, Bool, true, false, ◌==◌, Option, Some, None, is_some, Ok, Err, refl, sym, ap, ◌∙◌, subst, arith}
+use Rattle.std.proofs.lemmas.Bool.{eq-eqb}
+use Rattle.raven_data.specs.Data.{Data}
+use Rattle.raven_data.specs.Folding.{folded}
+use Rattle.raven_data.specs.Rows.{Row, key}
+use Rattle.raven_model.specs.Later.{MayFollow}
+use Rattle.raven_model.specs.Store.{Store, last, row_at, with_row}
+use Rattle.raven_model.specs.Commit.{Setting, Writer, Client, Server, Refusal, Command, Put, AnyVector, Written, Refused, collection_of, stored, kept_spelling, refusal_of, row_of, unless, with_written, vector_of, commit}
+use Rattle.raven_model.specs.Replies.{Reply, UnknownLine}
+use Rattle.raven_model.specs.World.{World, Slot}
+use Rattle.raven_model.specs.Machine.{Replied, Request, Put as PutOne, in_world, same_machine, rewrote, wrote, step}
+use Rattle.doc_store.specs.Bounds.{IsWithin, max_etag}
+use Rattle.raven_laws.proofs.CommitLemmas.{put_key, row_of-follows}
+use Rattle.raven_world.specs.Tests.{stands_against, is_reserved_for, is_too_long, is_elsewhere, is_full, is_spent}
+use Rattle.raven_world.specs.Allowed.{allowed_row, unless_refused}
+use Rattle.raven_world.specs.Told.{machine_of}
+use Rattle.raven_world.proofs.Refusals.{refusal-flag, not_full, put-IsWithin}
+
+same_row : (a b : Row) → Some a ≡ Some b → a ≡ b
+same_row a b h = cc
+
+-- A ROW THAT IS ALLOWED
+
+pub allowed-follows : (s : Setting) (w : Writer) (now : ℕ) (S : Store) (c : Command) (r : Row) → allowed_row s w now S c ≡ Some r → MayFollow S r
+allowed-follows s w now S c r h =
+    elim (refusal_of s w S c) as (λ o. refusal_of s w S c ≡ o → unless_refused o (row_of now S c) ≡ Some r → MayFollow S r) [
+      | None ↦ λ e g. row_of-follows s w now S c r e g
+      | Some k ↦ λ e g. absurd cc
+    ] refl h
+
+next_within : (S : Store) → is_spent S ≡ false → last S ≤ max_etag → last S + 1 ≤ max_etag
+next_within S h le = let apart : last S ≡ max_etag → ⊥ = λ e. let t = eq-eqb (last S) max_etag e in cc in omega arith
+
+pub allowed-fits : (s : Setting) (w : Writer) (now : ℕ) (S : Store) (id : List ℕ) (body : Data) (r : Row) → allowed_row s w now S (Put id AnyVector body) ≡ Some r → IsWithin S → s.max_rows < 2 ^ 32 → IsWithin (with_row S r)
+allowed-fits s w now S id body r h within most =
+    elim (refusal_of s w S (Put id AnyVector body)) as (λ o. refusal_of s w S (Put id AnyVector body) ≡ o → unless_refused o (row_of now S (Put id AnyVector body)) ≡ Some r → IsWithin (with_row S r)) [
+      | None ↦ λ e g.
+          let free = not_full (is_reserved_for w id (collection_of body)) (is_too_long (stored body)) (is_elsewhere (collection_of body) (row_at (folded id) S.rows)) (is_full s S (row_at (folded id) S.rows)) (is_spent S)
+              (sym (refusal-flag s w S id body) ∙ ap is_some e) in
+          let same = same_row _ r g in
+          let own : key r ≡ folded id = ap key (sym same) ∙ put_key id S.rows in
+          let etag : r.etag ≡ last S + 1 = ap (λ (x : Row). x.etag) (sym same) in
+          put-IsWithin s S r (subst (λ q. is_full s S (row_at q S.rows) ≡ false) (sym own) free.0) most within.rows (let n = next_within S free.1 within.etags in omega arith)
+      | Some k ↦ λ e g. absurd cc
+    ] refl h
+
+-- A PUT
+
+pub step-put-refused : (W : World) (now : ℕ) (id : List ℕ) (body : Data) → allowed_row W.setting Client now W.store (Put id AnyVector body) ≡ None
+    → same_machine (machine_of W) UnknownLine ≡ step (machine_of W) now (PutOne id AnyVector body)
+step-put-refused W now id body h =
+    elim (refusal_of W.setting Client W.store (Put id AnyVector body)) as (λ o. unless_refused o (row_of now W.store (Put id AnyVector body)) ≡ None
+      → same_machine (machine_of W) UnknownLine ≡ wrote (machine_of W) (unless o 0 (Ok (with_written (row_of now W.store (Put id AnyVector body)) (record { store = W.store; rows = [] }))))) [
+      | None ↦ λ g. absurd cc
+      | Some k ↦ λ g. refl
+    ] h
+
+put_told : World → Row → Replied
+put_told W r = record { reply = Reply.Put (vector_of W.setting.base r.etag) r.id; machine = machine_of (in_world W (with_row W.store r) W.slots) }
+
+pub step-put-made : (W : World) (now : ℕ) (id : List ℕ) (body : Data) (r : Row) → allowed_row W.setting Client now W.store (Put id AnyVector body) ≡ Some r
+    → (let told : Replied = record { reply = Reply.Put (vector_of W.setting.base r.etag) r.id; machine = machine_of (in_world W (with_row W.store r) W.slots) } in told) ≡ step (machine_of W) now (PutOne id AnyVector body)
+unfolding put_told
+step-put-made W now id body r h =
+    elim (refusal_of W.setting Client W.store (Put id AnyVector body)) as (λ o. unless_refused o (row_of now W.store (Put id AnyVector body)) ≡ Some r
+      → put_told W r ≡ wrote (machine_of W) (unless o 0 (Ok (with_written (row_of now W.store (Put id AnyVector body)) (record { store = W.store; rows = [] }))))) [
+      | None ↦ λ g. ap (put_told W) (sym (same_row _ r g))
+      | Some k ↦ λ g. absurd cc
+    ] h

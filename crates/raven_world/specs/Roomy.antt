@@ -1,0 +1,8 @@
+-- How large a database may grow.
+use Rattle.std.specs.Prelude.{ℕ, ◌<◌, ◌^◌}
+use Rattle.raven_model.specs.Store.{Store}
+use Rattle.doc_store.specs.Bounds.{IsWithin}
+
+pub record IsRoomy (S : Store) (most : ℕ) : Type 0 where
+  pub store : IsWithin S
+  pub rows : most < 2 ^ 32
