@@ -58,7 +58,10 @@ fn members_and_paths(rt: HostRuntime) -> Result<(), Fail> {
     let mut members = Members::new(alloc);
     members.put(text(alloc, "b")?, Value::Num(1))?;
     members.put(text(alloc, "Ship")?, Value::Map(inner))?;
-    members.put(text(alloc, "a")?, Value::List(Values::new(alloc)))?;
+    let mut items = Values::new(alloc);
+    items.push(Value::Flag(true))?;
+    assert_eq!(rt; items.len(), 1);
+    members.put(text(alloc, "a")?, Value::List(items))?;
     members.put(text(alloc, "b")?, Value::Num(-9))?;
     assert_eq!(rt; members.as_slice().len(), 3);
     assert_eq!(rt; members.as_slice()[0].0.as_str(), "Ship");
@@ -82,10 +85,23 @@ fn members_and_paths(rt: HostRuntime) -> Result<(), Fail> {
         Some(found) => assert_eq!(rt; found.scalar(alloc)? == city, true),
         None => return Err(Fail::new("the path leads nowhere")),
     }
+    let mut path = path.clone()?;
     path.push(text(alloc, "Zip")?)?;
     assert_eq!(rt; value.at(&path).is_none(), true);
     assert_eq!(rt; value.scalar(alloc)? == Scalar::Null, true);
     assert_eq!(rt; value.clone()? == *value, true);
+    let row = Row {
+        etag: 7,
+        id: Id::new(alloc, "orders/1")?,
+        collection: text(alloc, "Orders")?,
+        body: Body::Doc(document),
+        changed: 5,
+    };
+    let mut rows = Sequence::new(alloc);
+    rows.push(row)?;
+    let rows = rows.clone()?;
+    assert_eq!(rt; rows.as_slice()[0].id.as_str(), "orders/1");
+    assert_eq!(rt; matches!(rows.as_slice()[0].body, Body::Doc(_)), true);
     Ok(())
 }
 
