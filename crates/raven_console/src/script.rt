@@ -4,7 +4,7 @@ ghost use Rattle.raven_data.specs.Faults.{is_fit, max_id, max_name};
 ghost use Rattle.raven_data.specs.Json.{reading};
 ghost use Rattle.raven_model.specs.Commit.{AnyVector};
 ghost use Rattle.raven_model.specs.Machine.{Put};
-ghost use Rattle.raven_model.specs.Script.{before_space, after_space, number_of as spec_number_of, put_body, put_of as spec_put_of, is_collection as spec_is_collection, is_field as spec_is_field, auto_of as spec_auto_of, pump_of as spec_pump_of, find_of as spec_find_of, request_of as spec_request_of, by_word, line_of};
+ghost use Rattle.raven_model.specs.Script.{before_space, after_space, number_of as spec_number_of, put_body, put_of as spec_put_of, is_collection as spec_is_collection, is_field as spec_is_field, auto_of as spec_auto_of, pump_of as spec_pump_of, find_of as spec_find_of, by_word, line_of};
 ghost use Rattle.raven_value.specs.View.{data_of};
 ghost use Rattle.raven_console.specs.RequestView.{request_view, line_view, Refuses};
 

@@ -9,4 +9,4 @@ returns-in_default-clause-refused c = line_of-bytes c.args.bytes.now (sym c.is_e
 pub returns-in-Ok-Some-clause-ok : goal.returns-in-Ok-Some-clause-ok
 returns-in-Ok-Some-clause-ok c =
     line_of-text c.args.bytes.now c.in-Ok.text.now (Some (request_view c.in-Ok-Some.request)) (sym c.is_empty.ensures ∙ c.if-is_empty.false) c.in-Ok.ensures.cases
-        (rw c.in-Ok-Some.field-0-is at c.in-Ok-Some.ensures)
+    (rw c.in-Ok-Some.field-0-is at c.in-Ok-Some.ensures)
