@@ -1,5 +1,5 @@
 -- Pieces that are taken or given one after another.
-use Rattle.std.proofs.Common.{◌≡◌, ◌∷◌, ℕ, List, [], ◌++◌, Option, Some, None, refl, ap, sym, ◌∙◌, append_assoc, take, drop, subst}
+use Rattle.std.proofs.Common.{◌≡◌, ℕ, List, [], ◌++◌, Option, Some, None, refl, ap, sym, ◌∙◌, append_assoc, take, drop, subst}
 use Rattle.std.proofs.lemmas.List.{append-nil, take-append-drop}
 use Rattle.raven_ports.specs.Told.{appended, preceded}
 use Rattle.raven_console.specs.Outcome.{GivesFront}

@@ -1,5 +1,5 @@
 -- Where the first word ends.
-use Rattle.std.proofs.Common.{◌≡◌, ◌<◌, ◌+◌, ℕ, List, [], ◌∷◌, length, Option, Some, None, take, drop, Bool, cond, not, arith, true, false, refl, ap, ◌∙◌, suc}
+use Rattle.std.proofs.Common.{◌≡◌, ◌<◌, ◌+◌, ℕ, List, [], ◌∷◌, length, Option, Some, None, take, drop, Bool, cond, not, arith, true, false, refl, ap, suc}
 use Rattle.std.specs.Prelude.{◌==◌, if◌then◌else◌}
 use Rattle.std.specs.List.{position_or_len, before_first, after_first}
 use Rattle.raven_model.specs.Script.{before_space, after_space}

@@ -1,5 +1,5 @@
 -- What a line of a script asks, and the request that it is.
-use Rattle.std.specs.Prelude.{◌≡◌, Option, option_map, Result, Err}
+use Rattle.std.specs.Prelude.{◌≡◌, Result, Err}
 use Rattle.raven_value.specs.View.{data_of}
 use Rattle.raven_model.specs.Commit.{AnyVector}
 use Rattle.raven_model.specs.Machine as is
