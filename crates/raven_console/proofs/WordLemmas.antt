@@ -1,0 +1,35 @@
+-- Where the first word ends.
+use Rattle.std.proofs.Common.{◌≡◌, ◌<◌, ◌+◌, ℕ, List, [], ◌∷◌, length, Option, Some, None, take, drop, Bool, cond, not, arith, true, false, refl, ap, suc}
+use Rattle.std.specs.Prelude.{◌==◌, if◌then◌else◌}
+use Rattle.std.specs.List.{position_or_len, before_first, after_first}
+use Rattle.raven_model.specs.Script.{before_space, after_space}
+
+abbrev first_space : List ℕ → ℕ
+first_space s = position_or_len (λ b. b == 32) s
+
+before_step : (t : Bool) (b n : ℕ) (s w : List ℕ) → w ≡ take n s → (if t then [] else b ∷ w) ≡ take (cond (not t) (1 + n) 0) (b ∷ s)
+before_step true b n s w e = refl
+before_step false b n s w e = let k : 1 + n ≡ suc n = omega arith in rw k (ap (λ z. b ∷ z) e)
+
+pub before_space-first : (s : List ℕ) → before_space s ≡ before_first (λ b. b == 32) s
+before_space-first [] = refl
+before_space-first (b ∷ s) = before_step (b == 32) b (first_space s) s (before_space s) (before_space-first s)
+
+none_step : (t : Bool) (n l : ℕ) (s : List ℕ) (after : Option (List ℕ)) → (n ≡ l → after ≡ None) → cond (not t) (1 + n) 0 ≡ suc l → (if t then Some s else after) ≡ None
+none_step true n l s after f h = absurd (omega arith)
+none_step false n l s after f h = f (omega arith)
+
+pub after_space-none : (s : List ℕ) → first_space s ≡ length s → after_space s ≡ None
+after_space-none [] h = refl
+after_space-none (b ∷ s) h = none_step (b == 32) (first_space s) (length s) s (after_space s) (after_space-none s) h
+
+some_step : (t : Bool) (b n l : ℕ) (s : List ℕ) (after : Option (List ℕ)) → (n < l → after ≡ Some (drop (n + 1) s)) → cond (not t) (1 + n) 0 < suc l
+    → (if t then Some s else after) ≡ Some (drop (cond (not t) (1 + n) 0 + 1) (b ∷ s))
+some_step true b n l s after f h = refl
+some_step false b n l s after f h = let k : 1 + n + 1 ≡ suc (n + 1) = omega arith in rw k (f (omega arith))
+
+pub after_space-some : (s : List ℕ) → first_space s < length s → after_space s ≡ Some (after_first (λ b. b == 32) s)
+after_space-some [] h = absurd (omega arith)
+after_space-some (b ∷ s) h = some_step (b == 32) b (first_space s) (length s) s (after_space s) (after_space-some s) h
+
+pub ruleset splits = (before_space-first, after_space-none, after_space-some)

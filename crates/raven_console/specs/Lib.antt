@@ -1,0 +1,4 @@
+pub mod LineEnds
+pub mod Input
+pub mod Outcome
+pub mod RequestView

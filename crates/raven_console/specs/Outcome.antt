@@ -1,0 +1,39 @@
+-- What a run leaves of its input and its output, where they tell it.
+use Rattle.std.specs.Prelude.{◌≡◌, ℕ, ◌≤◌, List, [], ◌∷◌, ◌++◌, length, Option, Some, None}
+use Rattle.raven_ports.specs.Told.{appended}
+use Rattle.raven_model.specs.Lines.{lines}
+use Rattle.raven_model.specs.Machine.{Machine, start}
+use Rattle.raven_model.specs.Script.{reply_to, replies_to, after_lines}
+use Rattle.raven_model.specs.Words.{max_input, program}
+
+-- what is written for a script
+abbrev pub output_of : List ℕ → List ℕ
+output_of script = replies_to (lines script) (start program)
+
+-- a front of these bytes was added
+pub record GivesFront (old new : Option (List ℕ)) (bytes : List ℕ) : Type 0 where
+  pub front : List ℕ
+  pub rest : List ℕ
+  pub split : bytes ≡ front ++ rest
+  pub given : new ≡ appended old front
+
+-- all was read, and the replies to its lines were written
+abbrev pub Finishes : Option (List ℕ) → Option (List ℕ) → Option (List ℕ) → Option (List ℕ) → Type 0
+Finishes (Some script) left old new = (left ≡ Some []) × (length script ≤ max_input) × (new ≡ appended old (output_of script))
+Finishes None left old new = Unit {0}
+
+-- It stopped at one of these lines: the replies to those before it were written whole, and then a front of its own.
+pub record StopsIn (old new : Option (List ℕ)) (all : List (List ℕ)) (M : Machine) : Type 0 where
+  pub done : List (List ℕ)
+  pub line : List ℕ
+  pub more : List (List ℕ)
+  pub part : List ℕ
+  pub rest : List ℕ
+  pub split : all ≡ done ++ line ∷ more
+  pub piece : reply_to line (after_lines done M) ≡ part ++ rest
+  pub given : new ≡ appended old (replies_to done M ++ part)
+
+-- it stopped at one of the lines of the script
+abbrev pub Stops : Option (List ℕ) → Option (List ℕ) → Option (List ℕ) → Type 0
+Stops (Some script) old new = StopsIn old new (lines script) (start program)
+Stops None old new = Unit {0}

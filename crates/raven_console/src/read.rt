@@ -1,0 +1,50 @@
+//! The whole input.
+ghost use Rattle.std.specs.Prelude.{◌≡◌, ◌≤◌, length, IfOk, IfSome, [], Some, IsErrOf};
+ghost use Rattle.raven_ports.specs.Faults.{Rose};
+ghost use Rattle.raven_model.specs.Words.{max_input};
+ghost use Rattle.raven_console.specs.Input.{TakesMore, TakesWithin};
+
+use raven_ports::Source;
+use std::alloc::Global;
+
+/// The longest input, in bytes.
+const MAX_INPUT: usize = 16_777_216;
+
+/// Why an input was not read to its end.
+pub(crate) enum ReadEnd {
+    /// A call of the source failed.
+    Fault,
+
+    /// There are more bytes than may be read.
+    TooLarge,
+
+    /// No memory was found.
+    NoMemory,
+}
+
+/// All that is left of a source. Of an input that is too large it takes one byte more than may be read.
+#[tactic(auto, using(crate::proofs::Pieces::pieces))]
+pub(crate) fn read_all<S: Source>(alloc: Global, source: &mut S) -> Result<Vec<u8>, ReadEnd>
+    ensures all { IfOk result (λ v. IfSome (S.left source.old) (λ left. (left ≡ v.items) × (S.left source.new ≡ Some []))) }
+    ensures size { IfOk result (λ v. length v.items ≤ max_input) }
+    ensures large { IsErrOf result ReadEnd.TooLarge → TakesMore (S.left source.old) (S.left source.new) }
+    ensures within { IsErrOf result ReadEnd.Fault → TakesWithin (S.left source.old) (S.left source.new) }
+    ensures later { S.faults source.old ≤ S.faults source.new }
+    ensures cause { IsErrOf result ReadEnd.Fault → Rose (S.faults source.old) (S.faults source.new) }
+{
+    let mut all = Vec::new(alloc);
+    let mut buf = [0u8; 4096];
+    while all.len() <= MAX_INPUT {
+        let room = (MAX_INPUT + 1 - all.len()).min(buf.len());
+        let Ok(count) = source.take(&mut buf[..room]) else {
+            return Err(ReadEnd::Fault);
+        };
+        if count == 0 {
+            return Ok(all);
+        }
+        let Ok(()) = all.extend_from_slice(&buf[..count]) else {
+            return Err(ReadEnd::NoMemory);
+        };
+    }
+    Err(ReadEnd::TooLarge)
+}
