@@ -1,6 +1,7 @@
 -- The steps of the machine, by the row that is written.
-use Rattle.std.proofs.Common.{◌≡◌, ◌≤◌, ◌<◌, ◌+◌, ◌^◌, ℕ, List, [], ◌∷◌, Bool, true, false, ◌==◌, Option, Some, None, is_some, Ok, Err, refl, sym, ap, ◌∙◌, subst, arith}
+use Rattle.std.proofs.Common.{◌≡◌, ◌≤◌, ◌<◌, ◌+◌, ◌^◌, ℕ, List, [], ◌∷◌, ◌++◌, length, Bool, true, false, cond, ◌||◌, nat_le, ◌==◌, Option, Some, None, is_some, Ok, Err, refl, sym, ap, ◌∙◌, subst, arith}
 use Rattle.std.proofs.lemmas.Bool.{eq-eqb}
+use Rattle.std.proofs.lemmas.Grind.{common_steps}
 use Rattle.raven_data.specs.Data.{Data}
 use Rattle.raven_data.specs.Folding.{folded}
 use Rattle.raven_data.specs.Rows.{Row, key}
@@ -8,12 +9,15 @@ use Rattle.raven_model.specs.Later.{MayFollow}
 use Rattle.raven_model.specs.Store.{Store, last, row_at, with_row}
 use Rattle.raven_model.specs.Commit.{Setting, Writer, Client, Server, Refusal, Command, Put, AnyVector, Written, Refused, collection_of, stored, kept_spelling, refusal_of, row_of, unless, with_written, vector_of, commit}
 use Rattle.raven_model.specs.Replies.{Reply, UnknownLine}
-use Rattle.raven_model.specs.World.{World, Slot}
-use Rattle.raven_model.specs.Machine.{Replied, Request, Put as PutOne, in_world, same_machine, rewrote, wrote, step}
+use Rattle.raven_model.specs.Mapping.{Definition}
+use Rattle.raven_model.specs.Optimiser.{Shape, Make, pick, name_of}
+use Rattle.raven_model.specs.World.{World, Slot, NameServes, TooManyIndexes, added, fresh, index_id, row_body, serving}
+use Rattle.raven_model.specs.Machine.{Replied, Request, Put as PutOne, Auto as AutoOne, in_world, same_machine, one_field, defined, rewrote, use_or_make, wrote, step}
 use Rattle.doc_store.specs.Bounds.{IsWithin, max_etag}
 use Rattle.raven_laws.proofs.CommitLemmas.{put_key, row_of-follows}
 use Rattle.raven_world.specs.Tests.{stands_against, is_reserved_for, is_too_long, is_elsewhere, is_full, is_spent}
 use Rattle.raven_world.specs.Allowed.{allowed_row, unless_refused}
+use Rattle.raven_world.specs.NewName.{new_name_of}
 use Rattle.raven_world.specs.Told.{machine_of}
 use Rattle.raven_world.proofs.Refusals.{refusal-flag, not_full, put-IsWithin}
 
@@ -68,3 +72,84 @@ step-put-made W now id body r h =
       | None ↦ λ g. ap (put_told W) (sym (same_row _ r g))
       | Some k ↦ λ g. absurd cc
     ] h
+
+-- A NEW INDEX
+
+defined_told : World → List ℕ → Slot → Row → Replied
+defined_told W name slot r = record { reply = Reply.Index name; machine = machine_of (in_world W (with_row W.store r) (W.slots ++ slot ∷ [])) }
+
+pub defined-refused : (W : World) (now : ℕ) (name : List ℕ) (d : Definition) → allowed_row W.setting Server now W.store (Put (index_id name) AnyVector (row_body d)) ≡ None
+    → same_machine (machine_of W) UnknownLine ≡ defined (machine_of W) now name (Ok (added W name d))
+defined-refused W now name d h =
+    elim (refusal_of W.setting Server W.store (Put (index_id name) AnyVector (row_body d))) as (λ o. unless_refused o (row_of now W.store (Put (index_id name) AnyVector (row_body d))) ≡ None
+      → same_machine (machine_of W) UnknownLine
+      ≡ rewrote (machine_of W) name (added W name d).slots (unless o 0 (Ok (with_written (row_of now W.store (Put (index_id name) AnyVector (row_body d))) (record { store = W.store; rows = [] }))))) [
+      | None ↦ λ g. absurd cc
+      | Some k ↦ λ g. refl
+    ] h
+
+pub defined-made : (W : World) (now : ℕ) (name : List ℕ) (d : Definition) (r : Row) → allowed_row W.setting Server now W.store (Put (index_id name) AnyVector (row_body d)) ≡ Some r
+    → (let told : Replied = record { reply = Reply.Index name; machine = machine_of (in_world W (with_row W.store r) (W.slots ++ record { number = last W.store + 1; name = name; version = fresh d; row = last W.store + 1 } ∷ [])) } in told)
+    ≡ defined (machine_of W) now name (Ok (added W name d))
+unfolding defined_told
+defined-made W now name d r h =
+    elim (refusal_of W.setting Server W.store (Put (index_id name) AnyVector (row_body d))) as (λ o. unless_refused o (row_of now W.store (Put (index_id name) AnyVector (row_body d))) ≡ Some r
+      → defined_told W name (record { number = last W.store + 1; name = name; version = fresh d; row = last W.store + 1 }) r
+      ≡ rewrote (machine_of W) name (added W name d).slots (unless o 0 (Ok (with_written (row_of now W.store (Put (index_id name) AnyVector (row_body d))) (record { store = W.store; rows = [] }))))) [
+      | None ↦ λ g. ap (defined_told W name (record { number = last W.store + 1; name = name; version = fresh d; row = last W.store + 1 })) (sym (same_row _ r g))
+      | Some k ↦ λ g. absurd cc
+    ] h
+
+-- what a definition answers where no index may be made, and where one may
+none_made : (W : World) (now : ℕ) (name : List ℕ) (d : Definition) (many serves : Bool) → (let x : Option (List ℕ) = cond (many || serves) None (Some name) in x) ≡ None
+    → same_machine (machine_of W) UnknownLine ≡ defined (machine_of W) now name (cond serves (Err NameServes) (cond many (Err TooManyIndexes) (Ok (added W name d))))
+none_made W now name d true true h = refl
+none_made W now name d true false h = refl
+none_made W now name d false true h = refl
+none_made W now name d false false h = absurd cc
+
+one_made : (W : World) (now : ℕ) (name new : List ℕ) (d : Definition) (many serves : Bool) → (let x : Option (List ℕ) = cond (many || serves) None (Some name) in x) ≡ Some new
+    → defined (machine_of W) now new (Ok (added W new d)) ≡ defined (machine_of W) now name (cond serves (Err NameServes) (cond many (Err TooManyIndexes) (Ok (added W name d))))
+one_made W now name new d true true h = absurd cc
+one_made W now name new d true false h = absurd cc
+one_made W now name new d false true h = absurd cc
+one_made W now name new d false false h = let same : new ≡ name = cc in ap (λ n. defined (machine_of W) now n (Ok (added W n d))) same
+
+pub make-refused : (W : World) (now : ℕ) (collection field : List ℕ) → pick (one_field collection field) W.store W.slots ≡ Make (one_field collection field)
+    → new_name_of W (one_field collection field) ≡ None → same_machine (machine_of W) UnknownLine ≡ step (machine_of W) now (AutoOne collection field)
+make-refused W now collection field p h =
+    let name = name_of W.slots (last W.store + 1) (one_field collection field) in
+    none_made W now name (Definition.Auto collection ((field ∷ []) ∷ [])) (nat_le W.setting.max_slots (length W.slots)) (is_some (serving W.slots name)) h
+    ∙ ap (use_or_make (machine_of W) now) (sym p)
+
+pub make-defined : (W : World) (now : ℕ) (collection field new : List ℕ) → pick (one_field collection field) W.store W.slots ≡ Make (one_field collection field)
+    → new_name_of W (one_field collection field) ≡ Some new
+    → defined (machine_of W) now new (Ok (added W new (Definition.Auto collection ((field ∷ []) ∷ [])))) ≡ step (machine_of W) now (AutoOne collection field)
+make-defined W now collection field new p h =
+    let name = name_of W.slots (last W.store + 1) (one_field collection field) in
+    one_made W now name new (Definition.Auto collection ((field ∷ []) ∷ [])) (nat_le W.setting.max_slots (length W.slots)) (is_some (serving W.slots name)) h
+    ∙ ap (use_or_make (machine_of W) now) (sym p)
+
+-- THE NAME OF A NEW INDEX
+
+pub few_slots : (most slots : ℕ) → nat_le most slots ≡ false → most < 2 ^ 32 → slots < 2 ^ 32
+few_slots most slots h lt = grind (arith, common_steps)
+
+pub new-name-none : (W : World) (shape : Shape) (name : List ℕ) → name ≡ name_of W.slots (last W.store + 1) shape → is_some (serving W.slots name) ≡ true → (let x : Option (List ℕ) = None in x) ≡ new_name_of W shape
+new-name-none W shape name is serves =
+    by (nat_le W.setting.max_slots (length W.slots)) (is_some (serving W.slots (name_of W.slots (last W.store + 1) shape))) (ap (λ n. is_some (serving W.slots n)) (sym is) ∙ serves)
+  where
+    by : (many serves : Bool) → serves ≡ true → (let x : Option (List ℕ) = None in x) ≡ cond (many || serves) None (Some (name_of W.slots (last W.store + 1) shape))
+    by true serves h = refl
+    by false true h = refl
+    by false false h = absurd cc
+
+pub new-name-some : (W : World) (shape : Shape) (name : List ℕ) → nat_le W.setting.max_slots (length W.slots) ≡ false → name ≡ name_of W.slots (last W.store + 1) shape → is_some (serving W.slots name) ≡ false
+    → Some name ≡ new_name_of W shape
+new-name-some W shape name few is serves =
+    by (nat_le W.setting.max_slots (length W.slots)) (is_some (serving W.slots (name_of W.slots (last W.store + 1) shape))) few (ap (λ n. is_some (serving W.slots n)) (sym is) ∙ serves)
+  where
+    by : (many serves : Bool) → many ≡ false → serves ≡ false → Some name ≡ cond (many || serves) None (Some (name_of W.slots (last W.store + 1) shape))
+    by true serves g h = absurd cc
+    by false true g h = absurd cc
+    by false false g h = ap Some is

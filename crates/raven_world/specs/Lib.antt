@@ -7,3 +7,4 @@ pub mod Allowed
 pub mod Told
 pub mod Tests
 pub mod Roomy
+pub mod NewName

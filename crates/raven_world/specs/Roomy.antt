@@ -3,6 +3,7 @@ use Rattle.std.specs.Prelude.{ℕ, ◌<◌, ◌^◌}
 use Rattle.raven_model.specs.Store.{Store}
 use Rattle.doc_store.specs.Bounds.{IsWithin}
 
-pub record IsRoomy (S : Store) (most : ℕ) : Type 0 where
+pub record IsRoomy (S : Store) (most most_slots : ℕ) : Type 0 where
   pub store : IsWithin S
   pub rows : most < 2 ^ 32
+  pub slots : most_slots < 2 ^ 32

@@ -6,6 +6,7 @@ mod definition;
 mod document;
 mod entry;
 mod find;
+mod make;
 mod mapping;
 mod naming;
 mod pump;

@@ -3,16 +3,17 @@ ghost use Rattle.std.specs.Prelude.{◌≡◌, ◌++◌, ◌<◌, ◌^◌, IfOk,
 ghost use Rattle.raven_model.specs.Machine.{one_field};
 ghost use Rattle.raven_model.specs.Optimiser.{first_free as spec_first_free, name_of, plain_name as spec_plain_name};
 ghost use Rattle.raven_value.specs.Refusal.{fault_in};
-ghost use Rattle.raven_model.specs.World.{serving as spec_serving};
+ghost use Rattle.raven_model.specs.World.{index_id as spec_index_id, serving as spec_serving};
 
 use crate::slot::{Slot, serving};
 use raven_base::NoMemory;
-use raven_value::{IdRefusal, Name, Text};
+use raven_value::{Id, IdRefusal, Name, Text};
 use std::alloc::Global;
 
 const LONGEST: usize = 200;
 
-fn is_served(slots: &[Slot], name: &str) -> bool
+/// Whether some slot serves the name.
+pub fn is_served(slots: &[Slot], name: &str) -> bool
     ensures { result ≡ is_some (spec_serving slots.now name.now) }
 {
     serving(slots, name).is_some()
@@ -96,12 +97,24 @@ fn numbered_name(alloc: Global, slots: &[Slot], number: u64) -> Result<Name, NoM
     }
 }
 
-// What is left of a refusal of a text that has no fault.
-fn memory_alone(refusal: IdRefusal) -> NoMemory
+/// What is left of a refusal of a text that has no fault.
+pub fn memory_alone(refusal: IdRefusal) -> NoMemory
     requires { fault_in refusal ≡ None }
 {
     match refusal {
         IdRefusal::NoMemory => NoMemory,
         IdRefusal::Empty | IdRefusal::TooLong { .. } | IdRefusal::Control { .. } => unreachable!(),
+    }
+}
+
+/// The id of the row of the definition of this name.
+pub fn index_id(alloc: Global, name: &Name) -> Result<Id, NoMemory>
+    ensures { IfOk result (λ id. id ≡ spec_index_id name.now) }
+{
+    let mut text = String::from_str(alloc, "@index/")?;
+    text.push_str(name.as_str())?;
+    match Id::new(alloc, text.as_str()) {
+        Ok(id) => Ok(id),
+        Err(refusal) => Err(memory_alone(refusal)),
     }
 }

@@ -51,7 +51,7 @@ impl Model for World {
 
     ghost use Rattle.raven_world.specs.Roomy.{IsRoomy};
 
-    ghost invariant = { λ a. IsRoomy a.store a.limits.rows };
+    ghost invariant = { λ a. IsRoomy a.store a.limits.rows a.limits.slots };
 }
 
 /// A new world, and the reply to what was asked.
