@@ -8,8 +8,11 @@ use lib.ListN.{get_elem?}
 use Rattle.atomic_table.specs.Table.{State, Me, Act, keeps, takes, gives, step, stepped, Allows, Valid, carried_after, opening, Splits, Joins, Seen, Final}
 use Rattle.atomic_table.proofs.Lists.{at_set, set_here, set_else, set_again, at_snoc, at_longer, exchanged}
 use Rattle.raven_turn.specs.declared.view.View.{View}
-use Rattle.raven_turn.specs.Turns.{Has, view, idle, spent, shares_in, made_in, cut_left, cut_right, joined, AfterAll, At, Free, Taken, IsHeld, Keeps, Rests, took, marked, gave, counted}
-use Rattle.raven_turn.proofs.Sums.{each_set, each_snoc, total-append, total-set, term_le, terms_le, total_one, has_append, unmoved}
+use Rattle.raven_turn.specs.Passes.{AfterAll}
+use Rattle.raven_turn.specs.Rules.{view, idle, spent, shares_in, made_in, cut_left, cut_right, joined, At, Free, Taken, IsHeld, Keeps, Rests, took, marked, gave, counted}
+use Rattle.raven_turn.proofs.Sums.{in_range, each_set, each_snoc, sum_set, term_le, terms_le, sum_one, unmoved}
+use Rattle.std.proofs.lemmas.List.Sums.{sum_by-append}
+use Rattle.std.proofs.lemmas.List.Elements.{All-cons, All-nil, All-append}
 
 module _ {V : Type 0} where
   some_is : (x y : V) → Some x ≡ Some y → x ≡ y
@@ -22,11 +25,9 @@ module _ {V : Type 0} where
   not_both : (o : Option V) (x : V) {C : Type 0} → o ≡ None → o ≡ Some x → C
   not_both o x a b = cc
 
-module _ {A : Type 0} where
-  in_range : (l : List A) (j : ℕ) (v : A) → get_elem? l j ≡ some v → j < length l
-  in_range [] j v e = absurd (some-ne-none v (sym e))
-  in_range (x ∷ xs) zero v e = omega arith
-  in_range (x ∷ xs) (suc j) v e = omega (arith, in_range xs j v e)
+  -- a value is Later than itself
+  after_one : (Later : V → V → Type 0) (x : V) → ((a : V) → Later a a) → AfterAll Later (x ∷ []) x
+  after_one Later x reflexive = All-cons (λ y. Later y x) x [] (reflexive x) (All-nil (λ y. Later y x))
 
 module _ {V : Type 0} (Later : V → V → Type 0) (made : V → ℕ) (shares base : ℕ) where
   abbrev Kept : State (Option V) (View V) → Type 0
@@ -42,9 +43,9 @@ module _ {V : Type 0} (Later : V → V → Type 0) (made : V → ℕ) (shares ba
     value = k.value;
     one_word = length-set s.words 0 word ∙ k.one_word;
     one_home = length-set s.homes 0 none ∙ k.one_home;
-    whole = omega (arith, total-set shares_in s.views id v w at, k.whole);
+    whole = omega (arith, sum_set shares_in s.views id v w at, k.whole);
     fits = k.fits;
-    grown = omega (arith, total-set made_in s.views id v w at, k.grown);
+    grown = omega (arith, sum_set made_in s.views id v w at, k.grown);
     seen = each_set (λ _ u. AfterAll Later u.seen k.value) s.views id w (k.seen id v at) (λ j u _ e. k.seen j u e);
     spends = spends_set s id w k some_share;
     place = inr (record {
@@ -134,12 +135,11 @@ module _ {V : Type 0} (Later : V → V → Type 0) (made : V → ℕ) (shares ba
         value = y;
         one_word = length-set s.words 0 0 ∙ k.one_word;
         one_home = length-set s.homes 0 (some (Some y)) ∙ k.one_home;
-        whole = omega (arith, total-set shares_in s.views id v w at, k.whole);
+        whole = omega (arith, sum_set shares_in s.views id v w at, k.whole);
         fits = k.fits;
-        grown = omega (arith, total-set made_in s.views id v w at, k.grown, less, at_value);
-        seen = each_set (λ _ u. AfterAll Later u.seen y) s.views id w
-            (λ z h. ⊎_elim (λ (e : y ≡ z). subst (λ (a : V). Later a y) e (reflexive y)) (λ (f : ⊥). absurd f) h)
-            (λ j u _ e z h. transitive z x y (subst (λ (a : V). Later z a) same (k.seen j u e z h)) later);
+        grown = omega (arith, sum_set made_in s.views id v w at, k.grown, less, at_value);
+        seen = each_set (λ _ u. AfterAll Later u.seen y) s.views id w (after_one Later y reflexive)
+            (λ j u _ e n z l. transitive (get_or u.seen n z) x y (subst (λ (a : V). Later (get_or u.seen n z) a) same (k.seen j u e n z l)) later);
         spends = spends_set s id w k some_share;
         place = inl (record {
           word = get_or-set_same s.words 0 0 0 (omega (arith, k.one_word));
@@ -204,9 +204,9 @@ module _ {V : Type 0} (Later : V → V → Type 0) (made : V → ℕ) (shares ba
     value = k.value;
     one_word = k.one_word;
     one_home = k.one_home;
-    whole = omega (arith, total-set shares_in s.views id v l at, total-append shares_in vs (r ∷ []), k.whole);
+    whole = omega (arith, sum_set shares_in s.views id v l at, sum_by-append shares_in vs (r ∷ []), k.whole);
     fits = k.fits;
-    grown = omega (arith, total-set made_in s.views id v l at, total-append made_in vs (r ∷ []), k.grown);
+    grown = omega (arith, sum_set made_in s.views id v l at, sum_by-append made_in vs (r ∷ []), k.grown);
     seen = each_snoc (λ u. AfterAll Later u.seen k.value) vs r (each_set (λ _ u. AfterAll Later u.seen k.value) s.views id l (k.seen id v at) (λ j u _ e. k.seen j u e)) (k.seen id v at);
     spends = each_snoc (λ u. u.shares ≡ 0 → u ≡ spent) vs r (spends_set s id l k (omega arith)) (λ e. absurd (omega arith));
     place = place_stays s (vs ++ r ∷ []) k.value
@@ -219,14 +219,14 @@ module _ {V : Type 0} (Later : V → V → Type 0) (made : V → ℕ) (shares ba
   merges id v other w some_share rests_v rests_w s k at apart at' =
       let b = joined v w in let vs = set s.views id b in
       let was : At s.views other w = sym (set_else s.views id other b apart) ∙ at' in
-      let both : AfterAll Later b.seen k.value = λ x h. ⊎_elim (λ (a : Has v.seen x). k.seen id v at x a) (λ (c : Has w.seen x). k.seen other w was x c) (has_append v.seen w.seen x h) in record {
+      let both : AfterAll Later b.seen k.value = All-append (λ x. Later x k.value) v.seen w.seen (k.seen id v at) (k.seen other w was) in record {
         value = k.value;
         one_word = k.one_word;
         one_home = k.one_home;
-        whole = omega (arith, total-set shares_in s.views id v b at, total-set shares_in vs other w spent at', k.whole);
+        whole = omega (arith, sum_set shares_in s.views id v b at, sum_set shares_in vs other w spent at', k.whole);
         fits = k.fits;
-        grown = omega (arith, total-set made_in s.views id v b at, total-set made_in vs other w spent at', k.grown);
-        seen = each_set (λ _ u. AfterAll Later u.seen k.value) vs other spent (λ x f. absurd f)
+        grown = omega (arith, sum_set made_in s.views id v b at, sum_set made_in vs other w spent at', k.grown);
+        seen = each_set (λ _ u. AfterAll Later u.seen k.value) vs other spent (All-nil (λ x. Later x k.value))
             (λ j u _ e. each_set (λ _ u. AfterAll Later u.seen k.value) s.views id b both (λ i z _ d. k.seen i z d) j u e);
         spends = each_set (λ _ u. u.shares ≡ 0 → u ≡ spent) vs other spent (λ _. refl) (λ j u _ e. spends_set s id b k (omega arith) j u e);
         place = place_stays s (set vs other spent) k.value
@@ -234,22 +234,6 @@ module _ {V : Type 0} (Later : V → V → Type 0) (made : V → ℕ) (shares ba
             (λ j u e. ⊎_elim (λ (a : At vs j u). set_old s.views id b rests_v j u a) (λ (n : u.found ≡ None). inr n) (set_old vs other spent refl j u e))
             k.place;
       }
-
-  one_view : (F : View V → Type 0) (u : View V) → F u → (j : ℕ) (z : View V) → At (u ∷ []) j z → F z
-  one_view F u mine j z e = each_snoc F [] u (λ i y d. absurd (some-ne-none y (sym d))) mine j z e
-
-  pub opens : 0 < shares → shares < 2 ^ 64 → (x : V) → ((a : V) → Later a a) → made x ≡ base → Kept (opening (0 ∷ []) (Some x ∷ []) (idle shares 0 (x ∷ [])))
-  opens some_share fits x reflexive is = let v : View V = idle shares 0 (x ∷ []) in record {
-    value = x;
-    one_word = refl;
-    one_home = refl;
-    whole = omega arith;
-    fits = fits;
-    grown = omega arith;
-    seen = one_view (λ u. AfterAll Later u.seen x) v (λ z h. ⊎_elim (λ (e : x ≡ z). subst (λ (a : V). Later a x) e (reflexive x)) (λ (f : ⊥). absurd f) h);
-    spends = one_view (λ u. u.shares ≡ 0 → u ≡ spent) v (λ e. absurd (omega arith));
-    place = inl (record { word = refl; home = refl; none_holds = one_view (λ u. u.found ≡ None) v refl });
-  }
 
   others_spent : (s : State (Option V) (View V)) (id : ℕ) (v : View V) → v.shares ≡ shares → Kept s → At s.views id v → (j : ℕ) (u : View V) → j ≢ id → At s.views j u → u ≡ spent
   others_spent s id v all k at j u n e = k.spends j u e (omega (arith, terms_le shares_in s.views id j v u n at e, k.whole))
@@ -268,7 +252,7 @@ module _ {V : Type 0} (Later : V → V → Type 0) (made : V → ℕ) (shares ba
     k.value,
     final.4 0 (Some k.value) (home_free s id v rests all k at),
     k.seen id v at,
-    omega (arith, k.grown, total_one made_in s.views id v at (λ j u n e. ap (λ (z : View V). z.made) (others_spent s id v all k at j u n e))),
+    omega (arith, k.grown, sum_one made_in s.views id v at (λ j u n e. ap (λ (z : View V). z.made) (others_spent s id v all k at j u n e))),
     all,
   )
 

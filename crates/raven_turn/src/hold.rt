@@ -5,7 +5,8 @@
 //! the word is `WAITED`. So a thread that gives back a word that is still `HELD` leaves none asleep on its account,
 //! and makes no call to the system.
 ghost use Rattle.std.specs.Prelude.{◌≡◌, ◌≢◌, ◌∷◌, [], ◌+◌, ◌-◌, ◌<◌, ◌⊎◌, MatchBool, Some, None};
-ghost use Rattle.raven_turn.specs.Turns.{AfterAll, Takes, Rests, idle, view};
+ghost use Rattle.raven_turn.specs.Passes.{AfterAll};
+ghost use Rattle.raven_turn.specs.Rules.{Takes, Rests, idle, view};
 
 use crate::rule::{Give, Mark, Opening, Order, Take};
 use crate::value::Grows;
@@ -57,7 +58,7 @@ pub fn give<V: Grows>(lock: &Lock<V>, seat: &mut Place<V>, value: V)
     let old = lock.exchange(seat, 0, Some(value));
     let None = old else { unreachable!() };
     let word = lock.swap::<Give>(seat, 0, FREE);
-    if word != HELD {
+    if word == WAITED {
         lock.wake_one(0);
     }
 }
