@@ -1,5 +1,6 @@
 //! Many threads at one turn.
-ghost use Rattle.std.specs.Prelude.{◌≡◌, ◌+◌, ◌*◌, List, ◌++◌, All, IfOk, IfSome, sum_by};
+ghost use Rattle.std.specs.Prelude.{◌≡◌, ◌+◌, ◌*◌, All, IfOk, IfSome, sum_by};
+ghost use Rattle.raven_turn.specs.Passes.{Grew};
 
 use crate::job::run_all;
 use crate::rising::Rising;
@@ -75,9 +76,8 @@ fn gather<V: Rising>(
 ) -> Result<(Pass<V>, Vec<Work>), NoMemory>
     requires own { rest.turn ≡ turn.now.turn }
     requires reports { All (λ r. (r.pass.turn ≡ turn.now.turn) × (r.pass.made ≡ r.work.raised)) reports.items }
-    ensures own { IfOk result (λ r. r.0.turn ≡ turn.now.turn) }
     ensures made { IfOk result (λ r. r.0.made ≡ rest.made + sum_by (λ w. w.raised) r.1.items) }
-    ensures seen { IfOk result (λ r. (more : List V) × (r.0.seen ≡ rest.seen ++ more)) }
+    ensures seen { IfOk result (λ r. Grew V.later rest r.0) }
 {
     let mut all = rest;
     let mut works = Vec::new(alloc);

@@ -1,4 +1,4 @@
-use Rattle.std.proofs.Common.{◌≡◌, ◌+◌, ◌++◌, ◌∷◌, [], ◌∙◌, ap, subst, arith}
+use Rattle.std.proofs.Common.{◌≡◌, ◌+◌, ◌∷◌, [], ◌∙◌, ap, subst, arith}
 use Rattle.raven_turn.specs.Passes.{AfterAll}
 use Rattle.turn_tests.proofs.Zips.{all_over}
 use Rattle.turn_tests.proofs.crew.together.Goals as goal
@@ -12,6 +12,7 @@ gather-requires-clause-reports g c = let turn = c.in-Ok.turn.turn in
 
 pub returns-clause-later : goal.returns-clause-later
 returns-clause-later g c =
-    let first = c.in-Ok.ensures.ok in let joined = c.in-Ok-gather.ensures.seen in
-    let seen : c.in-Ok-gather.all.seen ≡ c.args.value ∷ joined.0 = joined.1 ∙ ap (λ l. l ++ joined.0) (c.in-Ok-shifts.ensures.same.2 ∙ first.2.2 ∙ ap (λ v. v ∷ []) first.0) in
-    subst (λ l. AfterAll g.V.Grows.later l c.in_ok-close.field-0) seen c.in_ok-close.ensures.1 0 c.args.value (omega arith)
+    let first = c.in-Ok.ensures.ok in
+    let seen : c.shifts.new.rest.seen ≡ c.args.value ∷ [] = c.in-Ok-shifts.ensures.same.2 ∙ first.2.2 ∙ ap (λ v. v ∷ []) first.0 in
+    let after = c.in-Ok-gather.ensures.seen.seen c.in_ok-close.field-0 c.in_ok-close.ensures.1 in
+    subst (λ l. AfterAll g.V.Grows.later l c.in_ok-close.field-0) seen after 0 c.args.value (omega arith)
