@@ -5,8 +5,10 @@ mod give;
 mod lines;
 mod read;
 mod request;
+mod run;
 mod script;
 mod words;
 
 pub use request::{Line, ReadRefusal, Request};
+pub use run::{Answers, Status, raven};
 pub use script::line;

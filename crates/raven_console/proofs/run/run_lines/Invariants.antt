@@ -1,0 +1,12 @@
+use Rattle.std.proofs.Common.{length, ◌≤◌}
+use Rattle.raven_console.proofs.Runs.{HasRun}
+use Rattle.raven_console.proofs.run.run_lines.Given as goal
+
+abbrev pub invariant-loop-rest : goal.invariant-loop-rest
+invariant-loop-rest g l = record {
+  ran : HasRun (g.O.Sink.held l.fn.output) (g.O.Sink.held l.output) l.fn.script l.rest (g.M.Answers.state l.fn.machine) (g.M.Answers.state l.machine);
+  later : g.O.Sink.faults l.fn.output ≤ g.O.Sink.faults l.output;
+}
+
+abbrev pub decreases-loop-rest : goal.decreases-loop-rest
+decreases-loop-rest g l = length l.rest
