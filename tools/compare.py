@@ -22,6 +22,7 @@ IDS = ["users/1", "USERS/1", "Users/1", "users/2", "users/10", "a", "A", "Z", "z
 COLLECTIONS = ["Users", "users", "Orders", "C", "c", "@empty", "@indexes", "@Indexes", "@other", "", "É", "C/ByF", "a\"b"]
 FIELDS = ["Name", "name", "Age", "F", "F/2", "@metadata", "N.A", "N(A)", "\u00e9", "a\tb", "x" * 190, "\\", "é\"", "by"]
 TEXTS = ["Ada", "ADA", "ada", "ada ", " ada", "Bo", "", "É", "é", "null", "true", "36", "\U0001f426", "a\"b", "K", "\u212a"]
+USUAL = {"u": "Users", "a": "C", "z": "c", "o": "Orders", "é": "@empty"}
 NUMBERS = ["0", "1", "-1", "36", "9223372036854775807", "-9223372036854775808", "9223372036854775808",
            "-9223372036854775809", "18446744073709551615", "18446744073709551616", "-0", "-0.0", "0.0", "1.5", "1e2",
            "1E+2", "1e-2", "1e308", "1e309", "1e400", "-1e400", "1e-999", "0e99999", "0e-99999", "00", "01", "-", "+1",
@@ -44,13 +45,16 @@ class Maker:
 
     def __init__(self, seed):
         self.random = random.Random(seed)
-        self.names = ["Auto/Users/ByName", "auto/users/byname", "Auto/C/ByF", "Auto/c/ByF/2", "Auto/None/ByX", "Auto/1"]
+        self.made = [("Auto/Users/ByName", "Name"), ("Auto/C/ByF", "F")]
 
     def one_of(self, choices):
         return self.random.choice(choices)
 
     def chance(self, percent):
         return self.random.randrange(100) < percent
+
+    def words(self):
+        return self.one_of(TEXTS[:4] if self.chance(70) else TEXTS)
 
     def space(self):
         return self.one_of(["", "", "", "", " ", "\t", "\r", "  "])
@@ -80,11 +84,11 @@ class Maker:
         if kind == 0:
             return self.one_of(["null", "true", "false"])
         if kind <= 2:
-            return self.one_of(NUMBERS) if self.chance(35) else str(self.random.randint(-40, 40))
+            return self.one_of(NUMBERS) if self.chance(8) else str(self.random.randint(-40, 40))
         if kind <= 7 or depth > 3:
-            return self.text(self.one_of(TEXTS))
+            return self.text(self.words())
         if kind == 8:
-            return self.one_of(BAD_JSON) if self.chance(12) else "[]"
+            return self.one_of(BAD_JSON) if self.chance(4) else "[]"
         if kind <= 10:
             items = [self.space() + self.value(depth + 1) + self.space() for _ in range(self.random.randint(1, 3))]
             return "[" + ",".join(items) + "]"
@@ -98,9 +102,9 @@ class Maker:
         self.random.shuffle(parts)
         return "{" + ",".join(self.space() + part + self.space() for part in parts) + "}"
 
-    def metadata(self):
-        collection = self.text(self.one_of(COLLECTIONS[:5] if self.chance(85) else COLLECTIONS))
-        if self.chance(5):
+    def metadata(self, usual):
+        collection = self.text(usual if self.chance(94) else self.one_of(COLLECTIONS))
+        if self.chance(2):
             collection = self.value()
         parts = [self.text("@collection") + ":" + collection]
         for name in ["@id", "@change-vector", "@last-modified", "@index-score", "@other", "@Collection"]:
@@ -114,16 +118,16 @@ class Maker:
         inner = self.one_of(["", '"' + "[" * 30 + '"', '"\\"[["'])
         return '{"D":' + "[" * (depth - 1) + inner + "]" * (depth - 1) + "}"
 
-    def body(self):
-        if self.chance(3):
+    def body(self, usual):
+        if self.chance(2):
             return self.nested()
-        if self.chance(4):
+        if self.chance(2):
             return self.value()
         members = []
-        if self.chance(85):
-            members.append(self.metadata())
-        if self.chance(75):
-            members.append(self.text(self.one_of(["Name", "F"])) + ":" + self.text(self.one_of(TEXTS)))
+        if usual != "@empty" or self.chance(20):
+            members.append(self.metadata(usual))
+        for field in self.random.sample(["Name", "F"], self.one_of([0, 1, 2, 2])):
+            members.append(self.text(field) + ":" + self.text(self.words()))
         return self.object(0, members)
 
     def id(self):
@@ -132,13 +136,16 @@ class Maker:
         return self.one_of(IDS) if self.chance(40) else self.one_of(IDS[:7])
 
     def put(self):
-        return f"PUT {self.id()} {self.body()}"
+        name = self.id()
+        # An id keeps its collection, so most documents of one id are put into one.
+        usual = USUAL.get(model.folded(name)[:1], "Users")
+        return f"PUT {name} {self.body(usual)}"
 
     def auto(self):
-        collection = self.one_of(COLLECTIONS[:5] if self.chance(60) else COLLECTIONS)
-        field = self.one_of(FIELDS[:4] if self.chance(70) else FIELDS)
+        collection = self.one_of(COLLECTIONS[:6] if self.chance(70) else COLLECTIONS)
+        field = self.one_of(["Name", "F"] if self.chance(75) else FIELDS)
         name = f"Auto/{collection}/By{field}"
-        self.names += [name, name + "/2", name.upper()]
+        self.made += [(name, field), (model.folded(name), field), (name + "/2", field)]
         if self.chance(4):
             return f"AUTO {self.one_of(['k' * 60, 'k' * 181, 'k' * 182, 'k' * 183, 'é' * 95])} {field}"
         return f"AUTO {collection} {field}"
@@ -151,9 +158,9 @@ class Maker:
     def find(self):
         if self.chance(5):
             name = self.one_of(["n" * 214, "n" * 215, "é" * 107, "é" * 108, "a\tb", "x\x7f", "Auto/2", "auto/3"])
-        else:
-            name = self.one_of(self.names)
-        return f"FIND {name} {self.one_of(FIELDS)} {self.one_of(TEXTS)}"
+            return f"FIND {name} {self.one_of(FIELDS)} {self.words()}"
+        name, field = self.one_of(self.made)
+        return f"FIND {name} {field if self.chance(90) else self.one_of(FIELDS)} {self.words()}"
 
     def other(self):
         return self.one_of(["", "", " ", "\r", "PUT", "PUT ", "PUT a", "PUT a ", "AUTO", "AUTO C", "AUTO C ", "FIND", "FIND x",
