@@ -45,7 +45,8 @@ class Maker:
 
     def __init__(self, seed):
         self.random = random.Random(seed)
-        self.made = [("Auto/Users/ByName", "Name"), ("Auto/C/ByF", "F")]
+        # What the lines so far lead to, by which later lines find something.
+        self.database = model.Database()
 
     def one_of(self, choices):
         return self.random.choice(choices)
@@ -144,8 +145,6 @@ class Maker:
     def auto(self):
         collection = self.one_of(COLLECTIONS[:6] if self.chance(70) else COLLECTIONS)
         field = self.one_of(["Name", "F"] if self.chance(75) else FIELDS)
-        name = f"Auto/{collection}/By{field}"
-        self.made += [(name, field), (model.folded(name), field), (name + "/2", field)]
         if self.chance(4):
             return f"AUTO {self.one_of(['k' * 60, 'k' * 181, 'k' * 182, 'k' * 183, 'é' * 95])} {field}"
         return f"AUTO {collection} {field}"
@@ -155,12 +154,19 @@ class Maker:
                  "1.0", " 1", "1 ", "x", "", "٣", "4 x"]
         return f"PUMP {self.one_of(sizes[:5] if self.chance(80) else sizes)}"
 
+    def in_other_case(self, text):
+        return self.one_of([text, text, text.lower(), text.upper(), model.folded(text)])
+
     def find(self):
-        if self.chance(5):
-            name = self.one_of(["n" * 214, "n" * 215, "é" * 107, "é" * 108, "a\tb", "x\x7f", "Auto/2", "auto/3"])
-            return f"FIND {name} {self.one_of(FIELDS)} {self.words()}"
-        name, field = self.one_of(self.made)
-        return f"FIND {name} {field if self.chance(90) else self.one_of(FIELDS)} {self.words()}"
+        if self.chance(15) or not self.database.indexes:
+            names = ["n" * 214, "n" * 215, "é" * 107, "é" * 108, "a\tb", "x\x7f", "Auto/2", "auto/3", "Auto/None/ByX"]
+            return f"FIND {self.one_of(names)} {self.one_of(FIELDS)} {self.words()}"
+        index = self.one_of(self.database.indexes)
+        field = index.field if self.chance(92) else self.one_of(FIELDS)
+        kept = [row.body.get(field) for row in self.database.rows.values() if row.collection == index.collection]
+        texts = [value for value in kept if isinstance(value, str)]
+        text = self.in_other_case(self.one_of(texts)) if texts and self.chance(85) else self.words()
+        return f"FIND {self.in_other_case(index.name)} {field} {text}"
 
     def other(self):
         return self.one_of(["", "", " ", "\r", "PUT", "PUT ", "PUT a", "PUT a ", "AUTO", "AUTO C", "AUTO C ", "FIND", "FIND x",
@@ -189,7 +195,9 @@ class Maker:
     def script(self, count):
         parts = []
         for _ in range(count):
-            parts += [self.line(), self.one_of([b"\n"] * 12 + [b"\r\n"] * 3 + [b"\r\r\n"])]
+            line = self.line()
+            model.answer(self.database, line)
+            parts += [line, self.one_of([b"\n"] * 12 + [b"\r\n"] * 3 + [b"\r\r\n"])]
         if self.chance(30):
             parts.pop()
         return b"".join(parts)
