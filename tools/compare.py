@@ -3,11 +3,12 @@
 
     tools/compare.py [--program PATH] [--rounds N] [--lines N] [--seed N]
 
-Before the random rounds it tries scripts that stand at each limit. A script on which the two differ is kept in a
+Before the random rounds it tries the statuses, and scripts that stand at each limit. A script on which the two differ is kept in a
 file, whose name is printed beside the first line that differs; the status is then 1.
 """
 
 import argparse
+import os
 import pathlib
 import random
 import subprocess
@@ -275,6 +276,31 @@ def differs(program, script, name):
     return True
 
 
+def has_status(program, words, wanted, name, given=None, taken=None):
+    """Whether the program ends with this status and has written nothing, called with these words, input and output."""
+    script = model.quoted("no line").encode() + b"\n"
+    ways = {"stdin": given} if given is not None else {"input": script}
+    ended = subprocess.run([program, *words], stdout=taken or subprocess.PIPE, stderr=subprocess.PIPE, timeout=60, **ways)
+    if ended.returncode == wanted and not ended.stdout:
+        return True
+    print(f"{name}: status {ended.returncode} in place of {wanted}, and {len(ended.stdout or b'')} bytes of output")
+    return False
+
+
+def statuses(program):
+    """How many of the statuses that no script can have are wrong."""
+    words = [[], ["RUN"], ["run", "run"], ["run", "--id", "short"], ["run", ""], [""], [b"run\xff"]]
+    wrong = sum(not has_status(program, these, 2, f"words {these}") for these in words)
+    with open("/dev/full", "wb") as full:
+        wrong += not has_status(program, ["run"], 4, "a full output", taken=full)
+    folder = os.open("/", os.O_RDONLY)
+    try:
+        wrong += not has_status(program, ["run"], 3, "an input that cannot be read", given=folder)
+    finally:
+        os.close(folder)
+    return wrong
+
+
 def main():
     sys.setrecursionlimit(10_000)
     options = argparse.ArgumentParser(description="Holds the built program against the model.")
@@ -284,11 +310,12 @@ def main():
     options.add_argument("--seed", type=int, default=1)
     options = options.parse_args()
 
-    found = sum(differs(options.program, script, name) for name, script in at_the_limits())
+    found = statuses(options.program)
+    found += sum(differs(options.program, script, name) for name, script in at_the_limits())
     for round_ in range(options.rounds):
         script = Maker(options.seed * 1_000_003 + round_).script(options.lines)
         found += differs(options.program, script, f"seed {options.seed}, round {round_}")
-    print(f"{options.rounds} random scripts of {options.lines} lines with seed {options.seed}: {found} differ")
+    print(f"the statuses, the limits and {options.rounds} random scripts of {options.lines} lines with seed {options.seed}: {found} differ")
     return 1 if found else 0
 
 
