@@ -3,12 +3,15 @@
 
 mod give;
 mod lines;
+mod machine;
+mod outcome;
 mod read;
 mod request;
 mod run;
 mod script;
 mod words;
 
+pub use machine::Machine;
 pub use request::{Line, ReadRefusal, Request};
-pub use run::{Answers, Status, raven};
+pub use run::{Status, raven};
 pub use script::line;

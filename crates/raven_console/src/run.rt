@@ -1,51 +1,53 @@
 //! What the program does.
-ghost use Rattle.std.specs.Prelude.{◌≡◌, ◌≤◌, ◌↔◌, ◌⊎◌, OnOk, OnErr, IfOk, IsErrOf, IsTrue, map, string_bytes};
+ghost use Rattle.std.specs.Prelude.{◌≡◌, ◌≤◌, ◌↔◌, ◌⊎◌, OnOk, OnErr, IsErrOf, IsTrue, map, string_bytes};
 ghost use Rattle.raven_ports.specs.Faults.{Rose};
 ghost use Rattle.raven_ports.specs.Told.{appended};
 ghost use Rattle.raven_model.specs.Lines.{lines};
-ghost use Rattle.raven_model.specs.Machine.{Machine as State, start};
-ghost use Rattle.raven_model.specs.Script.{reply_to, after_line, replies_to};
-ghost use Rattle.raven_model.specs.Words.{IsOrdered, program};
+ghost use Rattle.raven_model.specs.Script.{replies_to};
+ghost use Rattle.raven_model.specs.Words.{IsOrdered};
 ghost use Rattle.raven_console.specs.Input.{TakesMore, TakesWithin};
 ghost use Rattle.raven_console.specs.Outcome.{Finishes, Stops, StopsIn};
 
 use crate::give::give_all;
 use crate::lines::next_line;
+use crate::machine::Machine;
 use crate::read::{ReadEnd, read_all};
 use crate::words::is_ordered;
-use raven_base::NoMemory;
 use raven_ports::{Sink, SinkFault, Source};
 use std::alloc::Global;
 
-pub trait Answers {
-    ghost state: { Self → State };
-
-    fn answer(&mut self, alloc: Global, line: &[u8]) -> Result<Vec<u8>, NoMemory>
-        ensures reply { IfOk result (λ reply. reply.items ≡ reply_to line.now (state self.old)) }
-        ensures ok { OnOk result (state self.new ≡ after_line line.now (state self.old)) }
-        ensures err { OnErr result (state self.new ≡ state self.old) };
-}
-
+/// How the program ended.
 #[derive(Clone, Copy, Debug, PartialEq, Eq)]
 pub enum Status {
+    /// The input was read to its end, and all replies were written.
     Done,
+
+    /// The words are not the one word `run`. Nothing was read or written.
     Usage,
+
+    /// A call of the input failed. Nothing was written.
     ReadFault,
+
+    /// A call of the output failed. What was written is a front of the replies.
     WriteFault,
+
+    /// The input has more than 16,777,216 bytes. Nothing was written.
     InputTooLarge,
+
+    /// No memory was found. The replies to all earlier lines are whole.
     NoMemory,
 }
 
 /// Replies to each line of a script.
 #[tactic(auto, using(crate::proofs::Runs::steps))]
-fn run_lines<M: Answers, O: Sink>(
+fn run_lines<O: Sink>(
     alloc: Global,
-    machine: &mut M,
+    machine: &mut Machine,
     script: &[u8],
     output: &mut O,
 ) -> Result<(), SinkFault>
-    ensures ok { OnOk result (O.held output.new ≡ appended (O.held output.old) (replies_to (lines script.now) (M.state machine.old))) }
-    ensures err { OnErr result (StopsIn (O.held output.old) (O.held output.new) (lines script.now) (M.state machine.old)) }
+    ensures ok { OnOk result (O.held output.new ≡ appended (O.held output.old) (replies_to (lines script.now) machine.old)) }
+    ensures err { OnErr result (StopsIn (O.held output.old) (O.held output.new) (lines script.now) machine.old) }
     ensures later { O.faults output.old ≤ O.faults output.new }
     ensures cause { IsErrOf result SinkFault.Failed → Rose (O.faults output.old) (O.faults output.new) }
 {
@@ -63,15 +65,14 @@ fn run_lines<M: Answers, O: Sink>(
     Ok(())
 }
 
-/// The program.
-pub fn raven<R: AllocGlobal, M: Answers + Drop, S: Source, O: Sink>(
+/// The program: it reads the whole input, and then answers one line after another.
+/// The words are the one word `run`.
+pub fn raven<R: AllocGlobal, S: Source, O: Sink>(
     rt: &R,
-    mut machine: M,
     words: &[String],
     input: &mut S,
     output: &mut O,
 ) -> Status
-    requires { M.state machine ≡ start program }
     ensures done { result ≡ Status.Done → Finishes (S.left input.old) (S.left input.new) (O.held output.old) (O.held output.new) }
     ensures usage { (result ≡ Status.Usage) ↔ ¬ IsOrdered (map string_bytes words.now) }
     ensures untouched { result ≡ Status.Usage → (input.new ≡ input.old) × (output.new ≡ output.old) }
@@ -92,6 +93,9 @@ pub fn raven<R: AllocGlobal, M: Answers + Drop, S: Source, O: Sink>(
         Err(ReadEnd::Fault) => return Status::ReadFault,
         Err(ReadEnd::TooLarge) => return Status::InputTooLarge,
         Err(ReadEnd::NoMemory) => return Status::NoMemory,
+    };
+    let Ok(mut machine) = Machine::new(rt.alloc()) else {
+        return Status::NoMemory;
     };
     match run_lines(rt.alloc(), &mut machine, &script, output) {
         Ok(()) => Status::Done,

@@ -4,7 +4,7 @@ use Rattle.raven_console.proofs.run.run_lines.Given as goal
 
 abbrev pub invariant-loop-rest : goal.invariant-loop-rest
 invariant-loop-rest g l = record {
-  ran : HasRun (g.O.Sink.held l.fn.output) (g.O.Sink.held l.output) l.fn.script l.rest (g.M.Answers.state l.fn.machine) (g.M.Answers.state l.machine);
+  ran : HasRun (g.O.Sink.held l.fn.output) (g.O.Sink.held l.output) l.fn.script l.rest l.fn.machine l.machine;
   later : g.O.Sink.faults l.fn.output ≤ g.O.Sink.faults l.output;
 }
 

@@ -1,0 +1,15 @@
+-- What a request leaves, and what the machine's step leaves.
+use Rattle.std.specs.Prelude.{Option, Some, None}
+use Rattle.raven_model.specs.World as is
+use Rattle.raven_model.specs.Machine.{Replied}
+use Rattle.raven_world.specs.ReplyView.{reply_view}
+use Rattle.raven_world.specs.Told.{machine_of}
+use Rattle.raven_console.specs.declared.outcome.Outcome.{Outcome}
+
+-- the new world, or the one that was there
+abbrev pub world_left : is.World → Option is.World → is.World
+world_left W None = W
+world_left W (Some V) = V
+
+abbrev pub outcome_view : is.World → Outcome → Replied
+outcome_view W o = record { reply = reply_view o.reply; machine = machine_of (world_left W o.world) }
