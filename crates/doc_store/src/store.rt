@@ -6,7 +6,7 @@ ghost use Rattle.raven_model.specs.Later.{MayFollowAll};
 ghost use Rattle.raven_model.specs.Index.{newest, past, stale, taken};
 ghost use Rattle.doc_store.specs.Bounds.{IsWithin, max_etag};
 
-use crate::rows::{find_row, first_past, last_etag, copies, newest_etag, with_each};
+use crate::rows::{copies, find_row, first_past, last_etag, newest_etag, with_each};
 use raven_base::NoMemory;
 use raven_value::{Id, Row, Rows, Scope};
 use std::alloc::{AllocError, Global};

@@ -22,6 +22,11 @@ abbrev pub Finishes : Option (List ℕ) → Option (List ℕ) → Option (List �
 Finishes (Some script) left old new = (left ≡ Some []) × (length script ≤ max_input) × (new ≡ appended old (output_of script))
 Finishes None left old new = Unit {0}
 
+-- all was read, and it was no more than may be
+abbrev pub IsRead : Option (List ℕ) → Option (List ℕ) → Type 0
+IsRead (Some script) left = (left ≡ Some []) × (length script ≤ max_input)
+IsRead None left = Unit {0}
+
 -- It stopped at one of these lines: the replies to those before it were written whole, and then a front of its own.
 pub record StopsIn (old new : Option (List ℕ)) (all : List (List ℕ)) (M : Machine) : Type 0 where
   pub done : List (List ℕ)

@@ -15,3 +15,6 @@ pub use machine::Machine;
 pub use request::{Line, ReadRefusal, Request};
 pub use run::{Status, raven};
 pub use script::line;
+
+#[cfg(test)]
+mod tests;

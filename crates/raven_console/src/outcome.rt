@@ -36,11 +36,7 @@ fn settled(answer: Result<Change, WorldFault>) -> Result<Outcome, NoMemory>
 }
 
 /// What the request leaves of the world.
-pub fn outcome_of(
-    alloc: Global,
-    world: &World,
-    request: &Request,
-) -> Result<Outcome, NoMemory>
+pub fn outcome_of(alloc: Global, world: &World, request: &Request) -> Result<Outcome, NoMemory>
     ensures { IfOk result (λ outcome. outcome_view world.now outcome ≡ step (machine_of world.now) moment (request_view request.now)) }
 {
     match request {

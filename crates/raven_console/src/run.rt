@@ -6,7 +6,7 @@ ghost use Rattle.raven_model.specs.Lines.{lines};
 ghost use Rattle.raven_model.specs.Script.{replies_to};
 ghost use Rattle.raven_model.specs.Words.{IsOrdered};
 ghost use Rattle.raven_console.specs.Input.{TakesMore, TakesWithin};
-ghost use Rattle.raven_console.specs.Outcome.{Finishes, Stops, StopsIn};
+ghost use Rattle.raven_console.specs.Outcome.{Finishes, IsRead, Stops, StopsIn};
 
 use crate::give::give_all;
 use crate::lines::next_line;
@@ -78,6 +78,7 @@ pub fn raven<R: AllocGlobal, S: Source, O: Sink>(
     ensures untouched { result ≡ Status.Usage → (input.new ≡ input.old) × (output.new ≡ output.old) }
     ensures read_fault { result ≡ Status.ReadFault → Rose (S.faults input.old) (S.faults input.new) }
     ensures write_fault { result ≡ Status.WriteFault → Rose (O.faults output.old) (O.faults output.new) }
+    ensures read { (result ≡ Status.Done) ⊎ (result ≡ Status.WriteFault) → IsRead (S.left input.old) (S.left input.new) }
     ensures front { result ≡ Status.WriteFault → Stops (S.left input.old) (O.held output.old) (O.held output.new) }
     ensures memory { result ≡ Status.NoMemory → (O.held output.new ≡ O.held output.old)
         ⊎ Stops (S.left input.old) (O.held output.old) (O.held output.new) }

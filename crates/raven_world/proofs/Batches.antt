@@ -30,5 +30,5 @@ pub batch-some : (v : Version) (S : Store) (max : ℕ) (rows : List Row) (more :
     → (IsTrue more ↔ (max < length (past (reads v) v.etag S))) → etag ≡ cond more (last_of 0 rows) (last S) → Some (version_at v rows etag) ≡ batch v S max
 batch-some v S max rows more etag is some m e =
     let at : etag ≡ etag_after v.etag rows (drop max (past (reads v) v.etag S)) (last S) =
-        e ∙ etag-some v.etag rows (drop max (past (reads v) v.etag S)) more (last S) some (left-some max (past (reads v) v.etag S) more m) in
+    e ∙ etag-some v.etag rows (drop max (past (reads v) v.etag S)) more (last S) some (left-some max (past (reads v) v.etag S) more m) in
     sym (advances v rows etag some) ∙ ap (advanced v rows) at ∙ ap (λ taken. advanced v taken (etag_after v.etag taken (drop max (past (reads v) v.etag S)) (last S))) is

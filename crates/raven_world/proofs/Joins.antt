@@ -17,7 +17,6 @@ pub joined-dotted : (part : List ℕ) (parts : Path) → part ++ dotted parts �
 joined-dotted part [] = append-none part
 joined-dotted part (next ∷ parts) = ap (λ more. part ++ (codes "." ++ more)) (joined-dotted next parts)
 
-
 -- a path is its first part and those behind it
 pub joined-parts : (s : Path) (part : List ℕ) → 0 < length s → part ≡ get_or s 0 part → part ++ dotted (take (length s - 1) (drop 1 s)) ≡ joined s
 joined-parts [] part h is = absurd (omega arith)

@@ -30,13 +30,13 @@ either_assoc false false false false false = refl
 rest : (s : Setting) (S : Store) (id : List ℕ) (body : Data) (a : Bool) →
     let old = row_at (folded id) S.rows in
     a || is_some (first_of (refuse_if (is_too_long (stored body)) (Refusal.TooLarge (length (Rattle.raven_data.specs.Written.text_of (stored body)))) ∷ other_collection (collection_of body) old ∷ None
-        ∷ refuse_if (is_full s S old) (Refusal.StoreFull (length S.rows)) ∷ refuse_if (true && is_spent S) (Refusal.EtagsSpent (last S)) ∷ []))
+    ∷ refuse_if (is_full s S old) (Refusal.StoreFull (length S.rows)) ∷ refuse_if (true && is_spent S) (Refusal.EtagsSpent (last S)) ∷ []))
     ≡ a || is_too_long (stored body) || is_elsewhere (collection_of body) old || is_full s S old || is_spent S
 rest s S id body a =
     let old = row_at (folded id) S.rows in
     ap (λ x. a || x) (first (is_too_long (stored body)) _ _
-      ∙ ap (λ x. is_too_long (stored body) || x) (elsewhere (collection_of body) old _
-        ∙ ap (λ x. is_elsewhere (collection_of body) old || x) (first (is_full s S old) _ _ ∙ ap (λ x. is_full s S old || x) (first (is_spent S) _ []))))
+    ∙ ap (λ x. is_too_long (stored body) || x) (elsewhere (collection_of body) old _
+    ∙ ap (λ x. is_elsewhere (collection_of body) old || x) (first (is_full s S old) _ _ ∙ ap (λ x. is_full s S old || x) (first (is_spent S) _ []))))
     ∙ either_assoc a (is_too_long (stored body)) (is_elsewhere (collection_of body) old) (is_full s S old) (is_spent S)
 
 pub refusal-flag : (s : Setting) (w : Writer) (S : Store) (id : List ℕ) (body : Data)

@@ -41,7 +41,7 @@ allowed-fits s w now S id body r h within most =
     elim (refusal_of s w S (Put id AnyVector body)) as (λ o. refusal_of s w S (Put id AnyVector body) ≡ o → unless_refused o (row_of now S (Put id AnyVector body)) ≡ Some r → IsWithin (with_row S r)) [
       | None ↦ λ e g.
           let free = not_full (is_reserved_for w id (collection_of body)) (is_too_long (stored body)) (is_elsewhere (collection_of body) (row_at (folded id) S.rows)) (is_full s S (row_at (folded id) S.rows)) (is_spent S)
-              (sym (refusal-flag s w S id body) ∙ ap is_some e) in
+          (sym (refusal-flag s w S id body) ∙ ap is_some e) in
           let same = same_row _ r g in
           let own : key r ≡ folded id = ap key (sym same) ∙ put_key id S.rows in
           let etag : r.etag ≡ last S + 1 = ap (λ (x : Row). x.etag) (sym same) in
@@ -55,7 +55,7 @@ pub step-put-refused : (W : World) (now : ℕ) (id : List ℕ) (body : Data) →
     → same_machine (machine_of W) UnknownLine ≡ step (machine_of W) now (PutOne id AnyVector body)
 step-put-refused W now id body h =
     elim (refusal_of W.setting Client W.store (Put id AnyVector body)) as (λ o. unless_refused o (row_of now W.store (Put id AnyVector body)) ≡ None
-      → same_machine (machine_of W) UnknownLine ≡ wrote (machine_of W) (unless o 0 (Ok (with_written (row_of now W.store (Put id AnyVector body)) (record { store = W.store; rows = [] }))))) [
+    → same_machine (machine_of W) UnknownLine ≡ wrote (machine_of W) (unless o 0 (Ok (with_written (row_of now W.store (Put id AnyVector body)) (record { store = W.store; rows = [] }))))) [
       | None ↦ λ g. absurd cc
       | Some k ↦ λ g. refl
     ] h
@@ -68,7 +68,7 @@ pub step-put-made : (W : World) (now : ℕ) (id : List ℕ) (body : Data) (r : R
 unfolding put_told
 step-put-made W now id body r h =
     elim (refusal_of W.setting Client W.store (Put id AnyVector body)) as (λ o. unless_refused o (row_of now W.store (Put id AnyVector body)) ≡ Some r
-      → put_told W r ≡ wrote (machine_of W) (unless o 0 (Ok (with_written (row_of now W.store (Put id AnyVector body)) (record { store = W.store; rows = [] }))))) [
+    → put_told W r ≡ wrote (machine_of W) (unless o 0 (Ok (with_written (row_of now W.store (Put id AnyVector body)) (record { store = W.store; rows = [] }))))) [
       | None ↦ λ g. ap (put_told W) (sym (same_row _ r g))
       | Some k ↦ λ g. absurd cc
     ] h
@@ -82,8 +82,8 @@ pub defined-refused : (W : World) (now : ℕ) (name : List ℕ) (d : Definition)
     → same_machine (machine_of W) UnknownLine ≡ defined (machine_of W) now name (Ok (added W name d))
 defined-refused W now name d h =
     elim (refusal_of W.setting Server W.store (Put (index_id name) AnyVector (row_body d))) as (λ o. unless_refused o (row_of now W.store (Put (index_id name) AnyVector (row_body d))) ≡ None
-      → same_machine (machine_of W) UnknownLine
-      ≡ rewrote (machine_of W) name (added W name d).slots (unless o 0 (Ok (with_written (row_of now W.store (Put (index_id name) AnyVector (row_body d))) (record { store = W.store; rows = [] }))))) [
+    → same_machine (machine_of W) UnknownLine
+    ≡ rewrote (machine_of W) name (added W name d).slots (unless o 0 (Ok (with_written (row_of now W.store (Put (index_id name) AnyVector (row_body d))) (record { store = W.store; rows = [] }))))) [
       | None ↦ λ g. absurd cc
       | Some k ↦ λ g. refl
     ] h
@@ -94,8 +94,8 @@ pub defined-made : (W : World) (now : ℕ) (name : List ℕ) (d : Definition) (r
 unfolding defined_told
 defined-made W now name d r h =
     elim (refusal_of W.setting Server W.store (Put (index_id name) AnyVector (row_body d))) as (λ o. unless_refused o (row_of now W.store (Put (index_id name) AnyVector (row_body d))) ≡ Some r
-      → defined_told W name (record { number = last W.store + 1; name = name; version = fresh d; row = last W.store + 1 }) r
-      ≡ rewrote (machine_of W) name (added W name d).slots (unless o 0 (Ok (with_written (row_of now W.store (Put (index_id name) AnyVector (row_body d))) (record { store = W.store; rows = [] }))))) [
+    → defined_told W name (record { number = last W.store + 1; name = name; version = fresh d; row = last W.store + 1 }) r
+    ≡ rewrote (machine_of W) name (added W name d).slots (unless o 0 (Ok (with_written (row_of now W.store (Put (index_id name) AnyVector (row_body d))) (record { store = W.store; rows = [] }))))) [
       | None ↦ λ g. ap (defined_told W name (record { number = last W.store + 1; name = name; version = fresh d; row = last W.store + 1 })) (sym (same_row _ r g))
       | Some k ↦ λ g. absurd cc
     ] h

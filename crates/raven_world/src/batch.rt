@@ -13,11 +13,7 @@ use std::alloc::Global;
 fn etag_after(taken: &[Row], more: bool, store: &Store) -> u64
     ensures { result ≡ cond more (last_of 0 taken.now) (last store.now) }
 {
-    if more {
-        last_etag(taken)
-    } else {
-        store.last()
-    }
+    if more { last_etag(taken) } else { store.last() }
 }
 
 /// The version after the first `max` rows that it has not seen, and nothing where there is none.

@@ -8,7 +8,6 @@ use raven_base::NoMemory;
 use raven_value::{Id, Members, Path, Text, Value, starts_folded};
 use std::alloc::Global;
 
-
 fn is_own(name: &str) -> bool
     ensures { result ≡ spec_is_own name.now }
 {

@@ -2,6 +2,7 @@
 #![tactic(auto)]
 
 mod batch;
+mod choice;
 mod definition;
 mod document;
 mod entry;
@@ -12,19 +13,11 @@ mod naming;
 mod pump;
 mod put;
 mod reply;
-mod choice;
 mod slot;
 mod table;
 mod transaction;
 mod version;
 mod world;
 
-pub use definition::Definition;
-pub use document::{collection_of, is_index_id, stored};
-pub use choice::{Choice, is_stale, pick};
-pub use naming::auto_name;
 pub use reply::{Pumping, Pumpings, Reply, reply_text};
-pub use slot::Slot;
-pub use transaction::Writer;
-pub use version::IndexVersion;
 pub use world::{Answered, Change, Limits, World, WorldFault};

@@ -30,11 +30,7 @@ use raven_value::{Members, Name, Path, Paths, Row, Text, Value, Values};
 use std::alloc::Global;
 use std::sync::Arc;
 
-fn auto_definition(
-    alloc: Global,
-    collection: &Text,
-    field: &Text,
-) -> Result<Definition, NoMemory>
+fn auto_definition(alloc: Global, collection: &Text, field: &Text) -> Result<Definition, NoMemory>
     ensures { IfOk result (λ definition. definition_view definition ≡ Auto collection.now ((field.now ∷ []) ∷ [])) }
 {
     let mut fields = Paths::new(alloc);

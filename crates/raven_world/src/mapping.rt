@@ -43,11 +43,7 @@ fn field_at(alloc: Global, body: &Body, path: &Path) -> Result<Scalar, NoMemory>
     }
 }
 
-fn auto_fields(
-    alloc: Global,
-    paths: &[Path],
-    body: &Body,
-) -> Result<Vec<(Text, Scalar)>, NoMemory>
+fn auto_fields(alloc: Global, paths: &[Path], body: &Body) -> Result<Vec<(Text, Scalar)>, NoMemory>
     ensures { IfOk result (λ fields. fields_view fields.items ≡ map (λ path. (joined path, field_of (body_of body.now) path)) paths.now) }
 {
     let mut fields = Vec::new(alloc);

@@ -60,13 +60,7 @@ impl World {
     }
 
     /// Puts a document.
-    pub fn put(
-        &self,
-        alloc: Global,
-        id: &Id,
-        body: &Value,
-        now: u64,
-    ) -> Result<Change, WorldFault>
+    pub fn put(&self, alloc: Global, id: &Id, body: &Value, now: u64) -> Result<Change, WorldFault>
         ensures { IfSome (told self.now result) (λ replied. replied ≡ step (machine_of self.now) now (PutOne id.now AnyVector (data_of body.now))) }
     {
         let _roomy = &self.store;

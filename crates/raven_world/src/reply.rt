@@ -37,13 +37,20 @@ pub type Pumpings = Sequence<Pumping>;
 #[derive(Debug, Drop)]
 pub enum Reply {
     /// The document was put; the id is in the spelling that is kept.
-    Put { change_vector: Text, id: Id },
+    Put {
+        change_vector: Text,
+        id: Id,
+    },
 
     /// The index that serves, or that was made.
-    Index { name: Name },
+    Index {
+        name: Name,
+    },
 
     /// One batch for each index.
-    Pumped { pumped: Pumpings },
+    Pumped {
+        pumped: Pumpings,
+    },
 
     /// The ids of the entries that were found, how far the index is, and whether it lags.
     Found {
@@ -53,7 +60,9 @@ pub enum Reply {
     },
 
     /// No index of this name is live.
-    NoIndex { name: Text },
+    NoIndex {
+        name: Text,
+    },
 
     /// The line has no form that is known, or asks for what is not built yet.
     UnknownLine,
@@ -106,11 +115,7 @@ fn write_pumping(alloc: Global, out: &mut Vec<u8>, pumping: &Pumping) -> Result<
     Ok(())
 }
 
-fn write_pumpings(
-    alloc: Global,
-    out: &mut Vec<u8>,
-    pumpings: &[Pumping],
-) -> Result<(), NoMemory>
+fn write_pumpings(alloc: Global, out: &mut Vec<u8>, pumpings: &[Pumping]) -> Result<(), NoMemory>
     ensures { OnOk result (out.new.items ≡ out.old.items ++ items_text false (items_of (map pumping_data pumpings.now))) }
 {
     let mut later = false;
@@ -157,12 +162,7 @@ fn write_put(out: &mut Vec<u8>, change_vector: &Text, id: &Id) -> Result<(), NoM
 }
 
 // One name between what stands before and behind it.
-fn write_named(
-    out: &mut Vec<u8>,
-    before: &[u8],
-    name: &str,
-    behind: &[u8],
-) -> Result<(), NoMemory>
+fn write_named(out: &mut Vec<u8>, before: &[u8], name: &str, behind: &[u8]) -> Result<(), NoMemory>
     ensures { OnOk result (out.new.items ≡ ((out.old.items ++ before.now) ++ quoted name.now) ++ behind.now) }
 {
     write_bytes(out, before)?;
@@ -195,7 +195,12 @@ fn write_reply(alloc: Global, out: &mut Vec<u8>, reply: &Reply) -> Result<(), No
             is_stale,
         } => write_found(alloc, out, ids, *index_etag, *is_stale),
         Reply::NoIndex { name } => {
-            write_named(out, b"{\"Error\":\"NoIndex\",\"Name\":", name.as_str(), b"}")
+            write_named(
+                out,
+                b"{\"Error\":\"NoIndex\",\"Name\":",
+                name.as_str(),
+                b"}",
+            )
         }
         Reply::UnknownLine => write_bytes(out, b"{\"Error\":\"UnknownLine\"}"),
     }

@@ -79,11 +79,13 @@ impl World {
         ensures { IfOk result (λ flag. flag ≡ stands_against self.now.setting (writer_view writer) self.now.store id.now collection.now (data_of kept.now) (option_copied old.entry)) }
     {
         let is_long = is_too_large(alloc, kept)?;
-        Ok(is_reserved(writer, id, collection)
-            || is_long
-            || is_in_other(old, collection)
-            || is_filled(old, self.store.len(), self.limits.rows)
-            || self.store.last() == MAX_ETAG)
+        Ok(
+            is_reserved(writer, id, collection)
+                || is_long
+                || is_in_other(old, collection)
+                || is_filled(old, self.store.len(), self.limits.rows)
+                || self.store.last() == MAX_ETAG,
+        )
     }
 
     fn next_row(

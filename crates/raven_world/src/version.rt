@@ -108,12 +108,7 @@ impl IndexVersion {
     }
 }
 
-fn ids_with(
-    alloc: Global,
-    entries: &[Entry],
-    field: &str,
-    words: &str,
-) -> Result<Vec<Id>, NoMemory>
+fn ids_with(alloc: Global, entries: &[Entry], field: &str, words: &str) -> Result<Vec<Id>, NoMemory>
     ensures { IfOk result (λ ids. ids.items ≡ found entries.now field.now words.now) }
 {
     let mut ids = Vec::new(alloc);

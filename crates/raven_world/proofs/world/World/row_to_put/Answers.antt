@@ -15,7 +15,7 @@ returns-then-branch c =
     let W = c.args.self.now in
     let old = c.get-old.ensures ∙ ap (λ (V : World). row_at (folded c.args.id.now) V.store.rows) c.self.view_is in
     sym (put-refused W.setting (writer_view c.args.writer) c.args.now W.store c.args.id.now (data_of c.args.body.now)
-      (sym (c.in_ok-is_refused.ensures ∙ λ i. stands_against W.setting (writer_view c.args.writer) W.store c.args.id.now (c.in_ok-collection.ensures i) (c.in_ok-kept.ensures i) (old i)) ∙ c.if-branch.true))
+    (sym (c.in_ok-is_refused.ensures ∙ λ i. stands_against W.setting (writer_view c.args.writer) W.store c.args.id.now (c.in_ok-collection.ensures i) (c.in_ok-kept.ensures i) (old i)) ∙ c.if-branch.true))
 
 pub returns : goal.returns
 returns c =
@@ -29,4 +29,4 @@ returns c =
       changed = c.args.now;
     })
     ∙ sym (put-allowed W.setting (writer_view c.args.writer) c.args.now W.store c.args.id.now (data_of c.args.body.now)
-      (sym (c.in_ok-is_refused.ensures ∙ λ i. stands_against W.setting (writer_view c.args.writer) W.store c.args.id.now (c.in_ok-collection.ensures i) (c.in_ok-kept.ensures i) (old i)) ∙ c.if-branch.false))
+    (sym (c.in_ok-is_refused.ensures ∙ λ i. stands_against W.setting (writer_view c.args.writer) W.store c.args.id.now (c.in_ok-collection.ensures i) (c.in_ok-kept.ensures i) (old i)) ∙ c.if-branch.false))
