@@ -4,13 +4,14 @@
     bench/first-path/bench.py [PROGRAM] [--sizes N,N,..]
 
 A script has an AUTO, N PUTs, a PUMP that takes all that a batch may take, and ten FINDs. PROGRAM is the built program,
-by default that of crates/raven. The table that is printed belongs into docs/performance.md.
+by default that of crates/raven. The table that is printed belongs into docs/performance.md. GNU time is needed.
 """
 
 import argparse
 import os
 import pathlib
 import platform
+import subprocess
 import sys
 import tempfile
 import time
@@ -36,19 +37,17 @@ def script_of(count):
 
 def run(program, script):
     """The status, what was written, the seconds on the clock and on the processor, and the peak of memory in KiB."""
-    with tempfile.TemporaryFile() as given, tempfile.TemporaryFile() as taken:
+    with tempfile.TemporaryFile() as given, tempfile.TemporaryFile() as taken, tempfile.NamedTemporaryFile("r") as told:
         given.write(script)
         given.seek(0)
+        # GNU time starts the program out of a small process of its own. Started from here, Python's memory would count.
+        words = ["/usr/bin/time", "--quiet", "-f", "%U %S %M", "-o", told.name, program, "run"]
         began = time.monotonic()
-        child = os.fork()
-        if child == 0:
-            os.dup2(given.fileno(), 0)
-            os.dup2(taken.fileno(), 1)
-            os.execv(program, [program, "run"])
-        _, status, used = os.wait4(child, 0)
+        status = subprocess.run(words, stdin=given, stdout=taken).returncode
         seconds = time.monotonic() - began
+        user, system, peak = told.read().split()
         taken.seek(0)
-        return os.waitstatus_to_exitcode(status), taken.read(), seconds, used.ru_utime + used.ru_stime, used.ru_maxrss
+        return status, taken.read(), seconds, float(user) + float(system), int(peak)
 
 
 def first_wrong(expected, found):
@@ -78,6 +77,9 @@ def main():
         print(f"no program: {program}", file=sys.stderr)
         return 2
 
+    if not os.access("/usr/bin/time", os.X_OK):
+        print("no /usr/bin/time, which tells the peak of memory", file=sys.stderr)
+        return 2
     print(f"{os.cpu_count()} cores, {processor()}; load before: {os.getloadavg()[0]:.1f}", end="\n\n")
     print("| Documents | Lines | Seconds | Processor seconds | Lines per second | Peak memory | Replies |")
     print("|---:|---:|---:|---:|---:|---:|---|")
