@@ -1,8 +1,8 @@
 -- A store with further rows is a store.
-use Rattle.std.proofs.Common.{◌≡◌, List, [], ◌∷◌}
+use Rattle.std.proofs.Common.{List, [], ◌∷◌}
 use Rattle.raven_data.specs.Rows.{Row}
 use Rattle.raven_model.specs.Store.{Store, IsStore, with_row, with_rows}
-use Rattle.raven_model.specs.Later.{MayFollow, MayFollowAll}
+use Rattle.raven_model.specs.Later.{MayFollowAll}
 use Rattle.raven_laws.proofs.LaterLemmas.{IsStore-with}
 
 pub IsStore-with_rows : (S : Store) (rows : List Row) → IsStore S → MayFollowAll S rows → IsStore (with_rows S rows)

@@ -1,12 +1,12 @@
 -- Names of digits are fit.
-use Rattle.std.proofs.Common.{◌≡◌, ◌<◌, ◌≤◌, ◌^◌, ◌+◌, ◌-◌, ◌%◌, ◌/◌, ℕ, zero, suc, List, [], ◌∷◌, ◌++◌, length, get_or, Bool, true, false, cond, Option, Some, None, refl, sym, ap, ◌∙◌, subst, arith, codes, is_some}
+use Rattle.std.proofs.Common.{◌≡◌, ◌<◌, ◌≤◌, ◌^◌, ◌+◌, ◌-◌, ◌%◌, ℕ, zero, suc, List, [], ◌∷◌, ◌++◌, length, Bool, true, false, cond, Option, Some, None, refl, ap, ◌∙◌, arith, codes, is_some}
 use Rattle.std.proofs.lemmas.Bool.{ltb-false}
 use Rattle.std.proofs.lemmas.Grind.{common_steps}
-use Rattle.std.specs.Prelude.{◌==◌, ◌||◌, nat_lt, option_map, is_none, IsTrue, if◌then◌else◌}
+use Rattle.std.specs.Prelude.{◌==◌, nat_lt, option_map, is_none, IsTrue, if◌then◌else◌}
 use Rattle.std.specs.Fmt.{decimal}
-use Rattle.std.proofs.lemmas.Fmt.{decimal_by_steps, decimal_nonempty, length-decimal-le}
+use Rattle.std.proofs.lemmas.Fmt.{decimal_by_steps, length-decimal-le}
 use Rattle.std.specs.List.{position_from}
-use Rattle.raven_data.specs.Faults.{Fault, empty, too_long, control, fault_of, is_control, is_fit, max_id, max_name}
+use Rattle.raven_data.specs.Faults.{empty, too_long, control, fault_of, is_control, is_fit, max_id, max_name}
 use Rattle.raven_model.specs.Optimiser.{free_name, first_free}
 use Rattle.raven_model.specs.World.{Slot, serving, index_id}
 

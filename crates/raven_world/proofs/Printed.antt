@@ -1,5 +1,5 @@
 -- What is printed of each reply, piece by piece behind what stands before.
-use Rattle.std.proofs.Common.{◌≡◌, ℕ, List, [], ◌∷◌, ◌++◌, Bool, refl, append_assoc, codes, map, false}
+use Rattle.std.proofs.Common.{◌≡◌, ℕ, List, ◌++◌, Bool, append_assoc, codes, map, false}
 use Rattle.std.proofs.lemmas.List.{append-nil}
 use Rattle.raven_data.specs.Data.{text, items_of, flag}
 use Rattle.raven_data.specs.Written.{quoted, text_of, items_text}

@@ -1,11 +1,11 @@
 -- A document is refused exactly where a test stands against it.
-use Rattle.std.proofs.Common.{◌≡◌, ◌≤◌, ◌<◌, ◌+◌, ◌^◌, ℕ, suc, List, [], ◌∷◌, ◌++◌, length, filter, not, Bool, true, false, cond, ◌||◌, ◌&&◌, nat_lt, nat_le, ◌==◌, Option, Some, None, is_some, is_none, refl, sym, ap, ◌∙◌, subst, arith}
+use Rattle.std.proofs.Common.{◌≡◌, ◌≤◌, ◌<◌, ◌+◌, ◌^◌, ℕ, List, [], ◌∷◌, ◌++◌, length, filter, not, Bool, true, false, cond, ◌||◌, ◌&&◌, Option, Some, None, is_some, refl, ap, ◌∙◌, arith}
 use Rattle.std.proofs.lemmas.Grind.{common_steps}
 use Rattle.raven_data.specs.Data.{Data}
 use Rattle.raven_data.specs.Folding.{folded, same_key}
 use Rattle.raven_data.specs.Rows.{Row, key}
-use Rattle.raven_model.specs.Store.{Store, last, last_of, row_at, put, with_row}
-use Rattle.raven_model.specs.Commit.{Setting, Writer, Client, Server, Refusal, Command, Put, AnyVector, collection_of, stored, first_of, refuse_if, refusal_of, row_of, other_collection}
+use Rattle.raven_model.specs.Store.{Store, last, row_at, put, with_row}
+use Rattle.raven_model.specs.Commit.{Setting, Writer, Client, Server, Refusal, Put, AnyVector, collection_of, stored, first_of, refuse_if, refusal_of, row_of, other_collection}
 use Rattle.doc_store.specs.Bounds.{IsWithin, max_etag}
 use Rattle.raven_world.specs.Tests.{stands_against, is_reserved_for, is_too_long, is_elsewhere, is_full, is_spent}
 use Rattle.raven_world.specs.Allowed.{allowed_row, unless_refused}

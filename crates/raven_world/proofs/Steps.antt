@@ -1,5 +1,5 @@
 -- The steps of the machine, by the row that is written.
-use Rattle.std.proofs.Common.{◌≡◌, ◌≤◌, ◌<◌, ◌+◌, ◌^◌, ℕ, List, [], ◌∷◌, ◌++◌, length, Bool, true, false, cond, ◌||◌, nat_le, ◌==◌, Option, Some, None, is_some, Ok, Err, refl, sym, ap, ◌∙◌, subst, arith}
+use Rattle.std.proofs.Common.{◌≡◌, ◌≤◌, ◌<◌, ◌+◌, ◌^◌, ℕ, List, [], ◌∷◌, ◌++◌, length, Bool, true, false, cond, ◌||◌, nat_le, Option, Some, None, is_some, Ok, Err, refl, sym, ap, ◌∙◌, subst, arith}
 use Rattle.std.proofs.lemmas.Bool.{eq-eqb}
 use Rattle.std.proofs.lemmas.Grind.{common_steps}
 use Rattle.raven_data.specs.Data.{Data}
@@ -7,15 +7,15 @@ use Rattle.raven_data.specs.Folding.{folded}
 use Rattle.raven_data.specs.Rows.{Row, key}
 use Rattle.raven_model.specs.Later.{MayFollow}
 use Rattle.raven_model.specs.Store.{Store, last, row_at, with_row}
-use Rattle.raven_model.specs.Commit.{Setting, Writer, Client, Server, Refusal, Command, Put, AnyVector, Written, Refused, collection_of, stored, kept_spelling, refusal_of, row_of, unless, with_written, vector_of, commit}
+use Rattle.raven_model.specs.Commit.{Setting, Writer, Client, Server, Command, Put, AnyVector, collection_of, stored, refusal_of, row_of, unless, with_written, vector_of}
 use Rattle.raven_model.specs.Replies.{Reply, UnknownLine}
 use Rattle.raven_model.specs.Mapping.{Definition}
 use Rattle.raven_model.specs.Optimiser.{Shape, Make, pick, name_of}
 use Rattle.raven_model.specs.World.{World, Slot, NameServes, TooManyIndexes, added, fresh, index_id, row_body, serving}
-use Rattle.raven_model.specs.Machine.{Replied, Request, Put as PutOne, Auto as AutoOne, in_world, same_machine, one_field, defined, rewrote, use_or_make, wrote, step}
+use Rattle.raven_model.specs.Machine.{Replied, Put as PutOne, Auto as AutoOne, in_world, same_machine, one_field, defined, rewrote, use_or_make, wrote, step}
 use Rattle.doc_store.specs.Bounds.{IsWithin, max_etag}
 use Rattle.raven_laws.proofs.CommitLemmas.{put_key, row_of-follows}
-use Rattle.raven_world.specs.Tests.{stands_against, is_reserved_for, is_too_long, is_elsewhere, is_full, is_spent}
+use Rattle.raven_world.specs.Tests.{is_reserved_for, is_too_long, is_elsewhere, is_full, is_spent}
 use Rattle.raven_world.specs.Allowed.{allowed_row, unless_refused}
 use Rattle.raven_world.specs.NewName.{new_name_of}
 use Rattle.raven_world.specs.Told.{machine_of}

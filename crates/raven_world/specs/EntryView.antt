@@ -1,5 +1,5 @@
 -- The fields of an entry, and what they are.
-use Rattle.std.specs.Prelude.{ℕ, List, map}
+use Rattle.std.specs.Prelude.{List, map}
 use Rattle.raven_model.specs.Mapping.{Fields}
 use Rattle.raven_value.specs.ScalarView.{scalar_view}
 use Rattle.raven_value.specs.declared.text.Text.{Text}

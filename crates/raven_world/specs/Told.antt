@@ -1,7 +1,7 @@
 -- What the answers of a world tell of a step of the machine.
 use Rattle.std.specs.Prelude.{◌≡◌, ℕ, List, Option, Some, None, Result, Ok, Err}
 use Rattle.raven_model.specs.World as is
-use Rattle.raven_model.specs.Machine.{Machine, Replied, Request, Auto, one_field, same_machine, step}
+use Rattle.raven_model.specs.Machine.{Machine, Replied, Auto, one_field, same_machine, step}
 use Rattle.raven_model.specs.Optimiser.{Make, pick}
 use Rattle.raven_world.specs.ReplyView.{reply_view}
 use Rattle.raven_world.specs.declared.world.Change.{Change}

@@ -1,5 +1,5 @@
 use Rattle.std.proofs.Common.{◌≡◌, drop}
-use Rattle.raven_model.specs.Store.{Store, with_rows}
+use Rattle.raven_model.specs.Store.{with_rows}
 use Rattle.doc_store.proofs.rows.with_each.Given as goal
 
 -- what is still to be put in leads to the same store

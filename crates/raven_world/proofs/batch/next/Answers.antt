@@ -1,5 +1,5 @@
-use Rattle.std.proofs.Common.{◌≡◌, ◌<◌, ◌↔◌, IsTrue, length, cond, ◌∙◌, ap, sym, subst, Some}
-use Rattle.raven_model.specs.Index.{past, taken, note_rows}
+use Rattle.std.proofs.Common.{cond, ◌∙◌, ap, Some}
+use Rattle.raven_model.specs.Index.{taken, note_rows}
 use Rattle.raven_model.specs.Store.{last, last_of}
 use Rattle.raven_world.specs.DefinitionView.{definition_view}
 use Rattle.raven_world.proofs.Batches.{batch-none, batch-some}

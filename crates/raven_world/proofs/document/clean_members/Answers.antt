@@ -1,4 +1,4 @@
-use Rattle.std.proofs.Common.{◌≡◌, ◌∙◌, ap, sym, subst, not, filter}
+use Rattle.std.proofs.Common.{◌∙◌, ap, sym, subst, not, filter}
 use Rattle.raven_data.specs.Rising.{Pairs, IsRising}
 use Rattle.raven_model.specs.Commit.{is_own}
 use Rattle.raven_world.proofs.Pairs.{IsRising-filter}

@@ -1,4 +1,4 @@
-use Rattle.std.proofs.Common.{◌≡◌, ◌-◌, ◌++◌, ◌∙◌, List, ℕ, ap, length, take, drop}
+use Rattle.std.proofs.Common.{◌-◌, ◌++◌, ◌∙◌, List, ℕ, ap, length, take, drop}
 use Rattle.raven_model.specs.Mapping.{joined}
 use Rattle.raven_world.proofs.Joins.{joined-parts, dotted}
 use Rattle.raven_world.proofs.mapping.joined_name.Goals as goal

@@ -1,5 +1,4 @@
-use Rattle.std.proofs.Common.{◌≡◌, ◌++◌, ◌∙◌, ap, codes}
-use Rattle.std.specs.Fmt.{decimal}
+use Rattle.std.proofs.Common.{◌∙◌, ap}
 use Rattle.raven_data.specs.Faults.{fault_of, max_name}
 use Rattle.raven_model.specs.Optimiser.{first_free}
 use Rattle.raven_world.proofs.Clean.{faultless-auto}

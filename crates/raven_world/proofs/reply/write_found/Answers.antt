@@ -1,4 +1,3 @@
-use Rattle.std.proofs.Common.{◌≡◌, ℕ, List, ◌++◌, ◌∙◌, ap, codes}
 use Rattle.raven_world.proofs.Printed.{printed-Found}
 use Rattle.raven_world.proofs.reply.write_found.Goals as goal
 

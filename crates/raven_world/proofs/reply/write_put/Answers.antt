@@ -1,5 +1,3 @@
-use Rattle.std.proofs.Common.{◌≡◌, ℕ, List, ◌++◌, ◌∙◌, ap, codes}
-use Rattle.raven_data.specs.Written.{quoted}
 use Rattle.raven_world.proofs.Printed.{printed-Put}
 use Rattle.raven_world.proofs.reply.write_put.Goals as goal
 

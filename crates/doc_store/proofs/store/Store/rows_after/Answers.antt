@@ -1,4 +1,4 @@
-use Rattle.std.proofs.Common.{◌≡◌, ◌<◌, List, IfOk, IsTrue, ◌↔◌, ◌&&◌, filter, length, nat_lt, ◌∙◌, ap, subst}
+use Rattle.std.proofs.Common.{◌<◌, List, IsTrue, ◌↔◌, ◌&&◌, filter, length, nat_lt, ◌∙◌, ap, subst}
 use Rattle.raven_data.specs.Rows.{Row}
 use Rattle.raven_model.specs.Store.{Store}
 use Rattle.raven_model.specs.Index.{in_scope}

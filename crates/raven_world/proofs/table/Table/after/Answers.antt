@@ -1,5 +1,4 @@
-use Rattle.std.proofs.Common.{◌≡◌, List, sym, ap, ◌∙◌, subst}
-use Rattle.raven_data.specs.Rows.{Row}
+use Rattle.std.proofs.Common.{sym, ap, ◌∙◌, subst}
 use Rattle.raven_model.specs.Index.{Table, table_of, note_rows}
 use Rattle.raven_laws.specs.Keyed.{AreKeyed, noted_lists}
 use Rattle.raven_laws.proofs.KeyedLemmas.{noted_lists-AreKeyed, table_of-noted_lists}

@@ -1,6 +1,5 @@
-use Rattle.std.proofs.Common.{◌≡◌, sym, ap, ◌∙◌}
+use Rattle.std.proofs.Common.{sym, ap, ◌∙◌}
 use Rattle.std.specs.FinMap.{values}
-use Rattle.raven_data.specs.Rows.{Row}
 use Rattle.raven_model.specs.Index.{Table}
 use Rattle.raven_laws.proofs.KeyedLemmas.{values-table_of}
 use Rattle.raven_world.proofs.table.Table.rows.Goals as goal

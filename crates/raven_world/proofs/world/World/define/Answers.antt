@@ -1,8 +1,8 @@
-use Rattle.std.proofs.Common.{◌≡◌, ◌^◌, ◌<◌, ◌+◌, ℕ, ◌++◌, ◌∷◌, [], ◌∙◌, ap, sym, subst}
+use Rattle.std.proofs.Common.{◌^◌, ◌<◌, ℕ, ◌++◌, ◌∷◌, [], ◌∙◌, ap, sym, subst}
 use Rattle.raven_model.specs.Commit.{Server, Put, AnyVector}
 use Rattle.raven_model.specs.Mapping.{Auto}
 use Rattle.raven_model.specs.Replies.{Index}
-use Rattle.raven_model.specs.Store.{last, with_row}
+use Rattle.raven_model.specs.Store.{with_row}
 use Rattle.raven_model.specs.World.{Slot, World, fresh, index_id, row_body}
 use Rattle.raven_model.specs.Machine.{Replied, in_world}
 use Rattle.doc_store.specs.Bounds.{IsWithin}

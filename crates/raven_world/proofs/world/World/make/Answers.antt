@@ -1,5 +1,4 @@
-use Rattle.std.proofs.Common.{◌≡◌, ◌∙◌, sym, ap, Some}
-use Rattle.std.specs.Prelude.{IfSome}
+use Rattle.std.proofs.Common.{◌∙◌, sym}
 use Rattle.raven_world.proofs.Steps.{make-refused, make-defined}
 use Rattle.raven_world.proofs.world.World.make.Goals as goal
 

@@ -1,6 +1,5 @@
-use Rattle.std.proofs.Common.{◌≡◌, ◌<◌, ◌^◌, ◌+◌, length, is_some, Bool, ◌∙◌, sym, ap, subst}
-use Rattle.raven_model.specs.Store.{last}
-use Rattle.raven_model.specs.World.{Slot, World, serving}
+use Rattle.std.proofs.Common.{◌<◌, ◌^◌, length, is_some, ◌∙◌, sym, ap, subst}
+use Rattle.raven_model.specs.World.{World, serving}
 use Rattle.raven_model.specs.Machine.{one_field}
 use Rattle.raven_model.specs.Optimiser.{name_of}
 use Rattle.raven_world.proofs.Steps.{few_slots, new-name-none, new-name-some}

@@ -1,4 +1,4 @@
-use Rattle.std.proofs.Common.{◌≡◌, ◌^◌, ◌<◌, ◌∙◌, sym, subst}
+use Rattle.std.proofs.Common.{◌^◌, ◌<◌, ◌∙◌, sym, subst}
 use Rattle.raven_model.specs.World.{World}
 use Rattle.raven_model.specs.Commit.{Client, Put, AnyVector}
 use Rattle.raven_value.specs.View.{data_of}

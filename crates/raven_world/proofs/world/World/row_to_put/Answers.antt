@@ -1,6 +1,6 @@
-use Rattle.std.proofs.Common.{◌≡◌, ◌+◌, Option, Some, option_copied, ◌∙◌, ap, sym}
+use Rattle.std.proofs.Common.{◌+◌, Some, ◌∙◌, ap, sym}
 use Rattle.raven_data.specs.Folding.{folded}
-use Rattle.raven_data.specs.Rows.{Row, doc}
+use Rattle.raven_data.specs.Rows.{doc}
 use Rattle.raven_model.specs.Commit.{kept_spelling}
 use Rattle.raven_model.specs.Store.{last, row_at}
 use Rattle.raven_model.specs.World.{World}
