@@ -1,11 +1,26 @@
 //! The pages over a whole list of pairs at once.
-ghost use Rattle.std.specs.Prelude.{◌≡◌, ◌<◌, ◌≤◌, ℕ, suc, length, IfOk};
+ghost use Rattle.std.specs.Prelude.{◌≡◌, ◌<◌, ◌↔◌, suc, length, IfOk, IsTrue};
+ghost use Rattle.paged_map.specs.Pairs.{IsRising};
 ghost use Rattle.paged_map.specs.Level.{flat, level_of, IsLevel};
 ghost use Rattle.paged_map.specs.Shape.{helds};
 
 use crate::page::{Node, Page, branches, empty, leaves, page_of, root_of};
 use std::alloc::{AllocError, Global};
 use std::sync::Arc;
+
+/// Whether each key is below the next one, as `PagedMap::from_sorted` requires.
+pub fn is_rising<K: Ord, V>(pairs: &[(K, V)]) -> bool
+    ensures { IsTrue result ↔ IsRising K.cmp pairs.now }
+{
+    let mut at = pairs.len();
+    while at > 1 {
+        if pairs[at - 2].0.cmp(&pairs[at - 1].0).is_ge() {
+            return false;
+        }
+        at -= 1;
+    }
+    true
+}
 
 /// Leaves that hold the pairs, in order: full ones, but for the first one or two.
 fn leaves_over<K: Clone + Drop, V: Drop>(
