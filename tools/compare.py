@@ -37,6 +37,8 @@ NUMBERS = ["0", "1", "-1", "36", "9223372036854775807", "-9223372036854775808", 
            "179769313486231580793728971405303415079934132710037826936173778980444968292764750946649017977587207096330286"
            "416692887910946555547851940402630657488671505820681908902000708383676273854845817711531764475730270069855571"
            "366959622842914819860834936475292719074168444365510704342711559699508093042879"]
+SIZES = ["1", "2", "3", "64", "65536", "0", "65537", "001", "0000000000000064", "00000000000000064", "-1", "+1", "1.0",
+         " 1", "1 ", "x", "", "٣", "4 x", "9999999999999999", "99999999999999999999", "0000000000000000", "1e1", "0x1", "1\r"]
 BAD_JSON = ["", "{", "}", "[1,]", "{\"a\":1,}", "{\"a\"}", "{a:1}", "{'a':1}", "nul", "True", "[1 2]", "{} {}", "{}x",
             "\ufeff{}", "\"\\x\"", "\"\\u12\"", "\"\\ud800\"", "\"\\udc00\"", "\"\\ud800\\u0041\"", "\"a", "// x", "[]]",
             "{\"a\":1 \"b\":2}", "\"\t\"", "{,}", "[,1]", "\"\\ud800x\"", "\"\\ud83d\\ud83d\""]
@@ -152,9 +154,7 @@ class Maker:
         return f"AUTO {collection} {field}"
 
     def pump(self):
-        sizes = ["1", "2", "3", "64", "65536", "0", "65537", "001", "0000000000000064", "00000000000000064", "-1", "+1",
-                 "1.0", " 1", "1 ", "x", "", "٣", "4 x"]
-        return f"PUMP {self.one_of(sizes[:5] if self.chance(80) else sizes)}"
+        return f"PUMP {self.one_of(SIZES[:5] if self.chance(80) else SIZES)}"
 
     def in_other_case(self, text):
         return self.one_of([text, text, text.lower(), text.upper(), model.folded(text)])
@@ -241,6 +241,7 @@ def at_the_limits():
     yield "names of control characters", control
     yield "a hundred brackets", put(b"a", b'{"D":' + b"[" * 99 + b"]" * 99 + b"}") + put(b"b", b'{"D":' + b"[" * 100 + b"]" * 100 + b"}")
     yield "each number", b"".join(put(b"a", b'{"N":' + n.encode() + b"}") + put(b"a", b'{"N":' + n.encode() + b',"N":1}') for n in NUMBERS)
+    yield "each size of a batch", b"".join(b"PUMP " + size.encode() + b"\n" for size in SIZES)
     yield "each text that is no JSON", b"".join(put(b"a", n.encode()) + put(b"a", b'{"N":' + n.encode() + b"}") for n in BAD_JSON)
     rows = b"".join(put(b"u/%d" % i, b'{"Name":"Ada","@metadata":{"@collection":"U"}}') for i in range(300))
     yield "batches", b"AUTO U Name\n" + rows + b"PUMP 1\nPUMP 7\n" * 20 + b"PUMP 65536\nFIND Auto/U/ByName Name aDA\n"
