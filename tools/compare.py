@@ -39,6 +39,7 @@ NUMBERS = ["0", "1", "-1", "36", "9223372036854775807", "-9223372036854775808", 
            "366959622842914819860834936475292719074168444365510704342711559699508093042879"]
 SIZES = ["1", "2", "3", "64", "65536", "0", "65537", "001", "0000000000000064", "00000000000000064", "-1", "+1", "1.0",
          " 1", "1 ", "x", "", "٣", "4 x", "9999999999999999", "99999999999999999999", "0000000000000000", "1e1", "0x1", "1\r"]
+NAMES = {2: "Usage", 3: "ReadFault", 4: "WriteFault", 9: "InputTooLarge"}
 BAD_JSON = ["", "{", "}", "[1,]", "{\"a\":1,}", "{\"a\"}", "{a:1}", "{'a':1}", "nul", "True", "[1 2]", "{} {}", "{}x",
             "\ufeff{}", "\"\\x\"", "\"\\u12\"", "\"\\ud800\"", "\"\\udc00\"", "\"\\ud800\\u0041\"", "\"a", "// x", "[]]",
             "{\"a\":1 \"b\":2}", "\"\t\"", "{,}", "[,1]", "\"\\ud800x\"", "\"\\ud83d\\ud83d\""]
@@ -279,13 +280,14 @@ def differs(program, script, name):
 
 
 def has_status(program, words, wanted, name, given=None, taken=None):
-    """Whether the program ends with this status and has written nothing, called with these words, input and output."""
-    script = model.quoted("no line").encode() + b"\n"
+    """Whether the program, called with these words, input and output, writes nothing and tells this status."""
+    script = b"PUT a {}\n"
     ways = {"stdin": given} if given is not None else {"input": script}
     ended = subprocess.run([program, *words], stdout=taken or subprocess.PIPE, stderr=subprocess.PIPE, timeout=60, **ways)
-    if ended.returncode == wanted and not ended.stdout:
+    told = f"raven: {NAMES[wanted]}".encode()
+    if ended.returncode == wanted and not ended.stdout and ended.stderr.strip() == told:
         return True
-    print(f"{name}: status {ended.returncode} in place of {wanted}, and {len(ended.stdout or b'')} bytes of output")
+    print(f"{name}: status {ended.returncode} in place of {wanted}, {ended.stderr!r} in place of {told!r}, output {ended.stdout!r}")
     return False
 
 
@@ -295,6 +297,10 @@ def statuses(program):
     wrong = sum(not has_status(program, these, 2, f"words {these}") for these in words)
     with open("/dev/full", "wb") as full:
         wrong += not has_status(program, ["run"], 4, "a full output", taken=full)
+    with tempfile.TemporaryFile() as large:
+        large.write(b"PUT a {}\n" * (model.MAX_SCRIPT // 9 + 1))
+        large.seek(0)
+        wrong += not has_status(program, ["run"], 9, "an input that is too large", given=large)
     folder = os.open("/", os.O_RDONLY)
     try:
         wrong += not has_status(program, ["run"], 3, "an input that cannot be read", given=folder)
