@@ -17,3 +17,4 @@ pub mod PumpLemmas
 pub mod ScriptLemmas
 pub mod WorkedRows
 pub mod WorkedScript
+pub mod WriteLemmas

@@ -5,6 +5,7 @@ mod indexes;
 mod runs;
 mod scripts;
 mod stores;
+mod writes;
 
 pub use indexes::{
     agreement_survives, batch_agrees, documents_are_all, fresh_is_whole, orders_are_total,
@@ -17,3 +18,4 @@ pub use runs::{
 };
 pub use scripts::{every_script_is_sound, scripts_are_runs};
 pub use stores::{commit_grows, later_orders};
+pub use writes::{documents_were_put, only_writes_write, puts_are_kept};
