@@ -5,7 +5,7 @@ use Rattle.raven_ports.specs.Told.{appended}
 use Rattle.raven_model.specs.Lines.{lines}
 use Rattle.raven_model.specs.Machine.{Machine}
 use Rattle.raven_model.specs.Script.{reply_to, replies_to, after_line, after_lines}
-use Rattle.raven_console.specs.Outcome.{GivesFront, StopsIn}
+use Rattle.raven_console.specs.Outcome.{GivesFront, StopsBefore, StopsIn}
 use Rattle.raven_console.proofs.Pieces.{appended-appended, appended-nil}
 
 replies_to-after : (done : List (List ℕ)) (line : List ℕ) (M : Machine) → replies_to (done ++ line ∷ []) M ≡ replies_to done M ++ reply_to line (after_lines done M)
@@ -41,20 +41,32 @@ pub runs_out : (old now : Option (List ℕ)) (script rest : List ℕ) (before M 
 runs_out old now script rest before M h e =
     h.given ∙ ap (λ z. appended old (replies_to z before)) (sym (append-nil h.done) ∙ ap (λ z. h.done ++ lines z) (sym e) ∙ sym h.split)
 
-pub stops_in : (old now new : Option (List ℕ)) (script rest line more : List ℕ) (before M : Machine) → HasRun old now script rest before M → lines rest ≡ line ∷ lines more
-    → GivesFront now new (reply_to line M) → StopsIn old new (lines script) before
-stops_in old now new script rest line more before M h l k = record {
+pub runs_through : (old now : Option (List ℕ)) (script rest : List ℕ) (before M : Machine) → HasRun old now script rest before M → rest ≡ [] → M ≡ after_lines (lines script) before
+runs_through old now script rest before M h e = h.left ∙ ap (λ z. after_lines z before) (sym (append-nil h.done) ∙ ap (λ z. h.done ++ lines z) (sym e) ∙ sym h.split)
+
+pub stops_in : (old now new : Option (List ℕ)) (script rest line reply : List ℕ) (more : List (List ℕ)) (before M N : Machine) → HasRun old now script rest before M → lines rest ≡ line ∷ more
+    → reply ≡ reply_to line M → N ≡ after_line line M → GivesFront now new reply → StopsIn old new (lines script) before N
+stops_in old now new script rest line reply more before M N h l r n k = record {
   done = h.done;
   line = line;
-  more = lines more;
+  more = more;
   part = k.front;
   rest = k.rest;
   split = h.split ∙ ap (λ z. h.done ++ z) l;
-  piece = ap (reply_to line) (sym h.left) ∙ k.split;
+  piece = ap (reply_to line) (sym h.left) ∙ sym r ∙ k.split;
   given = k.given ∙ ap (λ z. appended z k.front) h.given ∙ appended-appended old (replies_to h.done before) k.front;
+  executed = n ∙ ap (after_line line) h.left ∙ sym (after_lines-after h.done line before);
 }
 
-pub gives_none : (now : Option (List ℕ)) (bytes : List ℕ) → GivesFront now now bytes
-gives_none now bytes = record { front = []; rest = bytes; split = refl; given = sym (appended-nil now) }
+pub stops_before : (old now : Option (List ℕ)) (script rest line more : List ℕ) (before M : Machine) → HasRun old now script rest before M → lines rest ≡ line ∷ lines more
+    → StopsBefore old now (lines script) before M
+stops_before old now script rest line more before M h l = record {
+  done = h.done;
+  line = line;
+  more = lines more;
+  split = h.split ∙ ap (λ z. h.done ++ z) l;
+  given = h.given;
+  executed = h.left;
+}
 
-pub ruleset steps = (starts, runs_on, runs_out, stops_in, gives_none)
+pub ruleset steps = (starts, runs_on, runs_out, runs_through, stops_in, stops_before)

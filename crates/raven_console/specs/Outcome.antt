@@ -27,18 +27,34 @@ abbrev pub IsRead : Option (List ℕ) → Option (List ℕ) → Type 0
 IsRead (Some script) left = (left ≡ Some []) × (length script ≤ max_input)
 IsRead None left = Unit {0}
 
--- It stopped at one of these lines: the replies to those before it were written whole, and then a front of its own.
-pub record StopsIn (old new : Option (List ℕ)) (all : List (List ℕ)) (M : Machine) : Type 0 where
+-- It stopped at the reply to one of these lines: the replies to the lines before were written whole, and then a front of this one. The machine left
+-- is that after the lines up to this one, so no later line was executed.
+pub record StopsIn (old new : Option (List ℕ)) (all : List (List ℕ)) (before left : Machine) : Type 0 where
   pub done : List (List ℕ)
   pub line : List ℕ
   pub more : List (List ℕ)
   pub part : List ℕ
   pub rest : List ℕ
   pub split : all ≡ done ++ line ∷ more
-  pub piece : reply_to line (after_lines done M) ≡ part ++ rest
-  pub given : new ≡ appended old (replies_to done M ++ part)
+  pub piece : reply_to line (after_lines done before) ≡ part ++ rest
+  pub given : new ≡ appended old (replies_to done before ++ part)
+  pub executed : left ≡ after_lines (done ++ line ∷ []) before
 
--- it stopped at one of the lines of the script
+-- It stopped before one of these lines: the replies to the lines before were written whole, and neither this line nor a later one was executed.
+pub record StopsBefore (old new : Option (List ℕ)) (all : List (List ℕ)) (before left : Machine) : Type 0 where
+  pub done : List (List ℕ)
+  pub line : List ℕ
+  pub more : List (List ℕ)
+  pub split : all ≡ done ++ line ∷ more
+  pub given : new ≡ appended old (replies_to done before)
+  pub executed : left ≡ after_lines done before
+
+-- it stopped at the reply to one of the lines of the script
 abbrev pub Stops : Option (List ℕ) → Option (List ℕ) → Option (List ℕ) → Type 0
-Stops (Some script) old new = StopsIn old new (lines script) (start program)
+Stops (Some script) old new = (left : Machine) × StopsIn old new (lines script) (start program) left
 Stops None old new = Unit {0}
+
+-- it stopped before one of the lines of the script
+abbrev pub StopsEarly : Option (List ℕ) → Option (List ℕ) → Option (List ℕ) → Type 0
+StopsEarly (Some script) old new = (left : Machine) × StopsBefore old new (lines script) (start program) left
+StopsEarly None old new = Unit {0}

@@ -13,7 +13,7 @@ mod words;
 
 pub use machine::Machine;
 pub use request::{Line, ReadRefusal, Request};
-pub use run::{Status, raven};
+pub use run::{Status, answer_lines, raven};
 pub use script::line;
 
 #[cfg(test)]

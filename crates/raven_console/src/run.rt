@@ -3,10 +3,10 @@ ghost use Rattle.std.specs.Prelude.{◌≡◌, ◌≤◌, ◌↔◌, ◌⊎◌, 
 ghost use Rattle.raven_ports.specs.Faults.{Rose};
 ghost use Rattle.raven_ports.specs.Told.{appended};
 ghost use Rattle.raven_model.specs.Lines.{lines};
-ghost use Rattle.raven_model.specs.Script.{replies_to};
+ghost use Rattle.raven_model.specs.Script.{after_lines, replies_to};
 ghost use Rattle.raven_model.specs.Words.{IsOrdered};
 ghost use Rattle.raven_console.specs.Input.{TakesMore, TakesWithin};
-ghost use Rattle.raven_console.specs.Outcome.{Finishes, IsRead, Stops, StopsIn};
+ghost use Rattle.raven_console.specs.Outcome.{Finishes, IsRead, Stops, StopsBefore, StopsEarly, StopsIn};
 
 use crate::give::give_all;
 use crate::lines::next_line;
@@ -38,16 +38,20 @@ pub enum Status {
     NoMemory,
 }
 
-/// Replies to each line of a script.
+/// Answers each line of a script on this machine, and gives the replies. After `Failed` the machine is that after the line whose reply
+/// failed: no later line was executed.
 #[tactic(auto, using(crate::proofs::Runs::steps))]
-fn run_lines<O: Sink>(
+pub fn answer_lines<O: Sink>(
     alloc: Global,
     machine: &mut Machine,
     script: &[u8],
     output: &mut O,
 ) -> Result<(), SinkFault>
-    ensures ok { OnOk result (O.held output.new ≡ appended (O.held output.old) (replies_to (lines script.now) machine.old)) }
-    ensures err { OnErr result (StopsIn (O.held output.old) (O.held output.new) (lines script.now) machine.old) }
+    ensures given { OnOk result (O.held output.new ≡ appended (O.held output.old) (replies_to (lines script.now) machine.old)) }
+    ensures executed { OnOk result (machine.new ≡ after_lines (lines script.now) machine.old) }
+    ensures stopped { IsErrOf result SinkFault.Failed → StopsIn (O.held output.old) (O.held output.new) (lines script.now) machine.old machine.new }
+    ensures memory { IsErrOf result SinkFault.NoMemory → StopsBefore (O.held output.old) (O.held output.new) (lines script.now) machine.old machine.new
+        ⊎ StopsIn (O.held output.old) (O.held output.new) (lines script.now) machine.old machine.new }
     ensures later { O.faults output.old ≤ O.faults output.new }
     ensures cause { IsErrOf result SinkFault.Failed → Rose (O.faults output.old) (O.faults output.new) }
 {
@@ -81,7 +85,7 @@ pub fn raven<R: AllocGlobal, S: Source, O: Sink>(
     ensures read { (result ≡ Status.Done) ⊎ (result ≡ Status.WriteFault) → IsRead (S.left input.old) (S.left input.new) }
     ensures front { result ≡ Status.WriteFault → Stops (S.left input.old) (O.held output.old) (O.held output.new) }
     ensures memory { result ≡ Status.NoMemory → (O.held output.new ≡ O.held output.old)
-        ⊎ Stops (S.left input.old) (O.held output.old) (O.held output.new) }
+        ⊎ (StopsEarly (S.left input.old) (O.held output.old) (O.held output.new) ⊎ Stops (S.left input.old) (O.held output.old) (O.held output.new)) }
     ensures too_large { result ≡ Status.InputTooLarge → TakesMore (S.left input.old) (S.left input.new) }
     ensures within { result ≡ Status.ReadFault → TakesWithin (S.left input.old) (S.left input.new) }
     ensures unwritten { (result ≡ Status.ReadFault) ⊎ (result ≡ Status.InputTooLarge) → output.new ≡ output.old }
@@ -98,7 +102,7 @@ pub fn raven<R: AllocGlobal, S: Source, O: Sink>(
     let Ok(mut machine) = Machine::new(rt.alloc()) else {
         return Status::NoMemory;
     };
-    match run_lines(rt.alloc(), &mut machine, &script, output) {
+    match answer_lines(rt.alloc(), &mut machine, &script, output) {
         Ok(()) => Status::Done,
         Err(SinkFault::Failed) => Status::WriteFault,
         Err(SinkFault::NoMemory) => Status::NoMemory,

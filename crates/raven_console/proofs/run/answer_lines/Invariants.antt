@@ -1,6 +1,6 @@
 use Rattle.std.proofs.Common.{length, ◌≤◌}
 use Rattle.raven_console.proofs.Runs.{HasRun}
-use Rattle.raven_console.proofs.run.run_lines.Given as goal
+use Rattle.raven_console.proofs.run.answer_lines.Given as goal
 
 abbrev pub invariant-loop-rest : goal.invariant-loop-rest
 invariant-loop-rest g l = record {
