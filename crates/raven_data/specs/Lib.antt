@@ -12,3 +12,4 @@ pub mod Codes
 pub mod Faults
 pub mod Orders
 pub mod Sound
+pub mod Moments

@@ -2,22 +2,34 @@
 use Rattle.std.specs.Prelude.{ℕ, ◌+◌, ◌-◌, ◌*◌, List, [], ◌∷◌, ◌++◌, Bool, not, ◌&&◌, ◌||◌, ◌==◌, nat_lt, nat_le, if◌then◌else◌, Option, Some, None, Result, Ok, Err, length, codes}
 use Rattle.std.specs.List.{list_any, list_all, filter_map}
 use Rattle.std.specs.Str.{bytes_eq, is_utf8}
-use Rattle.raven_data.specs.Data.{Data, object}
-use Rattle.raven_data.specs.Faults.{is_fit, max_id, max_name}
-use Rattle.raven_data.specs.Json.{JsonRefusal, reading}
-use Rattle.raven_model.specs.Commit.{AnyVector}
+use Rattle.raven_data.specs.Data.{Data, Entries, list_of}
+use Rattle.raven_data.specs.Data as json
+use Rattle.raven_data.specs.Faults.{Fault, empty, too_long, control, fault_of, is_fit, max_id, max_name}
+use Rattle.raven_data.specs.Json.{JsonRefusal, not_json, number_not_whole, too_deep, reading}
+use Rattle.raven_data.specs.Members.{member}
+use Rattle.raven_model.specs.Commit.{Command, Expect, AnyVector, Vector}
 use Rattle.raven_model.specs.Replies.{Reply, printed}
-use Rattle.raven_model.specs.Machine.{Machine, Request, Put, Auto, Find, Pump, Event, step}
+use Rattle.raven_model.specs.Replies as told
+use Rattle.raven_model.specs.Machine.{Machine, Request, Put, Delete, Bulk, Get, Auto, Find, Pump, Stale, Stats, Keeping, Event, step}
 use Rattle.raven_model.specs.Lines.{begins_with}
 
 -- what one line asks
 pub data Line : Type 0 where
   Do : Request → Line
 
+-- why a line is refused
 pub data ReadRefusal : Type 0 where
   UnknownLine : ReadRefusal
+  BadJson : JsonRefusal → ReadRefusal
+  BadId : Fault → ReadRefusal
+  BadMember : (name : List ℕ) → ReadRefusal
 
--- WORDS: one space stands between them
+-- a value, unless something before it is refused
+abbrev pub then_read : {A B : Type 0} → Result A ReadRefusal → (A → Result B ReadRefusal) → Result B ReadRefusal
+then_read (Err refusal) more = Err refusal
+then_read (Ok a) more = more a
+
+-- WORDS: one space stands between them, and each has a byte
 
 abbrev pub before_space : List ℕ → List ℕ
 before_space [] = []
@@ -27,6 +39,16 @@ before_space (b ∷ bs) = if b == 32 then [] else b ∷ before_space bs
 abbrev pub after_space : List ℕ → Option (List ℕ)
 after_space [] = None
 after_space (b ∷ bs) = if b == 32 then Some bs else after_space bs
+
+abbrev pub both_parts : List ℕ → Option (List ℕ) → Option (List ℕ × List ℕ)
+both_parts [] rest = None
+both_parts (b ∷ bs) None = None
+both_parts (b ∷ bs) (Some []) = None
+both_parts (b ∷ bs) (Some (c ∷ cs)) = Some (b ∷ bs, c ∷ cs)
+
+-- the first word and the rest of the text behind its space, each with a byte
+abbrev pub word_and_rest : List ℕ → Option (List ℕ × List ℕ)
+word_and_rest text = both_parts (before_space text) (after_space text)
 
 abbrev pub has_byte : ℕ → List ℕ → Bool
 has_byte b text = list_any (λ c. c == b) text
@@ -43,16 +65,108 @@ number_from n (b ∷ bs) = number_from (n * 10 + (b - 48)) bs
 abbrev pub number_of : List ℕ → Option ℕ
 number_of text = if nat_lt 0 (length text) && nat_le (length text) 16 && list_all is_digit text then Some (number_from 0 text) else None
 
+-- IDS AND BODIES
+
+abbrev pub unless_fault : Option Fault → List ℕ → Result (List ℕ) ReadRefusal
+unless_fault None id = Ok id
+unless_fault (Some fault) id = Err (BadId fault)
+
+abbrev pub id_read : List ℕ → Result (List ℕ) ReadRefusal
+id_read text = unless_fault (fault_of max_id text) text
+
+abbrev pub json_read : Result Data JsonRefusal → Result Data ReadRefusal
+json_read (Err refusal) = Err (BadJson refusal)
+json_read (Ok value) = Ok value
+
+-- a member, or the whole body, that has to be an object
+abbrev pub object_read : List ℕ → Option Data → Result Data ReadRefusal
+object_read name (Some (json.object ms)) = Ok (json.object ms)
+object_read name other = Err (BadMember name)
+
+-- the JSON is read first, then the id, and then the body has to be an object
+abbrev pub put_read : List ℕ → Expect → List ℕ → Result Request ReadRefusal
+put_read id expected rest =
+    then_read (json_read (reading rest)) (λ value.
+    then_read (id_read id) (λ id.
+    then_read (object_read (codes "body") (Some value)) (λ body. Ok (Put id expected body))))
+
+abbrev pub delete_read : Expect → List ℕ → Result Request ReadRefusal
+delete_read expected id = then_read (id_read id) (λ id. Ok (Delete id expected))
+
+-- THE COMMANDS OF A TRANSACTION, in JSON
+
+abbrev pub id_member : Option Data → Result (List ℕ) ReadRefusal
+id_member (Some (json.text id)) = id_read id
+id_member other = Err (BadMember (codes "Id"))
+
+-- without a vector any will do
+abbrev pub vector_member : Option Data → Result Expect ReadRefusal
+vector_member None = Ok AnyVector
+vector_member (Some json.null) = Ok AnyVector
+vector_member (Some (json.text vector)) = Ok (Vector vector)
+vector_member other = Err (BadMember (codes "ChangeVector"))
+
+abbrev pub put_command : Entries → Result Command ReadRefusal
+put_command ms =
+    then_read (id_member (member (codes "Id") ms)) (λ id.
+    then_read (vector_member (member (codes "ChangeVector") ms)) (λ expected.
+    then_read (object_read (codes "Document") (member (codes "Document") ms)) (λ body. Ok (Command.Put id expected body))))
+
+abbrev pub delete_command : Entries → Result Command ReadRefusal
+delete_command ms =
+    then_read (id_member (member (codes "Id") ms)) (λ id.
+    then_read (vector_member (member (codes "ChangeVector") ms)) (λ expected. Ok (Command.Delete id expected)))
+
+abbrev pub typed_command : Option Data → Entries → Result Command ReadRefusal
+typed_command (Some (json.text type)) ms =
+    if bytes_eq type (codes "PUT") then put_command ms else (
+    if bytes_eq type (codes "DELETE") then delete_command ms else Err (BadMember (codes "Type")))
+typed_command other ms = Err (BadMember (codes "Type"))
+
+abbrev pub command_read : Data → Result Command ReadRefusal
+command_read (json.object ms) = typed_command (member (codes "Type") ms) ms
+command_read other = Err (BadMember (codes "Commands"))
+
+-- one after another; the first that is refused decides
+abbrev pub commands_read : List Data → Result (List Command) ReadRefusal
+commands_read [] = Ok []
+commands_read (d ∷ ds) = then_read (command_read d) (λ c. then_read (commands_read ds) (λ cs. Ok (c ∷ cs)))
+
+abbrev pub list_member : Option Data → Result (List Command) ReadRefusal
+list_member (Some (json.array ds)) = commands_read (list_of ds)
+list_member other = Err (BadMember (codes "Commands"))
+
+abbrev pub commands_of : Data → Result (List Command) ReadRefusal
+commands_of (json.object ms) = list_member (member (codes "Commands") ms)
+commands_of other = Err (BadMember (codes "body"))
+
+abbrev pub bulk_read : List ℕ → Result Request ReadRefusal
+bulk_read rest = then_read (json_read (reading rest)) (λ value. then_read (commands_of value) (λ commands. Ok (Bulk commands)))
+
 -- THE FORMS OF A LINE
 
--- PUT <id> <body>
-abbrev pub put_body : List ℕ → Result Data JsonRefusal → Option Request
-put_body id (Ok (object ms)) = Some (Put id AnyVector (object ms))
-put_body id other = None
+abbrev pub or_unknown : {A : Type 0} → Option A → Result A ReadRefusal
+or_unknown None = Err UnknownLine
+or_unknown (Some a) = Ok a
 
-abbrev pub put_of : List ℕ → Option (List ℕ) → Option Request
-put_of id None = None
-put_of id (Some body) = if is_fit max_id id then put_body id (reading body) else None
+abbrev pub parts_read : List ℕ → Result (List ℕ × List ℕ) ReadRefusal
+parts_read text = or_unknown (word_and_rest text)
+
+-- PUT <id> <body>
+abbrev pub put_of : List ℕ → Result Request ReadRefusal
+put_of more = then_read (parts_read more) (λ parts. put_read parts.0 AnyVector parts.1)
+
+-- PUTIF <id> <vector> <body>
+abbrev pub put_if_of : List ℕ → Result Request ReadRefusal
+put_if_of more = then_read (parts_read more) (λ parts. then_read (parts_read parts.1) (λ rest. put_read parts.0 (Vector rest.0) rest.1))
+
+-- DELIF <vector> <id>
+abbrev pub delete_if_of : List ℕ → Result Request ReadRefusal
+delete_if_of more = then_read (parts_read more) (λ parts. delete_read (Vector parts.0) parts.1)
+
+-- GET <id>
+abbrev pub get_of : List ℕ → Result Request ReadRefusal
+get_of more = then_read (id_read more) (λ id. Ok (Get id))
 
 -- a collection does not begin with `@`, unless it is `@empty`
 abbrev pub is_collection : List ℕ → Bool
@@ -63,86 +177,108 @@ abbrev pub is_field : List ℕ → Bool
 is_field text = nat_lt 0 (length text) && not (has_byte 32 text || has_byte 46 text || has_byte 40 text || has_byte 41 text)
 
 -- AUTO <collection> <field>
-abbrev pub auto_of : List ℕ → Option (List ℕ) → Option Request
-auto_of collection None = None
-auto_of collection (Some field) = if is_collection collection && is_field field then Some (Auto collection field) else None
+abbrev pub auto_of : List ℕ → Result Request ReadRefusal
+auto_of more = then_read (parts_read more) (λ parts. if is_collection parts.0 && is_field parts.1 then Ok (Auto parts.0 parts.1) else Err UnknownLine)
 
 -- PUMP <max>
-abbrev pub pump_of : Option ℕ → Option Request
-pump_of None = None
-pump_of (Some max) = if nat_le 1 max && nat_le max 65536 then Some (Pump max) else None
+abbrev pub pump_of : List ℕ → Result Request ReadRefusal
+pump_of more = then_read (or_unknown (number_of more)) (λ max. if nat_le 1 max && nat_le max 65536 then Ok (Pump max) else Err UnknownLine)
+
+-- a text that can be no name makes the line unknown
+abbrev pub name_read : List ℕ → Result (List ℕ) ReadRefusal
+name_read text = if is_fit max_name text then Ok text else Err UnknownLine
 
 -- FIND <index> <field> <text>
-abbrev pub find_text : List ℕ → List ℕ → Option (List ℕ) → Option Request
-find_text index field None = None
-find_text index field (Some text) =
-    if is_fit max_name index && nat_lt 0 (length field) && nat_lt 0 (length text) then Some (Find index field text) else None
+abbrev pub find_of : List ℕ → Result Request ReadRefusal
+find_of more =
+    then_read (parts_read more) (λ parts. then_read (parts_read parts.1) (λ rest. then_read (name_read parts.0) (λ index. Ok (Find index rest.0 rest.1))))
 
-abbrev pub find_of : List ℕ → Option (List ℕ) → Option Request
-find_of index None = None
-find_of index (Some more) = find_text index (before_space more) (after_space more)
+-- STALE <index>
+abbrev pub stale_of : List ℕ → Result Request ReadRefusal
+stale_of more = then_read (name_read more) (λ name. Ok (Stale name None))
 
-abbrev pub by_word : List ℕ → Option (List ℕ) → Option Request
-by_word word None = None
-by_word word (Some more) =
-    if bytes_eq word (codes "PUT") then put_of (before_space more) (after_space more) else (
-    if bytes_eq word (codes "AUTO") then auto_of (before_space more) (after_space more) else (
-    if bytes_eq word (codes "PUMP") then pump_of (number_of more) else (
-    if bytes_eq word (codes "FIND") then find_of (before_space more) (after_space more) else None)))
+abbrev pub by_word : List ℕ → List ℕ → Result Request ReadRefusal
+by_word word more =
+    if bytes_eq word (codes "PUT") then put_of more else (
+    if bytes_eq word (codes "PUTIF") then put_if_of more else (
+    if bytes_eq word (codes "DEL") then delete_read AnyVector more else (
+    if bytes_eq word (codes "DELIF") then delete_if_of more else (
+    if bytes_eq word (codes "BULK") then bulk_read more else (
+    if bytes_eq word (codes "GET") then get_of more else (
+    if bytes_eq word (codes "AUTO") then auto_of more else (
+    if bytes_eq word (codes "PUMP") then pump_of more else (
+    if bytes_eq word (codes "FIND") then find_of more else (
+    if bytes_eq word (codes "STALE") then stale_of more else Err UnknownLine)))))))))
 
-abbrev pub request_of : List ℕ → Option Request
-request_of text = if is_utf8 text then by_word (before_space text) (after_space text) else None
-
-abbrev pub or_unknown : Option Request → Result (Option Line) ReadRefusal
-or_unknown None = Err UnknownLine
-or_unknown (Some request) = Ok (Some (Do request))
+-- a line is the word STATS alone, or a word and what stands behind it
+abbrev pub request_of : List ℕ → Result Request ReadRefusal
+request_of line =
+    if bytes_eq line (codes "STATS") then Ok Stats else then_read (parts_read line) (λ parts. by_word parts.0 parts.1)
 
 -- a line without bytes asks nothing
 abbrev pub line_of : List ℕ → Result (Option Line) ReadRefusal
 line_of [] = Ok None
-line_of (b ∷ bs) = or_unknown (request_of (b ∷ bs))
+line_of (b ∷ bs) = if is_utf8 (b ∷ bs) then then_read (request_of (b ∷ bs)) (λ request. Ok (Some (Do request))) else Err UnknownLine
 
 -- WHAT IS WRITTEN
 
-abbrev pub refusal_reply : ReadRefusal → Reply
-refusal_reply UnknownLine = Reply.UnknownLine
+abbrev pub json_reply : JsonRefusal → Reply
+json_reply not_json = told.NotJson
+json_reply number_not_whole = told.NumberNotWhole
+json_reply too_deep = told.TooDeep
 
--- each request comes at the moment 0
-abbrev pub moment : ℕ
-moment = 0
+abbrev pub fault_reply : Fault → Reply
+fault_reply empty = told.Empty
+fault_reply (too_long len) = told.TooLong len
+fault_reply (control at) = told.Control at
+
+abbrev pub refusal_reply : ReadRefusal → Reply
+refusal_reply UnknownLine = told.UnknownLine
+refusal_reply (BadJson refusal) = json_reply refusal
+refusal_reply (BadId fault) = fault_reply fault
+refusal_reply (BadMember name) = told.BadMember name
+
+-- what the outside gives to one line: the moment at which it comes, and what the keeper does
+pub record Circumstance : Type 0 where
+  pub now : ℕ
+  pub keeping : Keeping
 
 -- a request is answered by the machine
-abbrev pub written_for : Machine → Result (Option Line) ReadRefusal → List ℕ
-written_for M (Err refusal) = printed (refusal_reply refusal)
-written_for M (Ok None) = []
-written_for M (Ok (Some (Do request))) = printed (step M moment request).reply
+abbrev pub written_for : Machine → Circumstance → Result (Option Line) ReadRefusal → List ℕ
+written_for M c (Err refusal) = printed (refusal_reply refusal)
+written_for M c (Ok None) = []
+written_for M c (Ok (Some (Do request))) = printed (step M c.keeping c.now request).reply
 
-abbrev pub left_by : Machine → Result (Option Line) ReadRefusal → Machine
-left_by M (Err refusal) = M
-left_by M (Ok None) = M
-left_by M (Ok (Some (Do request))) = (step M moment request).machine
+abbrev pub left_by : Machine → Circumstance → Result (Option Line) ReadRefusal → Machine
+left_by M c (Err refusal) = M
+left_by M c (Ok None) = M
+left_by M c (Ok (Some (Do request))) = (step M c.keeping c.now request).machine
+
+-- a line and what the outside gives to it
+abbrev pub Given : Type 0
+Given = List ℕ × Circumstance
 
 -- what is written for a line, and the state after it
-abbrev pub reply_to : List ℕ → Machine → List ℕ
-reply_to line M = written_for M (line_of line)
+abbrev pub reply_to : Given → Machine → List ℕ
+reply_to g M = written_for M g.1 (line_of g.0)
 
-abbrev pub after_line : List ℕ → Machine → Machine
-after_line line M = left_by M (line_of line)
+abbrev pub after_line : Given → Machine → Machine
+after_line g M = left_by M g.1 (line_of g.0)
 
 -- what is written for lines, one after another, and the state after them
-abbrev pub replies_to : List (List ℕ) → Machine → List ℕ
+abbrev pub replies_to : List Given → Machine → List ℕ
 replies_to [] M = []
-replies_to (line ∷ more) M = reply_to line M ++ replies_to more (after_line line M)
+replies_to (g ∷ more) M = reply_to g M ++ replies_to more (after_line g M)
 
-abbrev pub after_lines : List (List ℕ) → Machine → Machine
+abbrev pub after_lines : List Given → Machine → Machine
 after_lines [] M = M
-after_lines (line ∷ more) M = after_lines more (after_line line M)
+after_lines (g ∷ more) M = after_lines more (after_line g M)
 
 -- the events that lines make of the machine
-abbrev pub event_of : Result (Option Line) ReadRefusal → Option Event
-event_of (Err refusal) = None
-event_of (Ok None) = None
-event_of (Ok (Some (Do request))) = Some (record { request = request; now = moment })
+abbrev pub event_of : Circumstance → Result (Option Line) ReadRefusal → Option Event
+event_of c (Err refusal) = None
+event_of c (Ok None) = None
+event_of c (Ok (Some (Do request))) = Some (record { request = request; now = c.now; keeping = c.keeping })
 
-abbrev pub events_of : List (List ℕ) → List Event
-events_of all = filter_map (λ line. event_of (line_of line)) all
+abbrev pub events_of : List Given → List Event
+events_of all = filter_map (λ g. event_of g.1 (line_of g.0)) all
