@@ -8,7 +8,7 @@ use Rattle.raven_data.specs.Folding.{folded, same_key}
 use Rattle.raven_data.specs.Rows.{Row, doc, key, is_document}
 use Rattle.raven_model.specs.Store.{row_at, put, Store, last, with_row}
 use Rattle.raven_model.specs.Mapping.{Definition, Auto}
-use Rattle.raven_model.specs.Commit.{Command, Put, Delete, AnyVector, Writer, Client, Setting, Refusal, Written, first_of, refusal_of, reserved, is_reserved, is_index_id, too_large, collection_changed, conflict, store_full, etags_spent, collection_of, stored, kept_spelling, document_at, tombstone, row_of, with_written, unless, commit_from}
+use Rattle.raven_model.specs.Commit.{Command, Put, Delete, AnyVector, Writer, Client, Setting, Refusal, Written, first_of, refusal_of, reserved, is_reserved, is_index_id, too_large, collection_changed, conflict, store_full, etags_spent, collection_of, stored, kept_spelling, document_at, tombstone, row_of, with_written, with_option, after_commands, unless, commit_from}
 use Rattle.raven_model.specs.World.{Slot, index_id, row_body}
 use Rattle.raven_model.specs.Sound.{Has, IsListed, AreListed}
 use Rattle.raven_laws.proofs.StoreLemmas.{same_row, either_false, row_at-put, same_itself, same_means, found_key}
@@ -17,19 +17,11 @@ use Rattle.raven_laws.proofs.SlotLemmas.{Has-map, Has-mapped}
 
 -- WHAT COMMANDS LEAVE
 
-abbrev pub with_option : Store → Option Row → Store
-with_option S None = S
-with_option S (Some r) = with_row S r
-
-abbrev pub applied : ℕ → List Command → Store → Store
-applied now [] S = S
-applied now (c ∷ cs) S = applied now cs (with_option S (row_of now S c))
-
-pub commit_from-applied : (at : ℕ) (s : Setting) (w : Writer) (now : ℕ) (cs : List Command) (done new : Written) → commit_from at s w now cs done ≡ Ok new → new.store ≡ applied now cs done.store
+pub commit_from-applied : (at : ℕ) (s : Setting) (w : Writer) (now : ℕ) (cs : List Command) (done new : Written) → commit_from at s w now cs done ≡ Ok new → new.store ≡ after_commands now cs done.store
 commit_from-applied at s w now [] done new h = let same : new ≡ done = cc in ap (λ (x : Written). x.store) same
 commit_from-applied at s w now (c ∷ cs) done new h =
-    elim (refusal_of s w done.store c) as (λ r. unless r at (commit_from (at + 1) s w now cs (with_written (row_of now done.store c) done)) ≡ Ok new → new.store ≡ applied now cs (with_option done.store (row_of now done.store c))) [
-      | None ↦ λ g. commit_from-applied (at + 1) s w now cs (with_written (row_of now done.store c) done) new g ∙ ap (applied now cs) (written (row_of now done.store c))
+    elim (refusal_of s w done.store c) as (λ r. unless r at (commit_from (at + 1) s w now cs (with_written (row_of now done.store c) done)) ≡ Ok new → new.store ≡ after_commands now cs (with_option done.store (row_of now done.store c))) [
+      | None ↦ λ g. commit_from-applied (at + 1) s w now cs (with_written (row_of now done.store c) done) new g ∙ ap (after_commands now cs) (written (row_of now done.store c))
       | Some kind ↦ λ g. absurd cc
     ] h
   where

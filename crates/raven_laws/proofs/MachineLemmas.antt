@@ -1,5 +1,5 @@
 -- Each step of the machine leaves a sound and later world.
-use Rattle.std.proofs.Common.{◌≡◌, ℕ, ◌+◌, ◌<◌, ◌≤◌, List, [], ◌∷◌, ◌++◌, length, Some, None, Result, Ok, Err, map, refl, sym, ap, subst, arith, inl}
+use Rattle.std.proofs.Common.{◌≡◌, ℕ, ◌+◌, ◌<◌, ◌≤◌, List, [], ◌∷◌, ◌++◌, length, Some, None, Result, Ok, Err, map, refl, sym, ap, subst, arith, inl, true, false, cond}
 use Rattle.raven_data.specs.Rows.{Row}
 use Rattle.raven_model.specs.Store.{Store, last, IsStore}
 use Rattle.raven_model.specs.Later.{Later}
@@ -7,8 +7,9 @@ use Rattle.raven_model.specs.Index.{taken, etag_of_batch}
 use Rattle.raven_model.specs.Mapping.{Definition}
 use Rattle.raven_model.specs.Optimiser.{Choice, Use, Make, Merge, pick, name_of}
 use Rattle.raven_model.specs.Commit.{Command, Put, Delete, Writer, Client, Server, Setting, Refused, Written, refusal_of, row_of, with_written, unless, commit_from, commit}
+use Rattle.raven_model.specs.Replies as told
 use Rattle.raven_model.specs.World.{Version, Slot, World, reads, advanced, batch, SlotChange, SlotRefusal, define}
-use Rattle.raven_model.specs.Machine.{Machine, Request, Put as PutOne, Auto, Find, Pump, Event, wrote, rewrote, defined, use_or_make, one_field, or_as_before, brought_on, pump, step, start, after, run}
+use Rattle.raven_model.specs.Machine.{Machine, Request, Put as PutOne, Delete as DeleteOne, Bulk, Get, Auto, Find, Pump, Stale, Stats, Event, Keeping, Change, is_taken, same_machine, settled, single_reply, wrote, write, rewrote, defined, use_or_make, one_field, or_as_before, brought_on, pump, change_of, step, start, after, run}
 use Rattle.raven_model.specs.Sound.{Has, NumbersRise, NamesApart, AreListed, Sound, LaterW}
 use Rattle.raven_laws.proofs.LaterLemmas.{Later-itself, IsStore-with, last-with}
 use Rattle.raven_laws.proofs.CommitLemmas.{row_of-follows, commit-Commits}
@@ -64,9 +65,9 @@ Turns-Moves W S slots o t = record {
 
 -- WRITES
 
-wrote-Moves : (now : ℕ) (M : Machine) (commands : List Command) (o : Result Written Refused) → Sound M.world → commit M.world.setting Client now commands M.world.store ≡ o → Moves M.world (wrote M o).machine.world
-wrote-Moves now M commands (Err refused) o is = Moves-itself M.world o
-wrote-Moves now M commands (Ok w) o is =
+wrote-Moves : (now : ℕ) (M : Machine) (reply : List told.Result → told.Reply) (commands : List Command) (o : Result Written Refused) → Sound M.world → commit M.world.setting Client now commands M.world.store ≡ o → Moves M.world (wrote M reply now commands o).machine.world
+wrote-Moves now M reply commands (Err refused) o is = Moves-itself M.world o
+wrote-Moves now M reply commands (Ok w) o is =
     let c = commit-Commits M.world.setting Client now commands M.world.store w o.store is in
     Turns-Moves M.world w.store M.world.slots o (record {
       store = c.sound;
@@ -184,17 +185,34 @@ pump-Moves M max o = Turns-Moves M.world M.world.store (map (brought_on M.world.
 
 -- RUNS
 
-pub step-Moves : (M : Machine) (now : ℕ) (r : Request) → Sound M.world → Moves M.world (step M now r).machine.world
-step-Moves M now (PutOne id expected body) o =
-    wrote-Moves now M (Command.Put id expected body ∷ []) (commit M.world.setting Client now (Command.Put id expected body ∷ []) M.world.store) o refl
-step-Moves M now (Auto collection field) o = auto-Moves now M (pick (one_field collection field) M.world.store M.world.slots) o
-step-Moves M now (Find index field ws) o = Moves-itself M.world o
-step-Moves M now (Pump max) o = pump-Moves M max o
+write-Moves : (now : ℕ) (M : Machine) (reply : List told.Result → told.Reply) (commands : List Command) → Sound M.world → Moves M.world (write M reply now commands).machine.world
+write-Moves now M reply commands o = wrote-Moves now M reply commands (commit M.world.setting Client now commands M.world.store) o refl
+
+change-Moves : (M : Machine) (now : ℕ) (r : Request) → Sound M.world → Moves M.world (change_of M now r).machine.world
+change-Moves M now (PutOne id expected body) o = write-Moves now M single_reply (Command.Put id expected body ∷ []) o
+change-Moves M now (DeleteOne id expected) o = write-Moves now M single_reply (Command.Delete id expected ∷ []) o
+change-Moves M now (Bulk commands) o = write-Moves now M told.Bulk commands o
+change-Moves M now (Get id) o = Moves-itself M.world o
+change-Moves M now (Auto collection field) o = auto-Moves now M (pick (one_field collection field) M.world.store M.world.slots) o
+change-Moves M now (Find index field ws) o = Moves-itself M.world o
+change-Moves M now (Pump max) o = pump-Moves M max o
+change-Moves M now (Stale name cutoff) o = Moves-itself M.world o
+change-Moves M now Stats o = Moves-itself M.world o
+
+-- whatever the keeper does
+settled-Moves : (M : Machine) (k : Keeping) (c : Change) → Sound M.world → Moves M.world c.machine.world → Moves M.world (settled M k c).machine.world
+settled-Moves M k c o m = elim (is_taken k c.rows) as (λ b. Moves M.world (cond b (record { reply = c.reply; machine = c.machine }) (same_machine M (told.KeeperFault k.before k.after))).machine.world) [
+  | true ↦ m
+  | false ↦ Moves-itself M.world o
+]
+
+pub step-Moves : (M : Machine) (k : Keeping) (now : ℕ) (r : Request) → Sound M.world → Moves M.world (step M k now r).machine.world
+step-Moves M k now r o = settled-Moves M k (change_of M now r) o (change-Moves M now r o)
 
 pub run-Moves : (es : List Event) (M : Machine) → Sound M.world → Moves M.world (run es M).world
 run-Moves [] M o = Moves-itself M.world o
 run-Moves (e ∷ es) M o =
-    let one = step-Moves M e.now e.request o in Moves-then M.world (after M e).world (run es (after M e)).world one (run-Moves es (after M e) one.sound)
+    let one = step-Moves M e.keeping e.now e.request o in Moves-then M.world (after M e).world (run es (after M e)).world one (run-Moves es (after M e) one.sound)
 
 pub start-Sound : (setting : Setting) → Sound (start setting).world
 start-Sound setting = record {

@@ -1,45 +1,45 @@
 -- A script is a run.
-use Rattle.std.proofs.Common.{◌≡◌, ℕ, List, [], ◌∷◌, ◌++◌, Option, Some, None, Result, Ok, Err, refl, sym, ◌∙◌, subst}
+use Rattle.std.proofs.Common.{◌≡◌, List, [], ◌∷◌, ◌++◌, Option, Some, None, Result, Ok, Err, refl, sym, ◌∙◌, subst}
 use Rattle.std.specs.List.{cons_option}
 use Rattle.raven_model.specs.Commit.{Setting}
 use Rattle.raven_model.specs.Machine.{Machine, Event, start, run}
 use Rattle.raven_model.specs.Sound.{Sound, LaterW}
-use Rattle.raven_model.specs.Script.{Line, Do, ReadRefusal, line_of, event_of, left_by, after_line, after_lines, events_of}
+use Rattle.raven_model.specs.Script.{Line, Do, ReadRefusal, Circumstance, Given, line_of, event_of, left_by, after_line, after_lines, events_of}
 use Rattle.raven_laws.specs.Claims.{FreshIsFromScratch, FreshIsExact, FlagsAreExact, IdsAreAsKept}
 use Rattle.raven_laws.proofs.MachineLemmas.{run-Sound, run-Moves}
 use Rattle.raven_laws.proofs.MatchLemmas.{Sound-exact}
 use Rattle.raven_laws.proofs.AnswerLemmas.{Sound-fresh, Sound-flags, Sound-ids}
 
 -- a line is no event or one
-one_line : (r : Result (Option Line) ReadRefusal) (events : List Event) (M : Machine) → run (cons_option (event_of r) events) M ≡ run events (left_by M r)
-one_line (Err refusal) events M = refl
-one_line (Ok None) events M = refl
-one_line (Ok (Some (Do request))) events M = refl
+one_line : (c : Circumstance) (r : Result (Option Line) ReadRefusal) (events : List Event) (M : Machine) → run (cons_option (event_of c r) events) M ≡ run events (left_by M c r)
+one_line c (Err refusal) events M = refl
+one_line c (Ok None) events M = refl
+one_line c (Ok (Some (Do request))) events M = refl
 
-pub lines-run : (all : List (List ℕ)) (M : Machine) → after_lines all M ≡ run (events_of all) M
+pub lines-run : (all : List Given) (M : Machine) → after_lines all M ≡ run (events_of all) M
 lines-run [] M = refl
-lines-run (line ∷ more) M = lines-run more (after_line line M) ∙ sym (one_line (line_of line) (events_of more) M)
+lines-run (g ∷ more) M = lines-run more (after_line g M) ∙ sym (one_line g.1 (line_of g.0) (events_of more) M)
 
-pub lines-append : (all more : List (List ℕ)) (M : Machine) → after_lines (all ++ more) M ≡ after_lines more (after_lines all M)
+pub lines-append : (all more : List Given) (M : Machine) → after_lines (all ++ more) M ≡ after_lines more (after_lines all M)
 lines-append [] more M = refl
-lines-append (line ∷ all) more M = lines-append all more (after_line line M)
+lines-append (g ∷ all) more M = lines-append all more (after_line g M)
 
-pub lines-Sound : (setting : Setting) (all : List (List ℕ)) → Sound (after_lines all (start setting)).world
+pub lines-Sound : (setting : Setting) (all : List Given) → Sound (after_lines all (start setting)).world
 lines-Sound setting all = subst (λ (M : Machine). Sound M.world) (sym (lines-run all (start setting))) (run-Sound setting (events_of all))
 
-pub lines-LaterW : (setting : Setting) (all more : List (List ℕ)) → LaterW (after_lines all (start setting)).world (after_lines (all ++ more) (start setting)).world
+pub lines-LaterW : (setting : Setting) (all more : List Given) → LaterW (after_lines all (start setting)).world (after_lines (all ++ more) (start setting)).world
 lines-LaterW setting all more =
     let m = run-Moves (events_of more) (after_lines all (start setting)) (lines-Sound setting all) in
     subst (λ (N : Machine). LaterW (after_lines all (start setting)).world N.world) (sym (lines-append all more (start setting) ∙ lines-run more (after_lines all (start setting)))) m.later
 
-pub lines-fresh : (setting : Setting) (all : List (List ℕ)) → FreshIsFromScratch (after_lines all (start setting))
+pub lines-fresh : (setting : Setting) (all : List Given) → FreshIsFromScratch (after_lines all (start setting))
 lines-fresh setting all = Sound-fresh (after_lines all (start setting)) (lines-Sound setting all)
 
-pub lines-exact : (setting : Setting) (all : List (List ℕ)) → FreshIsExact (after_lines all (start setting))
+pub lines-exact : (setting : Setting) (all : List Given) → FreshIsExact (after_lines all (start setting))
 lines-exact setting all = Sound-exact (after_lines all (start setting)) (lines-Sound setting all)
 
-pub lines-flags : (setting : Setting) (all : List (List ℕ)) → FlagsAreExact (after_lines all (start setting))
+pub lines-flags : (setting : Setting) (all : List Given) → FlagsAreExact (after_lines all (start setting))
 lines-flags setting all = Sound-flags (after_lines all (start setting)) (lines-Sound setting all)
 
-pub lines-ids : (setting : Setting) (all : List (List ℕ)) → IdsAreAsKept (after_lines all (start setting))
+pub lines-ids : (setting : Setting) (all : List Given) → IdsAreAsKept (after_lines all (start setting))
 lines-ids setting all = Sound-ids (after_lines all (start setting)) (lines-Sound setting all)

@@ -1,14 +1,16 @@
 -- The definitions at work: what is answered to requests that were worked out by hand, and what is printed.
-use Rattle.std.proofs.Common.{◌≡◌, ℕ, List, [], ◌∷◌, ◌++◌, true, false, filter, refl, ap, codes}
+use Rattle.std.proofs.Common.{◌≡◌, ℕ, List, [], ◌∷◌, ◌++◌, true, false, Some, None, filter, refl, ap, codes}
 use Rattle.std.specs.List.{filter_map}
 use Rattle.std.specs.Fmt.{digits}
 use Rattle.std.specs.FinMap.{empty}
 use Rattle.raven_data.specs.Data.{object, text, entry, no_entries}
+use Rattle.raven_data.specs.Moments.{moment_text, day_from, day_in, day_text}
 use Rattle.raven_data.specs.Rows.{Row, doc}
 use Rattle.raven_model.specs.Mapping.{Definition, Mapper, mapper_of, is_mapped, entry_of}
-use Rattle.raven_model.specs.Commit.{AnyVector}
-use Rattle.raven_model.specs.Replies.{Reply, Index, Pumped, Pumping, Found, NoIndex, UnknownLine, printed}
-use Rattle.raven_model.specs.Machine.{Machine, Request, Put, Auto, Find, Pump, found, start, step}
+use Rattle.raven_model.specs.Commit.{Command, AnyVector, Vector}
+use Rattle.raven_model.specs.Replies.{Result as Done}
+use Rattle.raven_model.specs.Replies.{Reply, Index, Pumped, Pumping, Found, NoIndex, UnknownLine, Stale, Stats, Document, NoDocument, Deleted, CollectionChanged, ReservedId, Conflict, TooLong, KeeperFault, printed}
+use Rattle.raven_model.specs.Machine.{Machine, Request, Put, Delete, Bulk, Get, Auto, Find, Pump, Stale as AskStale, Stats as AskStats, found, start, step, untroubled}
 use Rattle.raven_model.specs.Words.{program}
 use Rattle.raven_laws.proofs.KeyedLemmas.{values-table_of}
 
@@ -16,7 +18,7 @@ use Rattle.raven_laws.proofs.KeyedLemmas.{values-table_of}
 
 abbrev pub replies_from : Machine → List Request → List Reply
 replies_from M [] = []
-replies_from M (r ∷ rs) = (step M 0 r).reply ∷ replies_from (step M 0 r).machine rs
+replies_from M (r ∷ rs) = (step M untroubled 0 r).reply ∷ replies_from (step M untroubled 0 r).machine rs
 
 abbrev pub replies : List Request → List Reply
 replies rs = replies_from (start program) rs
@@ -64,9 +66,48 @@ one_name = refl
 -- an id keeps its collection and its first spelling, and what belongs to an index is the server's
 ids_kept : replies (put (codes "Users") (codes "users/1") (codes "Name") (codes "Ada") ∷ put (codes "Teams") (codes "Users/1") (codes "Name") (codes "Ada") ∷ put (codes "Users") (codes "USERS/1") (codes "Name") (codes "Bo")
     ∷ put (codes "Users") (codes "@Index/a") (codes "Name") (codes "Ada") ∷ put (codes "@indexes") (codes "a") (codes "Name") (codes "Ada") ∷ [])
-    ≡ was_put (codes "1") (codes "users/1") ∷ UnknownLine ∷ was_put (codes "2") (codes "users/1") ∷ UnknownLine ∷ UnknownLine ∷ []
+    ≡ was_put (codes "1") (codes "users/1") ∷ CollectionChanged 0 (codes "Users") ∷ was_put (codes "2") (codes "users/1") ∷ ReservedId 0 ∷ ReservedId 0 ∷ []
 unfolding digits
 ids_kept = refl
+
+-- one row of two is taken: the index is behind the other until the next batch
+behind_one : replies (Auto (codes "C") (codes "F") ∷ put (codes "C") (codes "x") (codes "F") (codes "a") ∷ put (codes "C") (codes "y") (codes "F") (codes "b") ∷ put (codes "C") (codes "x") (codes "F") (codes "c") ∷ Pump 1
+    ∷ AskStale (codes "Auto/C/ByF") None ∷ AskStale (codes "Auto/C/ByF") (Some 3) ∷ AskStale (codes "Auto/C/ByF") (Some 4) ∷ Pump 1 ∷ AskStale (codes "auto/c/byf") None ∷ AskStale (codes "B") None ∷ [])
+    ≡ Index (codes "Auto/C/ByF") ∷ was_put (codes "2") (codes "x") ∷ was_put (codes "3") (codes "y") ∷ was_put (codes "4") (codes "x") ∷ Pumped (moved 0 (codes "Auto/C/ByF") 3 ∷ [])
+    ∷ Stale 3 true 4 ∷ Stale 3 false 3 ∷ Stale 3 true 4 ∷ Pumped (moved 3 (codes "Auto/C/ByF") 4 ∷ []) ∷ Stale 4 false 4 ∷ NoIndex (codes "B") ∷ []
+unfolding digits
+behind_one = refl
+
+-- to delete what is not there takes no etag, and what was deleted keeps its spelling and its collection
+deletions : replies (put (codes "Users") (codes "users/1") (codes "Name") (codes "Ada") ∷ Delete (codes "users/9") AnyVector ∷ Delete (codes "USERS/1") AnyVector ∷ Delete (codes "USERS/1") AnyVector ∷ Get (codes "Users/1")
+    ∷ put (codes "Teams") (codes "users/1") (codes "Name") (codes "Ada") ∷ put (codes "Users") (codes "USERS/1") (codes "Name") (codes "Bo") ∷ Delete (codes "@index/a") AnyVector ∷ AskStats ∷ [])
+    ≡ was_put (codes "1") (codes "users/1") ∷ Deleted false (codes "users/9") ∷ Deleted true (codes "users/1") ∷ Deleted false (codes "users/1") ∷ NoDocument (codes "users/1")
+    ∷ CollectionChanged 0 (codes "Users") ∷ was_put (codes "3") (codes "users/1") ∷ ReservedId 0 ∷ Stats 1 0 0 3 ∷ []
+unfolding digits
+deletions = refl
+
+abbrev vector : List ℕ → List ℕ
+vector etag = codes "A:" ++ etag ++ codes "-AAAAAAAAAAAAAAAAAAAAAA"
+
+-- a transaction is taken whole or not at all, and each command sees those before it
+transactions : replies (Bulk (Command.Put (codes "a") AnyVector (object no_entries) ∷ Command.Put (codes "b") (Vector (vector (codes "9"))) (object no_entries) ∷ []) ∷ AskStats
+    ∷ Bulk (Command.Put (codes "a") (Vector []) (object no_entries) ∷ Command.Put (codes "A") (Vector (vector (codes "1"))) (object no_entries) ∷ Command.Delete (codes "b") AnyVector ∷ Command.Delete (codes "a") AnyVector ∷ []) ∷ AskStats ∷ Bulk [] ∷ [])
+    ≡ Conflict 1 (vector (codes "9")) [] ∷ Stats 0 0 0 0
+    ∷ Reply.Bulk (Done.Put (vector (codes "1")) (codes "a") ∷ Done.Put (vector (codes "2")) (codes "a") ∷ Done.Deleted false (codes "b") ∷ Done.Deleted true (codes "a") ∷ []) ∷ Stats 0 0 1 3 ∷ Reply.Bulk [] ∷ []
+unfolding digits
+transactions = refl
+
+-- a document is shown with what the server knows of it
+shown_document : replies (put (codes "Users") (codes "users/1") (codes "Name") (codes "Ada") ∷ Get (codes "USERS/1") ∷ [])
+    ≡ was_put (codes "1") (codes "users/1") ∷ Document (object (entry (codes "@metadata") (object (entry (codes "@change-vector") (text (vector (codes "1")))
+    (entry (codes "@collection") (text (codes "Users")) (entry (codes "@id") (text (codes "users/1")) (entry (codes "@last-modified") (text (moment_text 0)) no_entries)))))
+    (entry (codes "Name") (text (codes "Ada")) no_entries))) ∷ []
+unfolding digits
+shown_document = refl
+
+-- where the keeper fails, nothing is changed
+unkept : (step (start program) (record { takes = false ∷ []; before = 3; after = 4 }) 0 (put (codes "Users") (codes "users/1") (codes "Name") (codes "Ada"))) ≡ record { reply = KeeperFault 3 4; machine = start program }
+unkept = refl
 
 -- QUERIES: what a table lists is said of the list of its rows
 
@@ -122,3 +163,33 @@ unknown_text = refl
 
 no_index_text : printed (NoIndex (codes "X")) ≡ codes "{\"Error\":\"NoIndex\",\"Name\":\"X\"}\n"
 no_index_text = refl
+
+conflict_text : printed (Conflict 1 (codes "A:9") []) ≡ codes "{\"At\":1,\"Error\":\"Conflict\",\"Expected\":\"A:9\",\"Found\":\"\"}\n"
+unfolding digits
+conflict_text = refl
+
+too_long_text : printed (TooLong 513) ≡ codes "{\"Error\":\"TooLong\",\"Len\":513}\n"
+unfolding digits
+too_long_text = refl
+
+stats_text : printed (Stats 1 1 0 2) ≡ codes "{\"CountOfDocuments\":1,\"CountOfIndexes\":1,\"CountOfTombstones\":0,\"LastDocEtag\":2}\n"
+unfolding digits
+stats_text = refl
+
+deleted_text : printed (Deleted true (codes "users/1")) ≡ codes "{\"Deleted\":true,\"Id\":\"users/1\"}\n"
+deleted_text = refl
+
+bulk_text : printed (Reply.Bulk (Done.Put (codes "A:1") (codes "a") ∷ Done.Deleted false (codes "b") ∷ []))
+    ≡ codes "{\"Results\":[{\"ChangeVector\":\"A:1\",\"Id\":\"a\",\"Type\":\"PUT\"},{\"Deleted\":false,\"Id\":\"b\",\"Type\":\"DELETE\"}]}\n"
+bulk_text = refl
+
+-- MOMENTS
+
+first_moment : moment_text 0 ≡ codes "1970-01-01T00:00:00.0000000Z"
+unfolding day_from day_in
+first_moment = refl
+
+-- the last day of a February in a leap year
+leap_day : day_text (day_from 40 1970 11016) ≡ codes "2000-02-29"
+unfolding day_from day_in
+leap_day = refl

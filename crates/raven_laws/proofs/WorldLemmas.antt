@@ -5,11 +5,11 @@ use Rattle.raven_data.specs.Folding.{folded}
 use Rattle.raven_model.specs.Store.{Store, last, IsStore}
 use Rattle.raven_model.specs.Later.{Later}
 use Rattle.raven_model.specs.Mapping.{Definition}
-use Rattle.raven_model.specs.Commit.{Command, Put, Delete}
+use Rattle.raven_model.specs.Commit.{Command, Put, Delete, after_commands}
 use Rattle.raven_model.specs.World.{Slot, Note, World, fresh, serving, SlotChange, SlotRefusal, NameServes, TooManyIndexes, added, define}
 use Rattle.raven_model.specs.Sound.{Has, Fits, NumbersRise, NamesApart, AreListed, Sound, IsOldOrNew, HasItsName, LaterW}
 use Rattle.raven_laws.proofs.LaterLemmas.{Later-itself, Later-then}
-use Rattle.raven_laws.proofs.ListedLemmas.{applied, put-AreListed}
+use Rattle.raven_laws.proofs.ListedLemmas.{put-AreListed}
 use Rattle.raven_laws.proofs.SlotLemmas.{Has-append, Has-left, Has-right, NumbersRise-push, NamesApart-push, unserved, Fits-later, Fits-fresh}
 
 -- LATER WORLDS
@@ -80,7 +80,7 @@ pub record Onto (W : World) (c : SlotChange) (S : Store) : Type 0 where
   pub later : Later W.store S
   pub grown : StartsWithPut c.commands → last W.store < last S
   pub now : ℕ
-  pub written : S ≡ applied now c.commands W.store
+  pub written : S ≡ after_commands now c.commands W.store
 
 -- what a change of the slots must show
 pub record Settles (W : World) (c : SlotChange) (S : Store) : Type 0 where

@@ -1,54 +1,178 @@
--- What a Put leaves, and that all documents were put.
-use Rattle.std.proofs.Common.{◌≡◌, ℕ, ◌+◌, List, [], ◌∷◌, true, false, cond, length, nat_le, nat_eq, codes, is_some, Some, None, Ok, Err, refl, sym, ap, ◌∙◌, ◌⊎◌, inl, inr}
+-- What writes leave, and that no row is invented.
+use Rattle.std.proofs.Common.{◌≡◌, ℕ, ◌+◌, List, [], ◌∷◌, Bool, true, false, cond, length, nat_le, nat_eq, codes, is_some, Option, Some, None, Result, Ok, Err, refl, sym, ap, ◌∙◌, subst, ◌⊎◌, inl, inr}
 use Rattle.std.specs.List.{starts_with}
+use Rattle.std.specs.Option.{option_map}
 use Rattle.raven_data.specs.Data.{Data}
 use Rattle.raven_data.specs.Folding.{folded, same_key}
 use Rattle.raven_data.specs.Rows.{Row, key}
-use Rattle.raven_model.specs.Store.{row_at, last, put}
+use Rattle.raven_model.specs.Store.{Store, row_at, last, put}
 use Rattle.raven_model.specs.Mapping.{Definition}
-use Rattle.raven_model.specs.Commit.{Command, Expect, AnyVector, Client, Server, Setting, Written, commit, is_index_id, kept_spelling, refusal_of, unless}
+use Rattle.raven_model.specs.Commit.{Command, Expect, AnyVector, Client, Server, Setting, Refused, Written, after_command, after_commands, commit, document_at, is_index_id, kept_spelling, refusal_of, row_of, tombstone, unless, vector_of, with_option, with_written, etags_taken}
+use Rattle.raven_model.specs.Replies.{Reply, Result as Done}
 use Rattle.raven_model.specs.World.{SlotRefusal, added, define, index_id, row_body, serving}
 use Rattle.raven_model.specs.Optimiser.{Choice, Use, Make, Merge, name_of, pick}
-use Rattle.raven_model.specs.Machine.{Machine, Event, Request, Put, Auto, Find, Pump, after, defined, one_field, rewrote, run, start, step, use_or_make, wrote}
-use Rattle.raven_laws.specs.Writes.{row_given, IsGiven, IsPutRefused, IsPutKept, PutIsAnswered}
-use Rattle.raven_laws.proofs.StoreLemmas.{row_at-put, same_itself, same_row}
-use Rattle.raven_laws.proofs.CommitLemmas.{put_key}
+use Rattle.raven_model.specs.Machine.{Machine, Change, Event, Keeping, Replied, Request, Put, Delete, Bulk, Get, Auto, Find, Pump, Stale, Stats, after, change_of, commands_in, defined, is_first_taken, is_taken, one_field, rewrote, run, same_machine, settled, single_reply, start, step, use_or_make, write, wrote, results_of}
+use Rattle.raven_laws.specs.Writes.{row_given, AreWritten, BulkIsAnswered, DeleteIsAnswered, IsCommanded, IsDeleted, IsNotThere, IsPutKept, IsRefused, IsUnkept, IsWritten, OnlyReads, PutIsAnswered}
+use Rattle.raven_laws.proofs.StoreLemmas.{found_key, row_at-put, same_itself, same_row}
+use Rattle.raven_laws.proofs.CommitLemmas.{document_found, put_key}
+use Rattle.raven_laws.proofs.ListedLemmas.{commit_from-applied}
+
+-- A FURTHER ROW
+
+found_again : (q : List ℕ) (r : Row) (rows : List Row) → key r ≡ q → row_at q (put r rows) ≡ Some r
+found_again q r rows under =
+    row_at-put q r rows
+    ∙ ap (λ k. cond (same_key q k) (Some r) (row_at q rows)) under
+    ∙ ap (λ b. cond b (Some r) (row_at q rows)) (same_itself q)
+
+others_stay : (M : Machine) (id : List ℕ) (r : Row) → key r ≡ folded id
+    → (q : List ℕ) → same_key q (folded id) ≡ false → row_at q (put r M.world.store.rows) ≡ row_at q M.world.store.rows
+others_stay M id r under q apart =
+    let rows = M.world.store.rows in
+    row_at-put q r rows
+    ∙ ap (λ k. cond (same_key q k) (Some r) (row_at q rows)) under
+    ∙ ap (λ b. cond b (Some r) (row_at q rows)) apart
+
+-- WHAT THE KEEPER DOES
+
+first_or_not : (takes : List Bool) → (is_first_taken takes ≡ true) ⊎ ((later : List Bool) × (takes ≡ false ∷ later))
+first_or_not [] = inl refl
+first_or_not (true ∷ more) = inl refl
+first_or_not (false ∷ more) = inr (more, refl)
+
+unkept : (M : Machine) (k : Keeping) (kept : Replied) (later : List Bool) → k.takes ≡ false ∷ later
+    → IsUnkept M k (cond (is_first_taken k.takes) kept (same_machine M (Reply.KeeperFault k.before k.after)))
+unkept M k kept later e = subst (λ b. IsUnkept M k (cond b kept (same_machine M (Reply.KeeperFault k.before k.after)))) (sym (ap is_first_taken e)) (record {
+  later = later;
+  failed = e;
+  told = refl;
+})
+
+-- PUTS
 
 abbrev new_row : Machine → ℕ → List ℕ → Data → Row
 new_row M now id body = row_given M.world.store now (kept_spelling id (row_at (folded id) M.world.store.rows)) body
 
-found_again : (M : Machine) (now : ℕ) (id : List ℕ) (body : Data)
-    → row_at (folded id) (put (new_row M now id body) M.world.store.rows) ≡ Some (new_row M now id body)
-found_again M now id body =
-    let r = new_row M now id body in let rows = M.world.store.rows in
-    row_at-put (folded id) r rows
-    ∙ ap (λ k. cond (same_key (folded id) k) (Some r) (row_at (folded id) rows)) (put_key id rows)
-    ∙ ap (λ b. cond b (Some r) (row_at (folded id) rows)) (same_itself (folded id))
-
-others_stay : (M : Machine) (now : ℕ) (id : List ℕ) (body : Data) (q : List ℕ) → same_key q (folded id) ≡ false
-    → row_at q (put (new_row M now id body) M.world.store.rows) ≡ row_at q M.world.store.rows
-others_stay M now id body q apart =
-    let r = new_row M now id body in let rows = M.world.store.rows in
-    row_at-put q r rows
-    ∙ ap (λ k. cond (same_key q k) (Some r) (row_at q rows)) (put_key id rows)
-    ∙ ap (λ b. cond b (Some r) (row_at q rows)) apart
-
-pub put-answered : (M : Machine) (now : ℕ) (id : List ℕ) (expected : Expect) (body : Data) → PutIsAnswered M now id expected body
-put-answered M now id expected body =
+pub put-answered : (M : Machine) (k : Keeping) (now : ℕ) (id : List ℕ) (expected : Expect) (body : Data) → PutIsAnswered M k now id expected body
+put-answered M k now id expected body =
+    let c = Command.Put id expected body in
     let r = new_row M now id body in
-    let done : Written = record { store = record { rows = put r M.world.store.rows }; rows = r ∷ [] } in
-    elim (refusal_of M.world.setting Client M.world.store (Command.Put id expected body)) as (λ o.
-    refusal_of M.world.setting Client M.world.store (Command.Put id expected body) ≡ o
-    → let replied = wrote M (unless o 0 (Ok done)) in IsPutRefused M id expected body replied ⊎ IsPutKept M now id body replied) [
-      | None ↦ λ e. inr (record {
-        spelled = r.id;
-        told = refl;
-        kept = found_again M now id body;
-        others = others_stay M now id body;
-        indexes = refl;
-      })
-      | Some kind ↦ λ e. inl (record { kind = kind; cause = e; told = refl })
+    let rows = M.world.store.rows in
+    let N : Store = record { rows = put r rows } in
+    let done : Written = record { store = N; rows = r ∷ [] } in
+    let under = put_key id rows in
+    let kept : Replied = record {
+      reply = Reply.Put (vector_of M.world.setting.base (last M.world.store + 1)) (kept_spelling id (row_at (folded id) N.rows));
+      machine = record { world = record { setting = M.world.setting; store = N; slots = M.world.slots; notes = M.world.notes } };
+    } in
+    elim (refusal_of M.world.setting Client M.world.store c) as (λ o.
+    refusal_of M.world.setting Client M.world.store c ≡ o
+    → let replied = settled M k (wrote M single_reply now (c ∷ []) (unless o 0 (Ok done))) in
+      IsRefused M now (c ∷ []) replied ⊎ (IsUnkept M k replied ⊎ IsPutKept M now id body replied)) [
+      | None ↦ λ e. inr (elim (first_or_not k.takes) as (λ _. let replied = settled M k (wrote M single_reply now (c ∷ []) (Ok done)) in IsUnkept M k replied ⊎ IsPutKept M now id body replied) [
+        | inl taken ↦ inr (subst (λ b. IsPutKept M now id body (cond b kept (same_machine M (Reply.KeeperFault k.before k.after)))) (sym taken) (record {
+          spelled = r.id;
+          told = ap (λ o. Reply.Put (vector_of M.world.setting.base (last M.world.store + 1)) (kept_spelling id o)) (found_again (folded id) r rows under);
+          kept = found_again (folded id) r rows under;
+          others = record { rows = others_stay M id r under; indexes = refl };
+        }))
+        | inr failed ↦ inl (unkept M k kept failed.0 failed.1)
+      ])
+      | Some kind ↦ λ e. inl (record { refused = record { at = 0; kind = kind }; cause = ap (λ o. unless o 0 (Ok done)) e; told = refl })
     ] refl
+
+-- DELETIONS
+
+-- the deletion of what stands at the id
+abbrev deletion : Machine → ℕ → List ℕ → Expect → Option Row → Change
+deletion M now id expected d =
+    let row = option_map (tombstone (last M.world.store + 1) now) d in
+    let w = with_written row (record { store = M.world.store; rows = [] }) in
+    record {
+      reply = single_reply (results_of M.world.setting.base w.store (Command.Delete id expected ∷ []) (option_map (λ r. r.etag) row ∷ []));
+      machine = record { world = record { setting = M.world.setting; store = w.store; slots = M.world.slots; notes = M.world.notes } };
+      rows = w.rows;
+    }
+
+taken-deletion : (M : Machine) (k : Keeping) (now : ℕ) (id : List ℕ) (expected : Expect) (d : Option Row) → document_at M.world.store (folded id) ≡ d
+    → let replied = settled M k (deletion M now id expected d) in IsUnkept M k replied ⊎ (IsNotThere M id replied ⊎ IsDeleted M now id replied)
+taken-deletion M k now id expected None e = inr (inl (record { none = e; told = refl }))
+taken-deletion M k now id expected (Some d) e =
+    let r = tombstone (last M.world.store + 1) now d in
+    let rows = M.world.store.rows in
+    let under : key r ≡ folded id = sym (found_key (folded id) rows d (document_found M.world.store (folded id) d e)) in
+    let kept : Replied = record {
+      reply = Reply.Deleted true (kept_spelling id (row_at (folded id) (put r rows)));
+      machine = record { world = record { setting = M.world.setting; store = record { rows = put r rows }; slots = M.world.slots; notes = M.world.notes } };
+    } in
+    elim (first_or_not k.takes) as (λ _. let replied = settled M k (deletion M now id expected (Some d)) in IsUnkept M k replied ⊎ (IsNotThere M id replied ⊎ IsDeleted M now id replied)) [
+      | inl taken ↦ inr (inr (subst (λ b. IsDeleted M now id (cond b kept (same_machine M (Reply.KeeperFault k.before k.after)))) (sym taken) (record {
+        row = d;
+        there = e;
+        told = ap (λ o. Reply.Deleted true (kept_spelling id o)) (found_again (folded id) r rows under);
+        kept = found_again (folded id) r rows under;
+        others = record { rows = others_stay M id r under; indexes = refl };
+      })))
+      | inr failed ↦ inl (unkept M k kept failed.0 failed.1)
+    ]
+
+pub delete-answered : (M : Machine) (k : Keeping) (now : ℕ) (id : List ℕ) (expected : Expect) → DeleteIsAnswered M k now id expected
+delete-answered M k now id expected =
+    let c = Command.Delete id expected in
+    let done = with_written (row_of now M.world.store c) (record { store = M.world.store; rows = [] }) in
+    elim (refusal_of M.world.setting Client M.world.store c) as (λ o.
+    refusal_of M.world.setting Client M.world.store c ≡ o
+    → let replied = settled M k (wrote M single_reply now (c ∷ []) (unless o 0 (Ok done))) in
+      IsRefused M now (c ∷ []) replied ⊎ (IsUnkept M k replied ⊎ (IsNotThere M id replied ⊎ IsDeleted M now id replied))) [
+      | None ↦ λ e. inr (taken-deletion M k now id expected (document_at M.world.store (folded id)) refl)
+      | Some kind ↦ λ e. inl (record { refused = record { at = 0; kind = kind }; cause = ap (λ o. unless o 0 (Ok done)) e; told = refl })
+    ] refl
+
+-- TRANSACTIONS
+
+abbrev written : Machine → (List Done → Reply) → ℕ → List Command → Written → Replied
+written M reply now commands w = record {
+  reply = reply (results_of M.world.setting.base w.store commands (etags_taken now commands M.world.store));
+  machine = record { world = record { setting = M.world.setting; store = w.store; slots = M.world.slots; notes = M.world.notes } };
+}
+
+bulk-kept : (M : Machine) (now : ℕ) (commands : List Command) (w : Written) → commit M.world.setting Client now commands M.world.store ≡ Ok w
+    → AreWritten M now commands (written M Reply.Bulk now commands w)
+bulk-kept M now commands w e = record {
+  told = refl;
+  written = commit_from-applied 0 M.world.setting Client now commands (record { store = M.world.store; rows = [] }) w e;
+  indexes = refl;
+}
+
+bulk-answered-of : (M : Machine) (k : Keeping) (now : ℕ) (commands : List Command) (o : Result Written Refused) → commit M.world.setting Client now commands M.world.store ≡ o
+    → let replied = settled M k (wrote M Reply.Bulk now commands o) in IsRefused M now commands replied ⊎ (IsUnkept M k replied ⊎ AreWritten M now commands replied)
+bulk-answered-of M k now commands (Err refused) e = inl (record { refused = refused; cause = e; told = refl })
+bulk-answered-of M k now commands (Ok w) e =
+    inr (elim w.rows as (λ rows. let replied = settled M k (record { reply = (written M Reply.Bulk now commands w).reply; machine = (written M Reply.Bulk now commands w).machine; rows = rows }) in
+    IsUnkept M k replied ⊎ AreWritten M now commands replied) [
+      | [] ↦ inr (bulk-kept M now commands w e)
+      | r ∷ rows ↦ elim (first_or_not k.takes) as (λ _. let replied = cond (is_first_taken k.takes) (written M Reply.Bulk now commands w) (same_machine M (Reply.KeeperFault k.before k.after)) in
+      IsUnkept M k replied ⊎ AreWritten M now commands replied) [
+        | inl taken ↦ inr (subst (λ b. AreWritten M now commands (cond b (written M Reply.Bulk now commands w) (same_machine M (Reply.KeeperFault k.before k.after)))) (sym taken) (bulk-kept M now commands w e))
+        | inr failed ↦ inl (unkept M k (written M Reply.Bulk now commands w) failed.0 failed.1)
+      ]
+    ])
+
+pub bulk-answered : (M : Machine) (k : Keeping) (now : ℕ) (commands : List Command) → BulkIsAnswered M k now commands
+bulk-answered M k now commands = bulk-answered-of M k now commands (commit M.world.setting Client now commands M.world.store) refl
+
+-- QUESTIONS AND BATCHES
+
+pub reads-change-nothing : (M : Machine) (k : Keeping) (now : ℕ) (request : Request) → OnlyReads request → (step M k now request).machine ≡ M
+reads-change-nothing M k now (Put id expected body) h = absurd h
+reads-change-nothing M k now (Delete id expected) h = absurd h
+reads-change-nothing M k now (Bulk commands) h = absurd h
+reads-change-nothing M k now (Get id) h = refl
+reads-change-nothing M k now (Auto collection field) h = absurd h
+reads-change-nothing M k now (Find index field ws) h = refl
+reads-change-nothing M k now (Pump max) h = absurd h
+reads-change-nothing M k now (Stale name cutoff) h = refl
+reads-change-nothing M k now Stats h = refl
 
 -- NOTHING IS INVENTED
 
@@ -63,7 +187,7 @@ either_row q r x rows h =
       | false ↦ λ e. inr e
     ] (sym (row_at-put q r rows) ∙ h)
 
--- a request that is no Put leaves the rows of documents as they were
+-- a request that writes nothing of its own leaves the rows of documents as they were
 abbrev Stays : Machine → Machine → Type 0
 Stays M N = (q : List ℕ) (x : Row) → row_at q N.world.store.rows ≡ Some x → is_index_id x.id ≡ false → row_at q M.world.store.rows ≡ Some x
 
@@ -95,63 +219,101 @@ auto-Stays now M (Use s) = λ q x h not_index. h
 auto-Stays now M (Make shape) = defined-Stays now M (name_of M.world.slots (last M.world.store + 1) shape) (Definition.Auto shape.collection shape.fields)
 auto-Stays now M Merge = λ q x h not_index. h
 
-put-given : (M : Machine) (now : ℕ) (id : List ℕ) (expected : Expect) (body : Data) (q : List ℕ) (x : Row)
-    → row_at q (step M now (Put id expected body)).machine.world.store.rows ≡ Some x
-    → (row_at q M.world.store.rows ≡ Some x) ⊎ (x ≡ new_row M now id body)
-put-given M now id expected body q x =
-    let r = new_row M now id body in
-    let done : Written = record { store = record { rows = put r M.world.store.rows }; rows = r ∷ [] } in
-    elim (refusal_of M.world.setting Client M.world.store (Command.Put id expected body)) as (λ o.
-    row_at q (wrote M (unless o 0 (Ok done))).machine.world.store.rows ≡ Some x → (row_at q M.world.store.rows ≡ Some x) ⊎ (x ≡ r)) [
-      | None ↦ λ h. elim (either_row q r x M.world.store.rows h) as (λ e. (row_at q M.world.store.rows ≡ Some x) ⊎ (x ≡ r)) [ inl same ↦ inr same | inr there ↦ inl there ]
-      | Some kind ↦ λ h. inl h
+-- what the store has after one command was there, or is what it wrote
+after-one : (now : ℕ) (c : Command) (S : Store) (q : List ℕ) (x : Row) → row_at q (after_command now S c).rows ≡ Some x
+    → (row_at q S.rows ≡ Some x) ⊎ (row_of now S c ≡ Some x)
+after-one now c S q x = elim (row_of now S c) as (λ o. row_at q (with_option S o).rows ≡ Some x → (row_at q S.rows ≡ Some x) ⊎ (o ≡ Some x)) [
+  | None ↦ λ h. inl h
+  | Some r ↦ λ h. elim (either_row q r x S.rows h) as (λ e. (row_at q S.rows ≡ Some x) ⊎ (Some r ≡ Some x)) [ inl same ↦ inr (ap Some (sym same)) | inr there ↦ inl there ]
+]
+
+after-commanded : (now : ℕ) (cs : List Command) (S : Store) (q : List ℕ) (x : Row) → row_at q (after_commands now cs S).rows ≡ Some x
+    → (row_at q S.rows ≡ Some x) ⊎ IsCommanded now cs S x
+after-commanded now [] S q x h = inl h
+after-commanded now (c ∷ cs) S q x h =
+    elim (after-commanded now cs (after_command now S c) q x h) as (λ e. (row_at q S.rows ≡ Some x) ⊎ IsCommanded now (c ∷ cs) S x) [
+      | inl there ↦ elim (after-one now c S q x there) as (λ e. (row_at q S.rows ≡ Some x) ⊎ IsCommanded now (c ∷ cs) S x) [
+        | inl before ↦ inl before
+        | inr given ↦ inr (record { earlier = []; command = c; later = cs; among = refl; given = given })
+      ]
+      | inr g ↦ inr (record { earlier = c ∷ g.earlier; command = g.command; later = g.later; among = ap (λ l. c ∷ l) g.among; given = g.given })
     ]
 
-step-given : (M : Machine) (now : ℕ) (request : Request) (more : List Event) (q : List ℕ) (x : Row)
-    → row_at q (step M now request).machine.world.store.rows ≡ Some x → is_index_id x.id ≡ false
-    → (row_at q M.world.store.rows ≡ Some x) ⊎ IsGiven M (record { request = request; now = now } ∷ more) x
-step-given M now (Put id expected body) more q x h not_index =
-    elim (put-given M now id expected body q x h) as (λ e. (row_at q M.world.store.rows ≡ Some x) ⊎ IsGiven M (record { request = Put id expected body; now = now } ∷ more) x) [
-      | inl there ↦ inl there
-      | inr same ↦ inr (record {
-        before = [];
-        more = more;
-        now = now;
-        id = id;
-        expected = expected;
-        body = body;
-        asked = refl;
-        same_id = ap (λ (y : Row). folded y.id) same ∙ put_key id M.world.store.rows;
-        given = same ∙ ap (λ k. row_given M.world.store now k body) (sym (ap (λ (y : Row). y.id) same));
-      })
-    ]
-step-given M now (Auto collection field) more q x h not_index = inl (auto-Stays now M (pick (one_field collection field) M.world.store M.world.slots) q x h not_index)
-step-given M now (Find index field ws) more q x h not_index = inl h
-step-given M now (Pump max) more q x h not_index = inl h
+-- a row of the store that a request leaves was there, or the request wrote it
+abbrev Comes : Machine → ℕ → List Command → Machine → Type 0
+Comes M now commands N = (q : List ℕ) (x : Row) → row_at q N.world.store.rows ≡ Some x
+    → (row_at q M.world.store.rows ≡ Some x) ⊎ (IsCommanded now commands M.world.store x × (N.world.store ≡ after_commands now commands M.world.store))
 
-given-later : (M : Machine) (e : Event) (es : List Event) (x : Row) → IsGiven (after M e) es x → IsGiven M (e ∷ es) x
+wrote-Comes : (M : Machine) (k : Keeping) (reply : List Done → Reply) (now : ℕ) (commands : List Command) (o : Result Written Refused) → commit M.world.setting Client now commands M.world.store ≡ o
+    → Comes M now commands (settled M k (wrote M reply now commands o)).machine
+wrote-Comes M k reply now commands (Err refused) e = λ q x h. inl h
+wrote-Comes M k reply now commands (Ok w) e =
+    elim (is_taken k w.rows) as (λ b. Comes M now commands (cond b (written M reply now commands w) (same_machine M (Reply.KeeperFault k.before k.after))).machine) [
+      | true ↦ λ q x h.
+          let all = commit_from-applied 0 M.world.setting Client now commands (record { store = M.world.store; rows = [] }) w e in
+          elim (after-commanded now commands M.world.store q x (subst (λ (S : Store). row_at q S.rows ≡ Some x) all h)) as (λ _.
+          (row_at q M.world.store.rows ≡ Some x) ⊎ (IsCommanded now commands M.world.store x × (w.store ≡ after_commands now commands M.world.store))) [
+            | inl there ↦ inl there
+            | inr given ↦ inr (given, all)
+          ]
+      | false ↦ λ q x h. inl h
+    ]
+
+write-Comes : (M : Machine) (k : Keeping) (reply : List Done → Reply) (now : ℕ) (commands : List Command) → Comes M now commands (settled M k (write M reply now commands)).machine
+write-Comes M k reply now commands = wrote-Comes M k reply now commands (commit M.world.setting Client now commands M.world.store) refl
+
+-- a change that the keeper does not take leaves all as it was
+settled-Stays : (M : Machine) (k : Keeping) (c : Change) → Stays M c.machine → Stays M (settled M k c).machine
+settled-Stays M k c h = elim (is_taken k c.rows) as (λ b. Stays M (cond b (record { reply = c.reply; machine = c.machine }) (same_machine M (Reply.KeeperFault k.before k.after))).machine) [
+  | true ↦ h
+  | false ↦ λ q x at not_index. at
+]
+
+step-written : (M : Machine) (e : Event) (more : List Event) (q : List ℕ) (x : Row)
+    → Comes M e.now (commands_in e.request) (after M e) → row_at q (after M e).world.store.rows ≡ Some x
+    → (row_at q M.world.store.rows ≡ Some x) ⊎ IsWritten M (e ∷ more) x
+step-written M e more q x comes h = elim (comes q x h) as (λ _. (row_at q M.world.store.rows ≡ Some x) ⊎ IsWritten M (e ∷ more) x) [
+  | inl there ↦ inl there
+  | inr given ↦ inr (record { before = []; event = e; more = more; asked = refl; given = given.0; taken = given.1 })
+]
+
+step-given : (M : Machine) (k : Keeping) (now : ℕ) (request : Request) (more : List Event) (q : List ℕ) (x : Row)
+    → row_at q (step M k now request).machine.world.store.rows ≡ Some x → is_index_id x.id ≡ false
+    → (row_at q M.world.store.rows ≡ Some x) ⊎ IsWritten M (record { request = request; now = now; keeping = k } ∷ more) x
+step-given M k now (Put id expected body) more q x h not_index =
+    step-written M (record { request = Put id expected body; now = now; keeping = k }) more q x (write-Comes M k single_reply now (Command.Put id expected body ∷ [])) h
+step-given M k now (Delete id expected) more q x h not_index =
+    step-written M (record { request = Delete id expected; now = now; keeping = k }) more q x (write-Comes M k single_reply now (Command.Delete id expected ∷ [])) h
+step-given M k now (Bulk commands) more q x h not_index =
+    step-written M (record { request = Bulk commands; now = now; keeping = k }) more q x (write-Comes M k Reply.Bulk now commands) h
+step-given M k now (Get id) more q x h not_index = inl h
+step-given M k now (Auto collection field) more q x h not_index =
+    inl (settled-Stays M k (change_of M now (Auto collection field)) (auto-Stays now M (pick (one_field collection field) M.world.store M.world.slots)) q x h not_index)
+step-given M k now (Find index field ws) more q x h not_index = inl h
+step-given M k now (Pump max) more q x h not_index = inl h
+step-given M k now (Stale name cutoff) more q x h not_index = inl h
+step-given M k now Stats more q x h not_index = inl h
+
+given-later : (M : Machine) (e : Event) (es : List Event) (x : Row) → IsWritten (after M e) es x → IsWritten M (e ∷ es) x
 given-later M e es x g = record {
   before = e ∷ g.before;
+  event = g.event;
   more = g.more;
-  now = g.now;
-  id = g.id;
-  expected = g.expected;
-  body = g.body;
   asked = ap (λ l. e ∷ l) g.asked;
-  same_id = g.same_id;
   given = g.given;
+  taken = g.taken;
 }
 
 run-given : (es : List Event) (M : Machine) (q : List ℕ) (x : Row) → row_at q (run es M).world.store.rows ≡ Some x → is_index_id x.id ≡ false
-    → (row_at q M.world.store.rows ≡ Some x) ⊎ IsGiven M es x
+    → (row_at q M.world.store.rows ≡ Some x) ⊎ IsWritten M es x
 run-given [] M q x h not_index = inl h
 run-given (e ∷ es) M q x h not_index =
-    elim (run-given es (after M e) q x h not_index) as (λ o. (row_at q M.world.store.rows ≡ Some x) ⊎ IsGiven M (e ∷ es) x) [
-      | inl there ↦ step-given M e.now e.request es q x there not_index
+    elim (run-given es (after M e) q x h not_index) as (λ o. (row_at q M.world.store.rows ≡ Some x) ⊎ IsWritten M (e ∷ es) x) [
+      | inl there ↦ step-given M e.keeping e.now e.request es q x there not_index
       | inr given ↦ inr (given-later M e es x given)
     ]
 
 pub start-given : (setting : Setting) (events : List Event) (q : List ℕ) (x : Row)
-    → row_at q (run events (start setting)).world.store.rows ≡ Some x → is_index_id x.id ≡ false → IsGiven (start setting) events x
+    → row_at q (run events (start setting)).world.store.rows ≡ Some x → is_index_id x.id ≡ false → IsWritten (start setting) events x
 start-given setting events q x h not_index =
-    elim (run-given events (start setting) q x h not_index) as (λ o. IsGiven (start setting) events x) [ inl there ↦ absurd cc | inr given ↦ given ]
+    elim (run-given events (start setting) q x h not_index) as (λ o. IsWritten (start setting) events x) [ inl there ↦ absurd cc | inr given ↦ given ]

@@ -7,7 +7,7 @@ use Rattle.raven_model.specs.Index.{Scope, in_scope, up_to, documents}
 use Rattle.raven_model.specs.Mapping.{Definition, Fields, Entry, mapper_of, scope_of, is_mapped}
 use Rattle.raven_model.specs.World.{Slot, reads, serving}
 use Rattle.raven_model.specs.Replies.{Reply, Found}
-use Rattle.raven_model.specs.Machine.{Machine, Find, step, has_words, found_in, is_stale}
+use Rattle.raven_model.specs.Machine.{Machine, Find, step, untroubled, has_words, found_in, is_stale}
 use Rattle.raven_model.specs.Sound.{Has}
 
 -- a row in scope past the etag, and no newer than the cutoff
@@ -46,7 +46,7 @@ flag_in (Found ids etag is_stale) = Some is_stale
 flag_in other = None
 
 abbrev pub find_reply : Machine → List ℕ → List ℕ → List ℕ → Reply
-find_reply M index field words = (step M 0 (Find index field words)).reply
+find_reply M index field words = (step M untroubled 0 (Find index field words)).reply
 
 -- an index that is not stale answers what its map gives for all documents of the store
 abbrev pub FreshIsFromScratch : Machine → Type 0

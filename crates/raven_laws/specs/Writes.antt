@@ -1,43 +1,97 @@
 -- What the laws say of a machine's writes.
-use Rattle.std.specs.Prelude.{◌≡◌, ℕ, ◌+◌, List, ◌∷◌, ◌++◌, Some, false, ◌⊎◌}
+use Rattle.std.specs.Prelude.{◌≡◌, ℕ, ◌+◌, List, [], ◌∷◌, ◌++◌, Bool, true, false, Some, None, Err, ◌⊎◌}
 use Rattle.raven_data.specs.Data.{Data}
 use Rattle.raven_data.specs.Folding.{folded, same_key}
 use Rattle.raven_data.specs.Rows.{Row, doc}
 use Rattle.raven_model.specs.Store.{Store, row_at, last}
-use Rattle.raven_model.specs.Commit.{Command, Expect, Refusal, Client, collection_of, refusal_of, stored, vector_of}
+use Rattle.raven_model.specs.Commit.{Command, Expect, Client, Server, Refused, after_commands, collection_of, commit, document_at, etags_taken, row_of, stored, tombstone, vector_of}
 use Rattle.raven_model.specs.Replies.{Reply}
-use Rattle.raven_model.specs.Machine.{Machine, Event, Replied, Put, run, same_machine, step, write_refused}
+use Rattle.raven_model.specs.Machine.{Machine, Event, Keeping, Replied, Request, Put, Delete, Bulk, Get, Find, Stale, Stats, after, commands_in, results_of, run, same_machine, spelling, step, write_refused}
 
 -- what a Put is to write: the body without what the server writes itself, under the next etag
 abbrev pub row_given : Store → ℕ → List ℕ → Data → Row
 row_given S now spelled body = record { etag = last S + 1; id = spelled; collection = collection_of body; body = doc (stored body); changed = now }
 
--- the Put has one of the causes of a refusal, which is told, and nothing is changed
-pub record IsPutRefused (M : Machine) (id : List ℕ) (expected : Expect) (body : Data) (replied : Replied) : Type 0 where
-  pub kind : Refusal
-  pub cause : refusal_of M.world.setting Client M.world.store (Command.Put id expected body) ≡ Some kind
-  pub told : replied ≡ same_machine M (write_refused (record { at = 0; kind = kind }))
+-- the commands have one of the causes of a refusal, which is told, and nothing is changed
+pub record IsRefused (M : Machine) (now : ℕ) (commands : List Command) (replied : Replied) : Type 0 where
+  pub refused : Refused
+  pub cause : commit M.world.setting Client now commands M.world.store ≡ Err refused
+  pub told : replied ≡ same_machine M (write_refused refused)
 
--- the document stands under its id with the next etag, which the reply has, and the rows of all other ids and the indexes are as they were
+-- the keeper failed, which is told, and nothing is changed
+pub record IsUnkept (M : Machine) (k : Keeping) (replied : Replied) : Type 0 where
+  pub later : List Bool
+  pub failed : k.takes ≡ false ∷ later
+  pub told : replied ≡ same_machine M (Reply.KeeperFault k.before k.after)
+
+-- the rows of all other ids, and the indexes, are as they were
+pub record OthersStay (M : Machine) (id : List ℕ) (N : Machine) : Type 0 where
+  pub rows : (q : List ℕ) → same_key q (folded id) ≡ false → row_at q N.world.store.rows ≡ row_at q M.world.store.rows
+  pub indexes : N.world.slots ≡ M.world.slots
+
+-- the document stands under its id with the next etag, which the reply has
 pub record IsPutKept (M : Machine) (now : ℕ) (id : List ℕ) (body : Data) (replied : Replied) : Type 0 where
   pub spelled : List ℕ
   pub told : replied.reply ≡ Reply.Put (vector_of M.world.setting.base (last M.world.store + 1)) spelled
   pub kept : row_at (folded id) replied.machine.world.store.rows ≡ Some (row_given M.world.store now spelled body)
-  pub others : (q : List ℕ) → same_key q (folded id) ≡ false → row_at q replied.machine.world.store.rows ≡ row_at q M.world.store.rows
+  pub others : OthersStay M id replied.machine
+
+abbrev pub PutIsAnswered : Machine → Keeping → ℕ → List ℕ → Expect → Data → Type 0
+PutIsAnswered M k now id expected body =
+    let replied = step M k now (Put id expected body) in
+    IsRefused M now (Command.Put id expected body ∷ []) replied ⊎ (IsUnkept M k replied ⊎ IsPutKept M now id body replied)
+
+-- there was no document to delete, which is told, and nothing is changed
+pub record IsNotThere (M : Machine) (id : List ℕ) (replied : Replied) : Type 0 where
+  pub none : document_at M.world.store (folded id) ≡ None
+  pub told : replied ≡ same_machine M (Reply.Deleted false (spelling M.world.store id))
+
+-- the document was there, and its tombstone stands with the next etag
+pub record IsDeleted (M : Machine) (now : ℕ) (id : List ℕ) (replied : Replied) : Type 0 where
+  pub row : Row
+  pub there : document_at M.world.store (folded id) ≡ Some row
+  pub told : replied.reply ≡ Reply.Deleted true row.id
+  pub kept : row_at (folded id) replied.machine.world.store.rows ≡ Some (tombstone (last M.world.store + 1) now row)
+  pub others : OthersStay M id replied.machine
+
+abbrev pub DeleteIsAnswered : Machine → Keeping → ℕ → List ℕ → Expect → Type 0
+DeleteIsAnswered M k now id expected =
+    let replied = step M k now (Delete id expected) in
+    IsRefused M now (Command.Delete id expected ∷ []) replied
+    ⊎ (IsUnkept M k replied ⊎ (IsNotThere M id replied ⊎ IsDeleted M now id replied))
+
+-- all commands were written, one after another, and the reply tells of each
+pub record AreWritten (M : Machine) (now : ℕ) (commands : List Command) (replied : Replied) : Type 0 where
+  pub told : replied.reply ≡ Reply.Bulk (results_of M.world.setting.base replied.machine.world.store commands (etags_taken now commands M.world.store))
+  pub written : replied.machine.world.store ≡ after_commands now commands M.world.store
   pub indexes : replied.machine.world.slots ≡ M.world.slots
 
-abbrev pub PutIsAnswered : Machine → ℕ → List ℕ → Expect → Data → Type 0
-PutIsAnswered M now id expected body =
-    let replied = step M now (Put id expected body) in IsPutRefused M id expected body replied ⊎ IsPutKept M now id body replied
+abbrev pub BulkIsAnswered : Machine → Keeping → ℕ → List Command → Type 0
+BulkIsAnswered M k now commands =
+    let replied = step M k now (Bulk commands) in
+    IsRefused M now commands replied ⊎ (IsUnkept M k replied ⊎ AreWritten M now commands replied)
 
--- one of the requests is a Put of this row: of its id, which may be spelled otherwise, with its body, under the next etag of that moment
-pub record IsGiven (M : Machine) (events : List Event) (r : Row) : Type 0 where
+-- the row is what one of the commands writes, on the store that those before it leave
+pub record IsCommanded (now : ℕ) (commands : List Command) (S : Store) (r : Row) : Type 0 where
+  pub earlier : List Command
+  pub command : Command
+  pub later : List Command
+  pub among : commands ≡ earlier ++ command ∷ later
+  pub given : row_of now (after_commands now earlier S) command ≡ Some r
+
+-- one of the requests had the command that wrote this row, and its commands were taken, all of them
+pub record IsWritten (M : Machine) (events : List Event) (r : Row) : Type 0 where
   pub before : List Event
+  pub event : Event
   pub more : List Event
-  pub now : ℕ
-  pub id : List ℕ
-  pub expected : Expect
-  pub body : Data
-  pub asked : events ≡ before ++ record { request = Put id expected body; now = now } ∷ more
-  pub same_id : folded r.id ≡ folded id
-  pub given : r ≡ row_given (run before M).world.store now r.id body
+  pub asked : events ≡ before ++ event ∷ more
+  pub given : IsCommanded event.now (commands_in event.request) (run before M).world.store r
+  pub taken : (after (run before M) event).world.store ≡ after_commands event.now (commands_in event.request) (run before M).world.store
+
+-- the request asks a question
+abbrev pub OnlyReads : Request → Type 0
+OnlyReads (Get id) = Unit {0}
+OnlyReads (Find index field words) = Unit {0}
+OnlyReads (Stale name cutoff) = Unit {0}
+OnlyReads Stats = Unit {0}
+OnlyReads other = ⊥

@@ -18,4 +18,6 @@ pub use runs::{
 };
 pub use scripts::{every_script_is_sound, scripts_are_runs};
 pub use stores::{commit_grows, later_orders};
-pub use writes::{documents_were_put, only_writes_write, puts_are_kept};
+pub use writes::{
+    deletes_are_kept, only_writes_write, puts_are_kept, rows_were_written, transactions_are_whole,
+};

@@ -1,24 +1,24 @@
 //! What holds after every script: its lines are one run.
 
-ghost use Rattle.std.specs.Prelude.{◌≡◌, ◌++◌, ℕ, List};
+ghost use Rattle.std.specs.Prelude.{◌≡◌, ◌++◌, List};
 ghost use Rattle.raven_model.specs.Commit.{Setting};
 ghost use Rattle.raven_model.specs.Machine.{Machine, run, start};
-ghost use Rattle.raven_model.specs.Script.{after_lines, events_of};
+ghost use Rattle.raven_model.specs.Script.{Given, after_lines, events_of};
 ghost use Rattle.raven_model.specs.Sound.{LaterW, Sound};
 ghost use Rattle.raven_laws.specs.Claims.{FlagsAreExact, FreshIsExact, FreshIsFromScratch, IdsAreAsKept};
 
 /// The state after lines is that of the run that they ask for.
 pub fn scripts_are_runs()
-    ensures { (lines : List (List ℕ)) (M : Machine) → after_lines lines M ≡ run (events_of lines) M }
+    ensures { (lines : List Given) (M : Machine) → after_lines lines M ≡ run (events_of lines) M }
 {}
 
-/// Whatever lines come, the state after them is sound, is later than each state before, and its answers are true.
+/// Whatever lines come, at whatever moments and whatever the keeper does, the state after them is sound, is later than each state before, and its answers are true.
 pub fn every_script_is_sound()
-    ensures sound { (setting : Setting) (lines : List (List ℕ)) → Sound (after_lines lines (start setting)).world }
-    ensures goes_on { (setting : Setting) (lines more : List (List ℕ)) →
+    ensures sound { (setting : Setting) (lines : List Given) → Sound (after_lines lines (start setting)).world }
+    ensures goes_on { (setting : Setting) (lines more : List Given) →
         LaterW (after_lines lines (start setting)).world (after_lines (lines ++ more) (start setting)).world }
-    ensures fresh { (setting : Setting) (lines : List (List ℕ)) → FreshIsFromScratch (after_lines lines (start setting)) }
-    ensures exact { (setting : Setting) (lines : List (List ℕ)) → FreshIsExact (after_lines lines (start setting)) }
-    ensures flags { (setting : Setting) (lines : List (List ℕ)) → FlagsAreExact (after_lines lines (start setting)) }
-    ensures ids { (setting : Setting) (lines : List (List ℕ)) → IdsAreAsKept (after_lines lines (start setting)) }
+    ensures fresh { (setting : Setting) (lines : List Given) → FreshIsFromScratch (after_lines lines (start setting)) }
+    ensures exact { (setting : Setting) (lines : List Given) → FreshIsExact (after_lines lines (start setting)) }
+    ensures flags { (setting : Setting) (lines : List Given) → FlagsAreExact (after_lines lines (start setting)) }
+    ensures ids { (setting : Setting) (lines : List Given) → IdsAreAsKept (after_lines lines (start setting)) }
 {}

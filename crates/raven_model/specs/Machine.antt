@@ -31,12 +31,23 @@ pub data Request : Type 0 where
   Stale : (name : List ℕ) (cutoff : Option ℕ) → Request
   Stats : Request
 
+-- the commands that a request asks to write
+abbrev pub commands_in : Request → List Command
+commands_in (Put id expected body) = Command.Put id expected body ∷ []
+commands_in (Delete id expected) = Command.Delete id expected ∷ []
+commands_in (Bulk commands) = commands
+commands_in other = []
+
 -- What the keeper of the rows does in one step: of each time that it is asked to keep rows, in order, whether it takes them, and its counts of
 -- faults before and after. It is asked once for each change that has rows, and takes what the list does not tell.
 pub record Keeping : Type 0 where
   pub takes : List Bool
   pub before : ℕ
   pub after : ℕ
+
+-- a keeper that takes all
+abbrev pub untroubled : Keeping
+untroubled = record { takes = []; before = 0; after = 0 }
 
 -- a request, the moment at which it comes, and what the keeper does
 pub record Event : Type 0 where
@@ -60,14 +71,14 @@ pub record Change : Type 0 where
 abbrev pub no_change : Machine → Reply → Change
 no_change M reply = record { reply = reply; machine = M; rows = [] }
 
+abbrev pub is_first_taken : List Bool → Bool
+is_first_taken [] = true
+is_first_taken (taken ∷ more) = taken
+
 -- a change without rows is not asked of the keeper
 abbrev pub is_taken : Keeping → List Row → Bool
 is_taken k [] = true
 is_taken k (r ∷ rows) = is_first_taken k.takes
-  where
-    is_first_taken : List Bool → Bool
-    is_first_taken [] = true
-    is_first_taken (taken ∷ more) = taken
 
 -- where the keeper fails, nothing is changed
 abbrev pub settled : Machine → Keeping → Change → Replied

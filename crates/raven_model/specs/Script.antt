@@ -84,9 +84,9 @@ object_read name (Some (json.object ms)) = Ok (json.object ms)
 object_read name other = Err (BadMember name)
 
 -- the JSON is read first, then the id, and then the body has to be an object
-abbrev pub put_read : List ℕ → Expect → List ℕ → Result Request ReadRefusal
-put_read id expected rest =
-    then_read (json_read (reading rest)) (λ value.
+abbrev pub put_read : List ℕ → Expect → Result Data JsonRefusal → Result Request ReadRefusal
+put_read id expected value =
+    then_read (json_read value) (λ value.
     then_read (id_read id) (λ id.
     then_read (object_read (codes "body") (Some value)) (λ body. Ok (Put id expected body))))
 
@@ -154,11 +154,11 @@ parts_read text = or_unknown (word_and_rest text)
 
 -- PUT <id> <body>
 abbrev pub put_of : List ℕ → Result Request ReadRefusal
-put_of more = then_read (parts_read more) (λ parts. put_read parts.0 AnyVector parts.1)
+put_of more = then_read (parts_read more) (λ parts. put_read parts.0 AnyVector (reading parts.1))
 
 -- PUTIF <id> <vector> <body>
 abbrev pub put_if_of : List ℕ → Result Request ReadRefusal
-put_if_of more = then_read (parts_read more) (λ parts. then_read (parts_read parts.1) (λ rest. put_read parts.0 (Vector rest.0) rest.1))
+put_if_of more = then_read (parts_read more) (λ parts. then_read (parts_read parts.1) (λ rest. put_read parts.0 (Vector rest.0) (reading rest.1)))
 
 -- DELIF <vector> <id>
 abbrev pub delete_if_of : List ℕ → Result Request ReadRefusal

@@ -1,5 +1,5 @@
 use Rattle.raven_laws.proofs.WriteLemmas.{start-given}
-use Rattle.raven_laws.proofs.writes.documents_were_put.Goals as goal
+use Rattle.raven_laws.proofs.writes.rows_were_written.Goals as goal
 
 pub returns : goal.returns
 returns c = start-given
