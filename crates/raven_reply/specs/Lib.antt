@@ -1,0 +1,2 @@
+pub mod ReplyView
+pub mod Pieces

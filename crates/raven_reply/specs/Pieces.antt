@@ -1,0 +1,11 @@
+-- What stands at a member of a reply.
+use Rattle.std.specs.Prelude.{ℕ, List}
+use Rattle.raven_data.specs.Data.{Data, flag, text}
+use Rattle.raven_model.specs.Replies.{number}
+use Rattle.raven_reply.specs.declared.text.Piece.{Piece}
+use Rattle.raven_reply.specs.declared.text.Piece.TheVariants as p
+
+abbrev pub piece_data : Piece → Data
+piece_data (p.Text words) = text words.now
+piece_data (p.Number n) = number n
+piece_data (p.Flag b) = flag b

@@ -1,0 +1,40 @@
+-- A `Reply` of the program, and what it is.
+use Rattle.std.specs.Prelude.{map}
+use Rattle.raven_model.specs.Replies as is
+use Rattle.raven_value.specs.View.{data_of}
+use Rattle.raven_reply.specs.declared.reply.BulkResult.{BulkResult}
+use Rattle.raven_reply.specs.declared.reply.BulkResult.TheVariants as b
+use Rattle.raven_reply.specs.declared.reply.Reply.{Reply}
+use Rattle.raven_reply.specs.declared.reply.Reply.TheVariants as r
+
+abbrev pub result_view : BulkResult → is.Result
+result_view (b.Put vector id) = is.Result.Put vector id
+result_view (b.Deleted deleted id) = is.Result.Deleted deleted id
+
+abbrev pub reply_view : Reply → is.Reply
+reply_view (r.Put vector id) = is.Put vector id
+reply_view (r.Deleted deleted id) = is.Deleted deleted id
+reply_view (r.Bulk results) = is.Bulk (map result_view results)
+reply_view (r.Document document) = is.Document (data_of document)
+reply_view (r.Index name) = is.Index name
+reply_view (r.Pumped pumped) = is.Pumped pumped
+reply_view (r.Found ids etag is_stale) = is.Found ids etag is_stale
+reply_view (r.Stale etag is_stale newest) = is.Stale etag is_stale newest
+reply_view (r.Stats documents indexes tombstones last) = is.Stats documents indexes tombstones last
+reply_view r.UnknownLine = is.UnknownLine
+reply_view r.NotJson = is.NotJson
+reply_view r.NumberNotWhole = is.NumberNotWhole
+reply_view r.TooDeep = is.TooDeep
+reply_view r.Empty = is.Empty
+reply_view (r.TooLong len) = is.TooLong len
+reply_view (r.Control at) = is.Control at
+reply_view (r.BadMember name) = is.BadMember name
+reply_view (r.NoDocument id) = is.NoDocument id
+reply_view (r.NoIndex name) = is.NoIndex name
+reply_view (r.ReservedId at) = is.ReservedId at
+reply_view (r.TooLarge at len) = is.TooLarge at len
+reply_view (r.CollectionChanged at from) = is.CollectionChanged at from
+reply_view (r.Conflict at expected found) = is.Conflict at expected found
+reply_view (r.StoreFull at rows) = is.StoreFull at rows
+reply_view (r.EtagsSpent at last) = is.EtagsSpent at last
+reply_view (r.KeeperFault before after) = is.KeeperFault before after

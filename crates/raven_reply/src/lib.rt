@@ -1,0 +1,10 @@
+//! Replies, and what is printed of them.
+#![tactic(auto)]
+
+mod moment;
+mod reply;
+mod text;
+
+pub use moment::moment_text;
+pub use reply::{BulkResult, BulkResults, Pumping, Pumpings, Reply};
+pub use text::reply_text;

@@ -1,0 +1,185 @@
+//! Replies.
+use raven_base::Sequence;
+use raven_value::{Id, Ids, Name, Text, Value};
+use std::marker::Model;
+
+/// How far a batch brought an index. The two etags are equal exactly where there was nothing to do.
+#[derive(Debug, Drop)]
+pub struct Pumping {
+    pub from: u64,
+    pub index: Name,
+    pub to: u64,
+}
+
+impl Model for Pumping {
+    ghost use Rattle.raven_model.specs.Replies as replies;
+    ghost use Rattle.raven_model.specs.Codes.{pumping_code};
+
+    ghost Value = { replies.Pumping };
+
+    ghost coded = { pumping_code };
+
+    ghost view = { λ a. record { from = a.from; index = a.index; to = a.to } };
+}
+
+/// Batches in the order of the numbers of their indexes.
+pub type Pumpings = Sequence<Pumping>;
+
+/// What one command of a transaction did.
+#[derive(Debug, Drop)]
+pub enum BulkResult {
+    /// The document was put.
+    Put {
+        change_vector: Text,
+        id: Id,
+    },
+
+    /// The document was deleted, or there was none.
+    Deleted {
+        deleted: bool,
+        id: Id,
+    },
+}
+
+/// What the commands of a transaction did, in order.
+pub type BulkResults = Sequence<BulkResult>;
+
+/// The answer to one request. Its fields are the members that are printed. Ids are in the spelling that is kept.
+#[derive(Debug, Drop)]
+pub enum Reply {
+    /// The document was put.
+    Put {
+        change_vector: Text,
+        id: Id,
+    },
+
+    /// The document was deleted, or there was none.
+    Deleted {
+        deleted: bool,
+        id: Id,
+    },
+
+    /// All commands of the transaction were taken.
+    Bulk {
+        results: BulkResults,
+    },
+
+    /// The document, with what the server knows of it in its `@metadata`.
+    Document {
+        document: Value,
+    },
+
+    /// The index that serves, or that was made.
+    Index {
+        name: Name,
+    },
+
+    /// One batch for each index.
+    Pumped {
+        pumped: Pumpings,
+    },
+
+    /// The ids of the entries that were found, how far the index is, and whether it lags.
+    Found {
+        ids: Ids,
+        index_etag: u64,
+        is_stale: bool,
+    },
+
+    /// How far an index is, whether it lags, and the newest etag that it reads.
+    Stale {
+        index_etag: u64,
+        is_stale: bool,
+        newest: u64,
+    },
+
+    /// How much the database has. The definitions of indexes are neither documents nor tombstones here.
+    Stats {
+        count_of_documents: u32,
+        count_of_indexes: u32,
+        count_of_tombstones: u32,
+        last_doc_etag: u64,
+    },
+
+    /// The line has no form that is known, or asks for what is not built yet.
+    UnknownLine,
+
+    /// The text is no JSON.
+    NotJson,
+
+    /// A number of the JSON is not a whole number of 64 bits.
+    NumberNotWhole,
+
+    /// The JSON is more than 100 deep.
+    TooDeep,
+
+    /// The id has no bytes.
+    Empty,
+
+    /// The id has so many bytes.
+    TooLong {
+        len: u64,
+    },
+
+    /// The id has a control character at this byte.
+    Control {
+        at: u64,
+    },
+
+    /// This member is missing or of another kind.
+    BadMember {
+        name: Text,
+    },
+
+    /// The id has no document.
+    NoDocument {
+        id: Id,
+    },
+
+    /// No index of this name is live.
+    NoIndex {
+        name: Text,
+    },
+
+    /// The id or the collection is the server's.
+    ReservedId {
+        at: u32,
+    },
+
+    /// The body has so many bytes.
+    TooLarge {
+        at: u32,
+        len: u64,
+    },
+
+    /// The id stands in this other collection, which it keeps.
+    CollectionChanged {
+        at: u32,
+        from: Text,
+    },
+
+    /// Another vector stands there than the one that was expected.
+    Conflict {
+        at: u32,
+        expected: Text,
+        found: Text,
+    },
+
+    /// There are as many rows as may be.
+    StoreFull {
+        at: u32,
+        rows: u32,
+    },
+
+    /// There is no further etag.
+    EtagsSpent {
+        at: u32,
+        last: u64,
+    },
+
+    /// The keeper failed: its counts of faults before and after, which are not printed.
+    KeeperFault {
+        before: u64,
+        after: u64,
+    },
+}

@@ -1,0 +1,454 @@
+//! What is printed of replies.
+ghost use Rattle.std.specs.Prelude.{◌≡◌, ◌++◌, ◌∷◌, [], IfOk, OnOk, false, map};
+ghost use Rattle.raven_data.specs.Data.{entries_of, items_of, object, text as spec_text};
+ghost use Rattle.raven_data.specs.Written.{entries_text, items_text, quoted, text_of};
+ghost use Rattle.raven_model.specs.Replies.{Bulk, Conflict, Deleted, Found as FoundIds, Index, Pumped as PumpedAll, Put as PutOne, Stale, Stats, error, error_at, pumping_data, reply_data, result_data};
+ghost use Rattle.raven_value.specs.View.{data_of};
+ghost use Rattle.raven_reply.specs.Pieces.{piece_data};
+ghost use Rattle.raven_reply.specs.ReplyView.{reply_view, result_view};
+
+use crate::reply::{BulkResult, Pumping, Reply};
+use raven_base::NoMemory;
+use raven_json::{write, write_text};
+use raven_value::{Id, Value};
+use std::alloc::Global;
+
+/// What stands at a member.
+#[derive(Clone, Copy)]
+pub enum Piece<'a> {
+    Text(&'a str),
+    Number(u64),
+    Flag(bool),
+}
+
+fn write_bytes(out: &mut Vec<u8>, bytes: &[u8]) -> Result<(), NoMemory>
+    ensures { OnOk result (out.new.items ≡ out.old.items ++ bytes.now) }
+{
+    out.extend_from_slice(bytes)?;
+    Ok(())
+}
+
+fn write_piece(alloc: Global, out: &mut Vec<u8>, piece: &Piece) -> Result<(), NoMemory>
+    ensures { OnOk result (out.new.items ≡ out.old.items ++ text_of (piece_data piece.now)) }
+{
+    match piece {
+        Piece::Text(text) => write_text(out, text),
+        Piece::Number(number) => write_bytes(out, number.to_string(alloc)?.as_bytes()),
+        Piece::Flag(flag) => write_bytes(out, if *flag { b"true" } else { b"false" }),
+    }
+}
+
+#[tactic(auto, using(crate::proofs::Printed::printed))]
+fn write_member(
+    alloc: Global,
+    out: &mut Vec<u8>,
+    name: &str,
+    piece: &Piece,
+) -> Result<(), NoMemory>
+    ensures { OnOk result (out.new.items ≡ out.old.items ++ (quoted name.now ++ 58 ∷ text_of (piece_data piece.now))) }
+{
+    write_text(out, name)?;
+    write_bytes(out, b":")?;
+    write_piece(alloc, out, piece)
+}
+
+fn write_members(
+    alloc: Global,
+    out: &mut Vec<u8>,
+    members: &[(&str, Piece)],
+) -> Result<(), NoMemory>
+    ensures { OnOk result (out.new.items ≡ out.old.items ++ entries_text false (entries_of (map (λ m. (m.0.now, piece_data m.1)) members.now))) }
+{
+    let mut later = false;
+    for member in members {
+        if later {
+            write_bytes(out, b",")?;
+        }
+        write_member(alloc, out, member.0, &member.1)?;
+        later = true;
+    }
+    Ok(())
+}
+
+// An object of these members, which rise.
+#[tactic(auto, using(crate::proofs::Printed::printed))]
+fn write_object(
+    alloc: Global,
+    out: &mut Vec<u8>,
+    members: &[(&str, Piece)],
+) -> Result<(), NoMemory>
+    ensures { OnOk result (out.new.items ≡ out.old.items ++ text_of (object (entries_of (map (λ m. (m.0.now, piece_data m.1)) members.now)))) }
+{
+    write_bytes(out, b"{")?;
+    write_members(alloc, out, members)?;
+    write_bytes(out, b"}")
+}
+
+fn write_pumping(alloc: Global, out: &mut Vec<u8>, pumping: &Pumping) -> Result<(), NoMemory>
+    ensures { OnOk result (out.new.items ≡ out.old.items ++ text_of (pumping_data pumping.now)) }
+{
+    write_object(
+        alloc,
+        out,
+        &[
+            ("From", Piece::Number(pumping.from)),
+            ("Index", Piece::Text(pumping.index.as_str())),
+            ("To", Piece::Number(pumping.to)),
+        ],
+    )
+}
+
+fn write_result(alloc: Global, out: &mut Vec<u8>, done: &BulkResult) -> Result<(), NoMemory>
+    ensures { OnOk result (out.new.items ≡ out.old.items ++ text_of (result_data (result_view done.now))) }
+{
+    match done {
+        BulkResult::Put { change_vector, id } => {
+            let members = [
+                ("ChangeVector", Piece::Text(change_vector.as_str())),
+                ("Id", Piece::Text(id.as_str())),
+                ("Type", Piece::Text("PUT")),
+            ];
+            write_object(alloc, out, &members)?;
+            Ok(())
+        }
+        BulkResult::Deleted { deleted, id } => write_object(
+            alloc,
+            out,
+            &[
+                ("Deleted", Piece::Flag(*deleted)),
+                ("Id", Piece::Text(id.as_str())),
+                ("Type", Piece::Text("DELETE")),
+            ],
+        ),
+    }
+}
+
+fn write_ids(out: &mut Vec<u8>, ids: &[Id]) -> Result<(), NoMemory>
+    ensures { OnOk result (out.new.items ≡ out.old.items ++ items_text false (items_of (map spec_text ids.now))) }
+{
+    let mut later = false;
+    for id in ids {
+        if later {
+            write_bytes(out, b",")?;
+        }
+        write_text(out, id.as_str())?;
+        later = true;
+    }
+    Ok(())
+}
+
+fn write_pumpings(alloc: Global, out: &mut Vec<u8>, pumpings: &[Pumping]) -> Result<(), NoMemory>
+    ensures { OnOk result (out.new.items ≡ out.old.items ++ items_text false (items_of (map pumping_data pumpings.now))) }
+{
+    let mut later = false;
+    for pumping in pumpings {
+        if later {
+            write_bytes(out, b",")?;
+        }
+        write_pumping(alloc, out, pumping)?;
+        later = true;
+    }
+    Ok(())
+}
+
+fn write_results(alloc: Global, out: &mut Vec<u8>, results: &[BulkResult]) -> Result<(), NoMemory>
+    ensures { OnOk result (out.new.items ≡ out.old.items ++ items_text false (items_of (map result_data (map result_view results.now)))) }
+{
+    let mut later = false;
+    for done in results {
+        if later {
+            write_bytes(out, b",")?;
+        }
+        write_result(alloc, out, done)?;
+        later = true;
+    }
+    Ok(())
+}
+
+#[tactic(auto, using(crate::proofs::Printed::printed))]
+fn write_found(
+    alloc: Global,
+    out: &mut Vec<u8>,
+    ids: &[Id],
+    index_etag: u64,
+    is_stale: bool,
+) -> Result<(), NoMemory>
+    ensures { OnOk result (out.new.items ≡ out.old.items ++ text_of (reply_data (FoundIds ids.now index_etag is_stale))) }
+{
+    write_bytes(out, b"{\"Ids\":[")?;
+    write_ids(out, ids)?;
+    write_bytes(out, b"],\"IndexEtag\":")?;
+    write_piece(alloc, out, &Piece::Number(index_etag))?;
+    write_bytes(out, b",\"IsStale\":")?;
+    write_piece(alloc, out, &Piece::Flag(is_stale))?;
+    write_bytes(out, b"}")?;
+    Ok(())
+}
+
+#[tactic(auto, using(crate::proofs::Printed::printed))]
+fn write_pumped(alloc: Global, out: &mut Vec<u8>, pumped: &[Pumping]) -> Result<(), NoMemory>
+    ensures { OnOk result (out.new.items ≡ out.old.items ++ text_of (reply_data (PumpedAll pumped.now))) }
+{
+    write_bytes(out, b"{\"Pumped\":[")?;
+    write_pumpings(alloc, out, pumped)?;
+    write_bytes(out, b"]}")
+}
+
+#[tactic(auto, using(crate::proofs::Printed::printed))]
+fn write_bulk(alloc: Global, out: &mut Vec<u8>, results: &[BulkResult]) -> Result<(), NoMemory>
+    ensures { OnOk result (out.new.items ≡ out.old.items ++ text_of (reply_data (Bulk (map result_view results.now)))) }
+{
+    write_bytes(out, b"{\"Results\":[")?;
+    write_results(alloc, out, results)?;
+    write_bytes(out, b"]}")
+}
+
+fn write_error(alloc: Global, out: &mut Vec<u8>, name: &str) -> Result<(), NoMemory>
+    ensures { OnOk result (out.new.items ≡ out.old.items ++ text_of (error name.now [])) }
+{
+    write_object(alloc, out, &[("Error", Piece::Text(name))])
+}
+
+// An error with one further member, whose name comes behind `Error`.
+fn write_error_with(
+    alloc: Global,
+    out: &mut Vec<u8>,
+    name: &str,
+    member: &str,
+    piece: Piece,
+) -> Result<(), NoMemory>
+    ensures { OnOk result (out.new.items ≡ out.old.items ++ text_of (error name.now ((member.now, piece_data piece.entry) ∷ []))) }
+{
+    write_object(alloc, out, &[("Error", Piece::Text(name)), (member, piece)])
+}
+
+// An error at a place.
+fn write_error_at(alloc: Global, out: &mut Vec<u8>, at: u64, name: &str) -> Result<(), NoMemory>
+    ensures { OnOk result (out.new.items ≡ out.old.items ++ text_of (error_at at name.now [])) }
+{
+    write_object(
+        alloc,
+        out,
+        &[("At", Piece::Number(at)), ("Error", Piece::Text(name))],
+    )
+}
+
+// An error at a place, with one further member.
+fn write_error_at_with<'a>(
+    alloc: Global,
+    out: &mut Vec<u8>,
+    at: u32,
+    name: &'a str,
+    member: &'a str,
+    piece: Piece<'a>,
+) -> Result<(), NoMemory>
+    ensures { OnOk result (out.new.items ≡ out.old.items ++ text_of (error_at at name.now ((member.now, piece_data piece.entry) ∷ []))) }
+{
+    write_object(
+        alloc,
+        out,
+        &[
+            ("At", Piece::Number(u64::from(at))),
+            ("Error", Piece::Text(name)),
+            (member, piece),
+        ],
+    )
+}
+
+fn write_conflict<'a>(
+    alloc: Global,
+    out: &mut Vec<u8>,
+    at: u32,
+    expected: &'a str,
+    found: &'a str,
+) -> Result<(), NoMemory>
+    ensures { OnOk result (out.new.items ≡ out.old.items ++ text_of (reply_data (Conflict at expected.now found.now))) }
+{
+    write_object(
+        alloc,
+        out,
+        &[
+            ("At", Piece::Number(u64::from(at))),
+            ("Error", Piece::Text("Conflict")),
+            ("Expected", Piece::Text(expected)),
+            ("Found", Piece::Text(found)),
+        ],
+    )
+}
+
+fn write_stats(
+    alloc: Global,
+    out: &mut Vec<u8>,
+    documents: u64,
+    indexes: u64,
+    tombstones: u64,
+    last: u64,
+) -> Result<(), NoMemory>
+    ensures { OnOk result (out.new.items ≡ out.old.items ++ text_of (reply_data (Stats documents indexes tombstones last))) }
+{
+    write_object(
+        alloc,
+        out,
+        &[
+            ("CountOfDocuments", Piece::Number(documents)),
+            ("CountOfIndexes", Piece::Number(indexes)),
+            ("CountOfTombstones", Piece::Number(tombstones)),
+            ("LastDocEtag", Piece::Number(last)),
+        ],
+    )
+}
+
+fn write_stale(
+    alloc: Global,
+    out: &mut Vec<u8>,
+    index_etag: u64,
+    is_stale: bool,
+    newest: u64,
+) -> Result<(), NoMemory>
+    ensures { OnOk result (out.new.items ≡ out.old.items ++ text_of (reply_data (Stale index_etag is_stale newest))) }
+{
+    write_object(
+        alloc,
+        out,
+        &[
+            ("IndexEtag", Piece::Number(index_etag)),
+            ("IsStale", Piece::Flag(is_stale)),
+            ("Newest", Piece::Number(newest)),
+        ],
+    )
+}
+
+fn write_put(
+    alloc: Global,
+    out: &mut Vec<u8>,
+    change_vector: &str,
+    id: &str,
+) -> Result<(), NoMemory>
+    ensures { OnOk result (out.new.items ≡ out.old.items ++ text_of (reply_data (PutOne change_vector.now id.now))) }
+{
+    write_object(
+        alloc,
+        out,
+        &[
+            ("ChangeVector", Piece::Text(change_vector)),
+            ("Id", Piece::Text(id)),
+        ],
+    )
+}
+
+fn write_deleted(
+    alloc: Global,
+    out: &mut Vec<u8>,
+    deleted: bool,
+    id: &str,
+) -> Result<(), NoMemory>
+    ensures { OnOk result (out.new.items ≡ out.old.items ++ text_of (reply_data (Deleted deleted id.now))) }
+{
+    write_object(
+        alloc,
+        out,
+        &[("Deleted", Piece::Flag(deleted)), ("Id", Piece::Text(id))],
+    )
+}
+
+fn write_index(alloc: Global, out: &mut Vec<u8>, name: &str) -> Result<(), NoMemory>
+    ensures { OnOk result (out.new.items ≡ out.old.items ++ text_of (reply_data (Index name.now))) }
+{
+    write_object(alloc, out, &[("Index", Piece::Text(name))])
+}
+
+fn write_document(alloc: Global, out: &mut Vec<u8>, document: &Value) -> Result<(), NoMemory>
+    ensures { OnOk result (out.new.items ≡ out.old.items ++ text_of (data_of document.now)) }
+{
+    let text = write(alloc, document)?;
+    write_bytes(out, &text)
+}
+
+/// The reply as JSON behind what stands in `out`, without a line end.
+fn write_reply(alloc: Global, out: &mut Vec<u8>, reply: &Reply) -> Result<(), NoMemory>
+    ensures { OnOk result (out.new.items ≡ out.old.items ++ text_of (reply_data (reply_view reply.now))) }
+{
+    match reply {
+        Reply::Put { change_vector, id } => {
+            write_put(alloc, out, change_vector.as_str(), id.as_str())
+        }
+        Reply::Deleted { deleted, id } => write_deleted(alloc, out, *deleted, id.as_str()),
+        Reply::Bulk { results } => write_bulk(alloc, out, results.as_slice()),
+        Reply::Document { document } => write_document(alloc, out, document),
+        Reply::Index { name } => write_index(alloc, out, name.as_str()),
+        Reply::Pumped { pumped } => write_pumped(alloc, out, pumped.as_slice()),
+        Reply::Found {
+            ids,
+            index_etag,
+            is_stale,
+        } => write_found(alloc, out, ids.as_slice(), *index_etag, *is_stale),
+        Reply::Stale {
+            index_etag,
+            is_stale,
+            newest,
+        } => write_stale(alloc, out, *index_etag, *is_stale, *newest),
+        Reply::Stats {
+            count_of_documents,
+            count_of_indexes,
+            count_of_tombstones,
+            last_doc_etag,
+        } => {
+            write_stats(
+                alloc,
+                out,
+                u64::from(*count_of_documents),
+                u64::from(*count_of_indexes),
+                u64::from(*count_of_tombstones),
+                *last_doc_etag,
+            )
+        }
+        Reply::UnknownLine => write_error(alloc, out, "UnknownLine"),
+        Reply::NotJson => write_error(alloc, out, "NotJson"),
+        Reply::NumberNotWhole => write_error(alloc, out, "NumberNotWhole"),
+        Reply::TooDeep => write_error(alloc, out, "TooDeep"),
+        Reply::Empty => write_error(alloc, out, "Empty"),
+        Reply::TooLong { len } => {
+            write_error_with(alloc, out, "TooLong", "Len", Piece::Number(*len))
+        }
+        Reply::Control { at } => write_error_at(alloc, out, *at, "Control"),
+        Reply::BadMember { name } => {
+            write_error_with(alloc, out, "BadMember", "Name", Piece::Text(name.as_str()))
+        }
+        Reply::NoDocument { id } => {
+            write_error_with(alloc, out, "NoDocument", "Id", Piece::Text(id.as_str()))
+        }
+        Reply::NoIndex { name } => {
+            write_error_with(alloc, out, "NoIndex", "Name", Piece::Text(name.as_str()))
+        }
+        Reply::ReservedId { at } => write_error_at(alloc, out, u64::from(*at), "ReservedId"),
+        Reply::TooLarge { at, len } => {
+            write_error_at_with(alloc, out, *at, "TooLarge", "Len", Piece::Number(*len))
+        }
+        Reply::CollectionChanged { at, from } => {
+            let from = Piece::Text(from.as_str());
+            write_error_at_with(alloc, out, *at, "CollectionChanged", "From", from)
+        }
+        Reply::Conflict {
+            at,
+            expected,
+            found,
+        } => write_conflict(alloc, out, *at, expected.as_str(), found.as_str()),
+        Reply::StoreFull { at, rows } => {
+            let rows = Piece::Number(u64::from(*rows));
+            write_error_at_with(alloc, out, *at, "StoreFull", "Rows", rows)
+        }
+        Reply::EtagsSpent { at, last } => {
+            write_error_at_with(alloc, out, *at, "EtagsSpent", "Last", Piece::Number(*last))
+        }
+        Reply::KeeperFault { .. } => write_error(alloc, out, "KeeperFault"),
+    }
+}
+
+/// The reply as JSON, without a line end.
+pub fn reply_text(alloc: Global, reply: &Reply) -> Result<Vec<u8>, NoMemory>
+    ensures { IfOk result (λ bytes. bytes.items ≡ text_of (reply_data (reply_view reply.now))) }
+{
+    let mut out = Vec::new(alloc);
+    write_reply(alloc, &mut out, reply)?;
+    Ok(out)
+}
