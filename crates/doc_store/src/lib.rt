@@ -4,5 +4,5 @@
 mod rows;
 mod store;
 
-pub use rows::last_etag;
+pub use rows::{Counts, last_etag};
 pub use store::Store;

@@ -1,13 +1,14 @@
 //! Rows as a plain list in order of etag.
-ghost use Rattle.std.specs.Prelude.{◌≡◌, ◌↔◌, ◌<◌, ◌&&◌, IfOk, OnOk, IsTrue, filter, length, nat_lt, not, take};
+ghost use Rattle.std.specs.Str.{bytes_eq};
+ghost use Rattle.std.specs.Prelude.{◌≡◌, ◌↔◌, ◌<◌, ◌^◌, ◌&&◌, IfOk, OnOk, IsTrue, filter, length, nat_lt, not, take};
 ghost use Rattle.std.specs.Option.{option_copied};
 ghost use Rattle.raven_data.specs.Folding.{folded, same_key};
-ghost use Rattle.raven_data.specs.Rows.{key};
+ghost use Rattle.raven_data.specs.Rows.{is_document, key};
 ghost use Rattle.raven_model.specs.Store.{last_of, put, row_at, with_rows};
 ghost use Rattle.raven_model.specs.Index.{in_scope, up_to};
 
 use raven_base::NoMemory;
-use raven_value::{Id, Row, Text};
+use raven_value::{Body, Id, Row, Text};
 use std::alloc::{AllocError, Global};
 
 /// The etag of the last row, or 0 where there is none.
@@ -120,4 +121,33 @@ pub fn with_each(alloc: Global, rows: &[Row], more: &[Row]) -> Result<Vec<Row>, 
         put_row(&mut new, row.clone()?)?;
     }
     Ok(new)
+}
+
+/// How many documents and tombstones there are.
+#[derive(Clone, Copy, Debug, PartialEq, Eq)]
+pub struct Counts {
+    pub documents: u32,
+    pub tombstones: u32,
+}
+
+/// How many of these rows are documents and tombstones of other collections than this one.
+pub fn counts_of(rows: &[Row], collection: &str) -> Counts
+    requires { length rows.now < 2 ^ 32 }
+    ensures documents { result.documents ≡ length (filter (λ r. not (bytes_eq r.collection collection.now) && is_document r) rows.now) }
+    ensures tombstones { result.tombstones ≡ length (filter (λ r. not (bytes_eq r.collection collection.now) && not (is_document r)) rows.now) }
+{
+    let mut documents = 0;
+    let mut tombstones = 0;
+    for row in rows {
+        if row.collection.as_str() != collection {
+            match row.body {
+                Body::Doc(_) => documents += 1,
+                Body::Gone => tombstones += 1,
+            }
+        }
+    }
+    Counts {
+        documents,
+        tombstones,
+    }
 }

@@ -1,12 +1,14 @@
 //! The store.
-ghost use Rattle.std.specs.Prelude.{◌≡◌, ◌≤◌, ◌<◌, ◌↔◌, ℕ, IfOk, IsTrue, length, nat_lt, option_copied};
+ghost use Rattle.std.specs.Str.{bytes_eq};
+ghost use Rattle.raven_data.specs.Rows.{is_document};
+ghost use Rattle.std.specs.Prelude.{◌≡◌, ◌≤◌, ◌<◌, ◌&&◌, ◌↔◌, ℕ, IfOk, IsTrue, filter, length, not, nat_lt, option_copied};
 ghost use Rattle.raven_data.specs.Folding.{folded};
 ghost use Rattle.raven_model.specs.Store.{empty_store, last, row_at, with_rows};
 ghost use Rattle.raven_model.specs.Later.{MayFollowAll};
 ghost use Rattle.raven_model.specs.Index.{newest, past, stale, taken};
 ghost use Rattle.doc_store.specs.Bounds.{IsWithin, max_etag};
 
-use crate::rows::{copies, find_row, first_past, last_etag, newest_etag, with_each};
+use crate::rows::{Counts, copies, counts_of, find_row, first_past, last_etag, newest_etag, with_each};
 use raven_base::NoMemory;
 use raven_value::{Id, Row, Rows, Scope};
 use std::alloc::{AllocError, Global};
@@ -94,6 +96,14 @@ impl Store {
         ensures stale { (etag : ℕ) → stale self.now scope.now etag upto ≡ nat_lt etag result }
     {
         newest_etag(&self.rows, scope.as_slice(), upto)
+    }
+
+    /// How many documents and tombstones there are in all collections but this one.
+    pub fn counts_beside(&self, collection: &str) -> Counts
+        ensures documents { result.documents ≡ length (filter (λ r. not (bytes_eq r.collection collection.now) && is_document r) self.now.rows) }
+        ensures tombstones { result.tombstones ≡ length (filter (λ r. not (bytes_eq r.collection collection.now) && not (is_document r)) self.now.rows) }
+    {
+        counts_of(&self.rows, collection)
     }
 
     /// A new store with further rows, one after another, each in place of an earlier row of its id.

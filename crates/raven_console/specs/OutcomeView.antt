@@ -2,7 +2,7 @@
 use Rattle.std.specs.Prelude.{Option, Some, None}
 use Rattle.raven_model.specs.World as is
 use Rattle.raven_model.specs.Machine.{Replied}
-use Rattle.raven_world.specs.ReplyView.{reply_view}
+use Rattle.raven_reply.specs.ReplyView.{reply_view}
 use Rattle.raven_world.specs.Told.{machine_of}
 use Rattle.raven_console.specs.declared.outcome.Outcome.{Outcome}
 

@@ -4,7 +4,7 @@ ghost use Rattle.raven_model.specs.Machine.{start, step};
 ghost use Rattle.raven_model.specs.Replies.{printed as spec_printed};
 ghost use Rattle.raven_model.specs.Script.{after_line, moment, reply_to};
 ghost use Rattle.raven_model.specs.Words.{program};
-ghost use Rattle.raven_world.specs.ReplyView.{reply_view};
+ghost use Rattle.raven_reply.specs.ReplyView.{reply_view};
 ghost use Rattle.raven_console.specs.OutcomeView.{world_left};
 ghost use Rattle.raven_console.specs.RequestView.{request_view};
 

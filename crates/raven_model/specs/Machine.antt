@@ -219,14 +219,16 @@ answer_stale W name cutoff None = NoIndex name
 answer_stale W name cutoff (Some s) =
     told.Stale s.version.etag (stale W.store (reads s.version) s.version.etag cutoff) (newest W.store (reads s.version) cutoff)
 
+-- the members of an object, and none of any other value
+abbrev pub members_of : Option Data → Pairs
+members_of (Some (object ms)) = pairs_of ms
+members_of other = []
+
 -- a document as it is shown: in its metadata stands what the server knows of it
 abbrev pub shown_metadata : List ℕ → Row → Option Data → Pairs
-shown_metadata base r (Some (object ms)) =
+shown_metadata base r metadata =
     put (codes "@change-vector") (text (vector_of base r.etag)) (put (codes "@collection") (text r.collection)
-    (put (codes "@id") (text r.id) (put (codes "@last-modified") (text (moment_text r.changed)) (pairs_of ms))))
-shown_metadata base r other =
-    put (codes "@change-vector") (text (vector_of base r.etag)) (put (codes "@collection") (text r.collection)
-    (put (codes "@id") (text r.id) (put (codes "@last-modified") (text (moment_text r.changed)) [])))
+    (put (codes "@id") (text r.id) (put (codes "@last-modified") (text (moment_text r.changed)) (members_of metadata))))
 
 abbrev pub shown : List ℕ → Row → Data → Data
 shown base r (object ms) = object (entries_of (put (codes "@metadata") (object (entries_of (shown_metadata base r (member (codes "@metadata") ms)))) (pairs_of ms)))

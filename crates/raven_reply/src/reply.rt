@@ -95,9 +95,9 @@ pub enum Reply {
 
     /// How much the database has. The definitions of indexes are neither documents nor tombstones here.
     Stats {
-        count_of_documents: u32,
-        count_of_indexes: u32,
-        count_of_tombstones: u32,
+        count_of_documents: u64,
+        count_of_indexes: u64,
+        count_of_tombstones: u64,
         last_doc_etag: u64,
     },
 

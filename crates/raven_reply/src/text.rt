@@ -396,9 +396,9 @@ fn write_reply(alloc: Global, out: &mut Vec<u8>, reply: &Reply) -> Result<(), No
             write_stats(
                 alloc,
                 out,
-                u64::from(*count_of_documents),
-                u64::from(*count_of_indexes),
-                u64::from(*count_of_tombstones),
+                *count_of_documents,
+                *count_of_indexes,
+                *count_of_tombstones,
                 *last_doc_etag,
             )
         }

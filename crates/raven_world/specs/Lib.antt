@@ -1,10 +1,7 @@
 pub mod DefinitionView
 pub mod EntryView
 pub mod ChoiceView
-pub mod ReplyView
-pub mod SettingView
-pub mod Allowed
 pub mod Told
-pub mod Tests
 pub mod Roomy
 pub mod NewName
+pub mod Transacts

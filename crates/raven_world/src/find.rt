@@ -4,14 +4,14 @@ ghost use Rattle.raven_model.specs.Machine.{answer_find, found_in, is_stale as s
 ghost use Rattle.raven_model.specs.Mapping.{mapper_of};
 ghost use Rattle.raven_model.specs.Replies.{Found as FoundIds};
 ghost use Rattle.raven_model.specs.World.{serving as spec_serving};
-ghost use Rattle.raven_world.specs.ReplyView.{reply_view};
+ghost use Rattle.raven_reply.specs.ReplyView.{reply_view};
 
 use crate::choice::is_stale;
-use crate::reply::Reply;
 use crate::slot::{Slot, serving};
 use crate::world::World;
 use doc_store::Store;
 use raven_base::NoMemory;
+use raven_reply::Reply;
 use raven_value::{Name, Text};
 use std::alloc::Global;
 

@@ -1,32 +1,33 @@
 //! Automatic indexes: the one that serves a query, or a new one.
-ghost use Rattle.std.specs.Prelude.{◌≡◌, ◌+◌, ◌++◌, ◌∷◌, [], IfOk, IfSome, Ok, OnOk, codes, length, nat_le};
+ghost use Rattle.std.specs.Prelude.{◌≡◌, ◌+◌, ◌++◌, ◌∷◌, [], IfOk, IfSome, Ok, OnOk, codes, length, map, nat_le};
 ghost use Rattle.raven_data.specs.Data.{array, entry, item, no_entries, no_items, object, text as spec_text};
 ghost use Rattle.raven_data.specs.Rising.{put};
 ghost use Rattle.raven_value.specs.View.{data_of};
-ghost use Rattle.raven_model.specs.Later.{MayFollow};
-ghost use Rattle.raven_model.specs.Machine.{Auto as AutoOne, defined, in_world, one_field, step};
+ghost use Rattle.raven_model.specs.Commit.{AnyVector, Put};
+ghost use Rattle.raven_model.specs.Machine.{Auto as AutoOne, change_of, defined, in_world, one_field};
 ghost use Rattle.raven_model.specs.Mapping.{Auto};
 ghost use Rattle.raven_model.specs.Optimiser.{Make, pick as spec_pick};
 ghost use Rattle.raven_model.specs.Replies.{Index as IndexOf};
-ghost use Rattle.raven_model.specs.Store.{last, with_row};
-ghost use Rattle.raven_model.specs.World.{added, fresh, row_body as spec_row_body};
-ghost use Rattle.doc_store.specs.Bounds.{IsWithin};
+ghost use Rattle.raven_model.specs.Store.{last};
+ghost use Rattle.raven_model.specs.World.{added, fresh, index_id as spec_index_id, row_body as spec_row_body};
+ghost use Rattle.doc_txn.specs.CommandView.{command_view};
 ghost use Rattle.raven_world.specs.DefinitionView.{definition_view};
 ghost use Rattle.raven_world.specs.NewName.{new_name_of};
-ghost use Rattle.raven_world.specs.ReplyView.{reply_view};
+ghost use Rattle.raven_reply.specs.ReplyView.{reply_view};
 ghost use Rattle.raven_world.specs.Told.{AnswersQuery, change_view, machine_of, told};
 
 use crate::choice::{Choice, pick};
 use crate::definition::Definition;
 use crate::naming::{auto_name, index_id, is_served};
-use crate::put::copies;
-use crate::reply::Reply;
-use crate::slot::Slot;
-use crate::transaction::Writer;
+use crate::slot::{Slot, copies};
 use crate::version::IndexVersion;
 use crate::world::{Answered, Change, World, WorldFault};
+use crate::write::refused_at;
+use doc_store::Store;
+use doc_txn::{Command, Commands, Expect, TxnFault, Writer, commit};
 use raven_base::NoMemory;
-use raven_value::{Members, Name, Path, Paths, Row, Text, Value, Values};
+use raven_reply::Reply;
+use raven_value::{Members, Name, Path, Paths, Rows, Text, Value, Values};
 use std::alloc::Global;
 use std::sync::Arc;
 
@@ -98,6 +99,25 @@ fn row_body(alloc: Global, collection: &Text, field: &Text) -> Result<Value, NoM
     Ok(Value::Map(body))
 }
 
+// The commands by which the definition of one field is put.
+fn definition_commands(
+    alloc: Global,
+    name: &Name,
+    collection: &Text,
+    field: &Text,
+) -> Result<Commands, NoMemory>
+    ensures { IfOk result (λ commands. map command_view commands ≡ Put (spec_index_id name.now) AnyVector (spec_row_body (Auto collection.now ((field.now ∷ []) ∷ []))) ∷ []) }
+{
+    let command = Command::Put {
+        id: index_id(alloc, name)?,
+        expected: Expect::Any,
+        body: row_body(alloc, collection, field)?,
+    };
+    let mut commands = Commands::new(alloc);
+    commands.push(command)?;
+    Ok(commands)
+}
+
 fn new_slot(
     alloc: Global,
     number: u64,
@@ -118,18 +138,6 @@ fn new_slot(
 }
 
 impl World {
-    fn with_index(&self, alloc: Global, slot: Slot, row: Row) -> Result<Change, NoMemory>
-        requires follows { MayFollow self.now.store row }
-        requires within { IsWithin (with_row self.now.store row) }
-        ensures { IfOk result (λ change. change_view change ≡ record { reply = IndexOf slot.name; machine = machine_of (in_world self.now (with_row self.now.store row) (self.now.slots ++ slot ∷ [])) }) }
-    {
-        let reply = index_reply(&slot)?;
-        let mut slots = copies(alloc, &self.slots)?;
-        slots.push(slot)?;
-        let world = self.with_row(alloc, row, slots)?;
-        Ok(Change { world, reply })
-    }
-
     fn is_crowded(&self) -> bool
         ensures { result ≡ nat_le self.now.setting.max_slots (length self.now.slots) }
     {
@@ -162,6 +170,23 @@ impl World {
         Ok(Some(name))
     }
 
+    // The world in which the row of the index was written.
+    fn with_index(
+        &self,
+        alloc: Global,
+        slot: Slot,
+        store: Store,
+        rows: Rows,
+    ) -> Result<Change, NoMemory>
+        ensures { IfOk result (λ change. change_view change ≡ record { reply = IndexOf slot.name; machine = machine_of (in_world self.now store (self.now.slots ++ slot ∷ [])); rows = rows }) }
+    {
+        let reply = index_reply(&slot)?;
+        let mut slots = copies(alloc, &self.slots)?;
+        slots.push(slot)?;
+        let world = self.with(store, slots)?;
+        Ok(Change { world, rows, reply })
+    }
+
     fn define(
         &self,
         alloc: Global,
@@ -170,15 +195,22 @@ impl World {
         field: &Text,
         now: u64,
     ) -> Result<Change, WorldFault>
-        ensures { IfSome (told self.now result) (λ replied. replied ≡ defined (machine_of self.now) now name (Ok (added self.now name (Auto collection.now ((field.now ∷ []) ∷ []))))) }
+        ensures { IfSome (told self.now result) (λ change. change ≡ defined (machine_of self.now) now name (Ok (added self.now name (Auto collection.now ((field.now ∷ []) ∷ []))))) }
     {
-        let _roomy = &self.store;
-        let id = index_id(alloc, &name)?;
-        let body = row_body(alloc, collection, field)?;
+        let commands = definition_commands(alloc, &name, collection, field)?;
         let slot = new_slot(alloc, self.next_number(), name, collection, field)?;
-        match self.row_to_put(alloc, Writer::Server, &id, &body, now)? {
-            Some(row) => Ok(self.with_index(alloc, slot, row)?),
-            None => Err(WorldFault::Refused(Reply::UnknownLine)),
+        match commit(
+            alloc,
+            &self.store,
+            &commands,
+            Writer::Server,
+            &self.base,
+            &self.limits,
+            now,
+        ) {
+            Ok((store, rows)) => Ok(self.with_index(alloc, slot, store, rows)?),
+            Err(TxnFault::Refused { at, kind }) => Err(WorldFault::Refused(refused_at(at, kind))),
+            Err(TxnFault::NoMemory) => Err(WorldFault::NoMemory),
         }
     }
 
@@ -191,7 +223,7 @@ impl World {
         now: u64,
     ) -> Result<Change, WorldFault>
         requires { spec_pick (one_field collection.now field.now) self.now.store self.now.slots ≡ Make (one_field collection.now field.now) }
-        ensures { IfSome (told self.now result) (λ replied. replied ≡ step (machine_of self.now) now (AutoOne collection.now field.now)) }
+        ensures { IfSome (told self.now result) (λ change. change ≡ change_of (machine_of self.now) now (AutoOne collection.now field.now)) }
     {
         match self.new_name(alloc, collection, field)? {
             Some(name) => self.define(alloc, name, collection, field, now),

@@ -1,15 +1,16 @@
 //! One batch for each index.
 ghost use Rattle.std.specs.Prelude.{◌≡◌, IfOk, map};
-ghost use Rattle.raven_model.specs.Machine.{brought_on as spec_brought_on, pump, pumping, with_slots as spec_with_slots};
+ghost use Rattle.raven_model.specs.Machine.{brought_on as spec_brought_on, pump, pumping};
 ghost use Rattle.raven_world.specs.Told.{change_view, machine_of};
 
 use crate::batch::next;
-use crate::reply::{Pumping, Pumpings, Reply};
 use crate::slot::Slot;
 use crate::version::IndexVersion;
 use crate::world::{Change, World};
 use doc_store::Store;
 use raven_base::NoMemory;
+use raven_reply::{Pumping, Pumpings, Reply};
+use raven_value::Rows;
 use std::alloc::Global;
 use std::sync::Arc;
 
@@ -64,26 +65,16 @@ fn all_brought_on(
 }
 
 impl World {
-    fn with_slots(&self, slots: Vec<Slot>) -> Result<World, NoMemory>
-        ensures { IfOk result (λ world. world ≡ spec_with_slots self.now slots.items) }
-    {
-        Ok(World {
-            store: self.store.clone()?,
-            slots,
-            base: self.base.clone()?,
-            limits: self.limits,
-        })
-    }
-
     /// Brings each index on by one batch of at most `max` rows.
     pub fn pump(&self, alloc: Global, max: u32) -> Result<Change, NoMemory>
         ensures { IfOk result (λ change. change_view change ≡ pump (machine_of self.now) max) }
     {
         let (slots, pumped) = all_brought_on(alloc, &self.store, max, &self.slots)?;
-        let world = self.with_slots(slots)?;
+        let world = self.with(self.store.clone()?, slots)?;
         let reply = Reply::Pumped {
             pumped: Pumpings::of(pumped),
         };
-        Ok(Change { world, reply })
+        let rows = Rows::new(alloc);
+        Ok(Change { world, rows, reply })
     }
 }

@@ -1,11 +1,12 @@
 //! Live indexes.
-ghost use Rattle.std.specs.Prelude.{◌≡◌, option_copied};
+ghost use Rattle.std.specs.Prelude.{◌≡◌, IfOk, option_copied};
 ghost use Rattle.raven_data.specs.Folding.{folded, same_key};
 ghost use Rattle.raven_model.specs.World.{serving as spec_serving};
 
 use crate::version::IndexVersion;
+use raven_base::NoMemory;
 use raven_value::Name;
-use std::alloc::AllocError;
+use std::alloc::{AllocError, Global};
 use std::marker::Model;
 use std::sync::Arc;
 
@@ -65,4 +66,15 @@ pub fn serving<'a>(slots: &'a [Slot], name: &str) -> Option<&'a Slot>
         }
     }
     None
+}
+
+/// Copies of slots, which share their indexes.
+pub fn copies(alloc: Global, slots: &[Slot]) -> Result<Vec<Slot>, NoMemory>
+    ensures { IfOk result (λ new. new.items ≡ slots.now) }
+{
+    let mut new = Vec::with_capacity(alloc, slots.len())?;
+    for slot in slots {
+        new.push(slot.clone()?)?;
+    }
+    Ok(new)
 }

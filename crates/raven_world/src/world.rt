@@ -1,39 +1,24 @@
 //! The world.
 ghost use Rattle.std.specs.Prelude.{◌≡◌, IfOk};
-ghost use Rattle.raven_model.specs.Later.{MayFollow};
 ghost use Rattle.raven_model.specs.Machine.{in_world, start};
-ghost use Rattle.raven_model.specs.Store.{with_row as spec_with_row};
 ghost use Rattle.raven_model.specs.Words.{program};
-ghost use Rattle.doc_store.specs.Bounds.{IsWithin};
 ghost use Rattle.raven_world.specs.declared.world.WorldFault.TheVariants.{NoMemory as OutOfMemory};
 
-use crate::reply::Reply;
 use crate::slot::Slot;
 use doc_store::Store;
+use doc_txn::{BaseId, Limits};
 use raven_base::NoMemory;
-use raven_value::{Row, Rows, Text};
+use raven_reply::Reply;
+use raven_value::Rows;
 use std::alloc::Global;
 use std::marker::Model;
-
-/// How much a database may hold.
-#[derive(Clone, Copy, Debug, PartialEq, Eq)]
-pub struct Limits {
-    /// Rows, tombstones among them.
-    pub rows: u32,
-
-    /// Live indexes.
-    pub slots: u32,
-
-    /// Notes of switches.
-    pub notes: u32,
-}
 
 /// A database: its store and its indexes, with the base id and the limits, which nothing changes.
 #[derive(Drop)]
 pub struct World {
     pub(crate) store: Store,
     pub(crate) slots: Vec<Slot>,
-    pub(crate) base: Text,
+    pub(crate) base: BaseId,
     pub(crate) limits: Limits,
 }
 
@@ -41,7 +26,7 @@ impl Model for World {
     ghost use Rattle.std.specs.Prelude.{[]};
     ghost use Rattle.raven_model.specs.World as world;
     ghost use Rattle.raven_model.specs.Codes.{world_code};
-    ghost use Rattle.raven_world.specs.SettingView.{setting_of};
+    ghost use Rattle.doc_txn.specs.SettingView.{setting_of};
 
     ghost Value = { world.World };
 
@@ -54,10 +39,11 @@ impl Model for World {
     ghost invariant = { λ a. IsRoomy a.store a.limits.rows a.limits.slots };
 }
 
-/// A new world, and the reply to what was asked.
+/// A new world, the rows that its keeper is to take, and the reply to what was asked.
 #[derive(Drop)]
 pub struct Change {
     pub world: World,
+    pub rows: Rows,
     pub reply: Reply,
 }
 
@@ -97,30 +83,17 @@ impl World {
         Ok(World {
             store: Store::empty(alloc)?,
             slots: Vec::new(alloc),
-            base: Text::of(alloc, "AAAAAAAAAAAAAAAAAAAAAA")?,
-            limits: Limits {
-                rows: 4_000_000,
-                slots: 256,
-                notes: 65_536,
-            },
+            base: BaseId::program(alloc)?,
+            limits: Limits::program(),
         })
     }
 
-    /// The world with one further row, and these slots.
-    pub(crate) fn with_row(
-        &self,
-        alloc: Global,
-        row: Row,
-        slots: Vec<Slot>,
-    ) -> Result<World, NoMemory>
-        requires follows { MayFollow self.now.store row }
-        requires within { IsWithin (spec_with_row self.now.store row) }
-        ensures { IfOk result (λ world. world ≡ in_world self.now (spec_with_row self.now.store row) slots.items) }
+    /// The world with this store and these slots.
+    pub(crate) fn with(&self, store: Store, slots: Vec<Slot>) -> Result<World, NoMemory>
+        ensures { IfOk result (λ world. world ≡ in_world self.now store slots.items) }
     {
-        let mut rows = Rows::new(alloc);
-        rows.push(row)?;
         Ok(World {
-            store: self.store.with_rows(alloc, &rows)?,
+            store,
             slots,
             base: self.base.clone()?,
             limits: self.limits,

@@ -1,13 +1,12 @@
 use Rattle.std.proofs.Common.{◌≡◌, ◌++◌, ◌∙◌, OnOk, sym, ap, subst}
 use Rattle.raven_data.specs.Written.{text_of}
-use Rattle.raven_model.specs.Replies.{CollectionChanged, Stats, reply_data}
+use Rattle.raven_model.specs.Replies.{CollectionChanged, reply_data}
 use Rattle.raven_reply.specs.ReplyView.{reply_view}
 use Rattle.raven_reply.proofs.text.write_reply.Goals as goal
 
 pub returns-in-Stats : goal.returns-in-Stats
-returns-in-Stats c = subst (λ d. OnOk c.write_stats.result (c.write_stats.new.out.items ≡ c.args.out.now.items ++ text_of d))
-    ((λ i. reply_data (Stats (c.from.ensures i) (c.from-in-Stats.ensures i) (c.from-in-Stats-2.ensures i) c.in-Stats.last_doc_etag)) ∙ ap (λ r. reply_data (reply_view r)) (sym c.in-Stats.is))
-    c.write_stats.ensures
+returns-in-Stats c = subst (λ r. OnOk c.write_stats.result (c.write_stats.new.out.items ≡ c.args.out.now.items ++ text_of (reply_data (reply_view r))))
+    (sym c.in-Stats.is) c.write_stats.ensures
 
 pub returns-in-TooLarge : goal.returns-in-TooLarge
 returns-in-TooLarge c = subst (λ r. OnOk c.write_error_at_with.result (c.write_error_at_with.new.out.items ≡ c.args.out.now.items ++ text_of (reply_data (reply_view r))))

@@ -1,7 +1,0 @@
-use Rattle.raven_world.proofs.Printed.{printed-Found}
-use Rattle.raven_world.proofs.reply.write_found.Goals as goal
-
-pub returns : goal.returns
-returns c =
-    rw (c.in_ok-write_bytes-4.ensures, c.in_ok-write_flag.ensures, c.in_ok-write_bytes-3.ensures, c.in_ok-write_number.ensures, c.in_ok-write_bytes-2.ensures, c.in_ok-write_ids.ensures, c.in_ok-write_bytes.ensures, c.as_slice.ensures)
-    (printed-Found c.args.out.now.items c.args.ids.now c.args.index_etag c.args.is_stale)

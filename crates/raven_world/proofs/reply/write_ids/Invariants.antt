@@ -1,7 +1,0 @@
-use Rattle.std.proofs.Common.{◌≡◌, ◌++◌, drop, false, map}
-use Rattle.raven_data.specs.Data.{text, items_of}
-use Rattle.raven_data.specs.Written.{items_text}
-use Rattle.raven_world.proofs.reply.write_ids.Given as goal
-
-abbrev pub invariant-loop-id : goal.invariant-loop-id
-invariant-loop-id l = l.out.items ++ items_text l.later (items_of (map text (drop l.id-index l.ids))) ≡ l.fn.out.items ++ items_text false (items_of (map text l.ids))

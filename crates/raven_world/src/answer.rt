@@ -1,0 +1,134 @@
+//! Answers that change nothing.
+ghost use Rattle.std.specs.Prelude.{◌≡◌, IfOk, OnOk, length, option_map};
+ghost use Rattle.raven_data.specs.Data.{entries_of, object, text as spec_text};
+ghost use Rattle.raven_data.specs.Rising.{put};
+ghost use Rattle.raven_value.specs.View.{data_of};
+ghost use Rattle.raven_model.specs.Machine.{answer_get, answer_stale, answer_stats, members_of, shown as spec_shown, shown_metadata as spec_shown_metadata};
+ghost use Rattle.raven_model.specs.World.{serving as spec_serving};
+ghost use Rattle.raven_reply.specs.ReplyView.{reply_view};
+
+use crate::slot::{Slot, serving};
+use crate::world::World;
+use crate::write::spelling;
+use doc_txn::{BaseId, vector};
+use raven_base::NoMemory;
+use raven_reply::{Reply, moment_text};
+use raven_value::{Body, Id, Members, Name, Row, Text, Value};
+use std::alloc::Global;
+
+fn put_text(
+    alloc: Global,
+    members: &mut Members,
+    name: &str,
+    text: Text,
+) -> Result<(), NoMemory>
+    ensures { OnOk result (members.new ≡ put name.now (spec_text text) members.old) }
+{
+    members.put(Text::of(alloc, name)?, Value::Text(text))
+}
+
+// The members of an object, and none of any other value.
+fn members_in(alloc: Global, value: Option<&Value>) -> Result<Members, NoMemory>
+    ensures { IfOk result (λ members. members ≡ members_of (option_map (λ v. data_of v.now) value.entry)) }
+{
+    let Some(value) = value else {
+        return Ok(Members::new(alloc));
+    };
+    match value.clone()? {
+        Value::Map(members) => Ok(members),
+        _ => Ok(Members::new(alloc)),
+    }
+}
+
+// The metadata of a document, with what the server knows of it.
+fn shown_metadata(
+    alloc: Global,
+    base: &BaseId,
+    row: &Row,
+    metadata: Option<&Value>,
+) -> Result<Members, NoMemory>
+    ensures { IfOk result (λ members. members ≡ spec_shown_metadata base.now row.now (option_map (λ v. data_of v.now) metadata.entry)) }
+{
+    let mut members = members_in(alloc, metadata)?;
+    let collection = row.collection.clone()?;
+    let id = Text::of(alloc, row.id.as_str())?;
+    let changed = moment_text(alloc, row.changed)?;
+    put_text(alloc, &mut members, "@last-modified", changed)?;
+    put_text(alloc, &mut members, "@id", id)?;
+    put_text(alloc, &mut members, "@collection", collection)?;
+    put_text(alloc, &mut members, "@change-vector", vector(alloc, row.etag, base)?)?;
+    Ok(members)
+}
+
+fn shown_members(
+    alloc: Global,
+    base: &BaseId,
+    row: &Row,
+    members: Members,
+) -> Result<Value, NoMemory>
+    ensures { IfOk result (λ value. data_of value ≡ spec_shown base.now row.now (object (entries_of members))) }
+{
+    let mut shown = members;
+    let name = Text::of(alloc, "@metadata")?;
+    let metadata = shown_metadata(alloc, base, row, shown.get(&name))?;
+    shown.put(name, Value::Map(metadata))?;
+    Ok(Value::Map(shown))
+}
+
+// The document as it is shown.
+fn shown(alloc: Global, base: &BaseId, row: &Row, document: &Value) -> Result<Value, NoMemory>
+    ensures { IfOk result (λ value. data_of value ≡ spec_shown base.now row.now (data_of document.now)) }
+{
+    match document.clone()? {
+        Value::Map(members) => shown_members(alloc, base, row, members),
+        other => Ok(other),
+    }
+}
+
+impl World {
+    /// The document of an id.
+    pub fn get(&self, alloc: Global, id: &Id) -> Result<Reply, NoMemory>
+        ensures { IfOk result (λ reply. reply_view reply ≡ answer_get self.now id.now) }
+    {
+        if let Some(row) = self.store.get(id) {
+            if let Body::Doc(document) = &row.body {
+                let document = shown(alloc, &self.base, row, document.value())?;
+                return Ok(Reply::Document { document });
+            }
+        }
+        let id = spelling(&self.store, id)?;
+        Ok(Reply::NoDocument { id })
+    }
+
+    /// How far an index is, whether it lags, and the newest etag that it reads, up to a cutoff where one is given.
+    pub fn stale(&self, alloc: Global, name: &Name, cutoff: Option<u64>) -> Result<Reply, NoMemory>
+        ensures { IfOk result (λ reply. reply_view reply ≡ answer_stale self.now name.now cutoff (spec_serving self.now.slots name.now)) }
+    {
+        let Some(slot) = serving(&self.slots, name.as_str()) else {
+            return Ok(Reply::NoIndex {
+                name: Text::of(alloc, name.as_str())?,
+            });
+        };
+        let scope = slot.version.scope(alloc)?;
+        let newest = self.store.newest(&scope, cutoff);
+        let index_etag = slot.version.etag();
+        Ok(Reply::Stale {
+            index_etag,
+            is_stale: index_etag < newest,
+            newest,
+        })
+    }
+
+    /// How much the database has.
+    pub fn stats(&self) -> Reply
+        ensures { reply_view result ≡ answer_stats self.now }
+    {
+        let counts = self.store.counts_beside("@indexes");
+        Reply::Stats {
+            count_of_documents: u64::from(counts.documents),
+            count_of_indexes: self.slots.len() as u64,
+            count_of_tombstones: u64::from(counts.tombstones),
+            last_doc_etag: self.store.last(),
+        }
+    }
+}

@@ -1,0 +1,178 @@
+//! Writes of clients.
+ghost use Rattle.std.specs.Prelude.{◌≡◌, ◌∷◌, [], IfOk, IfSome, map, string_bytes};
+ghost use Rattle.raven_data.specs.Folding.{folded};
+ghost use Rattle.raven_model.specs.Machine.{refused_at as spec_refused_at, result_of as spec_result_of, results_of as spec_results_of, in_world, single_reply, spelling as spec_spelling, write};
+ghost use Rattle.raven_model.specs.Replies.{Bulk};
+ghost use Rattle.doc_txn.specs.CommandView.{command_view};
+ghost use Rattle.doc_txn.specs.FaultView.{kind_view};
+ghost use Rattle.raven_reply.specs.ReplyView.{reply_view, result_view};
+ghost use Rattle.raven_world.specs.Told.{change_view, machine_of, told};
+ghost use Rattle.raven_world.specs.Transacts.{Transacts};
+
+use crate::slot::copies;
+use crate::world::{Change, World, WorldFault};
+use doc_store::Store;
+use doc_txn::{BaseId, Command, Commands, Transaction, TxnFault, TxnKind, Writer, transact, vector};
+use raven_base::NoMemory;
+use raven_reply::{BulkResult, BulkResults, Reply};
+use raven_value::{Id, Text};
+use std::alloc::Global;
+
+/// The reply to a transaction whose command at this place is refused.
+pub(crate) fn refused_at(at: u32, kind: TxnKind) -> Reply
+    ensures { reply_view result ≡ spec_refused_at at (kind_view kind) }
+{
+    match kind {
+        TxnKind::ReservedId => Reply::ReservedId { at },
+        TxnKind::TooLarge { len } => Reply::TooLarge { at, len },
+        TxnKind::CollectionChanged { from } => Reply::CollectionChanged { at, from },
+        TxnKind::Conflict { expected, found } => Reply::Conflict {
+            at,
+            expected,
+            found,
+        },
+        TxnKind::StoreFull { rows } => Reply::StoreFull { at, rows },
+        TxnKind::EtagsSpent { last } => Reply::EtagsSpent { at, last },
+    }
+}
+
+/// The id as its row spells it, or as it was given where no row stands.
+pub(crate) fn spelling(store: &Store, id: &Id) -> Result<Id, NoMemory>
+    ensures { IfOk result (λ spelled. spelled ≡ spec_spelling store.now id.now) }
+{
+    match store.get(id) {
+        Some(row) => Ok(row.id.clone()?),
+        None => Ok(id.clone()?),
+    }
+}
+
+// What a command did that took this etag, in a transaction that left this store.
+fn result_of(
+    alloc: Global,
+    base: &BaseId,
+    store: &Store,
+    command: &Command,
+    etag: Option<u64>,
+) -> Result<BulkResult, NoMemory>
+    ensures { IfOk result (λ done. result_view done ≡ spec_result_of base.now store.now (command_view command.now) etag) }
+{
+    let id = spelling(store, command.id())?;
+    match command {
+        Command::Put { .. } => {
+            let change_vector = match etag {
+                Some(etag) => vector(alloc, etag, base)?,
+                None => Text::of(alloc, "")?,
+            };
+            Ok(BulkResult::Put { change_vector, id })
+        }
+        Command::Delete { .. } => Ok(BulkResult::Deleted {
+            deleted: etag.is_some(),
+            id,
+        }),
+    }
+}
+
+fn results_of(
+    alloc: Global,
+    base: &BaseId,
+    store: &Store,
+    commands: &[Command],
+    etags: &[Option<u64>],
+) -> Result<Vec<BulkResult>, NoMemory>
+    ensures { IfOk result (λ done. map result_view done.items ≡ spec_results_of base.now store.now (map command_view commands.now) etags.now) }
+{
+    let mut results = Vec::new(alloc);
+    for (command, etag) in commands.iter().zip(etags) {
+        results.push(result_of(alloc, base, store, command, *etag)?)?;
+    }
+    Ok(results)
+}
+
+// The reply to one command.
+fn single(results: Vec<BulkResult>) -> Reply
+    ensures { reply_view result ≡ single_reply (map result_view results.items) }
+{
+    match results.into_iter().next() {
+        Some(BulkResult::Put { change_vector, id }) => Reply::Put { change_vector, id },
+        Some(BulkResult::Deleted { deleted, id }) => Reply::Deleted { deleted, id },
+        None => Reply::UnknownLine,
+    }
+}
+
+impl World {
+    fn transact(
+        &self,
+        alloc: Global,
+        commands: &Commands,
+        now: u64,
+    ) -> Result<Transaction, WorldFault>
+        ensures { Transacts self.now now (map command_view commands.now) result }
+    {
+        match transact(
+            alloc,
+            &self.store,
+            commands,
+            Writer::Client,
+            &self.base,
+            &self.limits,
+            now,
+        ) {
+            Ok(done) => Ok(done),
+            Err(TxnFault::Refused { at, kind }) => Err(WorldFault::Refused(refused_at(at, kind))),
+            Err(TxnFault::NoMemory) => Err(WorldFault::NoMemory),
+        }
+    }
+
+    fn results(
+        &self,
+        alloc: Global,
+        commands: &Commands,
+        done: &Transaction,
+    ) -> Result<Vec<BulkResult>, NoMemory>
+        ensures { IfOk result (λ results. map result_view results.items ≡ spec_results_of self.now.setting.base done.now.store (map command_view commands.now) done.now.etags) }
+    {
+        results_of(
+            alloc,
+            &self.base,
+            &done.store,
+            commands.as_slice(),
+            done.etags.as_slice(),
+        )
+    }
+
+    fn changed(&self, alloc: Global, done: Transaction, reply: Reply) -> Result<Change, NoMemory>
+        ensures { IfOk result (λ change. change_view change ≡ record { reply = reply_view reply; machine = machine_of (in_world self.now done.store self.now.slots); rows = done.rows }) }
+    {
+        let world = self.with(done.store, copies(alloc, &self.slots)?)?;
+        Ok(Change {
+            world,
+            rows: done.rows,
+            reply,
+        })
+    }
+
+    /// Takes one command, and replies to it.
+    pub fn commit_one(
+        &self,
+        alloc: Global,
+        command: Command,
+        now: u64,
+    ) -> Result<Change, WorldFault>
+        ensures { IfSome (told self.now result) (λ change. change ≡ write (machine_of self.now) single_reply now (command_view command ∷ [])) }
+    {
+        let mut commands = Commands::new(alloc);
+        commands.push(command)?;
+        let done = self.transact(alloc, &commands, now)?;
+        let reply = single(self.results(alloc, &commands, &done)?);
+        Ok(self.changed(alloc, done, reply)?)
+    }
+
+    /// Takes commands in order, all of them or none, and replies to each.
+    pub fn commit(&self, alloc: Global, commands: &Commands, now: u64) -> Result<Change, WorldFault>
+        ensures { IfSome (told self.now result) (λ change. change ≡ write (machine_of self.now) Bulk now (map command_view commands.now)) }
+    {
+        let done = self.transact(alloc, commands, now)?;
+        let results = BulkResults::of(self.results(alloc, commands, &done)?);
+        Ok(self.changed(alloc, done, Reply::Bulk { results })?)
+    }
+}
