@@ -188,6 +188,19 @@ commit_from at s w now (c ∷ cs) done =
 abbrev pub commit : Setting → Writer → ℕ → List Command → Store → Result Written Refused
 commit s w now commands S = commit_from 0 s w now commands (record { store = S; rows = [] })
 
+abbrev pub with_option : Store → Option Row → Store
+with_option S None = S
+with_option S (Some r) = with_row S r
+
+-- the store after a command that is taken
+abbrev pub after_command : ℕ → Store → Command → Store
+after_command now S c = with_option S (row_of now S c)
+
+-- for each command in order the etag that it takes, if any
+abbrev pub etags_taken : ℕ → List Command → Store → List (Option ℕ)
+etags_taken now [] S = []
+etags_taken now (c ∷ cs) S = option_map (λ r. r.etag) (row_of now S c) ∷ etags_taken now cs (after_command now S c)
+
 -- rows whose etags follow on one another without a gap
 abbrev pub AreNext : ℕ → List Row → Type 0
 AreNext e [] = Unit {0}
