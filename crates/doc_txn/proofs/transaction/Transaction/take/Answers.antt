@@ -1,0 +1,15 @@
+use Rattle.std.proofs.Common.{◌≡◌, None, Option, Some, option_map, ◌∙◌, ap, sym, rules}
+use Rattle.raven_model.specs.Commit.{refusal_of, row_of}
+use Rattle.doc_txn.specs.CommandView.{command_view, writer_view}
+use Rattle.doc_txn.specs.SettingView.{setting_of}
+use Rattle.raven_laws.proofs.CommitLemmas.{row_of-follows}
+use Rattle.doc_txn.proofs.transaction.Transaction.take.Goals as goal
+
+pub write_if-requires-clause-follows : goal.write_if-requires-clause-follows
+write_if-requires-clause-follows c = λ r is.
+    let s = setting_of c.args.terms.now.base.now c.args.terms.now.limits.now in
+    let w = writer_view c.args.terms.now.writer in
+    let S = c.args.self.now.store in
+    let command = command_view c.args.command.now in
+    let free : refusal_of s w S command ≡ None = search rules in
+    row_of-follows s w c.args.terms.now.moment S command r free (sym c.in_ok-row.ensures ∙ is)

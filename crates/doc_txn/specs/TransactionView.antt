@@ -1,0 +1,6 @@
+-- What a transaction leaves.
+use Rattle.raven_model.specs.Commit.{Written}
+use Rattle.doc_txn.specs.declared.transaction.Transaction.{Transaction}
+
+abbrev pub written_of : Transaction → Written
+written_of t = record { store = t.store; rows = t.rows }

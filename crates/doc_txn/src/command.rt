@@ -1,0 +1,69 @@
+//! What a transaction is asked to do.
+ghost use Rattle.std.specs.Prelude.{◌≡◌};
+ghost use Rattle.raven_model.specs.Commit.{expected_of, id_of};
+ghost use Rattle.doc_txn.specs.CommandView.{command_view, expect_view};
+
+use raven_base::Sequence;
+use raven_value::{Id, Text, Value};
+
+/// Who writes. A client may not write the definitions of indexes.
+#[derive(Clone, Copy, Debug, PartialEq, Eq)]
+pub enum Writer {
+    Client,
+    Server,
+}
+
+/// What a command expects of the document of its id.
+#[derive(Debug, Drop)]
+pub enum Expect {
+    /// Anything.
+    Any,
+
+    /// This vector. The empty text is the vector of no document.
+    Vector(Text),
+}
+
+/// One write.
+#[derive(Debug, Drop)]
+pub enum Command {
+    /// Write the document of this id.
+    Put {
+        /// The id of the document.
+        id: Id,
+        /// What has to stand there.
+        expected: Expect,
+        /// The document.
+        body: Value,
+    },
+
+    /// Delete the document of this id, if there is one.
+    Delete {
+        /// The id of the document.
+        id: Id,
+        /// What has to stand there.
+        expected: Expect,
+    },
+}
+
+/// Commands in order.
+pub type Commands = Sequence<Command>;
+
+impl Command {
+    /// The id that is written.
+    pub fn id(&self) -> &Id
+        ensures { result.now ≡ id_of (command_view self.now) }
+    {
+        match self {
+            Command::Put { id, .. } | Command::Delete { id, .. } => id,
+        }
+    }
+
+    /// What has to stand at the id.
+    pub fn expected(&self) -> &Expect
+        ensures { expect_view result.now ≡ expected_of (command_view self.now) }
+    {
+        match self {
+            Command::Put { expected, .. } | Command::Delete { expected, .. } => expected,
+        }
+    }
+}

@@ -1,0 +1,21 @@
+//! Transactions: commands that are all taken, or none of them.
+#![tactic(auto)]
+
+mod base_id;
+mod command;
+mod document;
+mod fault;
+mod limits;
+mod refusal;
+mod row;
+mod transaction;
+
+pub use base_id::{BaseId, vector};
+pub use command::{Command, Commands, Expect, Writer};
+pub use document::{collection_of, stored};
+pub use fault::{TxnFault, TxnKind};
+pub use limits::Limits;
+pub use transaction::{Etags, Transaction, commit, transact};
+
+#[cfg(test)]
+mod tests;

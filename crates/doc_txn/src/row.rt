@@ -1,0 +1,81 @@
+//! What a command writes.
+ghost use Rattle.std.specs.Prelude.{◌≡◌, IfOk, Some, None, if◌then◌else◌, option_and_then, option_copied};
+ghost use Rattle.raven_data.specs.Rows.{doc, is_document};
+ghost use Rattle.raven_value.specs.View.{data_of};
+ghost use Rattle.raven_model.specs.Commit.{collection_of as spec_collection_of, kept_spelling, row_of as spec_row_of, stored as spec_stored, tombstone as spec_tombstone};
+ghost use Rattle.doc_txn.specs.CommandView.{command_view};
+
+use crate::command::Command;
+use crate::document::{collection_of, stored};
+use doc_store::Store;
+use raven_base::NoMemory;
+use raven_value::{Body, Document, Id, Row, Value};
+use std::alloc::Global;
+
+/// The row, where it holds a document.
+pub fn live<'a>(row: Option<&'a Row>) -> Option<&'a Row>
+    ensures { option_copied result ≡ option_and_then (λ r. if is_document r then Some r else None) (option_copied row.entry) }
+{
+    match row {
+        Some(found) if matches!(found.body, Body::Doc(_)) => row,
+        _ => None,
+    }
+}
+
+fn spelling(id: &Id, old: Option<&Row>) -> Result<Id, NoMemory>
+    ensures { IfOk result (λ spelled. spelled ≡ kept_spelling id.now (option_copied old.entry)) }
+{
+    match old {
+        Some(row) => Ok(row.id.clone()?),
+        None => Ok(id.clone()?),
+    }
+}
+
+fn document_row(alloc: Global, etag: u64, id: Id, body: &Value, now: u64) -> Result<Row, NoMemory>
+    ensures { IfOk result (λ row. row ≡ record { etag = etag; id = id; collection = spec_collection_of (data_of body.now); body = doc (spec_stored (data_of body.now)); changed = now }) }
+{
+    let collection = collection_of(alloc, body)?;
+    let document = Document::of(alloc, stored(alloc, body)?)?;
+    Ok(Row {
+        etag,
+        id,
+        collection,
+        body: Body::Doc(document),
+        changed: now,
+    })
+}
+
+fn tombstone(etag: u64, old: &Row, now: u64) -> Result<Row, NoMemory>
+    ensures { IfOk result (λ row. row ≡ spec_tombstone etag now old.now) }
+{
+    Ok(Row {
+        etag,
+        id: old.id.clone()?,
+        collection: old.collection.clone()?,
+        body: Body::Gone,
+        changed: now,
+    })
+}
+
+/// The row that a command writes, if any.
+pub fn row_of(
+    alloc: Global,
+    store: &Store,
+    command: &Command,
+    now: u64,
+) -> Result<Option<Row>, NoMemory>
+    ensures { IfOk result (λ row. row ≡ spec_row_of now store.now (command_view command.now)) }
+{
+    let old = store.get(command.id());
+    let etag = store.last() + 1;
+    match command {
+        Command::Put { id, body, .. } => {
+            let spelled = spelling(id, old)?;
+            Ok(Some(document_row(alloc, etag, spelled, body, now)?))
+        }
+        Command::Delete { .. } => match live(old) {
+            Some(row) => Ok(Some(tombstone(etag, row, now)?)),
+            None => Ok(None),
+        },
+    }
+}

@@ -1,0 +1,153 @@
+//! Transactions.
+ghost use Rattle.std.specs.Prelude.{◌≡◌, ◌∷◌, ◌++◌, [], IfOk, IfErr, None, OnOk, Some, Ok, Err, map, option_map};
+ghost use Rattle.std.specs.Option.{ForSome};
+ghost use Rattle.raven_model.specs.Store.{IsStore, with_row};
+ghost use Rattle.raven_model.specs.Later.{MayFollow};
+ghost use Rattle.raven_model.specs.Commit.{Commits, commit as spec_commit, etags_taken, refusal_of as spec_refusal_of, row_of as spec_row_of, with_option, with_written};
+ghost use Rattle.doc_store.specs.Bounds.{IsWithin};
+ghost use Rattle.doc_txn.specs.CommandView.{command_view, writer_view};
+ghost use Rattle.doc_txn.specs.FaultView.{Refuses, kind_view};
+ghost use Rattle.doc_txn.specs.SettingView.{setting_of};
+ghost use Rattle.doc_txn.specs.TermsView.{setting_in};
+ghost use Rattle.doc_txn.specs.TransactionView.{written_of};
+
+use crate::base_id::BaseId;
+use crate::command::{Command, Commands, Writer};
+use crate::fault::{TxnFault, TxnKind};
+use crate::limits::Limits;
+use crate::refusal::{Terms, refusal_of};
+use crate::row::row_of;
+use doc_store::Store;
+use raven_base::{NoMemory, Sequence};
+use raven_value::{Row, Rows};
+use std::alloc::Global;
+
+/// The etags that commands took, if any, in order.
+pub type Etags = Sequence<Option<u64>>;
+
+/// What a transaction leaves.
+#[derive(Drop)]
+pub struct Transaction {
+    /// The store after it.
+    pub store: Store,
+
+    /// The rows that it wrote, in order.
+    pub rows: Rows,
+
+    /// For each command the etag that it took, if any.
+    pub etags: Etags,
+}
+
+impl Transaction {
+    fn start(alloc: Global, store: &Store) -> Result<Transaction, NoMemory>
+        ensures written { IfOk result (λ done. written_of done ≡ record { store = store.now; rows = [] }) }
+        ensures etags { IfOk result (λ done. done.etags ≡ []) }
+    {
+        Ok(Transaction {
+            store: store.clone()?,
+            rows: Rows::new(alloc),
+            etags: Etags::new(alloc),
+        })
+    }
+
+    fn write(&mut self, alloc: Global, row: Row) -> Result<(), NoMemory>
+        requires follows { MayFollow self.old.store row }
+        requires within { IsWithin (with_row self.old.store row) }
+        ensures written { OnOk result (written_of self.new ≡ with_written (Some row) (written_of self.old)) }
+        ensures etags { OnOk result (self.new.etags ≡ self.old.etags ++ Some row.etag ∷ []) }
+    {
+        let mut one = Rows::new(alloc);
+        one.push(row.clone()?)?;
+        self.store = self.store.with_rows(alloc, &one)?;
+        self.etags.push(Some(row.etag))?;
+        self.rows.push(row)
+    }
+
+    fn write_if(&mut self, alloc: Global, row: Option<Row>) -> Result<(), NoMemory>
+        requires follows { ForSome row (λ r. MayFollow self.old.store r) }
+        requires within { IsWithin (with_option self.old.store row) }
+        ensures written { OnOk result (written_of self.new ≡ with_written row (written_of self.old)) }
+        ensures etags { OnOk result (self.new.etags ≡ self.old.etags ++ option_map (λ r. r.etag) row ∷ []) }
+    {
+        match row {
+            Some(row) => self.write(alloc, row),
+            None => self.etags.push(None),
+        }
+    }
+
+    /// Takes a command, or tells why it is refused.
+    fn take(
+        &mut self,
+        alloc: Global,
+        command: &Command,
+        terms: &Terms,
+    ) -> Result<Option<TxnKind>, NoMemory>
+        ensures refused { IfOk result (λ kind. option_map kind_view kind ≡ spec_refusal_of (setting_in terms.entry.now) (writer_view terms.entry.now.writer) self.old.store (command_view command.now)) }
+        ensures written { IfOk result (λ kind. kind ≡ None → written_of self.new ≡ with_written (spec_row_of terms.entry.now.moment self.old.store (command_view command.now)) (written_of self.old)) }
+        ensures etags { IfOk result (λ kind. kind ≡ None → self.new.etags ≡ self.old.etags ++ option_map (λ r. r.etag) (spec_row_of terms.entry.now.moment self.old.store (command_view command.now)) ∷ []) }
+    {
+        let row = row_of(alloc, &self.store, command, terms.moment)?;
+        let refusal = refusal_of(alloc, &self.store, command, row.as_ref(), terms)?;
+        if refusal.is_none() {
+            self.write_if(alloc, row)?;
+        }
+        Ok(refusal)
+    }
+}
+
+fn refused(at: usize, kind: TxnKind) -> TxnFault
+    ensures { Refuses result (Err (record { at = at; kind = kind_view kind })) }
+{
+    match u32::try_from(at) {
+        Ok(at) => TxnFault::Refused { at, kind },
+        Err(_) => TxnFault::NoMemory,
+    }
+}
+
+/// Takes the commands in order, each on the store that those before it leave. The first that is refused refuses all of them.
+pub fn transact(
+    alloc: Global,
+    store: &Store,
+    commands: &Commands,
+    writer: Writer,
+    base: &BaseId,
+    limits: &Limits,
+    now: u64,
+) -> Result<Transaction, TxnFault>
+    ensures ok { IfOk result (λ done. spec_commit (setting_of base.now limits.now) (writer_view writer) now (map command_view commands.now) store.now ≡ Ok (written_of done)) }
+    ensures refused { IfErr result (λ fault. Refuses fault (spec_commit (setting_of base.now limits.now) (writer_view writer) now (map command_view commands.now) store.now)) }
+    ensures etags { IfOk result (λ done. done.etags ≡ etags_taken now (map command_view commands.now) store.now) }
+    ensures grows { IfOk result (λ done. IsStore store.now → Commits store.now (written_of done)) }
+{
+    let terms = Terms {
+        writer,
+        base,
+        limits,
+        moment: now,
+    };
+    let mut done = Transaction::start(alloc, store)?;
+    for (at, command) in commands.as_slice().iter().enumerate() {
+        if let Some(kind) = done.take(alloc, command, &terms)? {
+            return Err(refused(at, kind));
+        }
+    }
+    Ok(done)
+}
+
+/// As `transact`, without the etags.
+pub fn commit(
+    alloc: Global,
+    store: &Store,
+    commands: &Commands,
+    writer: Writer,
+    base: &BaseId,
+    limits: &Limits,
+    now: u64,
+) -> Result<(Store, Rows), TxnFault>
+    ensures ok { IfOk result (λ done. spec_commit (setting_of base.now limits.now) (writer_view writer) now (map command_view commands.now) store.now ≡ Ok (record { store = done.0; rows = done.1 })) }
+    ensures refused { IfErr result (λ fault. Refuses fault (spec_commit (setting_of base.now limits.now) (writer_view writer) now (map command_view commands.now) store.now)) }
+    ensures grows { IfOk result (λ done. IsStore store.now → Commits store.now (record { store = done.0; rows = done.1 })) }
+{
+    let done = transact(alloc, store, commands, writer, base, limits, now)?;
+    Ok((done.store, done.rows))
+}
