@@ -2,3 +2,4 @@ pub mod Joins
 pub mod Batches
 pub mod Clean
 pub mod Steps
+pub mod Pairs

@@ -1,12 +1,13 @@
 -- The changes that a world makes.
 use Rattle.std.proofs.Common.{◌≡◌, ◌<◌, ◌+◌, ◌^◌, ℕ, List, [], ◌∷◌, ◌++◌, length, Bool, true, false, cond, ◌||◌, nat_le, Option, Some, None, is_some, Result, Ok, Err, refl, sym, ap, ◌∙◌, arith}
 use Rattle.std.proofs.lemmas.Grind.{common_steps}
-use Rattle.raven_model.specs.Store.{last}
-use Rattle.raven_model.specs.Commit.{Client, Server, Command, Refused, Written, commit, etags_taken}
+use Rattle.raven_model.specs.Store.{Store, last}
+use Rattle.raven_data.specs.Rows.{Row}
+use Rattle.raven_model.specs.Commit.{Client, Server, Command, Put, AnyVector, Refused, Written, commit, etags_taken}
 use Rattle.raven_model.specs.Replies.{Reply, UnknownLine, Result as Done}
 use Rattle.raven_model.specs.Mapping.{Definition}
 use Rattle.raven_model.specs.Optimiser.{Shape, Make, pick, name_of}
-use Rattle.raven_model.specs.World.{World, NameServes, TooManyIndexes, added, serving}
+use Rattle.raven_model.specs.World.{World, Slot, NameServes, TooManyIndexes, added, fresh, index_id, row_body, serving}
 use Rattle.raven_model.specs.Machine.{Change, Auto as AutoOne, in_world, no_change, one_field, defined, refused_at, results_of, rewrote, use_or_make, wrote, write, change_of}
 use Rattle.raven_world.specs.NewName.{new_name_of}
 use Rattle.raven_world.specs.Told.{machine_of}
@@ -26,7 +27,29 @@ write-done W reply now commands w told etags is taken tells =
     change_with : Reply → Change
     change_with r = record { reply = r; machine = machine_of (in_world W w.store W.slots); rows = w.rows }
 
+pub ruleset writes = (write-refused, write-done)
+
 -- A NEW INDEX
+
+pub defined-refused : (W : World) (now : ℕ) (name : List ℕ) (d : Definition) (commands : List Command) (refused : Refused) (told : Reply) → commands ≡ Put (index_id name) AnyVector (row_body d) ∷ []
+    → commit W.setting Server now commands W.store ≡ Err refused → told ≡ refused_at refused.at refused.kind
+    → no_change (machine_of W) told ≡ defined (machine_of W) now name (Ok (added W name d))
+defined-refused W now name d commands refused told own is tells =
+    ap (no_change (machine_of W)) tells
+    ∙ ap (rewrote (machine_of W) name (added W name d).slots) (sym is ∙ ap (λ cs. commit W.setting Server now cs W.store) own)
+
+pub defined-done : (W : World) (now : ℕ) (name : List ℕ) (d : Definition) (commands : List Command) (store : Store) (rows : List Row) (slot : Slot) → commands ≡ Put (index_id name) AnyVector (row_body d) ∷ []
+    → (let w : Written = record { store = store; rows = rows } in commit W.setting Server now commands W.store ≡ Ok w)
+    → slot ≡ record { number = last W.store + 1; name = name; version = fresh d; row = last W.store + 1 }
+    → (let c : Change = record { reply = Reply.Index slot.name; machine = machine_of (in_world W store (W.slots ++ slot ∷ [])); rows = rows } in c)
+    ≡ defined (machine_of W) now name (Ok (added W name d))
+defined-done W now name d commands store rows slot own is means =
+    ap told means ∙ ap (rewrote (machine_of W) name (added W name d).slots) (sym is ∙ ap (λ cs. commit W.setting Server now cs W.store) own)
+  where
+    told : Slot → Change
+    told s = record { reply = Reply.Index s.name; machine = machine_of (in_world W store (W.slots ++ s ∷ [])); rows = rows }
+
+pub ruleset definitions = (defined-refused, defined-done)
 
 -- what a definition answers where no index may be made, and where one may
 none_made : (W : World) (now : ℕ) (name : List ℕ) (d : Definition) (many serves : Bool) → (let x : Option (List ℕ) = cond (many || serves) None (Some name) in x) ≡ None

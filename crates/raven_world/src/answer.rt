@@ -28,6 +28,7 @@ fn put_text(
 }
 
 // The members of an object, and none of any other value.
+#[tactic(auto, using(crate::proofs::Pairs::pairs))]
 fn members_in(alloc: Global, value: Option<&Value>) -> Result<Members, NoMemory>
     ensures { IfOk result (λ members. members ≡ members_of (option_map (λ v. data_of v.now) value.entry)) }
 {
@@ -60,6 +61,7 @@ fn shown_metadata(
     Ok(members)
 }
 
+#[tactic(auto, using(crate::proofs::Pairs::pairs))]
 fn shown_members(
     alloc: Global,
     base: &BaseId,

@@ -187,6 +187,7 @@ impl World {
         Ok(Change { world, rows, reply })
     }
 
+    #[tactic(auto, using(crate::proofs::Steps::definitions))]
     fn define(
         &self,
         alloc: Global,

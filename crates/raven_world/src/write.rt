@@ -82,8 +82,15 @@ fn results_of(
     ensures { IfOk result (λ done. map result_view done.items ≡ spec_results_of base.now store.now (map command_view commands.now) etags.now) }
 {
     let mut results = Vec::new(alloc);
-    for (command, etag) in commands.iter().zip(etags) {
+    let mut left = commands;
+    let mut taken = etags;
+    while let [command, more @ ..] = left {
+        let [etag, later @ ..] = taken else {
+            return Ok(results);
+        };
         results.push(result_of(alloc, base, store, command, *etag)?)?;
+        left = more;
+        taken = later;
     }
     Ok(results)
 }
@@ -152,6 +159,7 @@ impl World {
     }
 
     /// Takes one command, and replies to it.
+    #[tactic(auto, using(crate::proofs::Steps::writes))]
     pub fn commit_one(
         &self,
         alloc: Global,
@@ -168,6 +176,7 @@ impl World {
     }
 
     /// Takes commands in order, all of them or none, and replies to each.
+    #[tactic(auto, using(crate::proofs::Steps::writes))]
     pub fn commit(&self, alloc: Global, commands: &Commands, now: u64) -> Result<Change, WorldFault>
         ensures { IfSome (told self.now result) (λ change. change ≡ write (machine_of self.now) Bulk now (map command_view commands.now)) }
     {
