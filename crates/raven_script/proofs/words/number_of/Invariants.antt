@@ -1,7 +1,7 @@
 use Rattle.std.proofs.Common.{◌≡◌, ◌<◌, ◌^◌, drop}
 use Rattle.std.specs.List.{list_all}
 use Rattle.raven_model.specs.Script.{is_digit, number_from}
-use Rattle.raven_console.proofs.script.number_of.Given as goal
+use Rattle.raven_script.proofs.words.number_of.Given as goal
 
 abbrev pub invariant-loop-byte : goal.invariant-loop-byte
 invariant-loop-byte l = record {

@@ -1,0 +1,4 @@
+pub mod WordLemmas
+pub mod NumberLemmas
+pub mod Readings
+pub mod LineLemmas

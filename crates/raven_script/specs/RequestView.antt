@@ -1,0 +1,55 @@
+-- What a line of a script asks, and the request that it is.
+use Rattle.std.specs.Prelude.{◌≡◌, ℕ, List, Option, Some, None, map, Result, Ok, Err}
+use Rattle.raven_data.specs.Faults.{Fault}
+use Rattle.raven_data.specs.Json.{not_json, number_not_whole, too_deep}
+use Rattle.raven_value.specs.Refusal.{fault_in}
+use Rattle.raven_value.specs.View.{data_of}
+use Rattle.raven_model.specs.Machine as is
+use Rattle.raven_model.specs.Script as read
+use Rattle.doc_txn.specs.CommandView.{command_view, expect_view}
+use Rattle.raven_script.specs.declared.request.Request.{Request}
+use Rattle.raven_script.specs.declared.request.Request.TheVariants as r
+use Rattle.raven_script.specs.declared.request.Line.{Line}
+use Rattle.raven_script.specs.declared.request.Line.TheVariants as l
+use Rattle.raven_script.specs.declared.request.ReadRefusal.{ReadRefusal}
+use Rattle.raven_script.specs.declared.request.ReadRefusal.TheVariants as refusal
+
+abbrev pub request_view : Request → is.Request
+request_view (r.Put id expected body) = is.Put id (expect_view expected) (data_of body)
+request_view (r.Delete id expected) = is.Delete id (expect_view expected)
+request_view (r.Bulk commands) = is.Bulk (map command_view commands)
+request_view (r.Get id) = is.Get id
+request_view (r.Auto collection field) = is.Auto collection field
+request_view (r.Find index field words) = is.Find index field words
+request_view (r.Pump max) = is.Pump max
+request_view (r.Stale name cutoff) = is.Stale name cutoff
+request_view r.Stats = is.Stats
+
+abbrev pub line_view : Line → read.Line
+line_view (l.Do request) = read.Do (request_view request)
+
+-- the text has this fault; want of memory is none
+abbrev pub IsBadId : {A : Type 0} → Option Fault → Result A read.ReadRefusal → Type 0
+IsBadId None reading = ⊥
+IsBadId (Some fault) reading = reading ≡ Err (read.BadId fault)
+
+-- each refusal is that of what is read; want of memory alone may come anywhere
+abbrev pub Refuses : {A : Type 0} → ReadRefusal → Result A read.ReadRefusal → Type 0
+Refuses refusal.UnknownLine reading = reading ≡ Err read.UnknownLine
+Refuses refusal.NotJson reading = reading ≡ Err (read.BadJson not_json)
+Refuses refusal.NumberNotWhole reading = reading ≡ Err (read.BadJson number_not_whole)
+Refuses refusal.TooDeep reading = reading ≡ Err (read.BadJson too_deep)
+Refuses (refusal.BadId why) reading = IsBadId (fault_in why) reading
+Refuses (refusal.BadMember name) reading = reading ≡ Err (read.BadMember name)
+Refuses refusal.NoMemory reading = Unit {0}
+
+-- it tells of this member
+abbrev pub IsBadMember : List ℕ → ReadRefusal → Type 0
+IsBadMember name (refusal.BadMember told) = told ≡ name
+IsBadMember name refusal.NoMemory = Unit {0}
+IsBadMember name other = ⊥
+
+-- what was read is what this reading gives, or its refusal
+abbrev pub Reads : {A B : Type 0} → (A → B) → Result A ReadRefusal → Result B read.ReadRefusal → Type 0
+Reads view (Ok a) reading = reading ≡ Ok (view a)
+Reads view (Err why) reading = Refuses why reading

@@ -1,0 +1,106 @@
+//! Ids and bodies.
+ghost use Rattle.std.specs.Prelude.{Some};
+ghost use Rattle.raven_data.specs.Json.{reading};
+ghost use Rattle.raven_model.specs.Script.{delete_read, id_read, json_read, name_read, object_read, put_read};
+ghost use Rattle.doc_txn.specs.CommandView.{expect_view};
+ghost use Rattle.raven_value.specs.View.{data_of};
+ghost use Rattle.raven_script.specs.RequestView.{IsBadMember, Reads, request_view};
+
+use crate::request::{ReadRefusal, Request};
+use doc_txn::Expect;
+use raven_json::{JsonRefusal, read};
+use raven_value::{Id, IdRefusal, Name, Text, Value};
+use std::alloc::Global;
+
+/// The id of this text.
+pub fn id_of(alloc: Global, text: &str) -> Result<Id, ReadRefusal>
+    ensures { Reads (λ id. id) result (id_read text.now) }
+{
+    match Id::new(alloc, text) {
+        Ok(id) => Ok(id),
+        Err(IdRefusal::NoMemory) => Err(ReadRefusal::NoMemory),
+        Err(refusal) => Err(ReadRefusal::BadId(refusal)),
+    }
+}
+
+/// The name of this text. A text that can be no name makes the line unknown.
+pub fn name_of(alloc: Global, text: &str) -> Result<Name, ReadRefusal>
+    ensures { Reads (λ name. name) result (name_read text.now) }
+{
+    match Name::new(alloc, text) {
+        Ok(name) => Ok(name),
+        Err(IdRefusal::NoMemory) => Err(ReadRefusal::NoMemory),
+        Err(IdRefusal::Empty | IdRefusal::TooLong { .. } | IdRefusal::Control { .. }) => {
+            Err(ReadRefusal::UnknownLine)
+        }
+    }
+}
+
+/// The value of this JSON.
+pub fn json_of(alloc: Global, text: &str) -> Result<Value, ReadRefusal>
+    ensures { Reads (λ value. data_of value) result (json_read (reading text.now)) }
+{
+    match read(alloc, text.as_bytes()) {
+        Ok(value) => Ok(value),
+        Err(JsonRefusal::NotJson) => Err(ReadRefusal::NotJson),
+        Err(JsonRefusal::NumberNotWhole) => Err(ReadRefusal::NumberNotWhole),
+        Err(JsonRefusal::TooDeep) => Err(ReadRefusal::TooDeep),
+        Err(JsonRefusal::NoMemory) => Err(ReadRefusal::NoMemory),
+    }
+}
+
+/// That this member is missing or of another kind.
+pub fn bad_member(alloc: Global, name: &str) -> ReadRefusal
+    ensures { IsBadMember name.now result }
+{
+    match Text::of(alloc, name) {
+        Ok(name) => ReadRefusal::BadMember { name },
+        Err(_) => ReadRefusal::NoMemory,
+    }
+}
+
+/// The body that has to be an object.
+#[tactic(auto, using(crate::proofs::Readings::members))]
+fn object_of(alloc: Global, name: &str, value: Value) -> Result<Value, ReadRefusal>
+    ensures { Reads (λ object. data_of object) result (object_read name.now (Some (data_of value))) }
+{
+    match value {
+        Value::Map(members) => Ok(Value::Map(members)),
+        _ => Err(bad_member(alloc, name)),
+    }
+}
+
+/// A put of this body. The JSON is read first, then the id, and then the body has to be an object.
+#[tactic(auto, using(crate::proofs::Readings::readings))]
+pub fn put_of(
+    alloc: Global,
+    id: &str,
+    expected: Expect,
+    body: &str,
+) -> Result<Request, ReadRefusal>
+    ensures { Reads request_view result (put_read id.now (expect_view expected) (reading body.now)) }
+{
+    let value = match json_of(alloc, body) {
+        Ok(value) => value,
+        Err(refusal) => return Err(refusal),
+    };
+    let id = match id_of(alloc, id) {
+        Ok(id) => id,
+        Err(refusal) => return Err(refusal),
+    };
+    match object_of(alloc, "body", value) {
+        Ok(body) => Ok(Request::Put { id, expected, body }),
+        Err(refusal) => Err(refusal),
+    }
+}
+
+/// A deletion of this id.
+#[tactic(auto, using(crate::proofs::Readings::readings))]
+pub fn delete_of(alloc: Global, expected: Expect, id: &str) -> Result<Request, ReadRefusal>
+    ensures { Reads request_view result (delete_read (expect_view expected) id.now) }
+{
+    match id_of(alloc, id) {
+        Ok(id) => Ok(Request::Delete { id, expected }),
+        Err(refusal) => Err(refusal),
+    }
+}

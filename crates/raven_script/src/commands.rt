@@ -1,0 +1,177 @@
+//! The commands of a transaction, in JSON.
+ghost use Rattle.std.specs.Prelude.{◌≡◌, IfOk, codes, map, option_map};
+ghost use Rattle.raven_data.specs.Data.{entries_of, items_of};
+ghost use Rattle.raven_data.specs.Json.{reading};
+ghost use Rattle.raven_data.specs.Members.{member};
+ghost use Rattle.raven_model.specs.Script.{bulk_read, command_read, commands_of as spec_commands_of, commands_read as spec_commands_read, delete_command as spec_delete_command, id_member as spec_id_member, list_member, object_read, put_command as spec_put_command, typed_command as spec_typed_command, vector_member as spec_vector_member};
+ghost use Rattle.raven_value.specs.View.{data_of};
+ghost use Rattle.doc_txn.specs.CommandView.{command_view, expect_view};
+ghost use Rattle.raven_script.specs.RequestView.{Reads, request_view};
+
+use crate::body::{bad_member, id_of, json_of};
+use crate::request::{ReadRefusal, Request};
+use doc_txn::{Command, Commands, Expect};
+use raven_base::NoMemory;
+use raven_value::{Id, Members, Text, Value};
+use std::alloc::Global;
+
+// The member of this name.
+fn member_of<'a>(
+    alloc: Global,
+    members: &'a Members,
+    name: &str,
+) -> Result<Option<&'a Value>, NoMemory>
+    ensures { IfOk result (λ found. option_map (λ v. data_of v.now) found ≡ member name.now (entries_of members.now)) }
+{
+    let name = Text::of(alloc, name)?;
+    Ok(members.get(&name))
+}
+
+#[tactic(auto, using(crate::proofs::Readings::members))]
+fn id_member(alloc: Global, value: Option<&Value>) -> Result<Id, ReadRefusal>
+    ensures { Reads (λ id. id) result (spec_id_member (option_map (λ v. data_of v.now) value.entry)) }
+{
+    match value {
+        Some(Value::Text(text)) => id_of(alloc, text.as_str()),
+        _ => Err(bad_member(alloc, "Id")),
+    }
+}
+
+#[tactic(auto, using(crate::proofs::Readings::members))]
+fn vector_member(alloc: Global, value: Option<&Value>) -> Result<Expect, ReadRefusal>
+    ensures { Reads expect_view result (spec_vector_member (option_map (λ v. data_of v.now) value.entry)) }
+{
+    match value {
+        None | Some(Value::Null) => Ok(Expect::Any),
+        Some(Value::Text(vector)) => Ok(Expect::Vector(Text::of(alloc, vector.as_str())?)),
+        Some(_) => Err(bad_member(alloc, "ChangeVector")),
+    }
+}
+
+fn copy(value: &Value) -> Result<Value, NoMemory>
+    ensures { IfOk result (λ copy. copy ≡ value.now) }
+{
+    Ok(value.clone()?)
+}
+
+#[tactic(auto, using(crate::proofs::Readings::members))]
+fn document_member(alloc: Global, value: Option<&Value>) -> Result<Value, ReadRefusal>
+    ensures { Reads (λ document. data_of document) result (object_read (codes "Document") (option_map (λ v. data_of v.now) value.entry)) }
+{
+    let Some(value) = value else {
+        return Err(bad_member(alloc, "Document"));
+    };
+    match value {
+        Value::Map(_) => Ok(copy(value)?),
+        _ => Err(bad_member(alloc, "Document")),
+    }
+}
+
+#[tactic(auto, using(crate::proofs::Readings::readings))]
+fn put_command(alloc: Global, members: &Members) -> Result<Command, ReadRefusal>
+    ensures { Reads command_view result (spec_put_command (entries_of members.now)) }
+{
+    let id = match id_member(alloc, member_of(alloc, members, "Id")?) {
+        Ok(id) => id,
+        Err(refusal) => return Err(refusal),
+    };
+    let expected = match vector_member(alloc, member_of(alloc, members, "ChangeVector")?) {
+        Ok(expected) => expected,
+        Err(refusal) => return Err(refusal),
+    };
+    match document_member(alloc, member_of(alloc, members, "Document")?) {
+        Ok(body) => Ok(Command::Put { id, expected, body }),
+        Err(refusal) => Err(refusal),
+    }
+}
+
+#[tactic(auto, using(crate::proofs::Readings::readings))]
+fn delete_command(alloc: Global, members: &Members) -> Result<Command, ReadRefusal>
+    ensures { Reads command_view result (spec_delete_command (entries_of members.now)) }
+{
+    let id = match id_member(alloc, member_of(alloc, members, "Id")?) {
+        Ok(id) => id,
+        Err(refusal) => return Err(refusal),
+    };
+    match vector_member(alloc, member_of(alloc, members, "ChangeVector")?) {
+        Ok(expected) => Ok(Command::Delete { id, expected }),
+        Err(refusal) => Err(refusal),
+    }
+}
+
+#[tactic(auto, using(crate::proofs::Readings::members))]
+fn typed_command(alloc: Global, members: &Members) -> Result<Command, ReadRefusal>
+    ensures { Reads command_view result (spec_typed_command (member (codes "Type") (entries_of members.now)) (entries_of members.now)) }
+{
+    match member_of(alloc, members, "Type")? {
+        Some(Value::Text(text)) if text.as_str() == "PUT" => put_command(alloc, members),
+        Some(Value::Text(text)) if text.as_str() == "DELETE" => delete_command(alloc, members),
+        _ => Err(bad_member(alloc, "Type")),
+    }
+}
+
+#[tactic(auto, using(crate::proofs::Readings::members))]
+fn command_of(alloc: Global, value: &Value) -> Result<Command, ReadRefusal>
+    ensures { Reads command_view result (command_read (data_of value.now)) }
+{
+    match value {
+        Value::Map(members) => typed_command(alloc, members),
+        _ => Err(bad_member(alloc, "Commands")),
+    }
+}
+
+#[tactic(auto, using(crate::proofs::Readings::lists))]
+fn commands_read(alloc: Global, values: &[Value]) -> Result<Vec<Command>, ReadRefusal>
+    ensures { Reads (λ commands. map command_view commands.items) result (spec_commands_read (map data_of values.now)) }
+{
+    let mut commands = Vec::new(alloc);
+    for value in values {
+        let command = match command_of(alloc, value) {
+            Ok(command) => command,
+            Err(refusal) => return Err(refusal),
+        };
+        if commands.push(command).is_err() {
+            return Err(ReadRefusal::NoMemory);
+        }
+    }
+    Ok(commands)
+}
+
+#[tactic(auto, using(crate::proofs::Readings::members))]
+fn commands_in(alloc: Global, value: Option<&Value>) -> Result<Commands, ReadRefusal>
+    ensures { Reads (λ commands. map command_view commands) result (list_member (option_map (λ v. data_of v.now) value.entry)) }
+{
+    let Some(Value::List(values)) = value else {
+        return Err(bad_member(alloc, "Commands"));
+    };
+    match commands_read(alloc, values.as_slice()) {
+        Ok(commands) => Ok(Commands::of(commands)),
+        Err(refusal) => Err(refusal),
+    }
+}
+
+/// The commands of a body that has them in its member `Commands`.
+#[tactic(auto, using(crate::proofs::Readings::members))]
+pub fn commands_of(alloc: Global, value: &Value) -> Result<Commands, ReadRefusal>
+    ensures { Reads (λ commands. map command_view commands) result (spec_commands_of (data_of value.now)) }
+{
+    match value {
+        Value::Map(members) => commands_in(alloc, member_of(alloc, members, "Commands")?),
+        _ => Err(bad_member(alloc, "body")),
+    }
+}
+
+/// A transaction of this JSON.
+#[tactic(auto, using(crate::proofs::Readings::readings))]
+pub fn bulk_of(alloc: Global, text: &str) -> Result<Request, ReadRefusal>
+    ensures { Reads request_view result (bulk_read text.now) }
+{
+    let value = match json_of(alloc, text) {
+        Ok(value) => value,
+        Err(refusal) => return Err(refusal),
+    };
+    match commands_of(alloc, &value) {
+        Ok(commands) => Ok(Request::Bulk { commands }),
+        Err(refusal) => Err(refusal),
+    }
+}

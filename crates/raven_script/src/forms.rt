@@ -1,0 +1,180 @@
+//! What a line asks.
+ghost use Rattle.std.specs.Prelude.{◌≡◌, None, option_map};
+ghost use Rattle.raven_model.specs.Script.{auto_of as spec_auto_of, by_word as spec_by_word, delete_if_of as spec_delete_if_of, find_of as spec_find_of, get_of as spec_get_of, line_of, pump_of as spec_pump_of, put_if_of as spec_put_if_of, put_of as spec_put_of, request_of as spec_request_of, stale_of as spec_stale_of};
+ghost use Rattle.raven_script.specs.RequestView.{Reads, line_view, request_view};
+
+use crate::body::{delete_of, id_of, name_of, put_of};
+use crate::commands::bulk_of;
+use crate::request::{Line, ReadRefusal, Request};
+use crate::words::{is_collection, is_field, number_of, parts};
+use doc_txn::Expect;
+use raven_value::Text;
+use std::alloc::Global;
+
+/// The most rows of a batch.
+const MAX_BATCH: u64 = 65_536;
+
+#[tactic(auto, using(crate::proofs::Readings::readings))]
+fn put(alloc: Global, more: &str) -> Result<Request, ReadRefusal>
+    ensures { Reads request_view result (spec_put_of more.now) }
+{
+    match parts(more) {
+        Ok((id, body)) => put_of(alloc, id, Expect::Any, body),
+        Err(refusal) => Err(refusal),
+    }
+}
+
+#[tactic(auto, using(crate::proofs::Readings::readings))]
+fn put_if(alloc: Global, more: &str) -> Result<Request, ReadRefusal>
+    ensures { Reads request_view result (spec_put_if_of more.now) }
+{
+    let (id, rest) = match parts(more) {
+        Ok(parts) => parts,
+        Err(refusal) => return Err(refusal),
+    };
+    match parts(rest) {
+        Ok((vector, body)) => {
+            let expected = Expect::Vector(Text::of(alloc, vector)?);
+            put_of(alloc, id, expected, body)
+        }
+        Err(refusal) => Err(refusal),
+    }
+}
+
+#[tactic(auto, using(crate::proofs::Readings::readings))]
+fn delete_if(alloc: Global, more: &str) -> Result<Request, ReadRefusal>
+    ensures { Reads request_view result (spec_delete_if_of more.now) }
+{
+    match parts(more) {
+        Ok((vector, id)) => {
+            let expected = Expect::Vector(Text::of(alloc, vector)?);
+            delete_of(alloc, expected, id)
+        }
+        Err(refusal) => Err(refusal),
+    }
+}
+
+#[tactic(auto, using(crate::proofs::Readings::readings))]
+fn get(alloc: Global, more: &str) -> Result<Request, ReadRefusal>
+    ensures { Reads request_view result (spec_get_of more.now) }
+{
+    match id_of(alloc, more) {
+        Ok(id) => Ok(Request::Get { id }),
+        Err(refusal) => Err(refusal),
+    }
+}
+
+#[tactic(auto, using(crate::proofs::Readings::readings))]
+fn auto(alloc: Global, more: &str) -> Result<Request, ReadRefusal>
+    ensures { Reads request_view result (spec_auto_of more.now) }
+{
+    let (collection, field) = match parts(more) {
+        Ok(parts) => parts,
+        Err(refusal) => return Err(refusal),
+    };
+    if !is_collection(collection) || !is_field(field.as_bytes()) {
+        return Err(ReadRefusal::UnknownLine);
+    }
+    Ok(Request::Auto {
+        collection: Text::of(alloc, collection)?,
+        field: Text::of(alloc, field)?,
+    })
+}
+
+fn pump(more: &str) -> Result<Request, ReadRefusal>
+    ensures { Reads request_view result (spec_pump_of more.now) }
+{
+    match number_of(more.as_bytes()) {
+        Some(max) if max >= 1 && max <= MAX_BATCH => Ok(Request::Pump { max: max as u32 }),
+        _ => Err(ReadRefusal::UnknownLine),
+    }
+}
+
+#[tactic(auto, using(crate::proofs::Readings::readings))]
+fn find(alloc: Global, more: &str) -> Result<Request, ReadRefusal>
+    ensures { Reads request_view result (spec_find_of more.now) }
+{
+    let (index, rest) = match parts(more) {
+        Ok(parts) => parts,
+        Err(refusal) => return Err(refusal),
+    };
+    let (field, words) = match parts(rest) {
+        Ok(parts) => parts,
+        Err(refusal) => return Err(refusal),
+    };
+    match name_of(alloc, index) {
+        Ok(index) => Ok(Request::Find {
+            index,
+            field: Text::of(alloc, field)?,
+            text: Text::of(alloc, words)?,
+        }),
+        Err(refusal) => Err(refusal),
+    }
+}
+
+#[tactic(auto, using(crate::proofs::Readings::readings))]
+fn stale(alloc: Global, more: &str) -> Result<Request, ReadRefusal>
+    ensures { Reads request_view result (spec_stale_of more.now) }
+{
+    match name_of(alloc, more) {
+        Ok(name) => Ok(Request::Stale { name, cutoff: None }),
+        Err(refusal) => Err(refusal),
+    }
+}
+
+fn by_word(alloc: Global, word: &str, more: &str) -> Result<Request, ReadRefusal>
+    ensures { Reads request_view result (spec_by_word word.now more.now) }
+{
+    if word == "PUT" {
+        put(alloc, more)
+    } else if word == "PUTIF" {
+        put_if(alloc, more)
+    } else if word == "DEL" {
+        delete_of(alloc, Expect::Any, more)
+    } else if word == "DELIF" {
+        delete_if(alloc, more)
+    } else if word == "BULK" {
+        bulk_of(alloc, more)
+    } else if word == "GET" {
+        get(alloc, more)
+    } else if word == "AUTO" {
+        auto(alloc, more)
+    } else if word == "PUMP" {
+        pump(more)
+    } else if word == "FIND" {
+        find(alloc, more)
+    } else if word == "STALE" {
+        stale(alloc, more)
+    } else {
+        Err(ReadRefusal::UnknownLine)
+    }
+}
+
+#[tactic(auto, using(crate::proofs::Readings::readings))]
+fn request_of(alloc: Global, text: &str) -> Result<Request, ReadRefusal>
+    ensures { Reads request_view result (spec_request_of text.now) }
+{
+    if text == "STATS" {
+        return Ok(Request::Stats);
+    }
+    match parts(text) {
+        Ok((word, more)) => by_word(alloc, word, more),
+        Err(refusal) => Err(refusal),
+    }
+}
+
+/// What a line of a script asks: nothing, exactly where it has no bytes.
+pub fn line(alloc: Global, bytes: &[u8]) -> Result<Option<Line>, ReadRefusal>
+    ensures { Reads (λ found. option_map line_view found) result (line_of bytes.now) }
+{
+    if bytes.is_empty() {
+        return Ok(None);
+    }
+    let Ok(text) = str::from_utf8(bytes) else {
+        return Err(ReadRefusal::UnknownLine);
+    };
+    match request_of(alloc, text) {
+        Ok(request) => Ok(Some(Line::Do(request))),
+        Err(refusal) => Err(refusal),
+    }
+}

@@ -1,0 +1,11 @@
+//! The lines of a script, and what they ask.
+#![tactic(auto)]
+
+mod body;
+mod commands;
+mod forms;
+mod request;
+mod words;
+
+pub use forms::line;
+pub use request::{Line, ReadRefusal, Request};

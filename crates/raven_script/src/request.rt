@@ -1,0 +1,127 @@
+//! What a line of a script asks.
+ghost use Rattle.std.specs.Prelude.{◌≡◌};
+ghost use Rattle.raven_script.specs.declared.request.ReadRefusal.TheVariants.{NoMemory as OutOfMemory};
+
+use doc_txn::{Commands, Expect};
+use raven_base::NoMemory;
+use raven_value::{Id, IdRefusal, Name, Text, Value};
+use thiserror::Error;
+
+/// A request to the database.
+#[derive(Debug, Drop)]
+pub enum Request {
+    /// Write the document of this id.
+    Put {
+        /// The id of the document.
+        id: Id,
+        /// What has to stand there.
+        expected: Expect,
+        /// The document.
+        body: Value,
+    },
+
+    /// Delete the document of this id, if there is one.
+    Delete {
+        /// The id of the document.
+        id: Id,
+        /// What has to stand there.
+        expected: Expect,
+    },
+
+    /// Take these commands in order, all of them or none.
+    Bulk {
+        /// The commands.
+        commands: Commands,
+    },
+
+    /// Show the document of this id.
+    Get {
+        /// The id of the document.
+        id: Id,
+    },
+
+    /// Pick the automatic index of a collection by one field, or make one.
+    Auto {
+        /// The collection that is indexed.
+        collection: Text,
+        /// The member that is indexed.
+        field: Text,
+    },
+
+    /// Find the documents of an index by the text of one field.
+    Find {
+        /// The name of the index.
+        index: Name,
+        /// The field that is compared.
+        field: Text,
+        /// The text that it has, whatever its case.
+        text: Text,
+    },
+
+    /// Bring each index on by one batch.
+    Pump {
+        /// How many rows a batch may take, from 1 to 65,536.
+        max: u32,
+    },
+
+    /// Tell how far an index is.
+    Stale {
+        /// The name of the index.
+        name: Name,
+        /// The greatest etag that counts, where there is one.
+        cutoff: Option<u64>,
+    },
+
+    /// Tell how much the database has.
+    Stats,
+}
+
+/// What one line asks.
+#[derive(Debug, Drop)]
+pub enum Line {
+    /// The machine is to do this.
+    Do(Request),
+}
+
+/// Why a line is not read.
+#[derive(Debug, Drop, Error, PartialEq, Eq)]
+pub enum ReadRefusal {
+    /// The line has no form of a script's lines.
+    #[error("the line has no known form")]
+    UnknownLine,
+
+    /// The text that should be JSON is none.
+    #[error("the text is no JSON")]
+    NotJson,
+
+    /// A number of the JSON is not a whole number of 64 bits.
+    #[error("a number is not a whole number of 64 bits")]
+    NumberNotWhole,
+
+    /// The JSON is more than 100 deep.
+    #[error("the JSON is more than 100 deep")]
+    TooDeep,
+
+    /// The text can be no id. Want of memory is never told so.
+    #[error("the text can be no id: {0}")]
+    BadId(IdRefusal),
+
+    /// This member is missing or of another kind; `body` is the whole.
+    #[error("the member {name:?} is missing or of another kind")]
+    BadMember {
+        /// The name of the member.
+        name: Text,
+    },
+
+    /// No memory was found.
+    #[error("no memory was found")]
+    NoMemory,
+}
+
+impl From<NoMemory> for ReadRefusal {
+    ghost from_gives = { λ _ refusal. refusal ≡ OutOfMemory };
+
+    fn from(_lack: NoMemory) -> ReadRefusal {
+        ReadRefusal::NoMemory
+    }
+}

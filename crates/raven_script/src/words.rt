@@ -1,0 +1,79 @@
+//! The words of a line.
+ghost use Rattle.std.specs.Prelude.{◌≡◌, None, Some, MatchOption};
+ghost use Rattle.raven_model.specs.Script.{before_space, after_space, has_byte, is_collection as spec_is_collection, is_field as spec_is_field, number_of as spec_number_of, parts_read, word_and_rest as spec_word_and_rest};
+ghost use Rattle.raven_script.specs.RequestView.{Reads};
+
+use crate::request::ReadRefusal;
+
+/// The most digits of a number.
+const MAX_DIGITS: usize = 16;
+
+// The first word, and what stands behind the space after it. There is none where no space stands.
+#[tactic(auto, using(crate::proofs::WordLemmas::splits))]
+fn split_word(text: &str) -> Option<(&str, &str)>
+    ensures { MatchOption result (after_space text.now ≡ None)
+        (λ parts. (before_space text.now ≡ parts.0.now) × (after_space text.now ≡ Some parts.1.now)) }
+{
+    text.split_once(' ')
+}
+
+/// The first word and the rest behind its space, where both have a byte.
+#[tactic(auto, using(crate::proofs::WordLemmas::parts))]
+pub fn word_and_rest(text: &str) -> Option<(&str, &str)>
+    ensures { MatchOption result (spec_word_and_rest text.now ≡ None) (λ parts. spec_word_and_rest text.now ≡ Some (parts.0.now, parts.1.now)) }
+{
+    let (word, rest) = split_word(text)?;
+    if word.is_empty() || rest.is_empty() {
+        return None;
+    }
+    Some((word, rest))
+}
+
+/// The first word and the rest behind its space, or an unknown line.
+pub fn parts(text: &str) -> Result<(&str, &str), ReadRefusal>
+    ensures { Reads (λ p. (p.0.now, p.1.now)) result (parts_read text.now) }
+{
+    match word_and_rest(text) {
+        Some(parts) => Ok(parts),
+        None => Err(ReadRefusal::UnknownLine),
+    }
+}
+
+/// The number that 1 to 16 digits write.
+#[tactic(auto, using(crate::proofs::NumberLemmas::numbers))]
+pub fn number_of(text: &[u8]) -> Option<u64>
+    ensures { result ≡ spec_number_of text.now }
+{
+    if text.is_empty() || text.len() > MAX_DIGITS {
+        return None;
+    }
+    let mut number = 0;
+    for byte in text {
+        if !byte.is_ascii_digit() {
+            return None;
+        }
+        number = number * 10 + u64::from(*byte - b'0');
+    }
+    Some(number)
+}
+
+/// A collection that an automatic index may be of.
+pub fn is_collection(text: &str) -> bool
+    ensures { result ≡ spec_is_collection text.now }
+{
+    match text.as_bytes() {
+        [] => false,
+        [first, ..] => *first != b'@' || text == "@empty",
+    }
+}
+
+/// A path of one part.
+pub fn is_field(text: &[u8]) -> bool
+    ensures { result ≡ spec_is_field text.now }
+{
+    let has_break = text.contains(&b' ')
+        || text.contains(&b'.')
+        || text.contains(&b'(')
+        || text.contains(&b')');
+    !text.is_empty() && !has_break
+}
