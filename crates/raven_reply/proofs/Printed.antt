@@ -1,7 +1,7 @@
 -- What is printed, piece by piece behind what stands before.
 use Rattle.std.proofs.Common.{◌≡◌, ℕ, List, ◌++◌, ◌∷◌, [], Bool, append_assoc, codes, map, false}
 use Rattle.std.proofs.lemmas.List.{append-nil}
-use Rattle.raven_data.specs.Data.{Items, Entries, array, object, text, items_of, flag}
+use Rattle.raven_data.specs.Data.{Entries, object, text, items_of, flag}
 use Rattle.raven_data.specs.Written.{quoted, text_of, items_text, entries_text}
 use Rattle.raven_model.specs.Replies.{Bulk, Found, Pumped, Pumping, Result, number, pumping_data, result_data, reply_data}
 

@@ -1,5 +1,4 @@
 -- What stands at a member of a reply.
-use Rattle.std.specs.Prelude.{ℕ, List}
 use Rattle.raven_data.specs.Data.{Data, flag, text}
 use Rattle.raven_model.specs.Replies.{number}
 use Rattle.raven_reply.specs.declared.text.Piece.{Piece}

@@ -8,3 +8,6 @@ mod text;
 pub use moment::moment_text;
 pub use reply::{BulkResult, BulkResults, Pumping, Pumpings, Reply};
 pub use text::reply_text;
+
+#[cfg(test)]
+mod tests;

@@ -1,15 +1,34 @@
 //! Moments as they are printed.
-ghost use Rattle.std.specs.Prelude.{◌≡◌, IfOk};
-ghost use Rattle.raven_data.specs.Moments.{moment_text as spec_moment_text};
+ghost use Rattle.std.specs.Prelude.{◌≡◌, ◌-◌, ◌*◌, min, pos, IfOk};
+ghost use Rattle.raven_data.specs.Moments.{moments_end, moment_text as spec_moment_text};
 
+use jiff_core::Timestamp;
+use jiff_fmt::temporal::DateTimePrinter;
 use raven_base::NoMemory;
 use raven_value::Text;
 use std::alloc::Global;
+
+// The last microsecond of the year 9998.
+const LAST_MOMENT: u64 = 253_370_764_799_999_999;
+
+// The instant of a moment, of which none is past the last.
+fn instant(moment: u64) -> Timestamp
+    ensures { result.nanosecond ≡ pos (min moment (moments_end - 1) * 1000) }
+{
+    Timestamp {
+        nanosecond: i128::from(moment.min(LAST_MOMENT)) * 1000,
+    }
+}
 
 /// A moment, in microseconds since 1970-01-01T00:00:00Z, as `YYYY-MM-DDTHH:MM:SS.` and seven digits of the second's fraction and `Z`.
 pub fn moment_text(alloc: Global, moment: u64) -> Result<Text, NoMemory>
     ensures { IfOk result (λ text. text ≡ spec_moment_text moment) }
 {
+<<<<<<< HEAD
     let _ = (alloc, moment);
     Err(NoMemory)
+=======
+    let printer = DateTimePrinter::new().precision(Some(7));
+    Text::of(alloc, printer.timestamp_text(instant(moment)).as_str())
+>>>>>>> 64223bf6d039e682e7e46db78a1b1cb1fbf6a64e
 }

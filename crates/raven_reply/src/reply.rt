@@ -29,16 +29,10 @@ pub type Pumpings = Sequence<Pumping>;
 #[derive(Debug, Drop)]
 pub enum BulkResult {
     /// The document was put.
-    Put {
-        change_vector: Text,
-        id: Id,
-    },
+    Put { change_vector: Text, id: Id },
 
     /// The document was deleted, or there was none.
-    Deleted {
-        deleted: bool,
-        id: Id,
-    },
+    Deleted { deleted: bool, id: Id },
 }
 
 /// What the commands of a transaction did, in order.

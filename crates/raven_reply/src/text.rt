@@ -39,12 +39,7 @@ fn write_piece(alloc: Global, out: &mut Vec<u8>, piece: &Piece) -> Result<(), No
 }
 
 #[tactic(auto, using(crate::proofs::Printed::printed))]
-fn write_member(
-    alloc: Global,
-    out: &mut Vec<u8>,
-    name: &str,
-    piece: &Piece,
-) -> Result<(), NoMemory>
+fn write_member(alloc: Global, out: &mut Vec<u8>, name: &str, piece: &Piece) -> Result<(), NoMemory>
     ensures { OnOk result (out.new.items ≡ out.old.items ++ (quoted name.now ++ 58 ∷ text_of (piece_data piece.now))) }
 {
     write_text(out, name)?;
@@ -72,11 +67,7 @@ fn write_members(
 
 // An object of these members, which rise.
 #[tactic(auto, using(crate::proofs::Printed::printed))]
-fn write_object(
-    alloc: Global,
-    out: &mut Vec<u8>,
-    members: &[(&str, Piece)],
-) -> Result<(), NoMemory>
+fn write_object(alloc: Global, out: &mut Vec<u8>, members: &[(&str, Piece)]) -> Result<(), NoMemory>
     ensures { OnOk result (out.new.items ≡ out.old.items ++ text_of (object (entries_of (map (λ m. (m.0.now, piece_data m.1)) members.now)))) }
 {
     write_bytes(out, b"{")?;
@@ -336,12 +327,7 @@ fn write_put(
     )
 }
 
-fn write_deleted(
-    alloc: Global,
-    out: &mut Vec<u8>,
-    deleted: bool,
-    id: &str,
-) -> Result<(), NoMemory>
+fn write_deleted(alloc: Global, out: &mut Vec<u8>, deleted: bool, id: &str) -> Result<(), NoMemory>
     ensures { OnOk result (out.new.items ≡ out.old.items ++ text_of (reply_data (Deleted deleted id.now))) }
 {
     write_object(
