@@ -1,1 +1,5 @@
 pub mod Grown
+pub mod MapLemmas
+pub mod WalkLemmas
+pub mod IdLemmas
+pub mod OpeningLemmas

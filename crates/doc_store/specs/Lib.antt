@@ -1,1 +1,4 @@
 pub mod Bounds
+pub mod Maps
+pub mod Steps
+pub mod Opening

@@ -1,8 +1,14 @@
 //! The store: the rows of a database, of which each change makes a new one and leaves the old one.
 #![tactic(auto)]
 
+mod opening;
 mod rows;
+mod shared;
 mod store;
 
+pub use opening::OpenFault;
 pub use rows::{Counts, last_etag};
 pub use store::Store;
+
+#[cfg(test)]
+mod tests;

@@ -1,15 +1,16 @@
-//! Rows as a plain list in order of etag.
+//! Walks over the rows of a store's maps.
+ghost use Rattle.std.specs.Prelude.{◌≡◌, ◌↔◌, ◌<◌, ◌^◌, ◌&&◌, IfOk, IsTrue, filter, length, nat_lt, not, take};
 ghost use Rattle.std.specs.Str.{bytes_eq};
-ghost use Rattle.std.specs.Prelude.{◌≡◌, ◌↔◌, ◌<◌, ◌^◌, ◌&&◌, IfOk, OnOk, IsTrue, filter, length, nat_lt, not, take};
-ghost use Rattle.std.specs.Option.{option_copied};
-ghost use Rattle.raven_data.specs.Folding.{folded, same_key};
-ghost use Rattle.raven_data.specs.Rows.{is_document, key};
-ghost use Rattle.raven_model.specs.Store.{last_of, put, row_at, with_rows};
-ghost use Rattle.raven_model.specs.Index.{in_scope, up_to};
+ghost use Rattle.raven_data.specs.Rows.{is_document};
+ghost use Rattle.raven_model.specs.Store.{last_of};
+ghost use Rattle.raven_model.specs.Index.{in_scope};
+ghost use Rattle.doc_store.specs.Maps.{newest_among, newest_at, rows_in};
 
+use crate::shared::SharedRow;
+use paged_map::{PagedMap, Pairs};
 use raven_base::NoMemory;
 use raven_value::{Body, Id, Row, Text};
-use std::alloc::{AllocError, Global};
+use std::alloc::Global;
 
 /// The etag of the last row, or 0 where there is none.
 pub fn last_etag(rows: &[Row]) -> u64
@@ -22,18 +23,6 @@ pub fn last_etag(rows: &[Row]) -> u64
     etag
 }
 
-/// The row of an id.
-pub fn find_row<'a>(rows: &'a [Row], id: &Id) -> Option<&'a Row>
-    ensures { option_copied result ≡ row_at (folded id.now) rows.now }
-{
-    for row in rows {
-        if id == &row.id {
-            return Some(row);
-        }
-    }
-    None
-}
-
 /// Whether a row's collection is one of these.
 pub fn is_in_scope(scope: &[Text], row: &Row) -> bool
     ensures { result ≡ in_scope scope.now row.now }
@@ -41,19 +30,31 @@ pub fn is_in_scope(scope: &[Text], row: &Row) -> bool
     scope.iter().any(|name| row.collection == *name)
 }
 
+/// Copies of all rows.
+pub fn copies(alloc: Global, rows: Pairs<'_, Id, SharedRow>) -> Result<Vec<Row>, NoMemory>
+    ensures { IfOk result (λ copies. copies.items ≡ rows_in rows.entry) }
+{
+    let mut copies = Vec::new(alloc);
+    for pair in rows {
+        copies.push(pair.1.row().clone()?)?;
+    }
+    Ok(copies)
+}
+
 /// The first rows in scope past an etag, and whether more remain.
 pub fn first_past(
     alloc: Global,
-    rows: &[Row],
+    rows: Pairs<'_, u64, SharedRow>,
     etag: u64,
     scope: &[Text],
     max: usize,
 ) -> Result<(Vec<Row>, bool), NoMemory>
-    ensures rows { IfOk result (λ r. r.0.items ≡ take max (filter (λ x. in_scope scope.now x && nat_lt etag x.etag) rows.now)) }
-    ensures more { IfOk result (λ r. IsTrue r.1 ↔ (max < length (filter (λ x. in_scope scope.now x && nat_lt etag x.etag) rows.now))) }
+    ensures rows { IfOk result (λ r. r.0.items ≡ take max (filter (λ x. in_scope scope.now x && nat_lt etag x.etag) (rows_in rows.entry))) }
+    ensures more { IfOk result (λ r. IsTrue r.1 ↔ (max < length (filter (λ x. in_scope scope.now x && nat_lt etag x.etag) (rows_in rows.entry)))) }
 {
     let mut found = Vec::new(alloc);
-    for row in rows {
+    for pair in rows {
+        let row = pair.1.row();
         if is_in_scope(scope, row) && etag < row.etag {
             if found.len() == max {
                 return Ok((found, true));
@@ -64,63 +65,38 @@ pub fn first_past(
     Ok((found, false))
 }
 
-fn is_up_to(upto: Option<u64>, etag: u64) -> bool
-    ensures { result ≡ up_to upto etag }
-{
-    match upto {
-        Some(most) => etag <= most,
-        None => true,
-    }
-}
-
-/// The greatest etag of a row in scope up to a bound, or 0.
-pub fn newest_etag(rows: &[Row], scope: &[Text], upto: Option<u64>) -> u64
-    ensures { result ≡ last_of 0 (filter (λ x. in_scope scope.now x && up_to upto x.etag) rows.now) }
+/// The etag of the last row in scope, or 0.
+pub fn last_in_scope(rows: Pairs<'_, u64, SharedRow>, scope: &[Text]) -> u64
+    ensures { result ≡ last_of 0 (filter (in_scope scope.now) (rows_in rows.entry)) }
 {
     let mut etag = 0;
-    for row in rows {
-        if is_in_scope(scope, row) && is_up_to(upto, row.etag) {
+    for pair in rows {
+        let row = pair.1.row();
+        if is_in_scope(scope, row) {
             etag = row.etag;
         }
     }
     etag
 }
 
-fn remove_id(rows: &mut Vec<Row>, id: &Id)
-    ensures { rows.new.items ≡ filter (λ x. not (same_key (folded id.now) (key x))) rows.old.items }
+fn newest_of(newest: &PagedMap<Text, u64>, collection: &Text) -> u64
+    ensures { result ≡ newest_at newest.now collection.now }
 {
-    rows.retain(|row| id != &row.id);
-}
-
-/// Puts a row at the end, in place of an earlier row of its id.
-fn put_row(rows: &mut Vec<Row>, row: Row) -> Result<(), NoMemory>
-    ensures { OnOk result (rows.new.items ≡ put row rows.old.items) }
-{
-    remove_id(rows, &row.id);
-    rows.push(row)?;
-    Ok(())
-}
-
-/// The same rows once more.
-pub fn copies(alloc: Global, rows: &[Row]) -> Result<Vec<Row>, AllocError>
-    ensures { IfOk result (λ new. new.items ≡ rows.now) }
-{
-    let mut new = Vec::with_capacity(alloc, rows.len())?;
-    for row in rows {
-        new.push(row.clone()?)?;
+    match newest.get(collection) {
+        Some(etag) => *etag,
+        None => 0,
     }
-    Ok(new)
 }
 
-/// The rows with further ones, one after another.
-pub fn with_each(alloc: Global, rows: &[Row], more: &[Row]) -> Result<Vec<Row>, NoMemory>
-    ensures { IfOk result (λ new. new.items ≡ (with_rows (record { rows = rows.now }) more.now).rows) }
+/// The greatest etag that one of these collections has, or 0.
+pub fn newest_in_scope(newest: &PagedMap<Text, u64>, scope: &[Text]) -> u64
+    ensures { result ≡ newest_among 0 newest.now scope.now }
 {
-    let mut new = copies(alloc, rows)?;
-    for row in more {
-        put_row(&mut new, row.clone()?)?;
+    let mut etag: u64 = 0;
+    for collection in scope {
+        etag = etag.max(newest_of(newest, collection));
     }
-    Ok(new)
+    etag
 }
 
 /// How many documents and tombstones there are.
@@ -131,14 +107,15 @@ pub struct Counts {
 }
 
 /// How many of these rows are documents and tombstones of other collections than this one.
-pub fn counts_of(rows: &[Row], collection: &str) -> Counts
-    requires { length rows.now < 2 ^ 32 }
-    ensures documents { result.documents ≡ length (filter (λ r. not (bytes_eq r.collection collection.now) && is_document r) rows.now) }
-    ensures tombstones { result.tombstones ≡ length (filter (λ r. not (bytes_eq r.collection collection.now) && not (is_document r)) rows.now) }
+pub fn counts_of(rows: Pairs<'_, u64, SharedRow>, collection: &str) -> Counts
+    requires { length (rows_in rows.entry) < 2 ^ 32 }
+    ensures documents { result.documents ≡ length (filter (λ r. not (bytes_eq r.collection collection.now) && is_document r) (rows_in rows.entry)) }
+    ensures tombstones { result.tombstones ≡ length (filter (λ r. not (bytes_eq r.collection collection.now) && not (is_document r)) (rows_in rows.entry)) }
 {
     let mut documents = 0;
     let mut tombstones = 0;
-    for row in rows {
+    for pair in rows {
+        let row = pair.1.row();
         if row.collection.as_str() != collection {
             match row.body {
                 Body::Doc(_) => documents += 1,

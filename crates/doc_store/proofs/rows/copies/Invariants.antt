@@ -1,5 +1,7 @@
-use Rattle.std.proofs.Common.{◌≡◌, take}
+use Rattle.std.proofs.Common.{◌≡◌, ◌++◌}
+use Rattle.doc_store.specs.Maps.{rows_in}
 use Rattle.doc_store.proofs.rows.copies.Given as goal
 
-abbrev pub invariant-loop-row : goal.invariant-loop-row
-invariant-loop-row l = l.new.items ≡ take l.row-index l.rows
+-- the rows so far, and those that are left
+abbrev pub invariant-loop-pair : goal.invariant-loop-pair
+invariant-loop-pair l = l.copies.items ++ rows_in l.pair-iterator ≡ rows_in l.fn.rows
