@@ -108,7 +108,7 @@ pub struct Counts {
 
 /// How many of these rows are documents and tombstones of other collections than this one.
 pub fn counts_of(rows: Pairs<'_, u64, SharedRow>, collection: &str) -> Counts
-    requires { length (rows_in rows.entry) < 2 ^ 32 }
+    requires { length (rows_in rows) < 2 ^ 32 }
     ensures documents { result.documents ≡ length (filter (λ r. not (bytes_eq r.collection collection.now) && is_document r) (rows_in rows.entry)) }
     ensures tombstones { result.tombstones ≡ length (filter (λ r. not (bytes_eq r.collection collection.now) && not (is_document r)) (rows_in rows.entry)) }
 {
