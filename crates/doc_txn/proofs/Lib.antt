@@ -1,3 +1,4 @@
 pub mod Pairs
 pub mod RowTests
 pub mod Fits
+pub mod Taking

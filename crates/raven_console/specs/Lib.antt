@@ -1,5 +1,5 @@
 pub mod LineEnds
 pub mod Input
 pub mod Outcome
-pub mod RequestView
+pub mod Given
 pub mod OutcomeView

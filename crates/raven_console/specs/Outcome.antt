@@ -1,14 +1,14 @@
 -- What a run leaves of its input and its output, where they tell it.
 use Rattle.std.specs.Prelude.{◌≡◌, ℕ, ◌≤◌, List, [], ◌∷◌, ◌++◌, length, Option, Some, None}
 use Rattle.raven_ports.specs.Told.{appended}
-use Rattle.raven_model.specs.Lines.{lines}
 use Rattle.raven_model.specs.Machine.{Machine, start}
-use Rattle.raven_model.specs.Script.{reply_to, replies_to, after_lines}
+use Rattle.raven_model.specs.Script.{Given, reply_to, replies_to, after_lines}
 use Rattle.raven_model.specs.Words.{max_input, program}
+use Rattle.raven_console.specs.Given.{given_lines}
 
 -- what is written for a script
 abbrev pub output_of : List ℕ → List ℕ
-output_of script = replies_to (lines script) (start program)
+output_of script = replies_to (given_lines script) (start program)
 
 -- a front of these bytes was added
 pub record GivesFront (old new : Option (List ℕ)) (bytes : List ℕ) : Type 0 where
@@ -29,10 +29,10 @@ IsRead None left = Unit {0}
 
 -- It stopped at the reply to one of these lines: the replies to the lines before were written whole, and then a front of this one. The machine left
 -- is that after the lines up to this one, so no later line was executed.
-pub record StopsIn (old new : Option (List ℕ)) (all : List (List ℕ)) (before left : Machine) : Type 0 where
-  pub done : List (List ℕ)
-  pub line : List ℕ
-  pub more : List (List ℕ)
+pub record StopsIn (old new : Option (List ℕ)) (all : List Given) (before left : Machine) : Type 0 where
+  pub done : List Given
+  pub line : Given
+  pub more : List Given
   pub part : List ℕ
   pub rest : List ℕ
   pub split : all ≡ done ++ line ∷ more
@@ -41,20 +41,20 @@ pub record StopsIn (old new : Option (List ℕ)) (all : List (List ℕ)) (before
   pub executed : left ≡ after_lines (done ++ line ∷ []) before
 
 -- It stopped before one of these lines: the replies to the lines before were written whole, and neither this line nor a later one was executed.
-pub record StopsBefore (old new : Option (List ℕ)) (all : List (List ℕ)) (before left : Machine) : Type 0 where
-  pub done : List (List ℕ)
-  pub line : List ℕ
-  pub more : List (List ℕ)
+pub record StopsBefore (old new : Option (List ℕ)) (all : List Given) (before left : Machine) : Type 0 where
+  pub done : List Given
+  pub line : Given
+  pub more : List Given
   pub split : all ≡ done ++ line ∷ more
   pub given : new ≡ appended old (replies_to done before)
   pub executed : left ≡ after_lines done before
 
 -- it stopped at the reply to one of the lines of the script
 abbrev pub Stops : Option (List ℕ) → Option (List ℕ) → Option (List ℕ) → Type 0
-Stops (Some script) old new = (left : Machine) × StopsIn old new (lines script) (start program) left
+Stops (Some script) old new = (left : Machine) × StopsIn old new (given_lines script) (start program) left
 Stops None old new = Unit {0}
 
 -- it stopped before one of the lines of the script
 abbrev pub StopsEarly : Option (List ℕ) → Option (List ℕ) → Option (List ℕ) → Type 0
-StopsEarly (Some script) old new = (left : Machine) × StopsBefore old new (lines script) (start program) left
+StopsEarly (Some script) old new = (left : Machine) × StopsBefore old new (given_lines script) (start program) left
 StopsEarly None old new = Unit {0}

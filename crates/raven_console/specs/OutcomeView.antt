@@ -1,7 +1,7 @@
--- What a request leaves, and what the machine's step leaves.
+-- What a request leaves, and what it changes of the machine.
 use Rattle.std.specs.Prelude.{Option, Some, None}
 use Rattle.raven_model.specs.World as is
-use Rattle.raven_model.specs.Machine.{Replied}
+use Rattle.raven_model.specs.Machine.{Change}
 use Rattle.raven_reply.specs.ReplyView.{reply_view}
 use Rattle.raven_world.specs.Told.{machine_of}
 use Rattle.raven_console.specs.declared.outcome.Outcome.{Outcome}
@@ -11,5 +11,5 @@ abbrev pub world_left : is.World → Option is.World → is.World
 world_left W None = W
 world_left W (Some V) = V
 
-abbrev pub outcome_view : is.World → Outcome → Replied
-outcome_view W o = record { reply = reply_view o.reply; machine = machine_of (world_left W o.world) }
+abbrev pub outcome_view : is.World → Outcome → Change
+outcome_view W o = record { reply = reply_view o.reply; machine = machine_of (world_left W o.world); rows = o.rows }

@@ -6,15 +6,13 @@ mod lines;
 mod machine;
 mod outcome;
 mod read;
-mod request;
+mod refusal;
 mod run;
-mod script;
 mod words;
 
 pub use machine::Machine;
-pub use request::{Line, ReadRefusal, Request};
+pub use raven_script::{Line, ReadRefusal, Request, line};
 pub use run::{Status, answer_lines, raven};
-pub use script::line;
 
 #[cfg(test)]
 mod tests;

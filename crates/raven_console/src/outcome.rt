@@ -1,60 +1,95 @@
 //! What a request leaves.
 ghost use Rattle.std.specs.Prelude.{◌≡◌, IfOk, Some};
 ghost use Rattle.raven_model.specs.World as is;
-ghost use Rattle.raven_model.specs.Machine.{step};
-ghost use Rattle.raven_model.specs.Script.{moment};
-ghost use Rattle.raven_world.specs.Told.{machine_of, told};
+ghost use Rattle.raven_model.specs.Machine.{Auto, change_of, no_change};
+ghost use Rattle.raven_script.specs.RequestView.{request_view};
+ghost use Rattle.raven_world.specs.Told.{change_view, machine_of, told};
+ghost use Rattle.raven_reply.specs.ReplyView.{reply_view};
 ghost use Rattle.raven_console.specs.OutcomeView.{outcome_view};
-ghost use Rattle.raven_console.specs.RequestView.{request_view};
 
-use crate::request::Request;
+use doc_txn::Command;
 use raven_base::NoMemory;
+use raven_script::Request;
+use raven_value::{Rows, Text};
 use raven_world::{Answered, Change, Reply, World, WorldFault};
 use std::alloc::Global;
 
 /// Every request comes at this moment, until there is a clock.
 const MOMENT: u64 = 0;
 
-/// The reply to a request, and the new world where there is one.
+/// The reply to a request, the new world where there is one, and the rows that it wrote.
 #[derive(Drop)]
 pub struct Outcome {
     pub reply: Reply,
     pub world: Option<World>,
+    pub rows: Rows,
 }
 
-fn settled(answer: Result<Change, WorldFault>) -> Result<Outcome, NoMemory>
+fn unchanged(alloc: Global, reply: Reply) -> Outcome
+    ensures { (W : is.World) → outcome_view W result ≡ no_change (machine_of W) (reply_view reply) }
+{
+    Outcome {
+        reply,
+        world: None,
+        rows: Rows::new(alloc),
+    }
+}
+
+fn changed(change: Change) -> Outcome
+    ensures { (W : is.World) → outcome_view W result ≡ change_view change }
+{
+    Outcome {
+        reply: change.reply,
+        world: Some(change.world),
+        rows: change.rows,
+    }
+}
+
+fn settled(alloc: Global, answer: Result<Change, WorldFault>) -> Result<Outcome, NoMemory>
     ensures { IfOk result (λ outcome. (W : is.World) → told W answer ≡ Some (outcome_view W outcome)) }
 {
     match answer {
-        Ok(change) => Ok(Outcome {
-            reply: change.reply,
-            world: Some(change.world),
-        }),
-        Err(WorldFault::Refused(reply)) => Ok(Outcome { reply, world: None }),
+        Ok(change) => Ok(changed(change)),
+        Err(WorldFault::Refused(reply)) => Ok(unchanged(alloc, reply)),
         Err(WorldFault::NoMemory) => Err(NoMemory),
     }
 }
 
+fn picked(
+    alloc: Global,
+    world: &World,
+    collection: &Text,
+    field: &Text,
+) -> Result<Outcome, NoMemory>
+    ensures { IfOk result (λ outcome. outcome_view world.now outcome ≡ change_of (machine_of world.now) 0 (Auto collection.now field.now)) }
+{
+    match world.answer(alloc, collection, field)? {
+        Answered::Reply(reply) => Ok(unchanged(alloc, reply)),
+        Answered::MustMake => settled(alloc, world.make(alloc, collection, field, MOMENT)),
+    }
+}
+
 /// What the request leaves of the world.
-pub fn outcome_of(alloc: Global, world: &World, request: &Request) -> Result<Outcome, NoMemory>
-    ensures { IfOk result (λ outcome. outcome_view world.now outcome ≡ step (machine_of world.now) moment (request_view request.now)) }
+pub fn outcome_of(alloc: Global, world: &World, request: Request) -> Result<Outcome, NoMemory>
+    ensures { IfOk result (λ outcome. outcome_view world.now outcome ≡ change_of (machine_of world.now) 0 (request_view request)) }
 {
     match request {
-        Request::Put { id, body } => settled(world.put(alloc, id, body, MOMENT)),
-        Request::Auto { collection, field } => match world.answer(alloc, collection, field)? {
-            Answered::Reply(reply) => Ok(Outcome { reply, world: None }),
-            Answered::MustMake => settled(world.make(alloc, collection, field, MOMENT)),
-        },
-        Request::Find { index, field, text } => Ok(Outcome {
-            reply: world.find(alloc, index, field, text)?,
-            world: None,
-        }),
-        Request::Pump { max } => {
-            let change = world.pump(alloc, *max)?;
-            Ok(Outcome {
-                reply: change.reply,
-                world: Some(change.world),
-            })
+        Request::Put { id, expected, body } => {
+            let command = Command::Put { id, expected, body };
+            settled(alloc, world.commit_one(alloc, command, MOMENT))
         }
+        Request::Delete { id, expected } => {
+            let command = Command::Delete { id, expected };
+            settled(alloc, world.commit_one(alloc, command, MOMENT))
+        }
+        Request::Bulk { commands } => settled(alloc, world.commit(alloc, &commands, MOMENT)),
+        Request::Get { id } => Ok(unchanged(alloc, world.get(alloc, &id)?)),
+        Request::Auto { collection, field } => picked(alloc, world, &collection, &field),
+        Request::Find { index, field, text } => {
+            Ok(unchanged(alloc, world.find(alloc, &index, &field, &text)?))
+        }
+        Request::Pump { max } => Ok(changed(world.pump(alloc, max)?)),
+        Request::Stale { name, cutoff } => Ok(unchanged(alloc, world.stale(alloc, &name, cutoff)?)),
+        Request::Stats => Ok(unchanged(alloc, world.stats())),
     }
 }

@@ -2,9 +2,9 @@
 ghost use Rattle.std.specs.Prelude.{◌≡◌, ◌≤◌, ◌↔◌, ◌⊎◌, OnOk, OnErr, IsErrOf, IsTrue, map, string_bytes};
 ghost use Rattle.raven_ports.specs.Faults.{Rose};
 ghost use Rattle.raven_ports.specs.Told.{appended};
-ghost use Rattle.raven_model.specs.Lines.{lines};
 ghost use Rattle.raven_model.specs.Script.{after_lines, replies_to};
 ghost use Rattle.raven_model.specs.Words.{IsOrdered};
+ghost use Rattle.raven_console.specs.Given.{given_lines};
 ghost use Rattle.raven_console.specs.Input.{TakesMore, TakesWithin};
 ghost use Rattle.raven_console.specs.Outcome.{Finishes, IsRead, Stops, StopsBefore, StopsEarly, StopsIn};
 
@@ -47,11 +47,11 @@ pub fn answer_lines<O: Sink>(
     script: &[u8],
     output: &mut O,
 ) -> Result<(), SinkFault>
-    ensures given { OnOk result (O.held output.new ≡ appended (O.held output.old) (replies_to (lines script.now) machine.old)) }
-    ensures executed { OnOk result (machine.new ≡ after_lines (lines script.now) machine.old) }
-    ensures stopped { IsErrOf result SinkFault.Failed → StopsIn (O.held output.old) (O.held output.new) (lines script.now) machine.old machine.new }
-    ensures memory { IsErrOf result SinkFault.NoMemory → StopsBefore (O.held output.old) (O.held output.new) (lines script.now) machine.old machine.new
-        ⊎ StopsIn (O.held output.old) (O.held output.new) (lines script.now) machine.old machine.new }
+    ensures given { OnOk result (O.held output.new ≡ appended (O.held output.old) (replies_to (given_lines script.now) machine.old)) }
+    ensures executed { OnOk result (machine.new ≡ after_lines (given_lines script.now) machine.old) }
+    ensures stopped { IsErrOf result SinkFault.Failed → StopsIn (O.held output.old) (O.held output.new) (given_lines script.now) machine.old machine.new }
+    ensures memory { IsErrOf result SinkFault.NoMemory → StopsBefore (O.held output.old) (O.held output.new) (given_lines script.now) machine.old machine.new
+        ⊎ StopsIn (O.held output.old) (O.held output.new) (given_lines script.now) machine.old machine.new }
     ensures later { O.faults output.old ≤ O.faults output.new }
     ensures cause { IsErrOf result SinkFault.Failed → Rose (O.faults output.old) (O.faults output.new) }
 {

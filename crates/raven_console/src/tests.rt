@@ -79,18 +79,22 @@ fn lags_until_it_is_pumped(rt: HostRuntime) -> Result<(), Fail> {
 #[test]
 fn refuses_lines(rt: HostRuntime) -> Result<(), Fail> {
     let lines = [
-        "STATS",
+        "STATS ",
+        "STATS x",
+        "TIDY",
         "put a {}",
         "PUT a",
+        "PUT a ",
         "PUT  {}",
-        "PUT a {\"x\":1.5}",
-        "PUT a {\"x\":-0}",
-        "PUT a {",
-        "PUT a []",
-        "PUT @index/a {}",
-        "PUT @Index/a {}",
-        "PUT a {\"@metadata\":{\"@collection\":\"@indexes\"}}",
-        "PUT a\u{7f} {}",
+        "PUTIF a {}",
+        "PUTIF a  {}",
+        "DEL",
+        "DEL ",
+        "DELIF A:1",
+        "GET ",
+        "BULK",
+        "STALE ",
+        "STALE \u{1}",
         "AUTO C",
         "AUTO C F G",
         "AUTO @C F",
@@ -120,7 +124,7 @@ fn an_id_keeps_its_collection(rt: HostRuntime) -> Result<(), Fail> {
         "{PUT}PUT USERS/1 {{}}\nAUTO Users Name\nAUTO Users Age\n"
     )?;
     let wanted = format!(in rt.alloc();
-        "{PUT_REPLY}{UNKNOWN}{{\"Index\":\"Auto/Users/ByName\"}}\n{UNKNOWN}"
+        "{PUT_REPLY}{{\"At\":0,\"Error\":\"CollectionChanged\",\"From\":\"Users\"}}\n{{\"Index\":\"Auto/Users/ByName\"}}\n{UNKNOWN}"
     )?;
     let got = replies(&rt, script.as_str())?;
     assert_eq!(rt; got.as_str(), wanted.as_str());
@@ -129,7 +133,7 @@ fn an_id_keeps_its_collection(rt: HostRuntime) -> Result<(), Fail> {
 
 #[test]
 fn ends_with_its_status(rt: HostRuntime) -> Result<(), Fail> {
-    let script = format!(in rt.alloc(); "{PUT}STATS\nSTATS\n")?;
+    let script = format!(in rt.alloc(); "{PUT}TIDY\nTIDY\n")?;
     let cases: [(&str, &[u64], &[u64], Status, &str); 5] = [
         ("run", &[], &[1], Status::WriteFault, ""),
         ("run", &[], &[2], Status::WriteFault, PUT_REPLY),
@@ -154,5 +158,219 @@ fn refuses_a_script_that_is_too_long(rt: HostRuntime) -> Result<(), Fail> {
     let (status, text) = run(&rt, "run", &script[1..], &[], &[])?;
     assert_eq!(rt; status, Status::Done);
     assert_eq!(rt; text.as_str(), UNKNOWN);
+    Ok(())
+}
+
+// One line after another from an empty database.
+fn table(rt: &HostRuntime, cases: &[(&str, &str)]) -> Result<(), Fail> {
+    let alloc = rt.alloc();
+    let mut script = String::new(alloc);
+    let mut wanted = String::new(alloc);
+    for (line, reply) in cases {
+        script.push_str(line)?;
+        script.push_str("\n")?;
+        wanted.push_str(reply)?;
+        wanted.push_str("\n")?;
+    }
+    let got = replies(rt, script.as_str())?;
+    assert_eq!(rt; got.as_str(), wanted.as_str());
+    Ok(())
+}
+
+#[test]
+fn names_each_refusal(rt: HostRuntime) -> Result<(), Fail> {
+    table(
+        &rt,
+        &[
+            ("PUT a {\"x\":1.5}", "{\"Error\":\"NumberNotWhole\"}"),
+            ("PUT a {\"x\":-0}", "{\"Error\":\"NumberNotWhole\"}"),
+            ("PUT a {", "{\"Error\":\"NotJson\"}"),
+            ("PUT \u{7f} {", "{\"Error\":\"NotJson\"}"),
+            ("PUT a\u{7f} []", "{\"At\":1,\"Error\":\"Control\"}"),
+            ("PUT a []", "{\"Error\":\"BadMember\",\"Name\":\"body\"}"),
+            ("PUT @Index/a {}", "{\"At\":0,\"Error\":\"ReservedId\"}"),
+            (
+                "PUT a {\"@metadata\":{\"@collection\":\"@indexes\"}}",
+                "{\"At\":0,\"Error\":\"ReservedId\"}",
+            ),
+            ("DEL @index/a", "{\"At\":0,\"Error\":\"ReservedId\"}"),
+            ("GET a\tb", "{\"At\":1,\"Error\":\"Control\"}"),
+            ("GET a", "{\"Error\":\"NoDocument\",\"Id\":\"a\"}"),
+            ("STALE X", "{\"Error\":\"NoIndex\",\"Name\":\"X\"}"),
+            ("BULK []", "{\"Error\":\"BadMember\",\"Name\":\"body\"}"),
+            ("BULK {}", "{\"Error\":\"BadMember\",\"Name\":\"Commands\"}"),
+            (
+                "BULK {\"Commands\":[1]}",
+                "{\"Error\":\"BadMember\",\"Name\":\"Commands\"}",
+            ),
+            (
+                "BULK {\"Commands\":[{\"Type\":\"put\"}]}",
+                "{\"Error\":\"BadMember\",\"Name\":\"Type\"}",
+            ),
+            (
+                "BULK {\"Commands\":[{\"Id\":1,\"Type\":\"DELETE\"}]}",
+                "{\"Error\":\"BadMember\",\"Name\":\"Id\"}",
+            ),
+            (
+                "BULK {\"Commands\":[{\"Id\":\"\",\"Type\":\"DELETE\"}]}",
+                "{\"Error\":\"Empty\"}",
+            ),
+            (
+                "BULK {\"Commands\":[{\"ChangeVector\":1,\"Id\":\"a\",\"Type\":\"PUT\"}]}",
+                "{\"Error\":\"BadMember\",\"Name\":\"ChangeVector\"}",
+            ),
+            (
+                "BULK {\"Commands\":[{\"ChangeVector\":null,\"Document\":[],\"Id\":\"a\",\"Type\":\"PUT\"}]}",
+                "{\"Error\":\"BadMember\",\"Name\":\"Document\"}",
+            ),
+            (
+                "STATS",
+                "{\"CountOfDocuments\":0,\"CountOfIndexes\":0,\"CountOfTombstones\":0,\"LastDocEtag\":0}",
+            ),
+        ],
+    )
+}
+
+#[test]
+fn reads_and_deletes(rt: HostRuntime) -> Result<(), Fail> {
+    table(
+        &rt,
+        &[
+            (
+                "PUT users/1 {\"Name\":\"Ada\",\"@metadata\":{\"@collection\":\"Users\"}}",
+                "{\"ChangeVector\":\"A:1-AAAAAAAAAAAAAAAAAAAAAA\",\"Id\":\"users/1\"}",
+            ),
+            ("AUTO Users Name", "{\"Index\":\"Auto/Users/ByName\"}"),
+            (
+                "PUMP 64",
+                "{\"Pumped\":[{\"From\":0,\"Index\":\"Auto/Users/ByName\",\"To\":2}]}",
+            ),
+            ("DEL users/9", "{\"Deleted\":false,\"Id\":\"users/9\"}"),
+            (
+                "STALE Auto/Users/ByName",
+                "{\"IndexEtag\":2,\"IsStale\":false,\"Newest\":1}",
+            ),
+            (
+                "STATS",
+                "{\"CountOfDocuments\":1,\"CountOfIndexes\":1,\"CountOfTombstones\":0,\"LastDocEtag\":2}",
+            ),
+            (
+                "GET users/1",
+                "{\"@metadata\":{\"@change-vector\":\"A:1-AAAAAAAAAAAAAAAAAAAAAA\",\"@collection\":\"Users\",\"@id\":\"users/1\",\"@last-modified\":\"1970-01-01T00:00:00.0000000Z\"},\"Name\":\"Ada\"}",
+            ),
+            ("DEL USERS/1", "{\"Deleted\":true,\"Id\":\"users/1\"}"),
+            (
+                "FIND Auto/Users/ByName Name ADA",
+                "{\"Ids\":[\"users/1\"],\"IndexEtag\":2,\"IsStale\":true}",
+            ),
+            (
+                "PUMP 64",
+                "{\"Pumped\":[{\"From\":2,\"Index\":\"Auto/Users/ByName\",\"To\":3}]}",
+            ),
+            (
+                "FIND Auto/Users/ByName Name ada",
+                "{\"Ids\":[],\"IndexEtag\":3,\"IsStale\":false}",
+            ),
+            (
+                "PUT users/1 {\"@metadata\":{\"@collection\":\"Teams\"}}",
+                "{\"At\":0,\"Error\":\"CollectionChanged\",\"From\":\"Users\"}",
+            ),
+        ],
+    )
+}
+
+#[test]
+fn takes_all_or_none(rt: HostRuntime) -> Result<(), Fail> {
+    table(
+        &rt,
+        &[
+            (
+                "BULK {\"Commands\":[{\"Document\":{},\"Id\":\"a\",\"Type\":\"PUT\"},{\"ChangeVector\":\"A:9-AAAAAAAAAAAAAAAAAAAAAA\",\"Document\":{},\"Id\":\"b\",\"Type\":\"PUT\"}]}",
+                "{\"At\":1,\"Error\":\"Conflict\",\"Expected\":\"A:9-AAAAAAAAAAAAAAAAAAAAAA\",\"Found\":\"\"}",
+            ),
+            (
+                "STATS",
+                "{\"CountOfDocuments\":0,\"CountOfIndexes\":0,\"CountOfTombstones\":0,\"LastDocEtag\":0}",
+            ),
+            (
+                "BULK {\"Commands\":[{\"ChangeVector\":\"\",\"Document\":{},\"Id\":\"a\",\"Type\":\"PUT\"},{\"Id\":\"A\",\"Type\":\"DELETE\"},{\"Id\":\"b\",\"Type\":\"DELETE\"}]}",
+                "{\"Results\":[{\"ChangeVector\":\"A:1-AAAAAAAAAAAAAAAAAAAAAA\",\"Id\":\"a\",\"Type\":\"PUT\"},{\"Deleted\":true,\"Id\":\"a\",\"Type\":\"DELETE\"},{\"Deleted\":false,\"Id\":\"b\",\"Type\":\"DELETE\"}]}",
+            ),
+            (
+                "PUTIF a A:2-AAAAAAAAAAAAAAAAAAAAAA {}",
+                "{\"At\":0,\"Error\":\"Conflict\",\"Expected\":\"A:2-AAAAAAAAAAAAAAAAAAAAAA\",\"Found\":\"\"}",
+            ),
+            (
+                "PUT a {}",
+                "{\"ChangeVector\":\"A:3-AAAAAAAAAAAAAAAAAAAAAA\",\"Id\":\"a\"}",
+            ),
+            (
+                "DELIF A:1-AAAAAAAAAAAAAAAAAAAAAA a",
+                "{\"At\":0,\"Error\":\"Conflict\",\"Expected\":\"A:1-AAAAAAAAAAAAAAAAAAAAAA\",\"Found\":\"A:3-AAAAAAAAAAAAAAAAAAAAAA\"}",
+            ),
+            (
+                "PUTIF A A:3-AAAAAAAAAAAAAAAAAAAAAA {\"b\":1}",
+                "{\"ChangeVector\":\"A:4-AAAAAAAAAAAAAAAAAAAAAA\",\"Id\":\"a\"}",
+            ),
+            (
+                "DELIF A:4-AAAAAAAAAAAAAAAAAAAAAA a",
+                "{\"Deleted\":true,\"Id\":\"a\"}",
+            ),
+            (
+                "STATS",
+                "{\"CountOfDocuments\":0,\"CountOfIndexes\":0,\"CountOfTombstones\":1,\"LastDocEtag\":5}",
+            ),
+        ],
+    )
+}
+
+#[test]
+fn lags_behind_what_a_batch_leaves(rt: HostRuntime) -> Result<(), Fail> {
+    table(
+        &rt,
+        &[
+            ("AUTO C F", "{\"Index\":\"Auto/C/ByF\"}"),
+            (
+                "PUT x {\"@metadata\":{\"@collection\":\"C\"}}",
+                "{\"ChangeVector\":\"A:2-AAAAAAAAAAAAAAAAAAAAAA\",\"Id\":\"x\"}",
+            ),
+            (
+                "PUT y {\"@metadata\":{\"@collection\":\"C\"}}",
+                "{\"ChangeVector\":\"A:3-AAAAAAAAAAAAAAAAAAAAAA\",\"Id\":\"y\"}",
+            ),
+            (
+                "PUT x {\"@metadata\":{\"@collection\":\"C\"}}",
+                "{\"ChangeVector\":\"A:4-AAAAAAAAAAAAAAAAAAAAAA\",\"Id\":\"x\"}",
+            ),
+            (
+                "PUMP 1",
+                "{\"Pumped\":[{\"From\":0,\"Index\":\"Auto/C/ByF\",\"To\":3}]}",
+            ),
+            (
+                "STALE Auto/C/ByF",
+                "{\"IndexEtag\":3,\"IsStale\":true,\"Newest\":4}",
+            ),
+            (
+                "PUMP 1",
+                "{\"Pumped\":[{\"From\":3,\"Index\":\"Auto/C/ByF\",\"To\":4}]}",
+            ),
+            (
+                "STALE auto/c/byf",
+                "{\"IndexEtag\":4,\"IsStale\":false,\"Newest\":4}",
+            ),
+        ],
+    )
+}
+
+#[test]
+fn an_id_has_512_bytes_at_most(rt: HostRuntime) -> Result<(), Fail> {
+    let alloc = rt.alloc();
+    let longest = String::from_utf8(vec![in alloc; b'a'; 512]?)?;
+    let script = format!(in alloc; "PUT {longest} {{}}\nPUT {longest}a {{}}\n")?;
+    let wanted = format!(in alloc;
+        "{{\"ChangeVector\":\"A:1-AAAAAAAAAAAAAAAAAAAAAA\",\"Id\":\"{longest}\"}}\n{{\"Error\":\"TooLong\",\"Len\":513}}\n"
+    )?;
+    let got = replies(&rt, script.as_str())?;
+    assert_eq!(rt; got.as_str(), wanted.as_str());
     Ok(())
 }
