@@ -1,5 +1,5 @@
 -- The tests of a command, on the row that it would write and on the row that its id has.
-use Rattle.std.specs.Prelude.{ℕ, List, Bool, false, not, ◌||◌, ◌&&◌, ◌==◌, nat_lt, nat_le, Option, Some, None, is_some, is_none, length, codes}
+use Rattle.std.specs.Prelude.{ℕ, List, Bool, false, ◌||◌, ◌&&◌, ◌==◌, nat_lt, nat_le, Option, Some, None, is_some, is_none, length, codes}
 use Rattle.std.specs.Str.{bytes_eq}
 use Rattle.raven_data.specs.Rows.{Row, Body, doc, gone, is_document}
 use Rattle.raven_data.specs.Written.{text_of}
