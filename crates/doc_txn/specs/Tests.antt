@@ -1,5 +1,5 @@
 -- The tests of a command, on the row that it would write and on the row that its id has.
-use Rattle.std.specs.Prelude.{ℕ, List, Bool, false, not, ◌||◌, ◌&&◌, ◌==◌, nat_lt, nat_le, Option, Some, None, is_some, is_none, length, codes}
+use Rattle.std.specs.Prelude.{ℕ, List, Bool, false, ◌||◌, ◌&&◌, ◌==◌, nat_lt, nat_le, Option, Some, None, is_some, is_none, length, codes}
 use Rattle.std.specs.Str.{bytes_eq}
 use Rattle.raven_data.specs.Rows.{Row, Body, doc, gone, is_document}
 use Rattle.raven_data.specs.Written.{text_of}
@@ -11,10 +11,12 @@ abbrev pub is_definition : Option Row → Bool
 is_definition None = false
 is_definition (Some r) = is_document r && bytes_eq r.collection (codes "@indexes")
 
+-- a client writes no id of a definition, and no such document
 abbrev pub reserved_for : Writer → List ℕ → Option Row → Option Refusal
 reserved_for Client id row = refuse_if (is_index_id id || is_definition row) ReservedId
 reserved_for Server id row = None
 
+-- the stored body is longer than may be when it is written
 abbrev pub large_body : Body → Option Refusal
 large_body (doc d) = let len = length (text_of d) in refuse_if (nat_lt 1048576 len) (TooLarge len)
 large_body gone = None
@@ -23,12 +25,15 @@ abbrev pub large_row : Option Row → Option Refusal
 large_row None = None
 large_row (Some r) = large_body r.body
 
+-- the id has a row in another collection
 abbrev pub moved_row : Option Row → Option Row → Option Refusal
 moved_row None old = None
 moved_row (Some r) old = other_collection r.collection old
 
+-- a new id finds as many rows as may be
 abbrev pub full_for : Setting → Store → Option Row → Option Row → Option Refusal
 full_for s S row old = refuse_if (is_some row && is_none old && nat_le s.max_rows (length S.rows)) (StoreFull (length S.rows))
 
+-- a row is to be written and there is no further etag
 abbrev pub spent_for : Store → Option Row → Option Refusal
 spent_for S row = refuse_if (is_some row && (last S == 9007199254740991)) (EtagsSpent (last S))

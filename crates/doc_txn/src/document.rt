@@ -2,10 +2,10 @@
 ghost use Rattle.std.specs.Prelude.{◌≡◌, ◌∷◌, [], IfOk, codes, filter, map, not, option_map};
 ghost use Rattle.raven_data.specs.Data.{entries_of, object};
 ghost use Rattle.raven_value.specs.View.{data_of, pair_of};
-ghost use Rattle.raven_model.specs.Commit.{clean_metadata as spec_clean_metadata, collection_of as spec_collection_of, is_own as spec_is_own, is_index_id as spec_is_index_id, named_collection as spec_named_collection, stored as spec_stored};
+ghost use Rattle.raven_model.specs.Commit.{clean_metadata as spec_clean_metadata, collection_of as spec_collection_of, is_own as spec_is_own, named_collection as spec_named_collection, stored as spec_stored};
 
 use raven_base::NoMemory;
-use raven_value::{Id, Members, Path, Text, Value, starts_folded};
+use raven_value::{Members, Path, Text, Value};
 use std::alloc::Global;
 
 fn is_own(name: &str) -> bool

@@ -63,12 +63,11 @@ fn taken(alloc: Global, store: &Store, asks: &[Ask], now: u64) -> Result<Transac
     )?)
 }
 
-// Why the second commands are refused on the store that the first ones leave.
+// Why a client's commands are refused on the store that the server's first ones leave.
 fn fault(
     alloc: Global,
     first: &[Ask],
     second: &[Ask],
-    writer: Writer,
     rows: u32,
 ) -> Result<Option<TxnFault>, Fail> {
     let store = taken(alloc, &Store::empty(alloc)?, first, 0)?.store;
@@ -79,7 +78,7 @@ fn fault(
         slots: 1,
         notes: 1,
     };
-    Ok(commit(alloc, &store, &commands, writer, &base, &limits, 0).err())
+    Ok(commit(alloc, &store, &commands, Writer::Client, &base, &limits, 0).err())
 }
 
 fn refused(at: u32, kind: TxnKind) -> Option<TxnFault> {
@@ -100,106 +99,74 @@ fn conflict(alloc: Global, expected: &str, found: &str) -> Result<TxnKind, Fail>
 }
 
 #[test]
-fn the_first_refusal_refuses_all(rt: HostRuntime) -> Result<(), Fail> {
+fn reserved_ids(rt: HostRuntime) -> Result<(), Fail> {
     let alloc = rt.alloc();
-    let cases: [(&[Ask], &[Ask], u32, Option<TxnFault>); 15] = [
-        (
-            &[],
-            &[("@INDEX/x", None, Some("{}"))],
-            9,
-            refused(0, TxnKind::ReservedId),
-        ),
-        (
-            &[],
-            &[("@index/x", Some("v"), None)],
-            9,
-            refused(0, TxnKind::ReservedId),
-        ),
-        (
-            &[],
-            &[("a", None, USER), ("b", None, DEFINITION)],
-            9,
-            refused(1, TxnKind::ReservedId),
-        ),
-        (&[("d", None, DEFINITION)], &[("d", None, None)], 9, None),
-        (
-            &[("a", None, USER)],
-            &[("A", None, ORDER)],
-            9,
-            refused(0, moved(alloc, "Users")?),
-        ),
-        (
-            &[("a", None, USER)],
-            &[("a", None, None), ("a", Some("v"), ORDER)],
-            9,
-            refused(1, moved(alloc, "Users")?),
-        ),
-        (
-            &[("a", None, Some("{}"))],
-            &[("a", None, USER)],
-            1,
-            refused(0, moved(alloc, "@empty")?),
-        ),
-        (
-            &[("a", None, USER)],
-            &[("A", Some(""), USER)],
-            1,
-            refused(0, conflict(alloc, "", FIRST)?),
-        ),
-        (
-            &[("a", None, USER)],
-            &[("a", Some(FIRST), USER), ("a", Some(FIRST), None)],
-            1,
-            refused(1, conflict(alloc, FIRST, "A:2-AAAAAAAAAAAAAAAAAAAAAA")?),
-        ),
-        (
-            &[("a", None, USER), ("a", None, None)],
-            &[("a", Some(FIRST), None)],
-            1,
-            refused(0, conflict(alloc, FIRST, "")?),
-        ),
-        (
-            &[],
-            &[("a", Some(FIRST), USER)],
-            0,
-            refused(0, conflict(alloc, FIRST, "")?),
-        ),
-        (
-            &[("a", None, USER)],
-            &[("b", Some(""), USER)],
-            1,
-            refused(0, TxnKind::StoreFull { rows: 1 }),
-        ),
-        (
-            &[("a", None, USER), ("a", None, None)],
-            &[("b", None, USER)],
-            1,
-            refused(0, TxnKind::StoreFull { rows: 1 }),
-        ),
-        (
-            &[("a", None, USER), ("b", None, USER)],
-            &[("c", None, None), ("c", None, USER)],
-            1,
-            refused(1, TxnKind::StoreFull { rows: 2 }),
-        ),
-        (
-            &[("a", None, USER)],
-            &[("a", None, None), ("A", Some(""), USER)],
-            1,
-            None,
-        ),
-    ];
-    for (first, second, rows, wanted) in cases {
-        assert_eq!(rt; fault(alloc, first, second, Writer::Client, rows)?, wanted);
-    }
-    let server = fault(
-        alloc,
-        &[],
-        &[("@index/x", None, DEFINITION)],
-        Writer::Server,
-        1,
-    )?;
-    assert_eq!(rt; server, None);
+    let wanted = refused(0, TxnKind::ReservedId);
+    assert_eq!(rt; fault(alloc, &[], &[("@INDEX/x", None, USER)], 9)?, wanted);
+    assert_eq!(rt;
+        fault(alloc, &[], &[("@index/x", Some("v"), None)], 9)?,
+        wanted
+    );
+    assert_eq!(rt; fault(alloc, &[], &[("d", None, DEFINITION)], 9)?, wanted);
+    assert_eq!(rt;
+        fault(alloc, &[("d", None, DEFINITION)], &[("d", None, None)], 9)?,
+        None
+    );
+    Ok(())
+}
+
+#[test]
+fn collections_stay(rt: HostRuntime) -> Result<(), Fail> {
+    let alloc = rt.alloc();
+    let first = [("a", None, USER)];
+    let wanted = refused(0, moved(alloc, "Users")?);
+    assert_eq!(rt;
+        fault(alloc, &first, &[("A", Some("v"), ORDER)], 9)?,
+        wanted
+    );
+    let wanted = refused(1, moved(alloc, "Users")?);
+    assert_eq!(rt;
+        fault(alloc, &first, &[("a", None, None), ("a", None, ORDER)], 9)?,
+        wanted
+    );
+    let wanted = refused(0, moved(alloc, "@empty")?);
+    assert_eq!(rt;
+        fault(alloc, &[("a", None, Some("{}"))], &[("a", None, USER)], 9)?,
+        wanted
+    );
+    Ok(())
+}
+
+#[test]
+fn conflicts(rt: HostRuntime) -> Result<(), Fail> {
+    let alloc = rt.alloc();
+    let first = [("a", None, USER)];
+    let wanted = refused(0, conflict(alloc, "", FIRST)?);
+    assert_eq!(rt; fault(alloc, &first, &[("A", Some(""), USER)], 9)?, wanted);
+    let wanted = refused(1, conflict(alloc, FIRST, "A:2-AAAAAAAAAAAAAAAAAAAAAA")?);
+    let twice = [("a", Some(FIRST), USER), ("a", Some(FIRST), None)];
+    assert_eq!(rt; fault(alloc, &first, &twice, 9)?, wanted);
+    let wanted = refused(1, conflict(alloc, FIRST, "")?);
+    let gone = [("a", None, None), ("a", Some(FIRST), None)];
+    assert_eq!(rt; fault(alloc, &first, &gone, 9)?, wanted);
+    let wanted = refused(0, conflict(alloc, "v", "")?);
+    assert_eq!(rt; fault(alloc, &[], &[("a", Some("v"), USER)], 0)?, wanted);
+    Ok(())
+}
+
+#[test]
+fn full_stores(rt: HostRuntime) -> Result<(), Fail> {
+    let alloc = rt.alloc();
+    let first = [("a", None, USER)];
+    let wanted = refused(0, TxnKind::StoreFull { rows: 1 });
+    assert_eq!(rt; fault(alloc, &first, &[("b", Some(""), USER)], 1)?, wanted);
+    let wanted = refused(1, TxnKind::StoreFull { rows: 1 });
+    assert_eq!(rt;
+        fault(alloc, &first, &[("a", None, None), ("b", None, USER)], 1)?,
+        wanted
+    );
+    let again = [("b", None, None), ("a", None, None), ("A", Some(""), USER)];
+    assert_eq!(rt; fault(alloc, &first, &again, 1)?, None);
     Ok(())
 }
 
@@ -216,7 +183,7 @@ fn long_bodies(rt: HostRuntime) -> Result<(), Fail> {
         }
         json.push_str("\"}")?;
         let put = [("a", None, Some(json.as_str()))];
-        assert_eq!(rt; fault(alloc, &[], &put, Writer::Client, 9)?, wanted);
+        assert_eq!(rt; fault(alloc, &[], &put, 9)?, wanted);
     }
     Ok(())
 }

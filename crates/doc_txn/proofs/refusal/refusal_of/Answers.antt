@@ -1,4 +1,4 @@
-use Rattle.std.proofs.Common.{◌≡◌, None, Option, option_map, ◌∙◌, ap, sym}
+use Rattle.std.proofs.Common.{◌≡◌, option_map, ◌∙◌, ap, sym}
 use Rattle.std.specs.Option.{option_copied, option_or}
 use Rattle.raven_data.specs.Folding.{folded}
 use Rattle.raven_model.specs.Store.{row_at}
@@ -6,7 +6,6 @@ use Rattle.doc_txn.specs.CommandView.{command_view, expect_view, writer_view}
 use Rattle.doc_txn.specs.FaultView.{kind_view}
 use Rattle.doc_txn.specs.SettingView.{setting_of}
 use Rattle.doc_txn.specs.Tests.{full_for}
-use Rattle.doc_txn.specs.declared.fault.TxnKind.{TxnKind}
 use Rattle.doc_txn.proofs.Fits.{row-fits}
 use Rattle.doc_txn.proofs.RowTests.{none-of, refused-by-row}
 use Rattle.doc_txn.proofs.refusal.refusal_of.Goals as goal

@@ -1,5 +1,5 @@
-use Rattle.std.proofs.Common.{◌≡◌, None, Option, Some, option_map, ◌∙◌, ap, sym, rules}
-use Rattle.raven_model.specs.Commit.{refusal_of, row_of}
+use Rattle.std.proofs.Common.{◌≡◌, None, ◌∙◌, sym, rules}
+use Rattle.raven_model.specs.Commit.{refusal_of}
 use Rattle.doc_txn.specs.CommandView.{command_view, writer_view}
 use Rattle.doc_txn.specs.SettingView.{setting_of}
 use Rattle.raven_laws.proofs.CommitLemmas.{row_of-follows}
