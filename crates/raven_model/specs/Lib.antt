@@ -12,3 +12,4 @@ pub mod Lines
 pub mod Script
 pub mod Words
 pub mod Codes
+pub mod Opening

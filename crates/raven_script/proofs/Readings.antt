@@ -3,9 +3,9 @@ use Rattle.std.proofs.Common.{◌≡◌, ℕ, List, [], ◌∷◌, ◌++◌, Opt
 use Rattle.raven_data.specs.Faults.{Fault}
 use Rattle.raven_value.specs.Refusal.{fault_in}
 use Rattle.raven_model.specs.Script as read
-use Rattle.raven_data.specs.Data.{Data}
+use Rattle.raven_data.specs.Data.{Data, array, items_of, list_of}
 use Rattle.raven_model.specs.Commit.{Command}
-use Rattle.raven_model.specs.Script.{then_read, command_read, commands_read}
+use Rattle.raven_model.specs.Script.{then_read, command_read, commands_read, list_member}
 use Rattle.raven_script.specs.RequestView.{IsBadId, IsBadMember, Refuses}
 use Rattle.raven_script.specs.declared.request.ReadRefusal.{ReadRefusal}
 use Rattle.raven_script.specs.declared.request.ReadRefusal.TheVariants as refusal
@@ -43,7 +43,17 @@ bad_member name (refusal.BadId why) r h e = absurd h
 bad_member name (refusal.BadMember told) r h e = e ∙ ap (λ n. Err (read.BadMember n)) (sym h)
 bad_member name refusal.NoMemory r h e = tt
 
-pub ruleset members = (bad_member)
+pub list_of-items_of : (ds : List Data) → list_of (items_of ds) ≡ ds
+list_of-items_of [] = refl
+list_of-items_of (d ∷ ds) = ap (λ more. d ∷ more) (list_of-items_of ds)
+
+pub read_list : (ds : List Data) (b : List Command) → commands_read ds ≡ Ok b → list_member (Some (array (items_of ds))) ≡ Ok b
+read_list ds b e = ap commands_read (list_of-items_of ds) ∙ e
+
+pub refused_list : (why : ReadRefusal) (ds : List Data) → Refuses why (commands_read ds) → Refuses why (list_member (Some (array (items_of ds))))
+refused_list why ds h = subst (λ xs. Refuses why (commands_read xs)) (sym (list_of-items_of ds)) h
+
+pub ruleset members = (bad_member, read_list, refused_list)
 
 -- COMMANDS IN A LIST
 
@@ -67,3 +77,4 @@ one_more done c d ds all e h = by (commands_read ds) ∙ ap (λ r. in_front done
     by (Err refusal) = refl
 
 pub ruleset lists = (none_left, refused_here, one_more)
+

@@ -1,5 +1,5 @@
 //! The commands of a transaction, in JSON.
-ghost use Rattle.std.specs.Prelude.{◌≡◌, IfOk, codes, map, option_map};
+ghost use Rattle.std.specs.Prelude.{◌≡◌, IfOk, Some, codes, map, option_map};
 ghost use Rattle.raven_data.specs.Data.{entries_of, items_of};
 ghost use Rattle.raven_data.specs.Json.{reading};
 ghost use Rattle.raven_data.specs.Members.{member};
@@ -138,15 +138,25 @@ fn commands_read(alloc: Global, values: &[Value]) -> Result<Vec<Command>, ReadRe
 }
 
 #[tactic(auto, using(crate::proofs::Readings::members))]
-fn commands_in(alloc: Global, value: Option<&Value>) -> Result<Commands, ReadRefusal>
-    ensures { Reads (λ commands. map command_view commands) result (list_member (option_map (λ v. data_of v.now) value.entry)) }
+fn listed(alloc: Global, value: &Value) -> Result<Commands, ReadRefusal>
+    ensures { Reads (λ commands. map command_view commands) result (list_member (Some (data_of value.now))) }
 {
-    let Some(Value::List(values)) = value else {
+    let Value::List(values) = value else {
         return Err(bad_member(alloc, "Commands"));
     };
     match commands_read(alloc, values.as_slice()) {
         Ok(commands) => Ok(Commands::of(commands)),
         Err(refusal) => Err(refusal),
+    }
+}
+
+#[tactic(auto, using(crate::proofs::Readings::members))]
+fn commands_in(alloc: Global, value: Option<&Value>) -> Result<Commands, ReadRefusal>
+    ensures { Reads (λ commands. map command_view commands) result (list_member (option_map (λ v. data_of v.now) value.entry)) }
+{
+    match value {
+        Some(value) => listed(alloc, value),
+        None => Err(bad_member(alloc, "Commands")),
     }
 }
 
