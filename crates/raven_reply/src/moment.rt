@@ -24,11 +24,6 @@ fn instant(moment: u64) -> Timestamp
 pub fn moment_text(alloc: Global, moment: u64) -> Result<Text, NoMemory>
     ensures { IfOk result (λ text. text ≡ spec_moment_text moment) }
 {
-<<<<<<< HEAD
-    let _ = (alloc, moment);
-    Err(NoMemory)
-=======
     let printer = DateTimePrinter::new().precision(Some(7));
     Text::of(alloc, printer.timestamp_text(instant(moment)).as_str())
->>>>>>> 64223bf6d039e682e7e46db78a1b1cb1fbf6a64e
 }
