@@ -77,4 +77,3 @@ one_more done c d ds all e h = by (commands_read ds) ∙ ap (λ r. in_front done
     by (Err refusal) = refl
 
 pub ruleset lists = (none_left, refused_here, one_more)
-

@@ -72,12 +72,7 @@ fn object_of(alloc: Global, name: &str, value: Value) -> Result<Value, ReadRefus
 
 /// A put of this body. The JSON is read first, then the id, and then the body has to be an object.
 #[tactic(auto, using(crate::proofs::Readings::readings))]
-pub fn put_of(
-    alloc: Global,
-    id: &str,
-    expected: Expect,
-    body: &str,
-) -> Result<Request, ReadRefusal>
+pub fn put_of(alloc: Global, id: &str, expected: Expect, body: &str) -> Result<Request, ReadRefusal>
     ensures { Reads request_view result (put_read id.now (expect_view expected) (reading body.now)) }
 {
     let value = match json_of(alloc, body) {

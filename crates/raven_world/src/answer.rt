@@ -16,12 +16,7 @@ use raven_reply::{Reply, moment_text};
 use raven_value::{Body, Id, Members, Name, Row, Text, Value};
 use std::alloc::Global;
 
-fn put_text(
-    alloc: Global,
-    members: &mut Members,
-    name: &str,
-    text: Text,
-) -> Result<(), NoMemory>
+fn put_text(alloc: Global, members: &mut Members, name: &str, text: Text) -> Result<(), NoMemory>
     ensures { OnOk result (members.new ≡ put name.now (spec_text text) members.old) }
 {
     members.put(Text::of(alloc, name)?, Value::Text(text))
@@ -57,7 +52,12 @@ fn shown_metadata(
     put_text(alloc, &mut members, "@last-modified", changed)?;
     put_text(alloc, &mut members, "@id", id)?;
     put_text(alloc, &mut members, "@collection", collection)?;
-    put_text(alloc, &mut members, "@change-vector", vector(alloc, row.etag, base)?)?;
+    put_text(
+        alloc,
+        &mut members,
+        "@change-vector",
+        vector(alloc, row.etag, base)?,
+    )?;
     Ok(members)
 }
 

@@ -12,7 +12,9 @@ ghost use Rattle.raven_world.specs.Transacts.{Transacts};
 use crate::slot::copies;
 use crate::world::{Change, World, WorldFault};
 use doc_store::Store;
-use doc_txn::{BaseId, Command, Commands, Transaction, TxnFault, TxnKind, Writer, transact, vector};
+use doc_txn::{
+    BaseId, Command, Commands, Transaction, TxnFault, TxnKind, Writer, transact, vector,
+};
 use raven_base::NoMemory;
 use raven_reply::{BulkResult, BulkResults, Reply};
 use raven_value::{Id, Text};
