@@ -68,7 +68,7 @@ put-answered M k now id expected body =
     elim (refusal_of M.world.setting Client M.world.store c) as (λ o.
     refusal_of M.world.setting Client M.world.store c ≡ o
     → let replied = settled M k (wrote M single_reply now (c ∷ []) (unless o 0 (Ok done))) in
-      IsRefused M now (c ∷ []) replied ⊎ (IsUnkept M k replied ⊎ IsPutKept M now id body replied)) [
+    IsRefused M now (c ∷ []) replied ⊎ (IsUnkept M k replied ⊎ IsPutKept M now id body replied)) [
       | None ↦ λ e. inr (elim (first_or_not k.takes) as (λ _. let replied = settled M k (wrote M single_reply now (c ∷ []) (Ok done)) in IsUnkept M k replied ⊎ IsPutKept M now id body replied) [
         | inl taken ↦ inr (subst (λ b. IsPutKept M now id body (cond b kept (same_machine M (Reply.KeeperFault k.before k.after)))) (sym taken) (record {
           spelled = r.id;
@@ -123,7 +123,7 @@ delete-answered M k now id expected =
     elim (refusal_of M.world.setting Client M.world.store c) as (λ o.
     refusal_of M.world.setting Client M.world.store c ≡ o
     → let replied = settled M k (wrote M single_reply now (c ∷ []) (unless o 0 (Ok done))) in
-      IsRefused M now (c ∷ []) replied ⊎ (IsUnkept M k replied ⊎ (IsNotThere M id replied ⊎ IsDeleted M now id replied))) [
+    IsRefused M now (c ∷ []) replied ⊎ (IsUnkept M k replied ⊎ (IsNotThere M id replied ⊎ IsDeleted M now id replied))) [
       | None ↦ λ e. inr (taken-deletion M k now id expected (document_at M.world.store (folded id)) refl)
       | Some kind ↦ λ e. inl (record { refused = record { at = 0; kind = kind }; cause = ap (λ o. unless o 0 (Ok done)) e; told = refl })
     ] refl
@@ -152,10 +152,10 @@ bulk-answered-of M k now commands (Ok w) e =
     IsUnkept M k replied ⊎ AreWritten M now commands replied) [
       | [] ↦ inr (bulk-kept M now commands w e)
       | r ∷ rows ↦ elim (first_or_not k.takes) as (λ _. let replied = cond (is_first_taken k.takes) (written M Reply.Bulk now commands w) (same_machine M (Reply.KeeperFault k.before k.after)) in
-      IsUnkept M k replied ⊎ AreWritten M now commands replied) [
-        | inl taken ↦ inr (subst (λ b. AreWritten M now commands (cond b (written M Reply.Bulk now commands w) (same_machine M (Reply.KeeperFault k.before k.after)))) (sym taken) (bulk-kept M now commands w e))
-        | inr failed ↦ inl (unkept M k (written M Reply.Bulk now commands w) failed.0 failed.1)
-      ]
+          IsUnkept M k replied ⊎ AreWritten M now commands replied) [
+            | inl taken ↦ inr (subst (λ b. AreWritten M now commands (cond b (written M Reply.Bulk now commands w) (same_machine M (Reply.KeeperFault k.before k.after)))) (sym taken) (bulk-kept M now commands w e))
+            | inr failed ↦ inl (unkept M k (written M Reply.Bulk now commands w) failed.0 failed.1)
+          ]
     ])
 
 pub bulk-answered : (M : Machine) (k : Keeping) (now : ℕ) (commands : List Command) → BulkIsAnswered M k now commands
