@@ -161,205 +161,132 @@ fn refuses_a_script_that_is_too_long(rt: HostRuntime) -> Result<(), Fail> {
     Ok(())
 }
 
-// One line after another from an empty database.
-fn table(rt: &HostRuntime, cases: &[(&str, &str)]) -> Result<(), Fail> {
-    let alloc = rt.alloc();
-    let mut script = String::new(alloc);
-    let mut wanted = String::new(alloc);
-    for (line, reply) in cases {
-        script.push_str(line)?;
-        script.push_str("\n")?;
-        wanted.push_str(reply)?;
-        wanted.push_str("\n")?;
-    }
-    let got = replies(rt, script.as_str())?;
-    assert_eq!(rt; got.as_str(), wanted.as_str());
+#[test]
+fn names_each_refusal(rt: HostRuntime) -> Result<(), Fail> {
+    let script = "PUT a {\"x\":1.5}\n\
+        PUT a {\"x\":-0}\n\
+        PUT a {\n\
+        PUT \u{7f} {\n\
+        PUT a\u{7f} []\n\
+        PUT a []\n\
+        PUT @Index/a {}\n\
+        PUT a {\"@metadata\":{\"@collection\":\"@indexes\"}}\n\
+        DEL @index/a\n\
+        GET a\tb\n\
+        GET a\n\
+        STALE X\n\
+        BULK []\n\
+        BULK {}\n\
+        BULK {\"Commands\":[1]}\n\
+        BULK {\"Commands\":[{\"Type\":\"put\"}]}\n\
+        BULK {\"Commands\":[{\"Id\":1,\"Type\":\"DELETE\"}]}\n\
+        BULK {\"Commands\":[{\"Id\":\"\",\"Type\":\"DELETE\"}]}\n\
+        BULK {\"Commands\":[{\"ChangeVector\":1,\"Id\":\"a\",\"Type\":\"PUT\"}]}\n\
+        BULK {\"Commands\":[{\"ChangeVector\":null,\"Document\":[],\"Id\":\"a\",\"Type\":\"PUT\"}]}\n\
+        STATS\n";
+    let wanted = "{\"Error\":\"NumberNotWhole\"}\n\
+        {\"Error\":\"NumberNotWhole\"}\n\
+        {\"Error\":\"NotJson\"}\n\
+        {\"Error\":\"NotJson\"}\n\
+        {\"At\":1,\"Error\":\"Control\"}\n\
+        {\"Error\":\"BadMember\",\"Name\":\"body\"}\n\
+        {\"At\":0,\"Error\":\"ReservedId\"}\n\
+        {\"At\":0,\"Error\":\"ReservedId\"}\n\
+        {\"At\":0,\"Error\":\"ReservedId\"}\n\
+        {\"At\":1,\"Error\":\"Control\"}\n\
+        {\"Error\":\"NoDocument\",\"Id\":\"a\"}\n\
+        {\"Error\":\"NoIndex\",\"Name\":\"X\"}\n\
+        {\"Error\":\"BadMember\",\"Name\":\"body\"}\n\
+        {\"Error\":\"BadMember\",\"Name\":\"Commands\"}\n\
+        {\"Error\":\"BadMember\",\"Name\":\"Commands\"}\n\
+        {\"Error\":\"BadMember\",\"Name\":\"Type\"}\n\
+        {\"Error\":\"BadMember\",\"Name\":\"Id\"}\n\
+        {\"Error\":\"Empty\"}\n\
+        {\"Error\":\"BadMember\",\"Name\":\"ChangeVector\"}\n\
+        {\"Error\":\"BadMember\",\"Name\":\"Document\"}\n\
+        {\"CountOfDocuments\":0,\"CountOfIndexes\":0,\"CountOfTombstones\":0,\"LastDocEtag\":0}\n";
+    let got = replies(&rt, script)?;
+    assert_eq!(rt; got.as_str(), wanted);
     Ok(())
 }
 
 #[test]
-fn names_each_refusal(rt: HostRuntime) -> Result<(), Fail> {
-    table(
-        &rt,
-        &[
-            ("PUT a {\"x\":1.5}", "{\"Error\":\"NumberNotWhole\"}"),
-            ("PUT a {\"x\":-0}", "{\"Error\":\"NumberNotWhole\"}"),
-            ("PUT a {", "{\"Error\":\"NotJson\"}"),
-            ("PUT \u{7f} {", "{\"Error\":\"NotJson\"}"),
-            ("PUT a\u{7f} []", "{\"At\":1,\"Error\":\"Control\"}"),
-            ("PUT a []", "{\"Error\":\"BadMember\",\"Name\":\"body\"}"),
-            ("PUT @Index/a {}", "{\"At\":0,\"Error\":\"ReservedId\"}"),
-            (
-                "PUT a {\"@metadata\":{\"@collection\":\"@indexes\"}}",
-                "{\"At\":0,\"Error\":\"ReservedId\"}",
-            ),
-            ("DEL @index/a", "{\"At\":0,\"Error\":\"ReservedId\"}"),
-            ("GET a\tb", "{\"At\":1,\"Error\":\"Control\"}"),
-            ("GET a", "{\"Error\":\"NoDocument\",\"Id\":\"a\"}"),
-            ("STALE X", "{\"Error\":\"NoIndex\",\"Name\":\"X\"}"),
-            ("BULK []", "{\"Error\":\"BadMember\",\"Name\":\"body\"}"),
-            ("BULK {}", "{\"Error\":\"BadMember\",\"Name\":\"Commands\"}"),
-            (
-                "BULK {\"Commands\":[1]}",
-                "{\"Error\":\"BadMember\",\"Name\":\"Commands\"}",
-            ),
-            (
-                "BULK {\"Commands\":[{\"Type\":\"put\"}]}",
-                "{\"Error\":\"BadMember\",\"Name\":\"Type\"}",
-            ),
-            (
-                "BULK {\"Commands\":[{\"Id\":1,\"Type\":\"DELETE\"}]}",
-                "{\"Error\":\"BadMember\",\"Name\":\"Id\"}",
-            ),
-            (
-                "BULK {\"Commands\":[{\"Id\":\"\",\"Type\":\"DELETE\"}]}",
-                "{\"Error\":\"Empty\"}",
-            ),
-            (
-                "BULK {\"Commands\":[{\"ChangeVector\":1,\"Id\":\"a\",\"Type\":\"PUT\"}]}",
-                "{\"Error\":\"BadMember\",\"Name\":\"ChangeVector\"}",
-            ),
-            (
-                "BULK {\"Commands\":[{\"ChangeVector\":null,\"Document\":[],\"Id\":\"a\",\"Type\":\"PUT\"}]}",
-                "{\"Error\":\"BadMember\",\"Name\":\"Document\"}",
-            ),
-            (
-                "STATS",
-                "{\"CountOfDocuments\":0,\"CountOfIndexes\":0,\"CountOfTombstones\":0,\"LastDocEtag\":0}",
-            ),
-        ],
-    )
-}
-
-#[test]
 fn reads_and_deletes(rt: HostRuntime) -> Result<(), Fail> {
-    table(
-        &rt,
-        &[
-            (
-                "PUT users/1 {\"Name\":\"Ada\",\"@metadata\":{\"@collection\":\"Users\"}}",
-                "{\"ChangeVector\":\"A:1-AAAAAAAAAAAAAAAAAAAAAA\",\"Id\":\"users/1\"}",
-            ),
-            ("AUTO Users Name", "{\"Index\":\"Auto/Users/ByName\"}"),
-            (
-                "PUMP 64",
-                "{\"Pumped\":[{\"From\":0,\"Index\":\"Auto/Users/ByName\",\"To\":2}]}",
-            ),
-            ("DEL users/9", "{\"Deleted\":false,\"Id\":\"users/9\"}"),
-            (
-                "STALE Auto/Users/ByName",
-                "{\"IndexEtag\":2,\"IsStale\":false,\"Newest\":1}",
-            ),
-            (
-                "STATS",
-                "{\"CountOfDocuments\":1,\"CountOfIndexes\":1,\"CountOfTombstones\":0,\"LastDocEtag\":2}",
-            ),
-            (
-                "GET users/1",
-                "{\"@metadata\":{\"@change-vector\":\"A:1-AAAAAAAAAAAAAAAAAAAAAA\",\"@collection\":\"Users\",\"@id\":\"users/1\",\"@last-modified\":\"1970-01-01T00:00:00.0000000Z\"},\"Name\":\"Ada\"}",
-            ),
-            ("DEL USERS/1", "{\"Deleted\":true,\"Id\":\"users/1\"}"),
-            (
-                "FIND Auto/Users/ByName Name ADA",
-                "{\"Ids\":[\"users/1\"],\"IndexEtag\":2,\"IsStale\":true}",
-            ),
-            (
-                "PUMP 64",
-                "{\"Pumped\":[{\"From\":2,\"Index\":\"Auto/Users/ByName\",\"To\":3}]}",
-            ),
-            (
-                "FIND Auto/Users/ByName Name ada",
-                "{\"Ids\":[],\"IndexEtag\":3,\"IsStale\":false}",
-            ),
-            (
-                "PUT users/1 {\"@metadata\":{\"@collection\":\"Teams\"}}",
-                "{\"At\":0,\"Error\":\"CollectionChanged\",\"From\":\"Users\"}",
-            ),
-        ],
-    )
+    let script = "PUT users/1 {\"Name\":\"Ada\",\"@metadata\":{\"@collection\":\"Users\"}}\n\
+        AUTO Users Name\n\
+        PUMP 64\n\
+        DEL users/9\n\
+        STALE Auto/Users/ByName\n\
+        STATS\n\
+        GET users/1\n\
+        DEL USERS/1\n\
+        FIND Auto/Users/ByName Name ADA\n\
+        PUMP 64\n\
+        FIND Auto/Users/ByName Name ada\n\
+        PUT users/1 {\"@metadata\":{\"@collection\":\"Teams\"}}\n";
+    let wanted = "{\"ChangeVector\":\"A:1-AAAAAAAAAAAAAAAAAAAAAA\",\"Id\":\"users/1\"}\n\
+        {\"Index\":\"Auto/Users/ByName\"}\n\
+        {\"Pumped\":[{\"From\":0,\"Index\":\"Auto/Users/ByName\",\"To\":2}]}\n\
+        {\"Deleted\":false,\"Id\":\"users/9\"}\n\
+        {\"IndexEtag\":2,\"IsStale\":false,\"Newest\":1}\n\
+        {\"CountOfDocuments\":1,\"CountOfIndexes\":1,\"CountOfTombstones\":0,\"LastDocEtag\":2}\n\
+        {\"@metadata\":{\"@change-vector\":\"A:1-AAAAAAAAAAAAAAAAAAAAAA\",\"@collection\":\"Users\",\"@id\":\"users/1\",\"@last-modified\":\"1970-01-01T00:00:00.0000000Z\"},\"Name\":\"Ada\"}\n\
+        {\"Deleted\":true,\"Id\":\"users/1\"}\n\
+        {\"Ids\":[\"users/1\"],\"IndexEtag\":2,\"IsStale\":true}\n\
+        {\"Pumped\":[{\"From\":2,\"Index\":\"Auto/Users/ByName\",\"To\":3}]}\n\
+        {\"Ids\":[],\"IndexEtag\":3,\"IsStale\":false}\n\
+        {\"At\":0,\"Error\":\"CollectionChanged\",\"From\":\"Users\"}\n";
+    let got = replies(&rt, script)?;
+    assert_eq!(rt; got.as_str(), wanted);
+    Ok(())
 }
 
 #[test]
 fn takes_all_or_none(rt: HostRuntime) -> Result<(), Fail> {
-    table(
-        &rt,
-        &[
-            (
-                "BULK {\"Commands\":[{\"Document\":{},\"Id\":\"a\",\"Type\":\"PUT\"},{\"ChangeVector\":\"A:9-AAAAAAAAAAAAAAAAAAAAAA\",\"Document\":{},\"Id\":\"b\",\"Type\":\"PUT\"}]}",
-                "{\"At\":1,\"Error\":\"Conflict\",\"Expected\":\"A:9-AAAAAAAAAAAAAAAAAAAAAA\",\"Found\":\"\"}",
-            ),
-            (
-                "STATS",
-                "{\"CountOfDocuments\":0,\"CountOfIndexes\":0,\"CountOfTombstones\":0,\"LastDocEtag\":0}",
-            ),
-            (
-                "BULK {\"Commands\":[{\"ChangeVector\":\"\",\"Document\":{},\"Id\":\"a\",\"Type\":\"PUT\"},{\"Id\":\"A\",\"Type\":\"DELETE\"},{\"Id\":\"b\",\"Type\":\"DELETE\"}]}",
-                "{\"Results\":[{\"ChangeVector\":\"A:1-AAAAAAAAAAAAAAAAAAAAAA\",\"Id\":\"a\",\"Type\":\"PUT\"},{\"Deleted\":true,\"Id\":\"a\",\"Type\":\"DELETE\"},{\"Deleted\":false,\"Id\":\"b\",\"Type\":\"DELETE\"}]}",
-            ),
-            (
-                "PUTIF a A:2-AAAAAAAAAAAAAAAAAAAAAA {}",
-                "{\"At\":0,\"Error\":\"Conflict\",\"Expected\":\"A:2-AAAAAAAAAAAAAAAAAAAAAA\",\"Found\":\"\"}",
-            ),
-            (
-                "PUT a {}",
-                "{\"ChangeVector\":\"A:3-AAAAAAAAAAAAAAAAAAAAAA\",\"Id\":\"a\"}",
-            ),
-            (
-                "DELIF A:1-AAAAAAAAAAAAAAAAAAAAAA a",
-                "{\"At\":0,\"Error\":\"Conflict\",\"Expected\":\"A:1-AAAAAAAAAAAAAAAAAAAAAA\",\"Found\":\"A:3-AAAAAAAAAAAAAAAAAAAAAA\"}",
-            ),
-            (
-                "PUTIF A A:3-AAAAAAAAAAAAAAAAAAAAAA {\"b\":1}",
-                "{\"ChangeVector\":\"A:4-AAAAAAAAAAAAAAAAAAAAAA\",\"Id\":\"a\"}",
-            ),
-            (
-                "DELIF A:4-AAAAAAAAAAAAAAAAAAAAAA a",
-                "{\"Deleted\":true,\"Id\":\"a\"}",
-            ),
-            (
-                "STATS",
-                "{\"CountOfDocuments\":0,\"CountOfIndexes\":0,\"CountOfTombstones\":1,\"LastDocEtag\":5}",
-            ),
-        ],
-    )
+    let script = "BULK {\"Commands\":[{\"Document\":{},\"Id\":\"a\",\"Type\":\"PUT\"},{\"ChangeVector\":\"A:9-AAAAAAAAAAAAAAAAAAAAAA\",\"Document\":{},\"Id\":\"b\",\"Type\":\"PUT\"}]}\n\
+        STATS\n\
+        BULK {\"Commands\":[{\"ChangeVector\":\"\",\"Document\":{},\"Id\":\"a\",\"Type\":\"PUT\"},{\"Id\":\"A\",\"Type\":\"DELETE\"},{\"Id\":\"b\",\"Type\":\"DELETE\"}]}\n\
+        PUTIF a A:2-AAAAAAAAAAAAAAAAAAAAAA {}\n\
+        PUT a {}\n\
+        DELIF A:1-AAAAAAAAAAAAAAAAAAAAAA a\n\
+        PUTIF A A:3-AAAAAAAAAAAAAAAAAAAAAA {\"b\":1}\n\
+        DELIF A:4-AAAAAAAAAAAAAAAAAAAAAA a\n\
+        STATS\n";
+    let wanted = "{\"At\":1,\"Error\":\"Conflict\",\"Expected\":\"A:9-AAAAAAAAAAAAAAAAAAAAAA\",\"Found\":\"\"}\n\
+        {\"CountOfDocuments\":0,\"CountOfIndexes\":0,\"CountOfTombstones\":0,\"LastDocEtag\":0}\n\
+        {\"Results\":[{\"ChangeVector\":\"A:1-AAAAAAAAAAAAAAAAAAAAAA\",\"Id\":\"a\",\"Type\":\"PUT\"},{\"Deleted\":true,\"Id\":\"a\",\"Type\":\"DELETE\"},{\"Deleted\":false,\"Id\":\"b\",\"Type\":\"DELETE\"}]}\n\
+        {\"At\":0,\"Error\":\"Conflict\",\"Expected\":\"A:2-AAAAAAAAAAAAAAAAAAAAAA\",\"Found\":\"\"}\n\
+        {\"ChangeVector\":\"A:3-AAAAAAAAAAAAAAAAAAAAAA\",\"Id\":\"a\"}\n\
+        {\"At\":0,\"Error\":\"Conflict\",\"Expected\":\"A:1-AAAAAAAAAAAAAAAAAAAAAA\",\"Found\":\"A:3-AAAAAAAAAAAAAAAAAAAAAA\"}\n\
+        {\"ChangeVector\":\"A:4-AAAAAAAAAAAAAAAAAAAAAA\",\"Id\":\"a\"}\n\
+        {\"Deleted\":true,\"Id\":\"a\"}\n\
+        {\"CountOfDocuments\":0,\"CountOfIndexes\":0,\"CountOfTombstones\":1,\"LastDocEtag\":5}\n";
+    let got = replies(&rt, script)?;
+    assert_eq!(rt; got.as_str(), wanted);
+    Ok(())
 }
 
 #[test]
 fn lags_behind_what_a_batch_leaves(rt: HostRuntime) -> Result<(), Fail> {
-    table(
-        &rt,
-        &[
-            ("AUTO C F", "{\"Index\":\"Auto/C/ByF\"}"),
-            (
-                "PUT x {\"@metadata\":{\"@collection\":\"C\"}}",
-                "{\"ChangeVector\":\"A:2-AAAAAAAAAAAAAAAAAAAAAA\",\"Id\":\"x\"}",
-            ),
-            (
-                "PUT y {\"@metadata\":{\"@collection\":\"C\"}}",
-                "{\"ChangeVector\":\"A:3-AAAAAAAAAAAAAAAAAAAAAA\",\"Id\":\"y\"}",
-            ),
-            (
-                "PUT x {\"@metadata\":{\"@collection\":\"C\"}}",
-                "{\"ChangeVector\":\"A:4-AAAAAAAAAAAAAAAAAAAAAA\",\"Id\":\"x\"}",
-            ),
-            (
-                "PUMP 1",
-                "{\"Pumped\":[{\"From\":0,\"Index\":\"Auto/C/ByF\",\"To\":3}]}",
-            ),
-            (
-                "STALE Auto/C/ByF",
-                "{\"IndexEtag\":3,\"IsStale\":true,\"Newest\":4}",
-            ),
-            (
-                "PUMP 1",
-                "{\"Pumped\":[{\"From\":3,\"Index\":\"Auto/C/ByF\",\"To\":4}]}",
-            ),
-            (
-                "STALE auto/c/byf",
-                "{\"IndexEtag\":4,\"IsStale\":false,\"Newest\":4}",
-            ),
-        ],
-    )
+    let script = "AUTO C F\n\
+        PUT x {\"@metadata\":{\"@collection\":\"C\"}}\n\
+        PUT y {\"@metadata\":{\"@collection\":\"C\"}}\n\
+        PUT x {\"@metadata\":{\"@collection\":\"C\"}}\n\
+        PUMP 1\n\
+        STALE Auto/C/ByF\n\
+        PUMP 1\n\
+        STALE auto/c/byf\n";
+    let wanted = "{\"Index\":\"Auto/C/ByF\"}\n\
+        {\"ChangeVector\":\"A:2-AAAAAAAAAAAAAAAAAAAAAA\",\"Id\":\"x\"}\n\
+        {\"ChangeVector\":\"A:3-AAAAAAAAAAAAAAAAAAAAAA\",\"Id\":\"y\"}\n\
+        {\"ChangeVector\":\"A:4-AAAAAAAAAAAAAAAAAAAAAA\",\"Id\":\"x\"}\n\
+        {\"Pumped\":[{\"From\":0,\"Index\":\"Auto/C/ByF\",\"To\":3}]}\n\
+        {\"IndexEtag\":3,\"IsStale\":true,\"Newest\":4}\n\
+        {\"Pumped\":[{\"From\":3,\"Index\":\"Auto/C/ByF\",\"To\":4}]}\n\
+        {\"IndexEtag\":4,\"IsStale\":false,\"Newest\":4}\n";
+    let got = replies(&rt, script)?;
+    assert_eq!(rt; got.as_str(), wanted);
+    Ok(())
 }
 
 #[test]
