@@ -243,7 +243,8 @@ fn reads_and_deletes(rt: HostRuntime) -> Result<(), Fail> {
 
 #[test]
 fn takes_all_or_none(rt: HostRuntime) -> Result<(), Fail> {
-    let script = "BULK {\"Commands\":[{\"Document\":{},\"Id\":\"a\",\"Type\":\"PUT\"},{\"ChangeVector\":\"A:9-AAAAAAAAAAAAAAAAAAAAAA\",\"Document\":{},\"Id\":\"b\",\"Type\":\"PUT\"}]}\n\
+    let script =
+        "BULK {\"Commands\":[{\"Document\":{},\"Id\":\"a\",\"Type\":\"PUT\"},{\"ChangeVector\":\"A:9-AAAAAAAAAAAAAAAAAAAAAA\",\"Document\":{},\"Id\":\"b\",\"Type\":\"PUT\"}]}\n\
         STATS\n\
         BULK {\"Commands\":[{\"ChangeVector\":\"\",\"Document\":{},\"Id\":\"a\",\"Type\":\"PUT\"},{\"Id\":\"A\",\"Type\":\"DELETE\"},{\"Id\":\"b\",\"Type\":\"DELETE\"}]}\n\
         PUTIF a A:2-AAAAAAAAAAAAAAAAAAAAAA {}\n\
@@ -252,7 +253,8 @@ fn takes_all_or_none(rt: HostRuntime) -> Result<(), Fail> {
         PUTIF A A:3-AAAAAAAAAAAAAAAAAAAAAA {\"b\":1}\n\
         DELIF A:4-AAAAAAAAAAAAAAAAAAAAAA a\n\
         STATS\n";
-    let wanted = "{\"At\":1,\"Error\":\"Conflict\",\"Expected\":\"A:9-AAAAAAAAAAAAAAAAAAAAAA\",\"Found\":\"\"}\n\
+    let wanted =
+        "{\"At\":1,\"Error\":\"Conflict\",\"Expected\":\"A:9-AAAAAAAAAAAAAAAAAAAAAA\",\"Found\":\"\"}\n\
         {\"CountOfDocuments\":0,\"CountOfIndexes\":0,\"CountOfTombstones\":0,\"LastDocEtag\":0}\n\
         {\"Results\":[{\"ChangeVector\":\"A:1-AAAAAAAAAAAAAAAAAAAAAA\",\"Id\":\"a\",\"Type\":\"PUT\"},{\"Deleted\":true,\"Id\":\"a\",\"Type\":\"DELETE\"},{\"Deleted\":false,\"Id\":\"b\",\"Type\":\"DELETE\"}]}\n\
         {\"At\":0,\"Error\":\"Conflict\",\"Expected\":\"A:2-AAAAAAAAAAAAAAAAAAAAAA\",\"Found\":\"\"}\n\
