@@ -104,7 +104,7 @@ def tried(named_scripts):
         (folder / case).write_bytes(script)
         (folder / f"{case}.stdout").write_bytes(expected)
         names.append((case, name))
-    command = ["rt", "try", "--cases", str(folder), "--", "run"]
+    command = ["rt", "try", "--seconds", "600", "--cases", str(folder), "--", "run"]
     told = subprocess.run(command, cwd=TOP / "crates/raven", stderr=subprocess.PIPE).stderr.decode(errors="replace").splitlines()
     said = [line.split() for line in told if line.startswith("case=")]
     alike = {words[0][5:] for words in said if "run=ended" in words and "output=expected" in words}

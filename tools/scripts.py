@@ -259,8 +259,9 @@ class Maker:
             return f"FIND {self.no_index()} {self.one_of(FIELDS)} {self.words()}"
         index = self.one_of(self.database.indexes)
         field = index.field if self.chance(92) else self.one_of(FIELDS)
-        kept = [row.body.get(field) for row in self.database.read_by(index) if row.is_document()]
-        texts = [value for value in kept if isinstance(value, str)]
+        # What it has recorded counts too, since an index that lags still finds it.
+        rows = [row for row in self.database.read_by(index) if row.is_document()] + list(index.table.values())
+        texts = [row.body[field] for row in rows if isinstance(row.body.get(field), str)]
         text = self.in_other_case(self.one_of(texts)) if texts and self.chance(85) else self.words()
         return f"FIND {self.in_other_case(index.name)} {field} {text}"
 
@@ -365,7 +366,9 @@ def bodies():
     yield "a body that is as long written as read", put("a", '{"F":"' + '\\"' * (FILL // 2) + '"}')
     yield "a body that is longer written than read", put("a", '{"F":"' + "\\b" * (FILL // 2 + 1) + '"}')
     yield "a body that is shorter written than read", put("a", '{"F":"' + "\\u0041" * (FILL - 1) + '"' + " " * 1000 + "}")
-    yield "a metadata that goes out", put("a", f'{{"F":"{"x" * (FILL - 10)}","@metadata":{{"@id":"{"y" * 1000}"}}}}')
+    for name in model.OWN:
+        yield f"a member {name} that goes out", put("a", f'{{"F":"{"x" * FILL}","@metadata":{{"{name}":"y"}}}}') + "STATS\n"
+    yield "a member that stays", put("a", f'{{"F":"{"x" * FILL}","@metadata":{{"@other":"y"}}}}') + "STATS\n"
     yield "each number", "".join(put("a", f'{{"N":{n}}}') + put("a", f'{{"N":{n},"N":1}}') + "GET a\n" for n in NUMBERS)
     texts = [(put("a", n), put("a", f'{{"N":{n}}}'), f"BULK {n}\n", bulk(put_command("a", n))) for n in BAD_JSON]
     yield "each text that is no JSON", "".join("".join(lines) for lines in texts)
@@ -383,7 +386,8 @@ def indexes():
     rows = "".join(put(f"u/{number}", of("U")) for number in range(300))
     yield "batches", f"AUTO U F\n{rows}" + "PUMP 1\nPUMP 7\nSTALE Auto/U/ByF\n" * 20 + "PUMP 65536\nFIND Auto/U/ByF F X\n"
     gone = "".join(delete(f"U/{number}") + "STALE Auto/U/ByF\nPUMP 1\n" for number in range(0, 300, 9))
-    yield "batches of tombstones", f"AUTO U F\n{rows}PUMP 200\n{gone}FIND Auto/U/ByF F x\nSTATS\nPUMP 200\nSTALE Auto/U/ByF\n"
+    found = "FIND Auto/U/ByF F x\nSTALE Auto/U/ByF\nSTATS\n"
+    yield "batches of tombstones", f"AUTO U F\n{rows}PUMP 280\n{gone}{found}PUMP 5\n{found}PUMP 200\n{found}"
 
 
 def transactions():
