@@ -21,6 +21,8 @@ MAX_ROWS = 4_000_000
 MAX_ETAG = 9_007_199_254_740_991
 MAX_BATCH = 65_536
 BASE = "A" * 22
+# Each line comes at the same moment: there is no clock yet.
+MOMENT = "1970-01-01T00:00:00.0000000Z"
 
 UPPER = {code: code + 32 for code in range(ord("A"), ord("Z") + 1)}
 
@@ -34,11 +36,15 @@ def size(text):
     return len(text.encode())
 
 
-# JSON
-
-
 class Refused(Exception):
-    """Bytes that are not read, with the name of the first test that they fail."""
+    """A request that is refused and changes nothing, with the reply that says why."""
+
+    def __init__(self, name, **members):
+        super().__init__(name)
+        self.reply = {"Error": name, **members}
+
+
+# JSON
 
 
 class NotWhole:
@@ -264,9 +270,22 @@ def write_json(value):
     return "{" + ",".join(quoted(name) + ":" + write_json(value[name]) for name in sorted(value)) + "}"
 
 
-# Documents
+# Ids, names and documents
 
 OWN = ("@id", "@change-vector", "@last-modified", "@index-score", "@collection")
+
+
+def fault_of(text, most):
+    """Why a text can be no id or name: it has 1 to so many bytes and no control characters. None where it can be one."""
+    data = text.encode()
+    if not data:
+        return Refused("Empty")
+    if len(data) > most:
+        return Refused("TooLong", Len=len(data))
+    for at, byte in enumerate(data):
+        if byte < 0x20 or byte == 0x7F:
+            return Refused("Control", At=at)
+    return None
 
 
 def collection_of(body):
@@ -284,20 +303,117 @@ def stored(body):
     return {**body, "@metadata": kept}
 
 
-def is_fit(text, most):
-    """Ids and names have 1 to so many bytes and no control characters."""
-    return 1 <= size(text) <= most and not any(mark < " " or mark == "\x7f" for mark in text)
+def vector_of(etag):
+    return f"A:{etag}-{BASE}"
 
 
-# The database
+# The store
 
 
 class Row:
+    """What stands at an id: a document, or a tombstone, whose body is None."""
+
     def __init__(self, etag, spelling, collection, body):
         self.etag = etag
         self.spelling = spelling
         self.collection = collection
         self.body = body
+
+    def is_document(self):
+        return self.body is not None
+
+    def shown(self):
+        """The document with what the server knows of it."""
+        known = {"@change-vector": vector_of(self.etag), "@collection": self.collection, "@id": self.spelling}
+        return {**self.body, "@metadata": {**self.body["@metadata"], **known, "@last-modified": MOMENT}}
+
+
+class Store:
+    def __init__(self, rows, last):
+        self.rows = rows  # by folded id, in order of etag
+        self.last = last
+
+    def copy(self):
+        return Store(dict(self.rows), self.last)
+
+    def row(self, name):
+        return self.rows.get(folded(name))
+
+    def document(self, name):
+        row = self.row(name)
+        return row if row and row.is_document() else None
+
+    def spelling(self, name):
+        """The id as its row spells it, or as it was given where no row stands."""
+        row = self.row(name)
+        return row.spelling if row else name
+
+    def write(self, name, collection, body):
+        """Puts a row under the next etag, and gives the etag."""
+        self.last += 1
+        row = Row(self.last, self.spelling(name), collection, body)
+        self.rows.pop(folded(name), None)
+        self.rows[folded(name)] = row
+        return self.last
+
+
+# Transactions
+
+
+class Command:
+    """A put of a body, or a deletion, whose body is None. Expected is the vector that has to be found, or None where any may be."""
+
+    def __init__(self, name, expected, body=None):
+        self.name = name
+        self.expected = expected
+        self.body = body
+
+    def is_put(self):
+        return self.body is not None
+
+
+def is_reserved(command):
+    return folded(command.name).startswith("@index/") or (command.is_put() and collection_of(command.body) == "@indexes")
+
+
+def test(store, at, command, by_client):
+    """The tests of the command at this place, in their order, on the store that the commands before it leave."""
+    row = store.row(command.name)
+    document = store.document(command.name)
+    if by_client and is_reserved(command):
+        raise Refused("ReservedId", At=at)
+    if command.is_put():
+        length = size(write_json(stored(command.body)))
+        if length > MAX_BODY:
+            raise Refused("TooLarge", At=at, Len=length)
+        if row and row.collection != collection_of(command.body):
+            raise Refused("CollectionChanged", At=at, From=row.collection)
+    found = vector_of(document.etag) if document else ""
+    if command.expected not in (None, found):
+        raise Refused("Conflict", At=at, Expected=command.expected, Found=found)
+    if command.is_put() and not row and len(store.rows) >= MAX_ROWS:
+        raise Refused("StoreFull", At=at, Rows=len(store.rows))
+    if (command.is_put() or document) and store.last == MAX_ETAG:
+        raise Refused("EtagsSpent", At=at, Last=store.last)
+
+
+def perform(store, command):
+    """The etag that the command takes, or None: a deletion of what is no document takes none."""
+    if command.is_put():
+        return store.write(command.name, collection_of(command.body), stored(command.body))
+    document = store.document(command.name)
+    return store.write(command.name, document.collection, None) if document else None
+
+
+def result_of(store, command, etag):
+    """What the command did, told of the store after the whole transaction."""
+    name = store.spelling(command.name)
+    if command.is_put():
+        return {"ChangeVector": vector_of(etag), "Id": name, "Type": "PUT"}
+    return {"Deleted": etag is not None, "Id": name, "Type": "DELETE"}
+
+
+# The database
 
 
 class Index:
@@ -307,40 +423,49 @@ class Index:
         self.collection = collection
         self.field = field
         self.etag = 0
-        self.table = {}
+        self.table = {}  # the documents that it has recorded, by folded id
 
 
 class Database:
     def __init__(self):
-        self.rows = {}  # by folded id, in order of etag
-        self.last = 0
+        self.store = Store({}, 0)
         self.indexes = []  # in order of their numbers
 
-    # writes
+    # documents
 
-    def write(self, spelling, collection, body):
-        """The row that is written, or None where it may not be."""
-        old = self.rows.get(folded(spelling))
-        if size(write_json(body)) > MAX_BODY:
-            return None
-        if old and old.collection != collection:
-            return None
-        if not old and len(self.rows) >= MAX_ROWS:
-            return None
-        if self.last == MAX_ETAG:
-            return None
-        self.last += 1
-        row = Row(self.last, old.spelling if old else spelling, collection, body)
-        self.rows.pop(folded(spelling), None)
-        self.rows[folded(spelling)] = row
-        return row
+    def commit(self, commands, by_client=True):
+        """All commands, or none where one is refused: they run on a copy, which then takes the place of the store."""
+        store = self.store.copy()
+        etags = []
+        for at, command in enumerate(commands):
+            test(store, at, command, by_client)
+            etags.append(perform(store, command))
+        self.store = store
+        return [result_of(store, command, etag) for command, etag in zip(commands, etags)]
 
-    def put(self, spelling, body):
-        collection = collection_of(body)
-        if folded(spelling).startswith("@index/") or collection == "@indexes":
-            return None
-        row = self.write(spelling, collection, stored(body))
-        return row and {"ChangeVector": f"A:{row.etag}-{BASE}", "Id": row.spelling}
+    def write(self, command):
+        """A transaction of one command; the reply does not name its type."""
+        (result,) = self.commit([command])
+        return {name: value for name, value in result.items() if name != "Type"}
+
+    def bulk(self, commands):
+        return {"Results": self.commit(commands)}
+
+    def get(self, name):
+        document = self.store.document(name)
+        if not document:
+            raise Refused("NoDocument", Id=self.store.spelling(name))
+        return document.shown()
+
+    def stats(self):
+        own = [row for row in self.store.rows.values() if row.collection != "@indexes"]
+        documents = sum(row.is_document() for row in own)
+        return {
+            "CountOfDocuments": documents,
+            "CountOfIndexes": len(self.indexes),
+            "CountOfTombstones": len(own) - documents,
+            "LastDocEtag": self.store.last,
+        }
 
     # indexes
 
@@ -350,8 +475,18 @@ class Database:
                 return index
         return None
 
+    def live(self, name):
+        index = self.serving(name)
+        if not index:
+            raise Refused("NoIndex", Name=name)
+        return index
+
+    def read_by(self, index):
+        """The rows that the index reads: documents and tombstones of its collection."""
+        return [row for row in self.store.rows.values() if row.collection == index.collection]
+
     def unseen(self, index):
-        return [r for r in self.rows.values() if r.collection == index.collection and r.etag > index.etag]
+        return [row for row in self.read_by(index) if row.etag > index.etag]
 
     def free_name(self, name):
         if not self.serving(name):
@@ -363,7 +498,7 @@ class Database:
 
     def name_for(self, collection, field):
         name = self.free_name(f"Auto/{collection}/By{field}")
-        return name if is_fit(name, MAX_AUTO_NAME) else self.free_name(f"Auto/{self.last + 1}")
+        return self.free_name(f"Auto/{self.store.last + 1}") if fault_of(name, MAX_AUTO_NAME) else name
 
     def auto(self, collection, field):
         others = [index for index in self.indexes if index.collection == collection]
@@ -371,31 +506,34 @@ class Database:
             if index.field == field:
                 return {"Index": index.name}
         if others or len(self.indexes) >= MAX_SLOTS:
-            return None
+            raise Refused("UnknownLine")
         name = self.name_for(collection, field)
-        body = {"@metadata": {}, "Collection": collection, "Fields": [[field]], "Kind": "auto"}
-        row = self.write("@index/" + name, "@indexes", body)
-        if not row:
-            return None
-        self.indexes.append(Index(row.etag, name, collection, field))
+        body = {"@metadata": {"@collection": "@indexes"}, "Collection": collection, "Fields": [[field]], "Kind": "auto"}
+        self.commit([Command("@index/" + name, None, body)], by_client=False)
+        self.indexes.append(Index(self.store.last, name, collection, field))
         return {"Index": name}
 
     def bring_on(self, index, most):
         came_from = index.etag
         rows = self.unseen(index)
         for row in rows[:most]:
-            index.table[folded(row.spelling)] = row
+            index.table.pop(folded(row.spelling), None)
+            if row.is_document():
+                index.table[folded(row.spelling)] = row
         if rows:
-            index.etag = rows[most - 1].etag if len(rows) > most else self.last
+            index.etag = rows[most - 1].etag if len(rows) > most else self.store.last
         return {"From": came_from, "Index": index.name, "To": index.etag}
 
     def pump(self, most):
         return {"Pumped": [self.bring_on(index, most) for index in self.indexes]}
 
+    def stale(self, name):
+        index = self.live(name)
+        newest = max([row.etag for row in self.read_by(index)], default=0)
+        return {"IndexEtag": index.etag, "IsStale": newest > index.etag, "Newest": newest}
+
     def find(self, name, field, words):
-        index = self.serving(name)
-        if not index:
-            return {"Error": "NoIndex", "Name": name}
+        index = self.live(name)
         ids = [index.table[key].spelling for key in sorted(index.table) if self.has(index, key, field, words)]
         return {"Ids": ids, "IndexEtag": index.etag, "IsStale": bool(self.unseen(index))}
 
@@ -419,11 +557,33 @@ def lines(data):
 def words(text, count):
     """So many words, one space behind each, and the rest; none of them is empty."""
     parts = text.split(" ", count)
-    return parts if len(parts) == count + 1 and all(parts) else None
+    if len(parts) <= count or not all(parts):
+        raise Refused("UnknownLine")
+    return parts
 
 
 def number(text):
     return int(text) if re.fullmatch(r"[0-9]{1,16}", text, re.ASCII) else None
+
+
+def id_of(text):
+    fault = fault_of(text, MAX_ID)
+    if fault:
+        raise fault
+    return text
+
+
+def name_of(text):
+    """A text that can be no name makes the line unknown."""
+    if fault_of(text, MAX_NAME):
+        raise Refused("UnknownLine")
+    return text
+
+
+def object_of(value, member):
+    if not isinstance(value, dict):
+        raise Refused("BadMember", Name=member)
+    return value
 
 
 def is_collection(text):
@@ -434,55 +594,119 @@ def is_field(text):
     return not any(mark in text for mark in " .()")
 
 
+def put_of(name, expected, text):
+    """The JSON is told before the id, and the id before a body that is no object."""
+    body = read_json(text.encode())
+    return Command(id_of(name), expected, object_of(body, "body"))
+
+
 def put_line(database, rest):
-    parts = words(rest, 1)
-    if not parts or not is_fit(parts[0], MAX_ID):
-        return None
-    try:
-        body = read_json(parts[1].encode())
-    except Refused:
-        return None
-    return database.put(parts[0], body) if isinstance(body, dict) else None
+    name, text = words(rest, 1)
+    return database.write(put_of(name, None, text))
+
+
+def put_if_line(database, rest):
+    name, vector, text = words(rest, 2)
+    return database.write(put_of(name, vector, text))
+
+
+def delete_line(database, rest):
+    return database.write(Command(id_of(rest), None))
+
+
+def delete_if_line(database, rest):
+    vector, name = words(rest, 1)
+    return database.write(Command(id_of(name), vector))
+
+
+def command_of(item):
+    """A command of a transaction. Its members are tested in this order."""
+    item = object_of(item, "Commands")
+    if item.get("Type") not in ("PUT", "DELETE"):
+        raise Refused("BadMember", Name="Type")
+    if not isinstance(item.get("Id"), str):
+        raise Refused("BadMember", Name="Id")
+    name = id_of(item["Id"])
+    vector = item.get("ChangeVector")
+    if vector is not None and not isinstance(vector, str):
+        raise Refused("BadMember", Name="ChangeVector")
+    body = object_of(item.get("Document"), "Document") if item["Type"] == "PUT" else None
+    return Command(name, vector, body)
+
+
+def bulk_line(database, rest):
+    commands = object_of(read_json(rest.encode()), "body").get("Commands")
+    if not isinstance(commands, list):
+        raise Refused("BadMember", Name="Commands")
+    return database.bulk([command_of(item) for item in commands])
+
+
+def get_line(database, rest):
+    return database.get(id_of(rest))
 
 
 def auto_line(database, rest):
-    parts = words(rest, 1)
-    if not parts or not is_collection(parts[0]) or not is_field(parts[1]):
-        return None
-    return database.auto(*parts)
+    collection, field = words(rest, 1)
+    if not is_collection(collection) or not is_field(field):
+        raise Refused("UnknownLine")
+    return database.auto(collection, field)
 
 
 def pump_line(database, rest):
     most = number(rest)
-    return database.pump(most) if most is not None and 1 <= most <= MAX_BATCH else None
+    if most is None or not 1 <= most <= MAX_BATCH:
+        raise Refused("UnknownLine")
+    return database.pump(most)
 
 
 def find_line(database, rest):
-    parts = words(rest, 2)
-    return database.find(*parts) if parts and is_fit(parts[0], MAX_NAME) else None
+    index, field, text = words(rest, 2)
+    return database.find(name_of(index), field, text)
 
 
-FORMS = {"PUT": put_line, "AUTO": auto_line, "PUMP": pump_line, "FIND": find_line}
+def stale_line(database, rest):
+    return database.stale(name_of(rest))
 
 
-def answer(database, line):
+FORMS = {
+    "PUT": put_line,
+    "PUTIF": put_if_line,
+    "DEL": delete_line,
+    "DELIF": delete_if_line,
+    "BULK": bulk_line,
+    "GET": get_line,
+    "AUTO": auto_line,
+    "PUMP": pump_line,
+    "FIND": find_line,
+    "STALE": stale_line,
+}
+
+
+def asked(database, line):
     try:
         text = line.decode("utf-8")
     except UnicodeDecodeError:
-        return None
-    parts = words(text, 1)
-    form = FORMS.get(parts[0]) if parts else None
-    return form(database, parts[1]) if form else None
+        raise Refused("UnknownLine") from None
+    if text == "STATS":
+        return database.stats()
+    word, rest = words(text, 1)
+    if word not in FORMS:
+        raise Refused("UnknownLine")
+    return FORMS[word](database, rest)
+
+
+def answer(database, line):
+    """The reply to a line with bytes."""
+    try:
+        return asked(database, line)
+    except Refused as refused:
+        return refused.reply
 
 
 def replies(data):
     """The bytes that are written for a script."""
     database = Database()
-    written = []
-    for line in lines(data):
-        if line:
-            reply = answer(database, line) or {"Error": "UnknownLine"}
-            written.append(write_json(reply) + "\n")
+    written = [write_json(answer(database, line)) + "\n" for line in lines(data) if line]
     return "".join(written).encode()
 
 

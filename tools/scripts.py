@@ -1,0 +1,431 @@
+"""Scripts for `tools/compare.py`: random ones, each out of its seed, and ones that stand at each limit."""
+
+import collections
+import pathlib
+import random
+import sys
+
+sys.dont_write_bytecode = True
+sys.path.insert(0, str(pathlib.Path(__file__).resolve().parent))
+import model
+
+IDS = ["users/1", "USERS/1", "Users/1", "users/2", "users/10", "a", "A", "Z", "zz", "é", "É", "@index/x", "@INDEX/y",
+       "@indexer", "orders/1", "x.y(z)", "users/\u212a", "\U0001f426", '"', "\\", "a\\b", "tab\tid", "del\x7f", "nul\0"]
+COLLECTIONS = ["Users", "users", "Orders", "C", "c", "@empty", "@indexes", "@Indexes", "@other", "", "É", "C/ByF", "a\"b"]
+FIELDS = ["Name", "name", "Age", "F", "F/2", "@metadata", "N.A", "N(A)", "\u00e9", "a\tb", "x" * 190, "\\", "é\"", "by"]
+# No word of a line, but a DEL, DELIF or GET takes what goes to the end of the line, and a BULK has its ids in JSON.
+SPACED = ["a b", " a", "a ", " ", "users/1 ", "a\rb"]
+TEXTS = ["Ada", "ADA", "ada", "ada ", " ada", "Bo", "", "É", "é", "null", "true", "36", "\U0001f426", "a\"b", "K", "\u212a"]
+USUAL = {"u": "Users", "a": "C", "z": "c", "o": "Orders", "é": "@empty"}
+NUMBERS = ["0", "1", "-1", "36", "9223372036854775807", "-9223372036854775808", "9223372036854775808",
+           "-9223372036854775809", "18446744073709551615", "18446744073709551616", "-0", "-0.0", "0.0", "1.5", "1e2",
+           "1E+2", "1e-2", "1e308", "1e309", "1e400", "-1e400", "1e-999", "0e99999", "0e-99999", "00", "01", "-", "+1",
+           ".5", "5.", "1e", "1e+", "0x1", "NaN", "Infinity", "-Infinity", "1.7976931348623157e308",
+           "1.7976931348623158e308", "1.7976931348623159e308", "9" * 308, "9" * 309, "9" * 310, "1" + "0" * 308,
+           "1" + "0" * 309, "-" + "9" * 400, "1e99999999999999999999", "1e-99999999999999999999", "0.1e310",
+           "179769313486231580793728971405303415079934132710037826936173778980444968292764750946649017977587207096330286"
+           "416692887910946555547851940402630657488671505820681908902000708383676273854845817711531764475730270069855571"
+           "366959622842914819860834936475292719074168444365510704342711559699508093042880",
+           "179769313486231580793728971405303415079934132710037826936173778980444968292764750946649017977587207096330286"
+           "416692887910946555547851940402630657488671505820681908902000708383676273854845817711531764475730270069855571"
+           "366959622842914819860834936475292719074168444365510704342711559699508093042879"]
+SIZES = ["1", "2", "3", "64", "65536", "0", "65537", "001", "0000000000000064", "00000000000000064", "-1", "+1", "1.0",
+         " 1", "1 ", "x", "", "٣", "4 x", "9999999999999999", "99999999999999999999", "0000000000000000", "1e1", "0x1", "1\r"]
+BAD_JSON = ["", "{", "}", "[1,]", "{\"a\":1,}", "{\"a\"}", "{a:1}", "{'a':1}", "nul", "True", "[1 2]", "{} {}", "{}x",
+            "\ufeff{}", "\"\\x\"", "\"\\u12\"", "\"\\ud800\"", "\"\\udc00\"", "\"\\ud800\\u0041\"", "\"a", "// x", "[]]",
+            "{\"a\":1 \"b\":2}", "\"\t\"", "{,}", "[,1]", "\"\\ud800x\"", "\"\\ud83d\\ud83d\""]
+
+NO_TEXTS = ["null", "7", "true", "[]", "{}", "1.5"]
+NO_OBJECTS = ["null", "7", "true", "[]", "[{}]", '"{}"']
+NO_LISTS = ["null", "7", "{}", '"[]"', '{"Id":"a","Type":"DELETE"}']
+TYPES = ["put", "Delete", "", "PUT ", "PATCH"]
+VECTORS = ["A:0-" + model.BASE, "A:1-" + model.BASE, "a:1-" + model.BASE, "A:01-" + model.BASE, "A:1-", "A:1-" + "B" * 22,
+           "x", "\u00e9", '"', "A:9007199254740992-" + model.BASE]
+OTHERS = ["", "", " ", "\r", "PUT", "PUT ", "PUT a", "PUT a ", "AUTO", "AUTO C", "AUTO C ", "FIND", "FIND x", "FIND x y",
+          "FIND x y ", "PUMP", "put a {}", "Put a {}", "get a", "DEL", "DEL ", "DEL  a", "GET", "GET ", "STATS ", "STATS x",
+          "stats", "STALE", "STALE ", "STALE a b", "DELIF", "DELIF a", "DELIF a ", "DELIF  a", "DELIF a  b", "PUTIF a",
+          "PUTIF a x", "PUTIF a x ", "PUTIF a  {}", "PUTIF  a x {}", "BULK", "BULK ", "BULK  {}", "BULK{}", "TIDY", "INDEXES",
+          "CLEAN", "PUMP 64 Auto/C/ByF", "QUERY from Users", "INDEX {}", "ASK {}", "DROP x", "SWITCH x", "READ 0 1 x",
+          "PUBLISH 0", "#", "\ufeffPUMP 1", "PUT  a {}", "AUTO  C F", "FIND  x y z", "FIND x  y z", "PUMP  1", "PUTa {}"]
+
+
+def kind_of(reply):
+    """The name of an error, or else the members that a reply has."""
+    if "@metadata" in reply:
+        return "a document"
+    return reply.get("Error") or " ".join(sorted(reply))
+
+
+class Maker:
+    """Makes the lines of one script out of a seed."""
+
+    def __init__(self, seed):
+        self.random = random.Random(seed)
+        # What the lines so far lead to, by which later lines find something.
+        self.database = model.Database()
+        # How often the model gives each kind of reply.
+        self.kinds = collections.Counter()
+
+    def one_of(self, choices):
+        return self.random.choice(choices)
+
+    def chance(self, percent):
+        return self.random.random() * 100 < percent
+
+    def words(self):
+        return self.one_of(TEXTS[:4] if self.chance(70) else TEXTS)
+
+    def space(self):
+        return self.one_of(["", "", "", "", " ", "\t", "\r", "  "])
+
+    def text(self, plain):
+        """A JSON text of these characters, each spelled in one of its ways."""
+        marks = []
+        for mark in plain:
+            code = ord(mark)
+            if mark in '"\\':
+                marks.append("\\" + mark)
+            elif code < 0x20 or self.chance(4):
+                units = mark.encode("utf-16-be")
+                for at in range(0, len(units), 2):
+                    unit = f"{units[at] * 256 + units[at + 1]:04x}"
+                    marks.append("\\u" + (unit.upper() if self.chance(50) else unit))
+            elif mark == "/" and self.chance(20):
+                marks.append("\\/")
+            else:
+                marks.append(mark)
+        if self.chance(3):
+            marks.insert(self.random.randint(0, len(marks)), self.one_of(["\\b", "\\f", "\\n", "\\r", "\\t", "\\u0000", "\\u001f"]))
+        return '"' + "".join(marks) + '"'
+
+    def value(self, depth=0):
+        kind = self.random.randrange(12)
+        if kind == 0:
+            return self.one_of(["null", "true", "false"])
+        if kind <= 2:
+            return self.one_of(NUMBERS) if self.chance(8) else str(self.random.randint(-40, 40))
+        if kind <= 7 or depth > 3:
+            return self.text(self.words())
+        if kind == 8:
+            return self.one_of(BAD_JSON) if self.chance(4) else "[]"
+        if kind <= 10:
+            items = [self.space() + self.value(depth + 1) + self.space() for _ in range(self.random.randint(1, 3))]
+            return "[" + ",".join(items) + "]"
+        return self.object(depth + 1)
+
+    def object(self, depth=0, members=()):
+        parts = list(members)
+        for _ in range(self.random.randint(0, 3)):
+            name = self.one_of(FIELDS[:9] + ["@id", "@collection", "@metadata", "z", "A", "a"])
+            parts.append(self.text(name) + self.space() + ":" + self.space() + self.value(depth + 1))
+        self.random.shuffle(parts)
+        return "{" + ",".join(self.space() + part + self.space() for part in parts) + "}"
+
+    def metadata(self, usual):
+        collection = self.text(usual if self.chance(94) else self.one_of(COLLECTIONS))
+        if self.chance(2):
+            collection = self.value()
+        parts = [self.text("@collection") + ":" + collection]
+        for name in ["@id", "@change-vector", "@last-modified", "@index-score", "@other", "@Collection"]:
+            if self.chance(8):
+                parts.append(self.text(name) + ":" + self.value(3))
+        self.random.shuffle(parts)
+        return '"@metadata":{' + ",".join(parts) + "}"
+
+    def nested(self):
+        depth = self.one_of([96, 97, 98, 99, 100, 101, 150])
+        inner = self.one_of(["", '"' + "[" * 30 + '"', '"\\"[["'])
+        return '{"D":' + "[" * (depth - 1) + inner + "]" * (depth - 1) + "}"
+
+    def body(self, usual):
+        if self.chance(2):
+            return self.nested()
+        if self.chance(2):
+            return self.value()
+        members = []
+        if usual != "@empty" or self.chance(20):
+            members.append(self.metadata(usual))
+        for field in self.random.sample(["Name", "F"], self.one_of([0, 1, 2, 2])):
+            members.append(self.text(field) + ":" + self.text(self.words()))
+        return self.object(0, members)
+
+    def id(self):
+        if self.chance(3):
+            return self.one_of(["i" * 512, "i" * 513, "é" * 256, "é" * 256 + "x"])
+        return self.one_of(IDS) if self.chance(40) else self.one_of(IDS[:7])
+
+    def known_id(self):
+        """Mostly the id of a row, in some case of letters."""
+        rows = [row for row in self.database.store.rows.values() if row.collection != "@indexes" or self.chance(10)]
+        if rows and self.chance(75):
+            return self.in_other_case(self.one_of(rows).spelling)
+        return self.one_of(SPACED) if self.chance(15) else self.id()
+
+    def word_id(self):
+        name = self.known_id() if self.chance(50) else self.id()
+        return name if " " not in name else self.id()
+
+    def usual_body(self, name):
+        """An id keeps its collection, so most documents of one id are put into one."""
+        if self.chance(0.3):
+            return self.one_of(["", " "]) + padded(FILL + self.one_of([-1, 0, 0, 1, 2, 1000]))
+        return self.body(USUAL.get(model.folded(name)[:1], "Users"))
+
+    def vector(self, name):
+        """Mostly the vector of the row, which is also that of the document where the row is no tombstone."""
+        row = self.database.store.row(name)
+        if row and self.chance(70):
+            return model.vector_of(row.etag)
+        return self.one_of(VECTORS)
+
+    def put(self):
+        name = self.word_id()
+        return f"PUT {name} {self.usual_body(name)}"
+
+    def put_if(self):
+        name = self.word_id()
+        return f"PUTIF {name} {self.vector(name)} {self.usual_body(name)}"
+
+    def delete(self):
+        return f"DEL {self.known_id()}"
+
+    def delete_if(self):
+        name = self.known_id()
+        return f"DELIF {self.vector(name)} {name}"
+
+    def get(self):
+        return f"GET {self.known_id()}"
+
+    def member(self, name, right, wrong):
+        """A member, now and then one that is wrong or of another name."""
+        value = self.one_of(wrong) if self.chance(2) else right
+        written = self.text(name.lower() if self.chance(1) else name)
+        return written + self.space() + ":" + self.space() + value
+
+    def command(self):
+        """One command of a transaction, as JSON."""
+        if self.chance(1):
+            return self.value()
+        name = self.known_id() if self.chance(98) else ""
+        is_put = self.chance(65)
+        kind = self.text("PUT" if is_put else "DELETE") if self.chance(98) else self.text(self.one_of(TYPES))
+        parts = [self.member("Type", kind, NO_TEXTS), self.member("Id", self.text(name), NO_TEXTS)]
+        if self.chance(40):
+            vector = self.vector(name) if self.chance(85) else ""
+            parts.append(self.member("ChangeVector", "null" if self.chance(15) else self.text(vector), NO_TEXTS[1:]))
+        if is_put or self.chance(10):
+            parts.append(self.member("Document", self.usual_body(name), NO_OBJECTS))
+        if self.chance(1):
+            parts.pop(self.random.randrange(len(parts)))
+        if self.chance(5):
+            parts.append(self.text(self.one_of(["Other", "type", "Id"])) + ":" + self.value(3))
+        self.random.shuffle(parts)
+        return "{" + ",".join(self.space() + part for part in parts) + "}"
+
+    def bulk(self):
+        commands = [self.command() for _ in range(self.one_of([0, 1, 1, 2, 2, 2, 3, 3, 5]))]
+        parts = [self.member("Commands", "[" + ",".join(commands) + self.space() + "]", NO_LISTS)]
+        if self.chance(5):
+            parts.append(self.text(self.one_of(["commands", "Other"])) + ":" + self.value(3))
+        body = "{" + ",".join(parts) + "}"
+        return f"BULK {body if self.chance(97) else self.value()}"
+
+    def stale(self):
+        if self.chance(15) or not self.database.indexes:
+            return f"STALE {self.no_index()}"
+        return f"STALE {self.in_other_case(self.one_of(self.database.indexes).name)}"
+
+    def stats(self):
+        return "STATS"
+
+    def auto(self):
+        collection = self.one_of(COLLECTIONS[:6] if self.chance(70) else COLLECTIONS)
+        field = self.one_of(["Name", "F"] if self.chance(75) else FIELDS)
+        if self.chance(4):
+            return f"AUTO {self.one_of(['k' * 60, 'k' * 181, 'k' * 182, 'k' * 183, 'é' * 95])} {field}"
+        return f"AUTO {collection} {field}"
+
+    def pump(self):
+        return f"PUMP {self.one_of(SIZES[:5] if self.chance(80) else SIZES)}"
+
+    def in_other_case(self, text):
+        return self.one_of([text, text, text.lower(), text.upper(), model.folded(text)])
+
+    def no_index(self):
+        return self.one_of(["n" * 214, "n" * 215, "é" * 107, "é" * 108, "a\tb", "x\x7f", "Auto/2", "auto/3", "Auto/None/ByX"])
+
+    def find(self):
+        if self.chance(15) or not self.database.indexes:
+            return f"FIND {self.no_index()} {self.one_of(FIELDS)} {self.words()}"
+        index = self.one_of(self.database.indexes)
+        field = index.field if self.chance(92) else self.one_of(FIELDS)
+        # What it has recorded counts too, since an index that lags still finds it.
+        rows = [row for row in self.database.read_by(index) if row.is_document()] + list(index.table.values())
+        texts = [row.body[field] for row in rows if isinstance(row.body.get(field), str)]
+        text = self.in_other_case(self.one_of(texts)) if texts and self.chance(85) else self.words()
+        return f"FIND {self.in_other_case(index.name)} {field} {text}"
+
+    def other(self):
+        return self.one_of(OTHERS)
+
+    def spoiled(self, line):
+        """The line with one byte or so changed."""
+        if not line or not self.chance(8):
+            return line
+        at = self.random.randrange(len(line))
+        kind = self.random.randrange(4)
+        if kind == 0:
+            return line[:at] + line[at + 1 :]
+        if kind == 1:
+            return line[:at] + bytes([self.random.randrange(256)]) + line[at:]
+        if kind == 2:
+            wrong = [b"\xff", b"\xc0\x80", b"\xed\xa0\x80", b"\xf4\x90\x80\x80", b"\xe2\x82", b" "]
+            return line[:at] + self.one_of(wrong) + line[at + 1 :]
+        return line[:at] + line[at : at + 1] + line[at:]
+
+    def line(self):
+        kinds = [self.put] * 7 + [self.put_if] * 2 + [self.delete] * 3 + [self.delete_if] * 2 + [self.bulk] * 4 + [self.get] * 3
+        kinds += [self.auto] * 2 + [self.pump] * 3 + [self.find] * 4 + [self.stale] * 2 + [self.stats, self.other]
+        return self.spoiled(self.one_of(kinds)().encode())
+
+    def script(self, count):
+        parts = []
+        for _ in range(count):
+            line = self.line()
+            if line:
+                self.kinds[kind_of(model.answer(self.database, line))] += 1
+            parts += [line, self.one_of([b"\n"] * 12 + [b"\r\n"] * 3 + [b"\r\r\n"])]
+        if self.chance(30):
+            parts.pop()
+        return b"".join(parts)
+
+
+def put(name, body="{}"):
+    return f"PUT {name} {body}\n"
+
+
+def delete(name):
+    return f"DEL {name}\n"
+
+
+def bulk(*commands):
+    return f'BULK {{"Commands":[{",".join(commands)}]}}\n'
+
+
+def command(kind, name, members=""):
+    """A command of a transaction; further members begin with a comma."""
+    return f'{{"Id":"{name}","Type":"{kind}"{members}}}'
+
+
+def put_command(name, document="{}"):
+    return command("PUT", name, f',"Document":{document}')
+
+
+def of(collection):
+    return f'{{"F":"x","@metadata":{{"@collection":"{collection}"}}}}'
+
+
+def padded(fill):
+    """A document whose stored text has so many bytes more than that of an empty one."""
+    return f'{{"F":"{"x" * fill}"}}'
+
+
+# The fill of the longest document.
+FILL = model.MAX_BODY - len(model.write_json(model.stored({"F": ""})))
+
+
+def nested(depth):
+    return f'{{"D":{"[" * (depth - 1)}{"]" * (depth - 1)}}}'
+
+
+def at_an_id(name):
+    """Each line that has an id, with this one."""
+    first, second = model.vector_of(1), model.vector_of(2)
+    lines = [put(name), f"GET {name}\n", f"PUTIF {name} {first} {{}}\n", f"DELIF {second} {name}\n", put(name), delete(name)]
+    return "".join(lines) + bulk(command("DELETE", "a"), put_command(name), command("DELETE", name)) + "STATS\n"
+
+
+def sizes(extra):
+    """Scripts with something that is so much longer than may be."""
+    yield "a body", put("a", padded(FILL + extra)) + "STATS\n"
+    yield "a body in a transaction", bulk(put_command("a"), put_command("b", padded(FILL + extra))) + "GET b\nSTATS\n"
+    yield "an id", at_an_id("i" * (model.MAX_ID + extra))
+    name = "n" * (model.MAX_NAME + extra)
+    yield "a name", f"FIND {name} F x\nSTALE {name}\n"
+    yield "an automatic name", f"AUTO {'c' * (model.MAX_AUTO_NAME - 9 + extra)} F\nFIND Auto/1 F x\n"
+    body = {"@metadata": {}, "Collection": "C", "Fields": [[""]], "Kind": "auto"}
+    yield "a definition", f"AUTO C {'f' * (model.MAX_BODY - len(model.write_json(body)) + extra)}\nSTATS\n"
+    yield "brackets", put("a", nested(model.MAX_DEPTH + extra)) + "GET a\n"
+    yield "brackets in a transaction", bulk(put_command("a", nested(model.MAX_DEPTH - 3 + extra))) + "GET a\n"
+    first = put("a")
+    yield "a script", first + "\n" * (model.MAX_SCRIPT - len(first) + extra)
+
+
+def bodies():
+    """Scripts with bodies that are written in another way than they are read."""
+    yield "a body that is as long written as read", put("a", '{"F":"' + '\\"' * (FILL // 2) + '"}')
+    yield "a body that is longer written than read", put("a", '{"F":"' + "\\b" * (FILL // 2 + 1) + '"}')
+    yield "a body that is shorter written than read", put("a", '{"F":"' + "\\u0041" * (FILL - 1) + '"' + " " * 1000 + "}")
+    for name in model.OWN:
+        yield f"a member {name} that goes out", put("a", f'{{"F":"{"x" * FILL}","@metadata":{{"{name}":"y"}}}}') + "STATS\n"
+    yield "a member that stays", put("a", f'{{"F":"{"x" * FILL}","@metadata":{{"@other":"y"}}}}') + "STATS\n"
+    yield "each number", "".join(put("a", f'{{"N":{n}}}') + put("a", f'{{"N":{n},"N":1}}') + "GET a\n" for n in NUMBERS)
+    texts = [(put("a", n), put("a", f'{{"N":{n}}}'), f"BULK {n}\n", bulk(put_command("a", n))) for n in BAD_JSON]
+    yield "each text that is no JSON", "".join("".join(lines) for lines in texts)
+
+
+def indexes():
+    """Scripts with many indexes, and with many batches."""
+    many = "".join(f"AUTO c{number} F\n" for number in range(model.MAX_SLOTS + 2))
+    yield "more indexes than may be", many + "AUTO c0 F\nPUMP 1\nSTATS\n"
+    letters = [[mark.upper() if number >> at & 1 else mark for at, mark in enumerate("abcdefgh")] for number in range(256)]
+    same = "".join(f"AUTO {''.join(marks)} F\n" for marks in letters)
+    yield "names that differ in case alone", same + "AUTO ABCDEFGH F\nPUMP 1\nFIND auto/abcdefgh/byf/255 F x\n"
+    yield "names of control characters", "".join(f"AUTO c{at}\tx F\nFIND Auto/{at + 1} F x\n" for at in range(4))
+    yield "each size of a batch", "".join(f"PUMP {number}\n" for number in SIZES)
+    rows = "".join(put(f"u/{number}", of("U")) for number in range(300))
+    yield "batches", f"AUTO U F\n{rows}" + "PUMP 1\nPUMP 7\nSTALE Auto/U/ByF\n" * 20 + "PUMP 65536\nFIND Auto/U/ByF F X\n"
+    gone = "".join(delete(f"U/{number}") + "STALE Auto/U/ByF\nPUMP 1\n" for number in range(0, 300, 9))
+    found = "FIND Auto/U/ByF F x\nSTALE Auto/U/ByF\nSTATS\n"
+    yield "batches of tombstones", f"AUTO U F\n{rows}PUMP 280\n{gone}{found}PUMP 5\n{found}PUMP 200\n{found}"
+
+
+def transactions():
+    """Scripts with long transactions."""
+    many = [put_command(f"u/{number % 500}", padded(1)) for number in range(2000)]
+    found = "STATS\nPUMP 100\nFIND Auto/@empty/ByF F X\n"
+    late = command("DELETE", "u/1", ',"ChangeVector":""')
+    yield "a long transaction", "AUTO @empty F\n" + bulk(*many) + found + bulk(*many, late) + found
+    twice = [put_command("a"), command("DELETE", "A"), command("DELETE", "a"), put_command("A")] * 100
+    yield "an id over and over", bulk(*twice) + bulk(*twice, command("DELETE", "a")) + "GET a\nSTATS\n"
+
+
+def faults():
+    """Scripts with several faults in one line, of which the first in order has to be told."""
+    names = ["", "i" * 513, "a\\tb", "@index/a", "a"]
+    texts = ["[" * 101, "[", "[1.5]", "[1]", "{}", padded(FILL + 1)]
+    yield "faults of a body and an id", "".join(put(name or "b", text) for name in [*names, "a\tb"] for text in texts)
+    members = [',"ChangeVector":7,"Document":[]', ',"ChangeVector":"x","Document":[]', ',"ChangeVector":"","Document":{}']
+    members += [',"ChangeVector":null', ""]
+    items = ["7", "[]", "{}", '{"Type":7,"Id":7}', command("put", ""), '{"Type":"PUT","Id":7,"ChangeVector":7}']
+    items += [command(kind, name, more) for kind in ("PUT", "DELETE") for name in names for more in members]
+    yield "faults of a command", "".join(bulk(item) + bulk(command("DELETE", "b"), item, "7") for item in items)
+    whole = ["[" * 101, "[", "1.5", "[]", "7", "{}", '{"Commands":null}', '{"Commands":{}}', '{"commands":[]}']
+    whole += [' {"Commands" : [ ] } ', '{"Commands":[],"Commands":[7]}', '{"Commands":[7],"Commands":[]}']
+    yield "faults of a transaction", "".join(f"BULK {text}\n" for text in whole)
+    bodies = [padded(FILL + 1), "{}", of("C")]
+    vectors = ["x", model.vector_of(1), model.vector_of(3)]
+    puts = [f"PUTIF {name} {vector} {body}\n" for name in "abc" for vector in vectors for body in bodies]
+    deletions = [f"DELIF {vector} {name}\n" for name in ("@index/a", *"abc") for vector in vectors]
+    rest = [f"PUTIF @INDEX/a x {bodies[0]}\n", "DEL b\n", "DEL c\n", "DEL @INDEX/c\n", "GET @index/c\n", "STATS\n"]
+    yield "faults of a write", put("a", of("C")) + put("b", of("C")) + delete("b") + "".join(puts + rest + deletions + rest)
+
+
+def at_the_limits():
+    """Scripts at the limits, with their names."""
+    for extra in (-1, 0, 1):
+        for name, script in sizes(extra):
+            yield f"{name} at the limit {extra:+}", script.encode()
+    others = [("nothing", ""), ("a blank line without an end", "\r"), ("each line of an id", at_an_id("users/1"))]
+    for name, script in [*others, *bodies(), *indexes(), *transactions(), *faults()]:
+        yield name, script.encode()
