@@ -4,7 +4,8 @@ ghost use Rattle.std.specs.List.{list_all};
 ghost use Rattle.std.specs.Char.{is_ascii_alphanumeric};
 ghost use Rattle.raven_model.specs.Commit.{vector_of};
 ghost use Rattle.raven_model.specs.Words.{base_id};
-ghost use Rattle.doc_txn.specs.BaseId.{is_base_id as spec_is_base_id, read_base_id};
+ghost use Rattle.raven_model.specs.Options.{is_base_id as spec_is_base_id};
+ghost use Rattle.doc_txn.specs.BaseId.{read_base_id};
 
 use raven_base::NoMemory;
 use raven_value::Text;
@@ -28,7 +29,7 @@ impl Model for BaseId {
     ghost view = { λ a. a.text };
 
     ghost use Rattle.std.specs.Prelude.{IsTrue};
-    ghost use Rattle.doc_txn.specs.BaseId.{is_base_id};
+    ghost use Rattle.raven_model.specs.Options.{is_base_id};
 
     ghost invariant = { λ a. IsTrue (is_base_id a.text) };
 }
@@ -39,7 +40,8 @@ fn are_alphanumeric(bytes: &[u8]) -> bool
     bytes.iter().all(|byte| byte.is_ascii_alphanumeric())
 }
 
-fn is_base_id(text: &str) -> bool
+/// Whether a text is a base id: 22 ASCII letters or digits.
+pub fn is_base_id(text: &str) -> bool
     ensures { result ≡ spec_is_base_id text.now }
 {
     text.len() == BASE_LEN && are_alphanumeric(text.as_bytes())

@@ -10,7 +10,7 @@ mod refusal;
 mod row;
 mod transaction;
 
-pub use base_id::{BaseId, vector};
+pub use base_id::{BaseId, is_base_id, vector};
 pub use command::{Command, Commands, Expect, Writer};
 pub use document::{collection_of, stored};
 pub use fault::{TxnFault, TxnKind};

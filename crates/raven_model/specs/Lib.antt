@@ -13,3 +13,5 @@ pub mod Script
 pub mod Words
 pub mod Codes
 pub mod Opening
+pub mod Kept
+pub mod Options

@@ -1,10 +1,6 @@
--- The words that the program takes, and its limits.
-use Rattle.std.specs.Prelude.{◌≡◌, ℕ, List, [], ◌∷◌, codes}
+-- The limits of the program.
+use Rattle.std.specs.Prelude.{ℕ, List, codes}
 use Rattle.raven_model.specs.Commit.{Setting}
-
--- the one command is `run`, which takes no options yet
-abbrev pub IsOrdered : List (List ℕ) → Type 0
-IsOrdered words = words ≡ codes "run" ∷ []
 
 -- the longest script, in bytes
 abbrev pub max_input : ℕ

@@ -2,9 +2,11 @@
 #![tactic(auto)]
 
 mod calls;
+mod keeper;
 mod memory;
 mod ports;
 
+pub use keeper::{Clock, Keeper, KeeperFault, KeptRow, KeptRows};
 pub use memory::{ByteSink, ByteSource};
 pub use ports::{Failed, Sink, SinkFault, Source};
 
