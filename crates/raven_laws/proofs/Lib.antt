@@ -18,3 +18,4 @@ pub mod ScriptLemmas
 pub mod WorkedRows
 pub mod WorkedScript
 pub mod WriteLemmas
+pub mod KeepLemmas

@@ -2,6 +2,7 @@
 #![tactic(auto)]
 
 mod indexes;
+mod keeping;
 mod runs;
 mod scripts;
 mod stores;
@@ -11,6 +12,7 @@ pub use indexes::{
     agreement_survives, batch_agrees, documents_are_all, fresh_is_whole, orders_are_total,
     stale_by_newest, stale_is_unseen, touched_is_enough,
 };
+pub use keeping::{changes_are_their_rows, keepers_follow_stores, keepers_keep_on};
 pub use runs::{
     batches_move_what_is_stale, every_index_serves_its_name, every_run_goes_on, every_run_is_sound,
     flags_are_exact, fresh_answers_are_exact, fresh_answers_are_from_scratch, ids_are_as_kept,
