@@ -19,3 +19,6 @@ pub mod WorkedRows
 pub mod WorkedScript
 pub mod WriteLemmas
 pub mod KeepLemmas
+pub mod MemberLemmas
+pub mod OpenLemmas
+pub mod OpenedRuns

@@ -3,6 +3,7 @@
 
 mod indexes;
 mod keeping;
+mod opening;
 mod runs;
 mod scripts;
 mod stores;
@@ -13,6 +14,10 @@ pub use indexes::{
     stale_by_newest, stale_is_unseen, touched_is_enough,
 };
 pub use keeping::{changes_are_their_rows, keepers_follow_stores, keepers_keep_on};
+pub use opening::{
+    every_run_from_kept_rows_is_sound, every_script_from_kept_rows_is_sound, opened_is_sound,
+    rows_were_there_or_written, sound_states_answer_truly, sound_states_go_on,
+};
 pub use runs::{
     batches_move_what_is_stale, every_index_serves_its_name, every_run_goes_on, every_run_is_sound,
     flags_are_exact, fresh_answers_are_exact, fresh_answers_are_from_scratch, ids_are_as_kept,
