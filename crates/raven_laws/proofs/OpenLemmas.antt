@@ -111,7 +111,7 @@ pub AreRising-push : (low : ℕ) (rows : List Row) (r : Row) → AreRising low r
 AreRising-push low [] r up h = (h, tt)
 AreRising-push low (x ∷ rows) r up h = (up.0, AreRising-push x.etag rows r up.1 h)
 
-none_then : (q : List ℕ) (x : Row) (rows : List Row) → row_at q (x ∷ rows) ≡ None → (same_key q (key x) ≡ false) × (row_at q rows ≡ None)
+pub none_then : (q : List ℕ) (x : Row) (rows : List Row) → row_at q (x ∷ rows) ≡ None → (same_key q (key x) ≡ false) × (row_at q rows ≡ None)
 none_then q x rows h = elim (same_key q (key x)) as (λ b. cond b (Some x) (row_at q rows) ≡ None → (b ≡ false) × (row_at q rows ≡ None)) [
   | true ↦ λ g. absurd cc
   | false ↦ λ g. (refl, g)
@@ -295,7 +295,7 @@ four-rise : (c f : List ℕ) → IsRising (four c f)
 four-rise c f = ((refl, (refl, (refl, tt))), ((refl, (refl, tt)), ((refl, tt), (tt, tt))))
 
 -- the body of a definition is the one that the server writes for it
-definition_read-is : (v : Data) (d : Definition) → Rises v → definition_read v ≡ Some d → v ≡ stored (row_body d)
+pub definition_read-is : (v : Data) (d : Definition) → Rises v → definition_read v ≡ Some d → v ≡ stored (row_body d)
 definition_read-is null d up h = absurd cc
 definition_read-is (flag b) d up h = absurd cc
 definition_read-is (num n) d up h = absurd cc
@@ -318,13 +318,13 @@ definition_in-is gone d up h = absurd cc
 
 -- THE KEY OF A DEFINITION'S ROW
 
-folded-drop : (n : ℕ) (xs : List ℕ) → folded (drop n xs) ≡ drop n (folded xs)
+pub folded-drop : (n : ℕ) (xs : List ℕ) → folded (drop n xs) ≡ drop n (folded xs)
 folded-drop zero xs = refl
 folded-drop (suc n) [] = refl
 folded-drop (suc n) (x ∷ xs) = folded-drop n xs
 
 -- the id of a row of an index is that of its name, without regard to case
-indexed : (id : List ℕ) → is_index_id id ≡ true → folded id ≡ folded (index_id (drop 7 id))
+pub indexed : (id : List ℕ) → is_index_id id ≡ true → folded id ≡ folded (index_id (drop 7 id))
 indexed id h =
     let front = (bytes_eq-Decides (codes "@index/") (take 7 (folded id))).0 h in
     sym (take-append-drop 7 (folded id)) ∙ ap (λ xs. xs ++ drop 7 (folded id)) (sym front) ∙ ap (λ xs. codes "@index/" ++ xs) (sym (folded-drop 7 id))
