@@ -81,7 +81,7 @@ record Adds (S : Store) (w : Written) : Type 0 where
   pub next : AreNext (last S) w.rows
 
 -- a row that is written has the next etag
-next_etag : (now : ℕ) (S : Store) (c : Command) (r : Row) → row_of now S c ≡ Some r → r.etag ≡ last S + 1
+pub next_etag : (now : ℕ) (S : Store) (c : Command) (r : Row) → row_of now S c ≡ Some r → r.etag ≡ last S + 1
 next_etag now S (Put id expected body) r is = ap (λ (x : Row). x.etag) (sym (same_row _ r is))
 next_etag now S (Delete id expected) r is =
     elim (document_at S (folded id)) as (λ o. option_map (tombstone (last S + 1) now) o ≡ Some r → r.etag ≡ last S + 1) [

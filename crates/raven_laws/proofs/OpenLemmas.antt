@@ -167,7 +167,7 @@ all_kept-push : (rows : List Row) (r : Row) → all_kept (rows ++ r ∷ []) ≡ 
 all_kept-push [] r = refl
 all_kept-push (x ∷ rows) r = ap (λ ks. kept x ∷ ks) (all_kept-push rows r)
 
-may_behind : (max : ℕ) (earlier : List Row) (o : Option Row) (r : Row) → row_behind max earlier o ≡ Some r → (o ≡ Some r) × (may_stand_behind max earlier r ≡ true)
+pub may_behind : (max : ℕ) (earlier : List Row) (o : Option Row) (r : Row) → row_behind max earlier o ≡ Some r → (o ≡ Some r) × (may_stand_behind max earlier r ≡ true)
 may_behind max earlier None r h = absurd cc
 may_behind max earlier (Some x) r h = elim (may_stand_behind max earlier x) as (λ b. may_stand_behind max earlier x ≡ b → cond b (Some x) None ≡ Some r → (Some x ≡ Some r) × (may_stand_behind max earlier r ≡ true)) [
   | true ↦ λ e g. (g, subst (λ y. may_stand_behind max earlier y ≡ true) (same_row x r g) e)
@@ -401,16 +401,16 @@ same_slots : (a b : List Slot) → Some a ≡ Some b → a ≡ b
 same_slots a b h = cc
 
 -- what a row that is taken has met
-record IsTaken (s : Setting) (slots : List Slot) (r : Row) (more : List Slot) : Type 0 where
+pub record IsTaken (s : Setting) (slots : List Slot) (r : Row) (more : List Slot) : Type 0 where
   pub room : is_defining r && nat_le s.max_slots (length slots) ≡ false
   pub filed : is_filed r ≡ true
   pub rest : slots_with slots r ≡ Some more
 
-not_false : (b : Bool) → not b ≡ false → b ≡ true
+pub not_false : (b : Bool) → not b ≡ false → b ≡ true
 not_false true h = refl
 not_false false h = absurd cc
 
-taken-of : (s : Setting) (n : ℕ) (slots : List Slot) (r : Row) (more : List Slot) → slots_after s n slots r ≡ Some more → IsTaken s slots r more
+pub taken-of : (s : Setting) (n : ℕ) (slots : List Slot) (r : Row) (more : List Slot) → slots_after s n slots r ≡ Some more → IsTaken s slots r more
 taken-of s n slots r more h = elim (is_too_many s n slots r || not (is_filed r)) as (λ b. is_too_many s n slots r || not (is_filed r) ≡ b → cond b None (slots_with slots r) ≡ Some more → IsTaken s slots r more) [
   | true ↦ λ e g. absurd cc
   | false ↦ λ e g.
@@ -426,7 +426,7 @@ filed-indexed : (r : Row) → is_filed r ≡ true → is_defining r ≡ true →
 filed-indexed r filed is =
     sym (ap (λ b. cond b (is_index_id r.id) (not (is_index_id r.id))) (both_true (is_document r) (bytes_eq r.collection (codes "@indexes")) is).1) ∙ filed
 
-with_slot-is : (slots : List Slot) (r : Row) (o : Option Definition) (more : List Slot) → with_slot slots r o ≡ Some more → (d : Definition) × (o ≡ Some d) × (slots ++ slot_of r d ∷ [] ≡ more)
+pub with_slot-is : (slots : List Slot) (r : Row) (o : Option Definition) (more : List Slot) → with_slot slots r o ≡ Some more → (d : Definition) × (o ≡ Some d) × (slots ++ slot_of r d ∷ [] ≡ more)
 with_slot-is slots r None more h = absurd cc
 with_slot-is slots r (Some d) more h = elim (is_auto_name (name_in r)) as (λ b. cond b (Some (slots ++ slot_of r d ∷ [])) None ≡ Some more → (c : Definition) × (Some d ≡ Some c) × (slots ++ slot_of r c ∷ [] ≡ more)) [
   | true ↦ λ g. (d, refl, same_slots _ more g)

@@ -1,19 +1,18 @@
 -- What is kept of a body is read back.
-use Rattle.std.proofs.Common.{◌≡◌, ℕ, ◌+◌, ◌≤◌, max, List, [], ◌∷◌, Bool, true, false, not, ◌||◌, cond, filter, length, codes, Option, Some, None, IsUtf8, Ordering, Less, Equal, Greater, refl, sym, ap, ◌∙◌, subst, arith}
-use Rattle.std.proofs.lemmas.Cmp.{nat_list_cmp_total}
+use Rattle.std.proofs.Common.{◌≡◌, ℕ, ◌≤◌, List, [], ◌∷◌, Bool, true, false, not, ◌||◌, cond, filter, length, codes, Option, Some, None, IsUtf8, Less, Equal, Greater, refl, sym, ap, ◌∙◌, subst, arith}
 use Rattle.std.proofs.lemmas.Slice.Eq.{bytes_eq-Decides}
 use Rattle.std.specs.List.{list_any}
 use Rattle.std.specs.Ordering.{match_ordering}
 use Rattle.std.specs.Str.{bytes_eq}
 use Rattle.json.proofs.Printed.Utf8.{IsUtf8-are_ascii}
 use Rattle.raven_data.specs.Data.{Data, null, flag, num, text, array, object, Entries, no_entries, entry, depth, entries_depth, entries_of, pairs_of}
-use Rattle.raven_data.specs.Folding.{key_cmp, same_key}
+use Rattle.raven_data.specs.Folding.{key_cmp}
 use Rattle.raven_data.specs.Members.{member}
 use Rattle.raven_data.specs.Rising.{Pairs, IsBelowAll, IsRising, put}
 use Rattle.raven_data.specs.Sound.{IsSound, HasSound}
 use Rattle.raven_data.specs.Written.{text_of}
 use Rattle.raven_model.specs.Commit.{clean_metadata, is_own, stored}
-use Rattle.raven_model.specs.Kept.{is_clean, is_stored, max_body}
+use Rattle.raven_model.specs.Kept.{is_clean, max_body}
 use Rattle.raven_model.specs.Mapping.{Auto}
 use Rattle.raven_model.specs.World.{row_body}
 use Rattle.raven_laws.proofs.KeyedLemmas.{differ_greater}
@@ -186,10 +185,25 @@ pub definition-body : (c f : List ℕ) → IsUtf8 c → IsUtf8 f → IsBody (row
 definition-body c f u v = record {
   sound = (
     ((refl, (refl, (refl, tt))), ((refl, (refl, tt)), ((refl, tt), (tt, tt)))),
-    (IsUtf8-are_ascii _ refl, (((tt, tt), (IsUtf8-are_ascii _ refl, (IsUtf8-are_ascii _ refl, tt))),
-    (IsUtf8-are_ascii _ refl, (u,
-    (IsUtf8-are_ascii _ refl, (((v, tt), tt),
-    (IsUtf8-are_ascii _ refl, (IsUtf8-are_ascii _ refl, tt)))))))),
+    (
+      IsUtf8-are_ascii _ refl,
+      (
+        ((tt, tt), (IsUtf8-are_ascii _ refl, (IsUtf8-are_ascii _ refl, tt))),
+        (
+          IsUtf8-are_ascii _ refl,
+          (
+            u,
+            (
+              IsUtf8-are_ascii _ refl,
+              (
+                ((v, tt), tt),
+                (IsUtf8-are_ascii _ refl, (IsUtf8-are_ascii _ refl, tt)),
+              ),
+            ),
+          ),
+        ),
+      ),
+    ),
   );
   shallow = omega arith;
   members = _;

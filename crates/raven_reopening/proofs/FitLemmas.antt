@@ -1,6 +1,6 @@
 -- The names of automatic indexes, and the ids of their rows, are names and ids.
-use Rattle.std.proofs.Common.{◌≡◌, ℕ, zero, suc, ◌+◌, ◌*◌, ◌^◌, ◌<◌, ◌≤◌, List, [], ◌∷◌, ◌++◌, Bool, true, false, not, cond, ◌&&◌, ◌==◌, nat_lt, nat_eq, is_none, is_some, length, drop, codes, Option, Some, None, option_map, refl, sym, ap, ◌∙◌, subst, arith, ◌⊎◌, inl, inr}
-use Rattle.std.proofs.lemmas.Bool.{ltb-false, eq-eqb, le-leb, cases_eq, ne_eqb}
+use Rattle.std.proofs.Common.{◌≡◌, ℕ, zero, suc, ◌+◌, ◌^◌, ◌<◌, ◌≤◌, List, [], ◌∷◌, ◌++◌, true, false, cond, ◌&&◌, ◌==◌, nat_lt, nat_eq, is_none, is_some, length, codes, Option, Some, None, option_map, refl, sym, ap, ◌∙◌, subst, arith, ◌⊎◌, inl, inr}
+use Rattle.std.proofs.lemmas.Bool.{ltb-false, eq-eqb, cases_eq, ne_eqb}
 use Rattle.std.proofs.lemmas.Bool.Decides.{nat_tests}
 use Rattle.std.proofs.lemmas.Fmt.{decimal_is_IsNumeral, length-decimal-le}
 use Rattle.std.proofs.lemmas.List.{length-append}
@@ -8,7 +8,7 @@ use Rattle.std.specs.Char.{to_ascii_lowercase, digit_value}
 use Rattle.std.specs.Fmt.{decimal}
 use Rattle.std.specs.List.{position_from, starts_with}
 use Rattle.std.specs.Str.Parse.{AllDigits}
-use Rattle.raven_data.specs.Faults.{Fault, empty, too_long, control, fault_of, is_control, is_fit}
+use Rattle.raven_data.specs.Faults.{empty, too_long, control, is_control, is_fit}
 use Rattle.raven_data.specs.Folding.{folded}
 use Rattle.raven_model.specs.Opening.{is_auto_name}
 use Rattle.raven_model.specs.Optimiser.{Shape, plain_name, free_name, first_free, name_of}

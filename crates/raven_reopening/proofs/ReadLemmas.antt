@@ -1,5 +1,5 @@
 -- What is kept of rows in the form is read back as them.
-use Rattle.std.proofs.Common.{◌≡◌, ℕ, ◌<◌, ◌≤◌, List, [], ◌∷◌, ◌++◌, Bool, true, false, cond, ◌&&◌, nat_lt, nat_le, is_none, length, Option, Some, None, option_map, Result, Ok, Err, refl, sym, ap, ◌∙◌, subst, arith, append_assoc, append-nil}
+use Rattle.std.proofs.Common.{◌≡◌, ℕ, ◌<◌, ◌≤◌, List, [], ◌∷◌, ◌++◌, Bool, true, false, cond, ◌&&◌, nat_lt, is_none, length, Some, None, option_map, Ok, refl, sym, ap, ◌∙◌, subst, arith, append_assoc, append-nil}
 use Rattle.std.proofs.lemmas.Bool.{le-leb, lt-ltb}
 use Rattle.std.proofs.lemmas.List.{length-append}
 use Rattle.std.proofs.lemmas.Slice.Eq.{bytes_eq-Decides}
@@ -9,13 +9,12 @@ use Rattle.raven_data.specs.Data.{Data}
 use Rattle.raven_data.specs.Faults.{is_fit, max_id}
 use Rattle.raven_data.specs.Folding.{same_key}
 use Rattle.raven_data.specs.Json.{reading}
-use Rattle.raven_data.specs.Kept.{KeptRow, all_kept, body_text, kept}
+use Rattle.raven_data.specs.Kept.{all_kept, body_text, kept}
 use Rattle.raven_data.specs.Moments.{moments_end}
 use Rattle.raven_data.specs.Rows.{Row, Body, doc, gone, key}
 use Rattle.raven_data.specs.Written.{text_of}
 use Rattle.raven_model.specs.Kept.{max_body, is_stored, document_of, document_in, body_in, is_etag, row_in, may_stand_behind, row_behind, or_bad_row, rows_behind, rows_in}
 use Rattle.raven_model.specs.Store.{row_at, last_of, AreRising, AreApart, Store, IsStore}
-use Rattle.raven_model.specs.Sound.{Has}
 use Rattle.raven_laws.proofs.StoreLemmas.{AreRising-back}
 use Rattle.raven_laws.proofs.OpenLemmas.{none_then}
 use Rattle.raven_json.proofs.RoundTrip.{reading-text_of}
@@ -105,7 +104,7 @@ rows_behind-kept max earlier (r ∷ rows) up apart f few =
     let none = ap is_none (new_id earlier r rows apart) in
     let room : length earlier < max = let l = length-append earlier (r ∷ rows) in omega arith in
     let may : may_stand_behind max earlier r ≡ true =
-        both (nat_lt (last_of 0 earlier) r.etag) (is_none (row_at (key r) earlier)) (nat_lt (length earlier) max) (lt-ltb (last_of 0 earlier) r.etag past) none (lt-ltb (length earlier) max room) in
+    both (nat_lt (last_of 0 earlier) r.etag) (is_none (row_at (key r) earlier)) (nat_lt (length earlier) max) (lt-ltb (last_of 0 earlier) r.etag past) none (lt-ltb (length earlier) max room) in
     let next = append_assoc earlier (r ∷ []) rows in
     ap (λ o. or_bad_row r.etag (row_behind max earlier o) (λ x. rows_behind max (earlier ++ x ∷ []) (all_kept rows))) (row_in-kept r f.0)
     ∙ ap (λ b. or_bad_row r.etag (cond b (Some r) None) (λ x. rows_behind max (earlier ++ x ∷ []) (all_kept rows))) may

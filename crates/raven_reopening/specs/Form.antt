@@ -1,5 +1,5 @@
 -- Which rows can be kept and read again, and which requests write no others.
-use Rattle.std.specs.Prelude.{◌≡◌, ℕ, ◌<◌, ◌≤◌, List, [], ◌∷◌, IsTrue, IsUtf8, length}
+use Rattle.std.specs.Prelude.{◌≡◌, ◌<◌, ◌≤◌, List, [], ◌∷◌, IsTrue, IsUtf8, length}
 use Rattle.raven_data.specs.Data.{Data, Entries, object, depth}
 use Rattle.raven_data.specs.Faults.{is_fit, max_id}
 use Rattle.raven_data.specs.Moments.{moments_end}
