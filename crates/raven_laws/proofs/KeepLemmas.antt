@@ -11,6 +11,8 @@ use Rattle.raven_model.specs.Optimiser.{Choice, Use, Make, Merge, pick, name_of}
 use Rattle.raven_model.specs.Replies as told
 use Rattle.raven_model.specs.World.{Slot, SlotChange, SlotRefusal, define}
 use Rattle.raven_model.specs.Machine.{Machine, Request, Put as PutOne, Delete as DeleteOne, Bulk, Get, Auto, Find, Pump, Stale, Stats, Event, Keeping, Change, after, change_of, defined, is_taken, one_field, rewrote, run, same_machine, settled, single_reply, use_or_make, write, wrote}
+use Rattle.raven_model.specs.Script.{Given, after_lines, events_of}
+use Rattle.raven_laws.proofs.ScriptLemmas.{lines-run}
 use Rattle.raven_laws.specs.Keeping.{rows_given, held_after}
 use Rattle.raven_laws.proofs.StoreLemmas.{same_row}
 use Rattle.raven_laws.proofs.CommitLemmas.{same_ok, with_rows-push, AreNext-push, last-with_rows}
@@ -177,3 +179,6 @@ held-next M e =
 pub held-run : (M : Machine) (es : List Event) → held_after es M (all_kept M.world.store.rows) ≡ all_kept (run es M).world.store.rows
 held-run M [] = refl
 held-run M (e ∷ es) = ap (held_after es (after M e)) (held-next M e) ∙ held-run (after M e) es
+
+pub held-lines : (M : Machine) (lines : List Given) → held_after (events_of lines) M (all_kept M.world.store.rows) ≡ all_kept (after_lines lines M).world.store.rows
+held-lines M lines = held-run M (events_of lines) ∙ ap (λ (N : Machine). all_kept N.world.store.rows) (sym (lines-run lines M))

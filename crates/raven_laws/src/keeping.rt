@@ -5,6 +5,7 @@ ghost use Rattle.raven_data.specs.Rows.{Row};
 ghost use Rattle.raven_data.specs.Kept.{EtagsRise, all_kept, keep_all, last_kept};
 ghost use Rattle.raven_model.specs.Commit.{AreNext};
 ghost use Rattle.raven_model.specs.Machine.{Event, Machine, Request, change_of, run};
+ghost use Rattle.raven_model.specs.Script.{Given, after_lines, events_of};
 ghost use Rattle.raven_model.specs.Store.{IsStore, Store, last, with_rows};
 ghost use Rattle.raven_laws.specs.Keeping.{held_after};
 
@@ -25,7 +26,10 @@ pub fn changes_are_their_rows()
     ensures next { (M : Machine) (now : ℕ) (request : Request) → AreNext (last M.world.store) (change_of M now request).rows }
 {}
 
-/// A keeper that held the rows of a machine's store, and is given those of each change that it takes, holds those of the last store.
+/// A keeper that held the rows of a machine's store, and is given those of each change that it takes, holds those of the last store: after
+/// requests, and after the lines of a script.
 pub fn keepers_keep_on()
-    ensures { (M : Machine) (events : List Event) → held_after events M (all_kept M.world.store.rows) ≡ all_kept (run events M).world.store.rows }
+    ensures requests { (M : Machine) (events : List Event) → held_after events M (all_kept M.world.store.rows) ≡ all_kept (run events M).world.store.rows }
+    ensures lines { (M : Machine) (lines : List Given) →
+        held_after (events_of lines) M (all_kept M.world.store.rows) ≡ all_kept (after_lines lines M).world.store.rows }
 {}
