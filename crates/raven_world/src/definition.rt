@@ -16,7 +16,11 @@ pub enum Definition {
 }
 
 /// The definition of the automatic index of one field.
-pub fn auto_definition(alloc: Global, collection: &Text, field: &Text) -> Result<Definition, NoMemory>
+pub fn auto_definition(
+    alloc: Global,
+    collection: &Text,
+    field: &Text,
+) -> Result<Definition, NoMemory>
     ensures { IfOk result (λ definition. definition_view definition ≡ Auto collection.now ((field.now ∷ []) ∷ [])) }
 {
     let mut fields = Paths::new(alloc);

@@ -29,8 +29,8 @@ fn with_number(alloc: Global, name: &str, number: u64) -> Result<String, NoMemor
     Ok(text)
 }
 
-#[tactic(auto, using(crate::proofs::Clean::tries))]
 // The name, or with the least number from 2 on behind it that no slot serves.
+#[tactic(auto, using(crate::proofs::Clean::tries))]
 fn first_free(alloc: Global, slots: &[Slot], name: String) -> Result<String, NoMemory>
     requires { length slots.now < 2 ^ 32 }
     ensures { IfOk result (λ text. string_bytes text ≡ spec_first_free (string_bytes name) slots.now) }

@@ -83,6 +83,7 @@ fn slot_in(alloc: Global, row: &Row) -> Result<Option<Slot>, NoMemory>
 }
 
 // Adds the index of a row, if it is the live row of a definition. Whether the row is of a form, behind so many others.
+#[tactic(auto, using(crate::proofs::Openings::takes))]
 fn take_row(
     alloc: Global,
     limits: &Limits,
@@ -116,6 +117,7 @@ impl World {
     /// begins with `@index/`, without regard to case, and its collection is another than `@indexes`, or the other way round;
     /// and where it is the live row of a definition, and its body is none, or the rest of its id is not the name of an
     /// automatic index. Of several the first is told.
+    #[tactic(auto, using(crate::proofs::Openings::opening))]
     pub fn open(
         alloc: Global,
         rows: &Rows,

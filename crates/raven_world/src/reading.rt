@@ -1,5 +1,6 @@
 //! The definition in the body of its row.
-ghost use Rattle.std.specs.Prelude.{◌≡◌, IfOk, option_map};
+ghost use Rattle.std.specs.Prelude.{◌≡◌, ◌==◌, ◌||◌, IfOk, option_map};
+ghost use Rattle.std.specs.List.{list_any};
 ghost use Rattle.raven_data.specs.Data.{entries_of};
 ghost use Rattle.raven_data.specs.Members.{member as spec_member};
 ghost use Rattle.raven_value.specs.View.{data_of};
@@ -12,16 +13,25 @@ use raven_base::NoMemory;
 use raven_value::{Members, Text, Value};
 use std::alloc::Global;
 
+fn is_break(byte: u8) -> bool
+    ensures { result ≡ ((byte == 46) || (byte == 40) || (byte == 41)) }
+{
+    byte == b'.' || byte == b'(' || byte == b')'
+}
+
+fn has_break(text: &str) -> bool
+    ensures { result ≡ list_any (λ b. (b == 46) || (b == 40) || (b == 41)) text.now }
+{
+    text.as_bytes().iter().any(|byte| is_break(*byte))
+}
+
 fn is_part(text: &str) -> bool
     ensures { result ≡ spec_is_part text.now }
 {
-    let bytes = text.as_bytes();
-    let has_break = bytes
-        .iter()
-        .any(|byte| *byte == b'.' || *byte == b'(' || *byte == b')');
-    !text.is_empty() && !has_break
+    !text.is_empty() && !has_break(text)
 }
 
+#[tactic(auto, using(crate::proofs::Openings::bodies))]
 fn is_bare(value: Option<&Value>) -> bool
     ensures { result ≡ spec_is_bare (option_map (λ v. data_of v.now) value.entry) }
 {
@@ -40,6 +50,7 @@ fn text_in(value: Option<&Value>) -> Option<&Text>
     }
 }
 
+#[tactic(auto, using(crate::proofs::Openings::bodies))]
 fn only_item(value: Option<&Value>) -> Option<&Value>
     ensures { option_map (λ v. data_of v.now) result ≡ spec_only_item (option_map (λ v. data_of v.now) value.entry) }
 {
@@ -91,6 +102,7 @@ fn auto_of(
 }
 
 /// The definition of an automatic index of one field, where the body of a row is that of one and has nothing else.
+#[tactic(auto, using(crate::proofs::Openings::bodies))]
 pub fn definition_of(alloc: Global, body: &Value) -> Result<Option<Definition>, NoMemory>
     ensures { IfOk result (λ definition. option_map definition_view definition ≡ definition_read (data_of body.now)) }
 {

@@ -6,7 +6,8 @@ use raven_value::{Body, Document, Id, Name, Row, Rows, Text};
 use std::alloc::Global;
 use std::test::Fail;
 
-const BY_NAME: &str = "{\"@metadata\":{},\"Collection\":\"Users\",\"Fields\":[[\"name\"]],\"Kind\":\"auto\"}";
+const BY_NAME: &str =
+    "{\"@metadata\":{},\"Collection\":\"Users\",\"Fields\":[[\"name\"]],\"Kind\":\"auto\"}";
 
 fn limits(rows: u32, slots: u32) -> Limits {
     Limits {
@@ -135,7 +136,10 @@ fn a_body_of_another_form_is_bad(rt: HostRuntime) -> Result<(), Fail> {
         "[]",
     ];
     for body in bodies.iter() {
-        assert_eq!(rt; told_of_body(alloc, body)?, Some(OpenFault::KeptBad { etag: 2 }));
+        assert_eq!(rt;
+            told_of_body(alloc, body)?,
+            Some(OpenFault::KeptBad { etag: 2 })
+        );
     }
     assert_eq!(rt; told_of_body(alloc, BY_NAME)?, None);
     Ok(())
@@ -153,9 +157,19 @@ fn id_with(alloc: Global, more: usize) -> Result<String, Fail> {
 #[test]
 fn an_index_has_the_name_of_an_automatic_one(rt: HostRuntime) -> Result<(), Fail> {
     let alloc = rt.alloc();
-    let ids = ["@index/Users/Byname", "@index/auto", "@index/", "@index/xauto/a", "users/2", "@indexauto/a"];
+    let ids = [
+        "@index/Users/Byname",
+        "@index/auto",
+        "@index/",
+        "@index/xauto/a",
+        "users/2",
+        "@indexauto/a",
+    ];
     for id in ids.iter() {
-        assert_eq!(rt; told_of_id(alloc, id)?, Some(OpenFault::KeptBad { etag: 2 }));
+        assert_eq!(rt;
+            told_of_id(alloc, id)?,
+            Some(OpenFault::KeptBad { etag: 2 })
+        );
     }
     assert_eq!(rt; told_of_id(alloc, "@INDEX/AUTO/")?, None);
     assert_eq!(rt; told_of_id(alloc, id_with(alloc, 195)?.as_str())?, None);
