@@ -3,3 +3,4 @@ pub mod Input
 pub mod Outcome
 pub mod Given
 pub mod OutcomeView
+pub mod WordsView

@@ -4,6 +4,7 @@
 mod give;
 mod lines;
 mod machine;
+mod options;
 mod outcome;
 mod read;
 mod refusal;
@@ -11,8 +12,10 @@ mod run;
 mod words;
 
 pub use machine::Machine;
+pub use options::Outside;
 pub use raven_script::{Line, ReadRefusal, Request, line};
 pub use run::{Status, answer_lines, raven};
+pub use words::outside;
 
 #[cfg(test)]
 mod tests;
