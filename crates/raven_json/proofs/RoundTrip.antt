@@ -21,5 +21,3 @@ read_back bytes d e h few = ap reading e ∙ reading-text_of d h few
 
 pub written_utf8 : (bytes : List ℕ) (d : Data) → bytes ≡ text_of d → IsSound d → IsUtf8 bytes
 written_utf8 bytes d e h = subst IsUtf8 (sym e) (utf8_text d h)
-
-
