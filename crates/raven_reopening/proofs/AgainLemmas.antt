@@ -23,7 +23,6 @@ use Rattle.raven_model.specs.Optimiser.{Shape, Make, Merge, best, chosen, covers
 use Rattle.raven_model.specs.Replies as told
 use Rattle.raven_model.specs.World.{Slot, fresh, index_id, row_body, serving, SlotRefusal, added}
 use Rattle.raven_model.specs.Machine.{Machine, Request, Put as PutOne, Delete as DeleteOne, Bulk, Get, Auto as AutoOne, Find, Pump, Stale, Stats, Event, Keeping, Change, after, brought_on, change_of, commands_in, defined, is_taken, one_field, rewrote, run, same_machine, settled, single_reply, use_or_make, write, wrote}
-use Rattle.raven_model.specs.Script.{Given, after_lines, events_of}
 use Rattle.raven_model.specs.Sound.{Has, Sound}
 use Rattle.raven_laws.proofs.StoreLemmas.{both_true, found_key, same_row}
 use Rattle.raven_laws.proofs.LimitLemmas.{length_mapped}
@@ -31,7 +30,6 @@ use Rattle.raven_laws.proofs.MachineLemmas.{step-Moves}
 use Rattle.raven_laws.proofs.MatchLemmas.{into-filter_map}
 use Rattle.raven_laws.proofs.OpenedRuns.{go-Sound, go-LaterW}
 use Rattle.raven_laws.proofs.OpenLemmas.{may_behind, opened_from-is, taken-of, with_slot-is}
-use Rattle.raven_laws.proofs.ScriptLemmas.{lines-run}
 use Rattle.raven_laws.proofs.SlotLemmas.{Has-append, find-Has}
 use Rattle.raven_reopening.specs.Form.{IsEvent, AreCommands, AreEvents, IsIndexing}
 use Rattle.raven_reopening.specs.Reopened.{IsThereAgain, reopened, slot_in, slots_in}
@@ -398,6 +396,3 @@ pub run-there : (s : Setting) (held : List KeptRow) (M : Machine) (es : List Eve
 run-there s held M es h fits x at =
     let o = (opened_from-is s held M h).sound in
     there-again (run es M) x (go-Sound M es o) (run-Again es M fits o (opened-Again s held M h)) at
-
-pub lines-open : (s : Setting) (held : List KeptRow) (M : Machine) (lines : List Given) → opened_from s held ≡ Ok M → AreEvents (events_of lines) → opened_from s (all_kept (after_lines lines M).world.store.rows) ≡ Ok (reopened s (after_lines lines M).world.store)
-lines-open s held M lines h fits = subst (λ (N : Machine). opened_from s (all_kept N.world.store.rows) ≡ Ok (reopened s N.world.store)) (sym (lines-run lines M)) (run-opens s held M (events_of lines) h fits)

@@ -27,7 +27,7 @@ entries-pairs (entry k d ms) = ap (entry k d) (entries-pairs ms)
 -- SOUND MEMBERS
 
 -- each name and each value is sound
-abbrev ArePairsSound : Pairs → Type 0
+abbrev pub ArePairsSound : Pairs → Type 0
 ArePairsSound [] = Unit {0}
 ArePairsSound (m ∷ ms) = IsUtf8 m.0 × (IsSound m.1 × ArePairsSound ms)
 
@@ -39,7 +39,7 @@ entries-sound : (ps : Pairs) → ArePairsSound ps → HasSound (entries_of ps)
 entries-sound [] h = tt
 entries-sound (p ∷ ps) h = (h.0, (h.1.0, entries-sound ps h.1.1))
 
-put-sound : (k : List ℕ) (d : Data) (ps : Pairs) → IsUtf8 k → IsSound d → ArePairsSound ps → ArePairsSound (put k d ps)
+pub put-sound : (k : List ℕ) (d : Data) (ps : Pairs) → IsUtf8 k → IsSound d → ArePairsSound ps → ArePairsSound (put k d ps)
 put-sound k d [] u s h = (u, (s, tt))
 put-sound k d (p ∷ ps) u s h = elim (key_cmp k p.0) as (λ o. ArePairsSound (match_ordering o ((k, d) ∷ p ∷ ps) ((k, d) ∷ ps) (p ∷ put k d ps))) [
   | Less ↦ (u, (s, h))
@@ -65,19 +65,19 @@ rising-filter p (m ∷ ps) h = elim (p m) as (λ b. IsRising (cond b (m ∷ filt
 same_value : (a b : Data) → Some a ≡ Some b → a ≡ b
 same_value a b h = cc
 
-member-sound : (k : List ℕ) (ms : Entries) (d : Data) → HasSound ms → member k ms ≡ Some d → IsSound d
+pub member-sound : (k : List ℕ) (ms : Entries) (d : Data) → HasSound ms → member k ms ≡ Some d → IsSound d
 member-sound k no_entries d h is = absurd cc
 member-sound k (entry l e ms) d h is = elim (bytes_eq k l) as (λ b. cond b (Some e) (member k ms) ≡ Some d → IsSound d) [
   | true ↦ λ g. subst IsSound (same_value e d g) h.1.0
   | false ↦ λ g. member-sound k ms d h.1.1 g
 ] is
 
-object-sound : (ps : Pairs) → IsRising ps → ArePairsSound ps → IsSound (object (entries_of ps))
+pub object-sound : (ps : Pairs) → IsRising ps → ArePairsSound ps → IsSound (object (entries_of ps))
 object-sound ps up h = (subst (λ (x : Pairs). IsRising x) (sym (pairs-entries ps)) up, entries-sound ps h)
 
 -- HOW DEEP MEMBERS ARE
 
-put-depth : (k : List ℕ) (d : Data) (ps : Pairs) (n : ℕ) → depth d ≤ n → entries_depth (entries_of ps) ≤ n → entries_depth (entries_of (put k d ps)) ≤ n
+pub put-depth : (k : List ℕ) (d : Data) (ps : Pairs) (n : ℕ) → depth d ≤ n → entries_depth (entries_of ps) ≤ n → entries_depth (entries_of (put k d ps)) ≤ n
 put-depth k d [] n le h = omega arith
 put-depth k d (p ∷ ps) n le h =
     let more = put-depth k d ps n le (omega arith) in
@@ -94,7 +94,7 @@ filter-depth p (m ∷ ps) = let more = filter-depth p ps in elim (p m) as (λ b.
   | false ↦ omega arith
 ]
 
-member-depth : (k : List ℕ) (ms : Entries) (d : Data) → member k ms ≡ Some d → depth d ≤ entries_depth ms
+pub member-depth : (k : List ℕ) (ms : Entries) (d : Data) → member k ms ≡ Some d → depth d ≤ entries_depth ms
 member-depth k no_entries d is = absurd cc
 member-depth k (entry l e ms) d is = elim (bytes_eq k l) as (λ b. cond b (Some e) (member k ms) ≡ Some d → depth d ≤ entries_depth (entry l e ms)) [
   | true ↦ λ g. let same = ap depth (same_value e d g) in omega arith

@@ -3,3 +3,7 @@ pub mod BodyLemmas
 pub mod FitLemmas
 pub mod LastLemmas
 pub mod AgainLemmas
+pub mod Utf8Lemmas
+pub mod LexLemmas
+pub mod SoundLemmas
+pub mod LineLemmas

@@ -10,6 +10,7 @@ use Rattle.raven_model.specs.Commit.{Command, Put, Delete}
 use Rattle.raven_model.specs.Kept.{is_etag, is_stored, max_body}
 use Rattle.raven_model.specs.Machine.{Event, Request, Auto, commands_in}
 use Rattle.raven_model.specs.Opening.{is_part}
+use Rattle.raven_model.specs.Script.{Given}
 
 -- ROWS
 
@@ -65,3 +66,10 @@ pub record IsEvent (e : Event) : Type 0 where
 abbrev pub AreEvents : List Event → Type 0
 AreEvents [] = Unit {0}
 AreEvents (e ∷ es) = IsEvent e × AreEvents es
+
+-- LINES
+
+-- each line comes at a moment before the end
+abbrev pub AreTimely : List Given → Type 0
+AreTimely [] = Unit {0}
+AreTimely (g ∷ more) = (g.1.now < moments_end) × AreTimely more

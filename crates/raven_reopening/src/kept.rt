@@ -1,8 +1,11 @@
 //! What is kept of rows and definitions is read back as them.
 
 ghost use Rattle.std.specs.Prelude.{◌≡◌, ◌≤◌, ℕ, List, [], ◌∷◌, IsTrue, Ok, Some, length};
+ghost use Rattle.raven_data.specs.Data.{Data, depth};
+ghost use Rattle.raven_data.specs.Json.{reading};
 ghost use Rattle.raven_data.specs.Kept.{all_kept, kept};
 ghost use Rattle.raven_data.specs.Rows.{Row};
+ghost use Rattle.raven_data.specs.Sound.{IsSound};
 ghost use Rattle.raven_model.specs.Commit.{stored};
 ghost use Rattle.raven_model.specs.Kept.{row_in, rows_in};
 ghost use Rattle.raven_model.specs.Mapping.{Auto};
@@ -25,4 +28,10 @@ pub fn stores_open_again()
 pub fn definitions_are_read_back()
     ensures { (collection field : List ℕ) → IsTrue (is_part field) →
         definition_read (stored (row_body (Auto collection ((field ∷ []) ∷ [])))) ≡ Some (Auto collection ((field ∷ []) ∷ [])) }
+{}
+
+/// What is read of JSON bytes is sound: its numbers have 64 bits, its texts are UTF-8, its members rise. And it is at most a hundred deep.
+pub fn what_is_read_is_sound()
+    ensures sound { (bytes : List ℕ) (d : Data) → reading bytes ≡ Ok d → IsSound d }
+    ensures shallow { (bytes : List ℕ) (d : Data) → reading bytes ≡ Ok d → depth d ≤ 100 }
 {}
