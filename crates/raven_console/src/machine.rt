@@ -1,17 +1,19 @@
 //! The machine that answers lines.
-ghost use Rattle.std.specs.Prelude.{◌≡◌, IfOk, OnOk, OnErr};
-ghost use Rattle.raven_model.specs.Machine.{change_of, start};
+ghost use Rattle.std.specs.Prelude.{◌≡◌, ◌<◌, ◌≤◌, IfOk, OnErr};
+ghost use Rattle.raven_data.specs.Moments.{moments_end};
+ghost use Rattle.raven_model.specs.Machine.{change_of, step};
 ghost use Rattle.raven_model.specs.Replies.{printed as spec_printed};
 ghost use Rattle.raven_model.specs.Script.{after_line, reply_to};
-ghost use Rattle.raven_model.specs.Words.{program};
 ghost use Rattle.raven_reply.specs.ReplyView.{reply_view};
+ghost use Rattle.raven_console.specs.Outside.{Asked, Keeps, circumstance, given, rows_written, seen};
 ghost use Rattle.raven_console.specs.OutcomeView.{world_left};
 ghost use Rattle.raven_script.specs.RequestView.{request_view};
-ghost use Rattle.raven_console.specs.Given.{plainly};
 
+use crate::keeping::keep;
 use crate::outcome::{Outcome, outcome_of};
 use crate::refusal::reply_to_refusal;
 use raven_base::NoMemory;
+use raven_ports::Keeper;
 use raven_script::{Line, Request, line};
 use raven_world::{Reply, World, reply_text};
 use std::alloc::Global;
@@ -34,6 +36,16 @@ impl Model for Machine {
     ghost view = { λ a. record { world = a.world } };
 }
 
+/// What is written for a line.
+#[derive(Drop)]
+pub struct Answer {
+    /// The reply with its line end, or nothing for a line without bytes.
+    pub text: Vec<u8>,
+
+    /// Whether the keeper took the rows that the line writes, if there are any.
+    pub taken: bool,
+}
+
 fn printed(alloc: Global, reply: &Reply) -> Result<Vec<u8>, NoMemory>
     ensures { IfOk result (λ bytes. bytes.items ≡ spec_printed (reply_view reply.now)) }
 {
@@ -43,16 +55,14 @@ fn printed(alloc: Global, reply: &Reply) -> Result<Vec<u8>, NoMemory>
 }
 
 impl Machine {
-    /// The machine of an empty database.
-    pub fn new(alloc: Global) -> Result<Machine, NoMemory>
-        ensures { IfOk result (λ machine. machine ≡ start program) }
+    /// The machine of this world.
+    pub fn of(world: World) -> Machine
+        ensures { result ≡ record { world = world } }
     {
-        Ok(Machine {
-            world: World::empty(alloc)?,
-        })
+        Machine { world }
     }
 
-    fn keep(&mut self, world: Option<World>)
+    fn put(&mut self, world: Option<World>)
         ensures { self.new.world ≡ world_left self.old.world world }
     {
         match world {
@@ -61,30 +71,61 @@ impl Machine {
         }
     }
 
-    fn perform(&mut self, alloc: Global, request: Request) -> Result<Vec<u8>, NoMemory>
-        ensures reply { IfOk result (λ text. text.items ≡ spec_printed (change_of self.old 0 (request_view request)).reply) }
-        ensures ok { OnOk result (self.new ≡ (change_of self.old 0 (request_view request)).machine) }
-        ensures err { OnErr result (self.new ≡ self.old) }
+    #[tactic(auto, using(crate::proofs::Performed::performs))]
+    fn perform<K: Keeper>(
+        &mut self,
+        alloc: Global,
+        keeper: &mut K,
+        now: u64,
+        request: Request,
+    ) -> Result<Answer, NoMemory>
+        requires keeps { Keeps (K.held keeper.old) self.old }
+        ensures reply { IfOk result (λ a. a.text.items ≡ spec_printed (step self.old (circumstance now a.taken (seen (K.held keeper.old) (K.plan keeper.old) (K.count keeper.old)) (seen (K.held keeper.new) (K.plan keeper.new) (K.count keeper.new))).keeping now (request_view request)).reply) }
+        ensures machine { IfOk result (λ a. self.new ≡ (step self.old (circumstance now a.taken (seen (K.held keeper.old) (K.plan keeper.old) (K.count keeper.old)) (seen (K.held keeper.new) (K.plan keeper.new) (K.count keeper.new))).keeping now (request_view request)).machine) }
+        ensures asked { IfOk result (λ a. Asked (seen (K.held keeper.old) (K.plan keeper.old) (K.count keeper.old)) (seen (K.held keeper.new) (K.plan keeper.new) (K.count keeper.new)) a.taken (change_of self.old now (request_view request)).rows) }
+        ensures err { OnErr result ((self.new ≡ self.old) × (K.held keeper.new ≡ K.held keeper.old)) }
+        ensures later { K.count keeper.old ≤ K.count keeper.new }
     {
-        let Outcome { reply, world, .. } = outcome_of(alloc, &self.world, request)?;
+        let before = keeper.faults();
+        let Outcome { reply, world, rows } = outcome_of(alloc, &self.world, now, request)?;
         let text = printed(alloc, &reply)?;
-        self.keep(world);
-        Ok(text)
+        if keep(alloc, keeper, &rows)? {
+            self.put(world);
+            return Ok(Answer { text, taken: true });
+        }
+        let after = keeper.faults();
+        let text = printed(alloc, &Reply::KeeperFault { before, after })?;
+        Ok(Answer { text, taken: false })
     }
 
-    /// What is written for a line. Want of memory changes nothing.
+    /// What is written for a line that comes at this moment, in microseconds since 1970. The keeper holds the rows of the database, where
+    /// it tells them. A fault of the keeper and want of memory change nothing.
     #[tactic(auto, using(crate::proofs::Answered::answers))]
-    pub fn answer(&mut self, alloc: Global, bytes: &[u8]) -> Result<Vec<u8>, NoMemory>
-        ensures reply { IfOk result (λ reply. reply.items ≡ reply_to (plainly bytes.now) self.old) }
-        ensures ok { OnOk result (self.new ≡ after_line (plainly bytes.now) self.old) }
-        ensures err { OnErr result (self.new ≡ self.old) }
+    pub fn answer<K: Keeper>(
+        &mut self,
+        alloc: Global,
+        keeper: &mut K,
+        now: u64,
+        bytes: &[u8],
+    ) -> Result<Answer, NoMemory>
+        requires below { now < moments_end }
+        requires keeps { Keeps (K.held keeper.old) self.old }
+        ensures reply { IfOk result (λ a. a.text.items ≡ reply_to (given bytes.now now a.taken (seen (K.held keeper.old) (K.plan keeper.old) (K.count keeper.old)) (seen (K.held keeper.new) (K.plan keeper.new) (K.count keeper.new))) self.old) }
+        ensures machine { IfOk result (λ a. self.new ≡ after_line (given bytes.now now a.taken (seen (K.held keeper.old) (K.plan keeper.old) (K.count keeper.old)) (seen (K.held keeper.new) (K.plan keeper.new) (K.count keeper.new))) self.old) }
+        ensures asked { IfOk result (λ a. Asked (seen (K.held keeper.old) (K.plan keeper.old) (K.count keeper.old)) (seen (K.held keeper.new) (K.plan keeper.new) (K.count keeper.new)) a.taken (rows_written self.old now bytes.now)) }
+        ensures err { OnErr result ((self.new ≡ self.old) × (K.held keeper.new ≡ K.held keeper.old)) }
+        ensures later { K.count keeper.old ≤ K.count keeper.new }
     {
         match line(alloc, bytes) {
-            Ok(Some(Line::Do(request))) => self.perform(alloc, request),
-            Ok(None) => Ok(Vec::new(alloc)),
+            Ok(Some(Line::Do(request))) => self.perform(alloc, keeper, now, request),
+            Ok(None) => Ok(Answer {
+                text: Vec::new(alloc),
+                taken: true,
+            }),
             Err(refusal) => {
                 let reply = reply_to_refusal(refusal)?;
-                printed(alloc, &reply)
+                let text = printed(alloc, &reply)?;
+                Ok(Answer { text, taken: true })
             }
         }
     }
