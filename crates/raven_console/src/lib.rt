@@ -5,6 +5,7 @@ mod give;
 mod keeping;
 mod lines;
 mod machine;
+mod opening;
 mod options;
 mod outcome;
 mod read;
@@ -16,7 +17,6 @@ mod words;
 pub use machine::{Answer, Machine};
 pub use options::Outside;
 pub use raven_script::{Line, ReadRefusal, Request, line};
-pub use run::answer_lines;
+pub use run::{Finish, answer_lines, raven};
 pub use status::Status;
-
 pub use words::outside;

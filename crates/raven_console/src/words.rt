@@ -1,13 +1,111 @@
-//! The words that the program is called with.
-ghost use Rattle.std.specs.Prelude.{◌↔◌, IsTrue, map, string_bytes};
-ghost use Rattle.raven_model.specs.Words.{IsOrdered};
+//! The words that the program is called with: a command, and then pairs of a name and a value.
+ghost use Rattle.std.specs.Prelude.{◌≡◌, ◌↔◌, IfOk, IfSome, None, map, option_map, string_bytes};
+ghost use Rattle.raven_model.specs.Options.{base_in, is_value as spec_is_value, options_in, pairs_in};
+ghost use Rattle.raven_console.specs.WordsView.{bytes_of, file_named, options_view, texts_in, texts_view};
 
-/// Whether the words are a command of the program: the one word `run`.
-pub(crate) fn is_ordered(words: &[String]) -> bool
-    ensures { IsTrue result ↔ IsOrdered (map string_bytes words.now) }
+use crate::options::{Outside, RunOptions};
+use doc_txn::BaseId;
+use raven_base::NoMemory;
+use raven_value::Text;
+use std::alloc::Global;
+
+// A value has a byte, and does not begin with `-`, so that no name is taken for a value.
+fn is_value(text: &str) -> bool
+    ensures { result ≡ spec_is_value text.now }
 {
-    match words {
-        [word] => word.as_str() == "run",
-        _ => false,
+    match text.as_bytes() {
+        [] => false,
+        [first, ..] => *first != b'-',
     }
 }
+
+// The values of `--data` and `--id`, where the words are pairs of these names and values, no name twice.
+#[tactic(auto, using(crate::proofs::WordLemmas::pairs))]
+fn texts(words: &[String]) -> Option<(Option<&str>, Option<&str>)>
+    ensures { option_map texts_view result ≡ texts_in (pairs_in (map string_bytes words.now)) }
+{
+    let mut file: Option<&str> = None;
+    let mut base: Option<&str> = None;
+    let mut rest = words;
+    while let Some((name, behind)) = rest.split_first() {
+        let Some((value, more)) = behind.split_first() else {
+            return None;
+        };
+        if !is_value(value.as_str()) {
+            return None;
+        }
+        if name.as_str() == "--data" && file.is_none() {
+            file = Some(value.as_str());
+        } else if name.as_str() == "--id" && base.is_none() {
+            base = Some(value.as_str());
+        } else {
+            return None;
+        }
+        rest = more;
+    }
+    Some((file, base))
+}
+
+fn file_of(alloc: Global, text: Option<&str>) -> Result<Option<Text>, NoMemory>
+    ensures { IfOk result (λ file. file ≡ bytes_of text.entry) }
+{
+    match text {
+        Some(text) => Ok(Some(Text::of(alloc, text)?)),
+        None => Ok(None),
+    }
+}
+
+fn base_of(alloc: Global, text: Option<&str>) -> Result<Option<BaseId>, NoMemory>
+    ensures { IfOk result (λ base. base ≡ base_in (bytes_of text.entry)) }
+{
+    match text {
+        Some(text) => BaseId::new(alloc, text),
+        None => Ok(Some(BaseId::program(alloc)?)),
+    }
+}
+
+/// The options that the words give: none exactly where they are not of the form.
+pub(crate) fn options(alloc: Global, words: &[String]) -> Result<Option<RunOptions>, NoMemory>
+    ensures { IfOk result (λ found. option_map options_view found ≡ options_in (map string_bytes words.now)) }
+{
+    let Some((command, more)) = words.split_first() else {
+        return Ok(None);
+    };
+    if command.as_str() != "run" {
+        return Ok(None);
+    }
+    let Some((file, base)) = texts(more) else {
+        return Ok(None);
+    };
+    match base_of(alloc, base)? {
+        Some(base) => Ok(Some(RunOptions {
+            file: file_of(alloc, file)?,
+            base,
+        })),
+        None => Ok(None),
+    }
+}
+
+/// What the words ask to be made outside: none exactly where they are not of the form, so that the program would answer `Usage`. `run`
+/// does not listen.
+pub fn outside(alloc: Global, words: &[String]) -> Result<Option<Outside>, NoMemory>
+    ensures form { IfOk result (λ found. (found ≡ None) ↔ (options_in (map string_bytes words.now) ≡ None)) }
+    ensures file { IfOk result (λ found. option_map (λ o. o.file) found ≡ option_map file_named (options_in (map string_bytes words.now))) }
+    ensures unheard { IfOk result (λ found. IfSome found (λ o. (o.port ≡ 0) × (o.workers ≡ 0) × (o.connections ≡ None))) }
+{
+    match options(alloc, words)? {
+        Some(options) => {
+            let RunOptions { file, .. } = options;
+            Ok(Some(Outside {
+                file,
+                port: 0,
+                workers: 0,
+                connections: None,
+            }))
+        }
+        None => Ok(None),
+    }
+}
+
+#[cfg(test)]
+mod tests;

@@ -11,7 +11,7 @@ use Rattle.raven_model.specs.Commit.{Command, Put, Delete, Writer, Setting, Refu
 use Rattle.raven_laws.proofs.StoreLemmas.{same_row, found_key}
 use Rattle.raven_laws.proofs.LaterLemmas.{IsStore-with, last-with, Later-with, Later-itself, Later-then}
 
-same_ok : (a b : Written) → (let x : Result Written Refused = Ok a in x) ≡ Ok b → a ≡ b
+pub same_ok : (a b : Written) → (let x : Result Written Refused = Ok a in x) ≡ Ok b → a ≡ b
 same_ok a b h = cc
 
 third_none : (a b c : Option Refusal) (more : List (Option Refusal)) → first_of (a ∷ b ∷ c ∷ more) ≡ None → c ≡ None
@@ -70,15 +70,15 @@ row_of-follows s w now S (Delete id expected) r h is =
           })
     ] refl is
 
-with_rows-push : (S : Store) (rows : List Row) (r : Row) → with_rows S (rows ++ r ∷ []) ≡ with_row (with_rows S rows) r
+pub with_rows-push : (S : Store) (rows : List Row) (r : Row) → with_rows S (rows ++ r ∷ []) ≡ with_row (with_rows S rows) r
 with_rows-push S [] r = refl
 with_rows-push S (x ∷ rows) r = with_rows-push (with_row S x) rows r
 
-AreNext-push : (e : ℕ) (rows : List Row) (r : Row) → AreNext e rows → r.etag ≡ last_of e rows + 1 → AreNext e (rows ++ r ∷ [])
+pub AreNext-push : (e : ℕ) (rows : List Row) (r : Row) → AreNext e rows → r.etag ≡ last_of e rows + 1 → AreNext e (rows ++ r ∷ [])
 AreNext-push e [] r h g = (g, tt)
 AreNext-push e (x ∷ rows) r h g = (h.0, AreNext-push x.etag rows r h.1 g)
 
-last-with_rows : (S : Store) (rows : List Row) → last (with_rows S rows) ≡ last_of (last S) rows
+pub last-with_rows : (S : Store) (rows : List Row) → last (with_rows S rows) ≡ last_of (last S) rows
 last-with_rows S [] = refl
 last-with_rows S (r ∷ rows) = last-with_rows (with_row S r) rows ∙ ap (λ e. last_of e rows) (last-with S r)
 

@@ -39,7 +39,7 @@ put_beside r rows = let a = no_more (key r) rows in let b = length-append (other
 
 -- WHAT A COMMAND THAT IS TAKEN LEAVES
 
-all_none : (os : List (Option Refusal)) (o : Option Refusal) → first_of os ≡ None → Has os o → o ≡ None
+pub all_none : (os : List (Option Refusal)) (o : Option Refusal) → first_of os ≡ None → Has os o → o ≡ None
 all_none [] o h at = absurd at
 all_none (None ∷ os) o h (inl e) = sym e
 all_none (None ∷ os) o h (inr at) = all_none os o h at
@@ -84,7 +84,7 @@ commit_from-fits at s w now (c ∷ cs) done new le h =
 
 -- THE LAST ETAG
 
-unspent : (s : Setting) (w : Writer) (S : Store) (c : Command) → refusal_of s w S c ≡ None → takes_etag S c ≡ true → last S ≤ 9007199254740991 → last S < 9007199254740991
+pub unspent : (s : Setting) (w : Writer) (S : Store) (c : Command) → refusal_of s w S c ≡ None → takes_etag S c ≡ true → last S ≤ 9007199254740991 → last S < 9007199254740991
 unspent s w S c h takes le =
     elim (nat_lt (last S) 9007199254740991) as (λ b. nat_lt (last S) 9007199254740991 ≡ b → last S < 9007199254740991) [
       | true ↦ λ e. ltb-true (last S) 9007199254740991 e
@@ -96,7 +96,7 @@ unspent s w S c h takes le =
           absurd (let both = sym none ∙ some in cc)
     ] refl
 
-takes : (now : ℕ) (S : Store) (c : Command) (r : Row) → row_of now S c ≡ Some r → takes_etag S c ≡ true
+pub takes : (now : ℕ) (S : Store) (c : Command) (r : Row) → row_of now S c ≡ Some r → takes_etag S c ≡ true
 takes now S (Put id expected body) r is = refl
 takes now S (Delete id expected) r is = elim (document_at S (folded id)) as (λ o. option_map (tombstone (last S + 1) now) o ≡ Some r → is_some o ≡ true) [
   | None ↦ λ e. absurd cc

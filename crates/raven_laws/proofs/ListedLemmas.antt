@@ -95,7 +95,7 @@ first_none : (a : Option Refusal) (more : List (Option Refusal)) → first_of (a
 first_none None more h = refl
 first_none (Some r) more h = absurd cc
 
-unreserved : (s : Setting) (S : Store) (c : Command) → refusal_of s Client S c ≡ None → is_reserved c ≡ false
+pub unreserved : (s : Setting) (S : Store) (c : Command) → refusal_of s Client S c ≡ None → is_reserved c ≡ false
 unreserved s S c h =
     elim (is_reserved c) as (λ b. cond b (Some Refusal.ReservedId) None ≡ None → b ≡ false) [ true ↦ λ e. absurd cc | false ↦ λ e. refl ]
     (first_none (reserved Client c) (too_large c ∷ collection_changed S c ∷ conflict s S c ∷ store_full s S c ∷ etags_spent S c ∷ []) h)

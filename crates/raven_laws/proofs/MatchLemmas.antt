@@ -38,7 +38,7 @@ into-filter p (y ∷ xs) x (inr h) is = elim (p y) as (λ b. Has (cond b (y ∷ 
   | false ↦ into-filter p xs x h is
 ]
 
-into-filter_map : {X Y : Type 0} (f : X → Option Y) (xs : List X) (x : X) (y : Y) → Has xs x → f x ≡ Some y → Has (filter_map f xs) y
+pub into-filter_map : {X Y : Type 0} (f : X → Option Y) (xs : List X) (x : X) (y : Y) → Has xs x → f x ≡ Some y → Has (filter_map f xs) y
 into-filter_map f [] x y h is = absurd h
 into-filter_map f (z ∷ xs) x y (inl e) is = subst (λ o. Has (cons_option o (filter_map f xs)) y) (sym (ap f e ∙ is)) (inl refl)
 into-filter_map f (z ∷ xs) x y (inr h) is = elim (f z) as (λ o. Has (cons_option o (filter_map f xs)) y) [

@@ -304,7 +304,7 @@ given-later M e es x g = record {
   taken = g.taken;
 }
 
-run-given : (es : List Event) (M : Machine) (q : List ℕ) (x : Row) → row_at q (run es M).world.store.rows ≡ Some x → is_index_id x.id ≡ false
+pub run-given : (es : List Event) (M : Machine) (q : List ℕ) (x : Row) → row_at q (run es M).world.store.rows ≡ Some x → is_index_id x.id ≡ false
     → (row_at q M.world.store.rows ≡ Some x) ⊎ IsWritten M es x
 run-given [] M q x h not_index = inl h
 run-given (e ∷ es) M q x h not_index =

@@ -1,3 +1,4 @@
 pub mod Keyed
 pub mod Claims
 pub mod Writes
+pub mod Keeping

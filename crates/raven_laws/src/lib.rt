@@ -2,6 +2,8 @@
 #![tactic(auto)]
 
 mod indexes;
+mod keeping;
+mod opening;
 mod runs;
 mod scripts;
 mod stores;
@@ -10,6 +12,11 @@ mod writes;
 pub use indexes::{
     agreement_survives, batch_agrees, documents_are_all, fresh_is_whole, orders_are_total,
     stale_by_newest, stale_is_unseen, touched_is_enough,
+};
+pub use keeping::{changes_are_their_rows, keepers_follow_stores, keepers_keep_on};
+pub use opening::{
+    every_run_from_kept_rows_is_sound, every_script_from_kept_rows_is_sound, opened_is_sound,
+    rows_were_there_or_written, sound_states_answer_truly, sound_states_go_on,
 };
 pub use runs::{
     batches_move_what_is_stale, every_index_serves_its_name, every_run_goes_on, every_run_is_sound,

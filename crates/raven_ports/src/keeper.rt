@@ -6,9 +6,9 @@ ghost use Rattle.raven_data.specs.Moments.{moments_end};
 ghost use Rattle.raven_ports.specs.Faults.{Rose};
 ghost use Rattle.raven_ports.specs.Plan.{Plan, is_failing, one_later};
 
-use raven_base::Sequence;
+use raven_base::{Exact, Sequence};
 use raven_value::Text;
-use std::alloc::Global;
+use std::alloc::{AllocError, Global};
 use std::marker::Model;
 use thiserror::Error;
 
@@ -38,6 +38,24 @@ impl Model for KeptRow {
     ghost coded = { kept_code };
 
     ghost view = { λ a. record { etag = a.etag; id = a.id; collection = a.collection; body = a.body; changed = a.changed } };
+}
+
+impl Clone for KeptRow {
+    ghost is_clone = { λ s t. t ≡ s };
+
+    fn clone(&self) -> Result<KeptRow, AllocError> {
+        Ok(KeptRow {
+            etag: self.etag,
+            id: self.id.clone()?,
+            collection: self.collection.clone()?,
+            body: self.body.clone()?,
+            changed: self.changed,
+        })
+    }
+}
+
+impl Exact for KeptRow {
+    ghost exact = { λ x y same. same };
 }
 
 /// Kept rows in order.
@@ -71,12 +89,7 @@ pub trait Keeper {
         ensures { result ≡ count self.now };
 
     /// The first rows with etags past `after`, or with any etags where there is none, in order of etag, and at most `max`.
-    fn load(
-        &mut self,
-        alloc: Global,
-        after: Option<u64>,
-        max: u32,
-    ) -> Result<KeptRows, KeeperFault>
+    fn load(&mut self, alloc: Global, after: Option<u64>, max: u32) -> Result<KeptRows, KeeperFault>
         requires { 1 ≤ max }
         ensures rows { IfOk result (λ r. IfSome (held self.old) (λ all. r ≡ kept_after after max all)) }
         ensures rising { IfOk result (λ r. EtagsRise after r) }

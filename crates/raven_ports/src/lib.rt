@@ -3,12 +3,16 @@
 
 mod calls;
 mod keeper;
+mod mem_keeper;
 mod memory;
 mod ports;
+mod still_clock;
 
 pub use keeper::{Clock, Keeper, KeeperFault, KeptRow, KeptRows};
+pub use mem_keeper::MemKeeper;
 pub use memory::{ByteSink, ByteSource};
 pub use ports::{Failed, Sink, SinkFault, Source};
+pub use still_clock::StillClock;
 
 #[cfg(test)]
 mod tests;

@@ -3,3 +3,4 @@ pub mod Batches
 pub mod Clean
 pub mod Steps
 pub mod Pairs
+pub mod Openings

@@ -5,3 +5,5 @@ pub mod Told
 pub mod Roomy
 pub mod NewName
 pub mod Transacts
+pub mod Reading
+pub mod Opened

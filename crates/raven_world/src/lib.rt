@@ -10,12 +10,18 @@ mod find;
 mod make;
 mod mapping;
 mod naming;
+mod opening;
 mod pump;
+mod reading;
 mod slot;
 mod table;
 mod version;
 mod world;
 mod write;
 
+pub use doc_store::OpenFault;
 pub use raven_reply::{BulkResult, BulkResults, Pumping, Pumpings, Reply, reply_text};
 pub use world::{Answered, Change, World, WorldFault};
+
+#[cfg(test)]
+mod tests;

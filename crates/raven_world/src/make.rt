@@ -11,36 +11,22 @@ ghost use Rattle.raven_model.specs.Replies.{Index as IndexOf};
 ghost use Rattle.raven_model.specs.Store.{last};
 ghost use Rattle.raven_model.specs.World.{added, fresh, index_id as spec_index_id, row_body as spec_row_body};
 ghost use Rattle.doc_txn.specs.CommandView.{command_view};
-ghost use Rattle.raven_world.specs.DefinitionView.{definition_view};
 ghost use Rattle.raven_world.specs.NewName.{new_name_of};
 ghost use Rattle.raven_reply.specs.ReplyView.{reply_view};
 ghost use Rattle.raven_world.specs.Told.{AnswersQuery, change_view, machine_of, told};
 
 use crate::choice::{Choice, pick};
-use crate::definition::Definition;
+use crate::definition::auto_definition;
 use crate::naming::{auto_name, index_id, is_served};
-use crate::slot::{Slot, copies};
-use crate::version::IndexVersion;
+use crate::slot::{Slot, copies, fresh_slot};
 use crate::world::{Answered, Change, World, WorldFault};
 use crate::write::refused_at;
 use doc_store::Store;
 use doc_txn::{Command, Commands, Expect, TxnFault, Writer, commit};
 use raven_base::NoMemory;
 use raven_reply::Reply;
-use raven_value::{Members, Name, Path, Paths, Rows, Text, Value, Values};
+use raven_value::{Members, Name, Rows, Text, Value, Values};
 use std::alloc::Global;
-use std::sync::Arc;
-
-fn auto_definition(alloc: Global, collection: &Text, field: &Text) -> Result<Definition, NoMemory>
-    ensures { IfOk result (λ definition. definition_view definition ≡ Auto collection.now ((field.now ∷ []) ∷ [])) }
-{
-    let mut fields = Paths::new(alloc);
-    fields.push(Path::of(alloc, field.clone()?)?)?;
-    Ok(Definition::Auto {
-        collection: collection.clone()?,
-        fields,
-    })
-}
 
 fn put_member(
     alloc: Global,
@@ -127,14 +113,12 @@ fn new_slot(
 ) -> Result<Slot, NoMemory>
     ensures { IfOk result (λ slot. slot ≡ record { number = number; name = name; version = fresh (Auto collection.now ((field.now ∷ []) ∷ [])); row = number }) }
 {
-    let definition = Arc::new(alloc, auto_definition(alloc, collection, field)?)?;
-    let version = Arc::new(alloc, IndexVersion::fresh(alloc, definition)?)?;
-    Ok(Slot {
+    fresh_slot(
+        alloc,
         number,
         name,
-        version,
-        row: number,
-    })
+        auto_definition(alloc, collection, field)?,
+    )
 }
 
 impl World {

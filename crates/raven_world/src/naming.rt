@@ -1,13 +1,14 @@
-//! What a new automatic index is called.
-ghost use Rattle.std.specs.Prelude.{◌≡◌, ◌++◌, ◌<◌, ◌^◌, IfOk, None, codes, decimal, is_some, length, string_bytes};
+//! What an automatic index is called.
+ghost use Rattle.std.specs.Prelude.{◌≡◌, ◌++◌, ◌<◌, ◌^◌, IfOk, None, Some, codes, decimal, if◌then◌else◌, is_some, length, string_bytes};
 ghost use Rattle.raven_model.specs.Machine.{one_field};
+ghost use Rattle.raven_model.specs.Opening.{is_auto_name};
 ghost use Rattle.raven_model.specs.Optimiser.{first_free as spec_first_free, name_of, plain_name as spec_plain_name};
 ghost use Rattle.raven_value.specs.Refusal.{fault_in};
 ghost use Rattle.raven_model.specs.World.{index_id as spec_index_id, serving as spec_serving};
 
 use crate::slot::{Slot, serving};
 use raven_base::NoMemory;
-use raven_value::{Id, IdRefusal, Name, Text};
+use raven_value::{Id, IdRefusal, Name, Text, starts_folded};
 use std::alloc::Global;
 
 const LONGEST: usize = 200;
@@ -28,8 +29,8 @@ fn with_number(alloc: Global, name: &str, number: u64) -> Result<String, NoMemor
     Ok(text)
 }
 
-#[tactic(auto, using(crate::proofs::Clean::tries))]
 // The name, or with the least number from 2 on behind it that no slot serves.
+#[tactic(auto, using(crate::proofs::Clean::tries))]
 fn first_free(alloc: Global, slots: &[Slot], name: String) -> Result<String, NoMemory>
     requires { length slots.now < 2 ^ 32 }
     ensures { IfOk result (λ text. string_bytes text ≡ spec_first_free (string_bytes name) slots.now) }
@@ -94,6 +95,21 @@ fn numbered_name(alloc: Global, slots: &[Slot], number: u64) -> Result<Name, NoM
     match Name::new(alloc, free.as_str()) {
         Ok(name) => Ok(name),
         Err(refusal) => Err(memory_alone(refusal)),
+    }
+}
+
+/// The name of an automatic index, where a text can be one.
+#[tactic(auto, using(crate::proofs::Openings::names))]
+pub fn read_auto_name(alloc: Global, text: &str) -> Result<Option<Name>, NoMemory>
+    ensures { IfOk result (λ name. name ≡ if is_auto_name text.now then Some text.now else None) }
+{
+    if text.len() > LONGEST || !starts_folded(text.as_bytes(), b"auto/") {
+        return Ok(None);
+    }
+    match Name::new(alloc, text) {
+        Ok(name) => Ok(Some(name)),
+        Err(IdRefusal::NoMemory) => Err(NoMemory),
+        Err(_) => Ok(None),
     }
 }
 

@@ -1,8 +1,10 @@
 //! Live indexes.
 ghost use Rattle.std.specs.Prelude.{◌≡◌, IfOk, option_copied};
 ghost use Rattle.raven_data.specs.Folding.{folded, same_key};
-ghost use Rattle.raven_model.specs.World.{serving as spec_serving};
+ghost use Rattle.raven_model.specs.World.{fresh, serving as spec_serving};
+ghost use Rattle.raven_world.specs.DefinitionView.{definition_view};
 
+use crate::definition::Definition;
 use crate::version::IndexVersion;
 use raven_base::NoMemory;
 use raven_value::Name;
@@ -48,6 +50,25 @@ impl Clone for Slot {
             row: self.row,
         })
     }
+}
+
+/// The index of a definition whose row has this etag. It has recorded nothing yet.
+pub fn fresh_slot(
+    alloc: Global,
+    row: u64,
+    name: Name,
+    definition: Definition,
+) -> Result<Slot, NoMemory>
+    ensures { IfOk result (λ slot. slot ≡ record { number = row; name = name; version = fresh (definition_view definition); row = row }) }
+{
+    let definition = Arc::new(alloc, definition)?;
+    let version = Arc::new(alloc, IndexVersion::fresh(alloc, definition)?)?;
+    Ok(Slot {
+        number: row,
+        name,
+        version,
+        row,
+    })
 }
 
 fn is_named(slot: &Slot, name: &str) -> bool

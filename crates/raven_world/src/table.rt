@@ -58,7 +58,8 @@ impl Table {
     }
 }
 
-fn is_document(row: &Row) -> bool
+/// Whether a row has a document.
+pub fn is_document(row: &Row) -> bool
     ensures { result ≡ model.is_document row.now }
 {
     matches!(row.body, Body::Doc(_))

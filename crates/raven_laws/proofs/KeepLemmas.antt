@@ -1,0 +1,184 @@
+-- What a keeper holds are the rows of the store.
+use Rattle.std.proofs.Common.{◌≡◌, ℕ, ◌+◌, List, [], ◌∷◌, ◌++◌, true, false, not, cond, filter, Option, Some, None, Result, Ok, Err, refl, sym, ap, ◌∙◌, subst, arith}
+use Rattle.std.specs.Option.{option_map}
+use Rattle.raven_data.specs.Folding.{folded, same_key}
+use Rattle.raven_data.specs.Rows.{Row, key}
+use Rattle.raven_data.specs.Kept.{EtagsRise, kept, kept_key, all_kept, keep, keep_all, last_kept}
+use Rattle.raven_model.specs.Store.{AreRising, IsStore, Store, last, last_of, put, with_row, with_rows}
+use Rattle.raven_model.specs.Commit.{AreNext, Client, Command, Put, Delete, Refused, Server, Setting, Writer, Written, commit, commit_from, document_at, refusal_of, row_of, tombstone, unless, with_written}
+use Rattle.raven_model.specs.Mapping.{Definition}
+use Rattle.raven_model.specs.Optimiser.{Choice, Use, Make, Merge, pick, name_of}
+use Rattle.raven_model.specs.Replies as told
+use Rattle.raven_model.specs.World.{Slot, SlotChange, SlotRefusal, define}
+use Rattle.raven_model.specs.Machine.{Machine, Request, Put as PutOne, Delete as DeleteOne, Bulk, Get, Auto, Find, Pump, Stale, Stats, Event, Keeping, Change, after, change_of, defined, is_taken, one_field, rewrote, run, same_machine, settled, single_reply, use_or_make, write, wrote}
+use Rattle.raven_model.specs.Script.{Given, after_lines, events_of}
+use Rattle.raven_laws.proofs.ScriptLemmas.{lines-run}
+use Rattle.raven_laws.specs.Keeping.{rows_given, held_after}
+use Rattle.raven_laws.proofs.StoreLemmas.{same_row}
+use Rattle.raven_laws.proofs.CommitLemmas.{same_ok, with_rows-push, AreNext-push, last-with_rows}
+
+-- STORES
+
+-- what is held of rows without those of an id
+kept-without : (r : Row) (rows : List Row) → filter (λ k. not (same_key (key r) (kept_key k))) (all_kept rows) ≡ all_kept (filter (λ x. not (same_key (key r) (key x))) rows)
+kept-without r [] = refl
+kept-without r (x ∷ rows) = elim (same_key (key r) (key x)) as (λ b.
+    cond (not b) (kept x ∷ filter (λ k. not (same_key (key r) (kept_key k))) (all_kept rows)) (filter (λ k. not (same_key (key r) (kept_key k))) (all_kept rows))
+    ≡ all_kept (cond (not b) (x ∷ filter (λ y. not (same_key (key r) (key y))) rows) (filter (λ y. not (same_key (key r) (key y))) rows))) [
+      | true ↦ kept-without r rows
+      | false ↦ ap (λ ks. kept x ∷ ks) (kept-without r rows)
+    ]
+
+kept-append : (xs ys : List Row) → all_kept (xs ++ ys) ≡ all_kept xs ++ all_kept ys
+kept-append [] ys = refl
+kept-append (x ∷ xs) ys = ap (λ ks. kept x ∷ ks) (kept-append xs ys)
+
+kept-put : (r : Row) (rows : List Row) → keep (kept r) (all_kept rows) ≡ all_kept (put r rows)
+kept-put r rows =
+    ap (λ ks. ks ++ kept r ∷ []) (kept-without r rows)
+    ∙ sym (kept-append (filter (λ x. not (same_key (key r) (key x))) rows) (r ∷ []))
+
+pub kept-with_rows : (S : Store) (rows : List Row) → keep_all (all_kept S.rows) (all_kept rows) ≡ all_kept (with_rows S rows).rows
+kept-with_rows S [] = refl
+kept-with_rows S (r ∷ rows) = ap (λ ks. keep_all ks (all_kept rows)) (kept-put r S.rows) ∙ kept-with_rows (with_row S r) rows
+
+-- ETAGS
+
+next-rise : (e : ℕ) (rows : List Row) → AreNext e rows → EtagsRise (Some e) (all_kept rows)
+next-rise e [] h = tt
+next-rise e (r ∷ rows) h = (let a = h.0 in omega arith, next-rise r.etag rows h.1)
+
+any-rise : (e : ℕ) (rows : List Row) → EtagsRise (Some e) (all_kept rows) → EtagsRise None (all_kept rows)
+any-rise e [] h = tt
+any-rise e (r ∷ rows) h = (tt, h.1)
+
+pub next-alone : (e : ℕ) (rows : List Row) → AreNext e rows → EtagsRise None (all_kept rows)
+next-alone e rows h = any-rise e rows (next-rise e rows h)
+
+last_kept-of : (e : ℕ) (rows : List Row) → last_kept (Some e) (all_kept rows) ≡ Some (last_of e rows)
+last_kept-of e [] = refl
+last_kept-of e (r ∷ rows) = last_kept-of r.etag rows
+
+behind : (held rows : List Row) → AreNext (last_of 0 held) rows → EtagsRise (last_kept None (all_kept held)) (all_kept rows)
+behind [] rows h = next-alone 0 rows h
+behind (r ∷ held) rows h =
+    let P : Option ℕ → Type 0 = λ o. EtagsRise o (all_kept rows) in
+    subst P (sym (last_kept-of r.etag held)) (next-rise (last_of r.etag held) rows h)
+
+pub next-behind : (S : Store) (rows : List Row) → AreNext (last S) rows → EtagsRise (last_kept None (all_kept S.rows)) (all_kept rows)
+next-behind S rows h = behind S.rows rows h
+
+rising-rise : (e : ℕ) (rows : List Row) → AreRising e rows → EtagsRise (Some e) (all_kept rows)
+rising-rise e [] h = tt
+rising-rise e (r ∷ rows) h = (h.0, rising-rise r.etag rows h.1)
+
+pub store-rises : (S : Store) → IsStore S → EtagsRise None (all_kept S.rows)
+store-rises S o = any-rise 0 S.rows (rising-rise 0 S.rows o.rising)
+
+-- TRANSACTIONS
+
+-- what was written so far is a store with rows that follow on its last etag
+record Adds (S : Store) (w : Written) : Type 0 where
+  pub store : w.store ≡ with_rows S w.rows
+  pub next : AreNext (last S) w.rows
+
+-- a row that is written has the next etag
+pub next_etag : (now : ℕ) (S : Store) (c : Command) (r : Row) → row_of now S c ≡ Some r → r.etag ≡ last S + 1
+next_etag now S (Put id expected body) r is = ap (λ (x : Row). x.etag) (sym (same_row _ r is))
+next_etag now S (Delete id expected) r is =
+    elim (document_at S (folded id)) as (λ o. option_map (tombstone (last S + 1) now) o ≡ Some r → r.etag ≡ last S + 1) [
+      | None ↦ λ g. absurd cc
+      | Some d ↦ λ g. ap (λ (x : Row). x.etag) (sym (same_row _ r g))
+    ] is
+
+Adds-row : (S : Store) (done : Written) (r : Row) → Adds S done → r.etag ≡ last done.store + 1 → Adds S (with_written (Some r) done)
+Adds-row S done r a is = record {
+  store = ap (λ T. with_row T r) a.store ∙ sym (with_rows-push S done.rows r);
+  next = AreNext-push (last S) done.rows r a.next (is ∙ ap (λ n. n + 1) (ap last a.store ∙ last-with_rows S done.rows));
+}
+
+Adds-option : (S : Store) (done : Written) (o : Option Row) → Adds S done → ((r : Row) → o ≡ Some r → r.etag ≡ last done.store + 1) → Adds S (with_written o done)
+Adds-option S done None a is = a
+Adds-option S done (Some r) a is = Adds-row S done r a (is r refl)
+
+commit_from-Adds : (S : Store) (at : ℕ) (s : Setting) (w : Writer) (now : ℕ) (cs : List Command) (done new : Written)
+    → Adds S done → commit_from at s w now cs done ≡ Ok new → Adds S new
+commit_from-Adds S at s w now [] done new a h = subst (Adds S) (same_ok done new h) a
+commit_from-Adds S at s w now (c ∷ cs) done new a h =
+    elim (refusal_of s w done.store c) as (λ o. unless o at (commit_from (at + 1) s w now cs (with_written (row_of now done.store c) done)) ≡ Ok new → Adds S new) [
+      | None ↦ λ g. commit_from-Adds S (at + 1) s w now cs (with_written (row_of now done.store c) done) new
+          (Adds-option S done (row_of now done.store c) a (λ r is. next_etag now done.store c r is)) g
+      | Some kind ↦ λ g. absurd cc
+    ] h
+
+commit-Adds : (s : Setting) (w : Writer) (now : ℕ) (cs : List Command) (S : Store) (new : Written) → commit s w now cs S ≡ Ok new → Adds S new
+commit-Adds s w now cs S new is = commit_from-Adds S 0 s w now cs (record { store = S; rows = [] }) new (record { store = refl; next = tt }) is
+
+-- CHANGES
+
+-- the store of a change is the one before with the rows of the change
+pub record IsItsRows (S : Store) (c : Change) : Type 0 where
+  pub store : c.machine.world.store ≡ with_rows S c.rows
+  pub next : AreNext (last S) c.rows
+
+unchanged : (M : Machine) (reply : told.Reply) → IsItsRows M.world.store (record { reply = reply; machine = M; rows = [] })
+unchanged M reply = record { store = refl; next = tt }
+
+wrote-rows : (M : Machine) (reply : List told.Result → told.Reply) (now : ℕ) (commands : List Command) (o : Result Written Refused)
+    → commit M.world.setting Client now commands M.world.store ≡ o → IsItsRows M.world.store (wrote M reply now commands o)
+wrote-rows M reply now commands (Err refused) is = unchanged M _
+wrote-rows M reply now commands (Ok w) is =
+    let a = commit-Adds M.world.setting Client now commands M.world.store w is in record { store = a.store; next = a.next }
+
+write-rows : (M : Machine) (reply : List told.Result → told.Reply) (now : ℕ) (commands : List Command) → IsItsRows M.world.store (write M reply now commands)
+write-rows M reply now commands = wrote-rows M reply now commands (commit M.world.setting Client now commands M.world.store) refl
+
+rewrote-rows : (M : Machine) (name : List ℕ) (slots : List Slot) (now : ℕ) (commands : List Command) (o : Result Written Refused)
+    → commit M.world.setting Server now commands M.world.store ≡ o → IsItsRows M.world.store (rewrote M name slots o)
+rewrote-rows M name slots now commands (Err refused) is = unchanged M _
+rewrote-rows M name slots now commands (Ok w) is =
+    let a = commit-Adds M.world.setting Server now commands M.world.store w is in record { store = a.store; next = a.next }
+
+defined-rows : (M : Machine) (now : ℕ) (name : List ℕ) (r : Result SlotChange SlotRefusal) → IsItsRows M.world.store (defined M now name r)
+defined-rows M now name (Err refusal) = unchanged M _
+defined-rows M now name (Ok c) = rewrote-rows M name c.slots now c.commands (commit M.world.setting Server now c.commands M.world.store) refl
+
+auto-rows : (M : Machine) (now : ℕ) (c : Choice) → IsItsRows M.world.store (use_or_make M now c)
+auto-rows M now (Use s) = unchanged M _
+auto-rows M now (Make shape) =
+    let name = name_of M.world.slots (last M.world.store + 1) shape in defined-rows M now name (define M.world name (Definition.Auto shape.collection shape.fields))
+auto-rows M now Merge = unchanged M _
+
+pub change-rows : (M : Machine) (now : ℕ) (request : Request) → IsItsRows M.world.store (change_of M now request)
+change-rows M now (PutOne id expected body) = write-rows M single_reply now (Command.Put id expected body ∷ [])
+change-rows M now (DeleteOne id expected) = write-rows M single_reply now (Command.Delete id expected ∷ [])
+change-rows M now (Bulk commands) = write-rows M told.Bulk now commands
+change-rows M now (Get id) = unchanged M _
+change-rows M now (Auto collection field) = auto-rows M now (pick (one_field collection field) M.world.store M.world.slots)
+change-rows M now (Find index field ws) = unchanged M _
+change-rows M now (Pump max) = record { store = refl; next = tt }
+change-rows M now (Stale name cutoff) = unchanged M _
+change-rows M now Stats = unchanged M _
+
+-- EVENTS
+
+settled-rows : (M : Machine) (k : Keeping) (c : Change) → IsItsRows M.world.store c
+    → (settled M k c).machine.world.store ≡ with_rows M.world.store (cond (is_taken k c.rows) c.rows [])
+settled-rows M k c a = elim (is_taken k c.rows) as (λ b.
+    (cond b (record { reply = c.reply; machine = c.machine }) (same_machine M (told.KeeperFault k.before k.after))).machine.world.store ≡ with_rows M.world.store (cond b c.rows [])) [
+      | true ↦ a.store
+      | false ↦ refl
+    ]
+
+-- after an event the keeper holds the rows of the store that the event leaves
+pub held-next : (M : Machine) (e : Event) → keep_all (all_kept M.world.store.rows) (all_kept (rows_given M e)) ≡ all_kept (after M e).world.store.rows
+held-next M e =
+    kept-with_rows M.world.store (rows_given M e)
+    ∙ ap (λ (S : Store). all_kept S.rows) (sym (settled-rows M e.keeping (change_of M e.now e.request) (change-rows M e.now e.request)))
+
+pub held-run : (M : Machine) (es : List Event) → held_after es M (all_kept M.world.store.rows) ≡ all_kept (run es M).world.store.rows
+held-run M [] = refl
+held-run M (e ∷ es) = ap (held_after es (after M e)) (held-next M e) ∙ held-run (after M e) es
+
+pub held-lines : (M : Machine) (lines : List Given) → held_after (events_of lines) M (all_kept M.world.store.rows) ≡ all_kept (after_lines lines M).world.store.rows
+held-lines M lines = held-run M (events_of lines) ∙ ap (λ (N : Machine). all_kept N.world.store.rows) (sym (lines-run lines M))

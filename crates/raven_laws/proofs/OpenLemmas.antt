@@ -1,0 +1,559 @@
+-- What kept rows open is a sound world.
+use Rattle.std.proofs.Common.{◌≡◌, ℕ, zero, suc, ◌+◌, ◌<◌, ◌≤◌, List, [], ◌∷◌, ◌++◌, Bool, true, false, cond, not, ◌&&◌, ◌||◌, ◌==◌, nat_lt, nat_le, is_none, length, take, drop, codes, Option, Some, None, option_map, Result, Ok, Err, refl, sym, ap, ◌∙◌, subst, arith, inl, inr, append_assoc, append-nil}
+use Rattle.std.proofs.lemmas.Bool.{ltb-true, leb-true, leb-false, eqb-true}
+use Rattle.std.proofs.lemmas.List.{length-append, take-append-drop}
+use Rattle.std.proofs.lemmas.Slice.Eq.{bytes_eq-Decides}
+use Rattle.std.specs.Cmp.Lexicographic.{nat_list_eq_equiv}
+use Rattle.std.specs.Option.{option_or}
+use Rattle.std.specs.Str.{bytes_eq}
+use Rattle.raven_data.specs.Data.{Data, null, flag, num, text, array, object, Items, no_items, item, no_entries, entry, pairs_of}
+use Rattle.raven_data.specs.Faults.{is_fit, max_id}
+use Rattle.raven_data.specs.Folding.{folded, same_key}
+use Rattle.raven_data.specs.Json.{JsonRefusal, reading}
+use Rattle.raven_data.specs.Kept.{KeptRow, all_kept, body_text, kept}
+use Rattle.raven_data.specs.Members.{member}
+use Rattle.raven_data.specs.Moments.{moments_end}
+use Rattle.raven_data.specs.Rising.{Pairs, IsRising}
+use Rattle.raven_data.specs.Rows.{Row, Body, doc, gone, key, is_document}
+use Rattle.raven_data.specs.Written.{text_of}
+use Rattle.raven_model.specs.Store.{row_at, last_of, AreRising, AreApart, IsStore}
+use Rattle.raven_model.specs.Mapping.{Definition, Auto}
+use Rattle.raven_model.specs.Commit.{Setting, is_index_id, stored}
+use Rattle.raven_model.specs.World.{Slot, fresh, index_id, row_body}
+use Rattle.raven_model.specs.Machine.{Machine}
+use Rattle.raven_model.specs.Kept.{max_body, max_etag, is_stored, document_of, document_in, body_in, is_etag, row_in, may_stand_behind, row_behind, or_bad_row, rows_behind, rows_in, opened_by, opened_from}
+use Rattle.raven_model.specs.Opening.{is_part, auto_read, definition_read, definition_in, is_defining, name_in, is_auto_name, is_filed, is_too_many, slot_of, with_slot, slots_with, slots_after, or_bad, and_then, slots_from, opened_with}
+use Rattle.raven_model.specs.Sound.{Has, Fits, NumbersRise, NamesApart, AreListed, Sound}
+use Rattle.raven_laws.proofs.StoreLemmas.{same_row, both_true, either_false, same_itself, same_means, found_key, row_at-append, last_of-append}
+use Rattle.raven_laws.proofs.SlotLemmas.{Has-append, Has-left, Has-right, find-Has, NumbersRise-push, Fits-fresh}
+use Rattle.raven_laws.proofs.MemberLemmas.{Rises, read_rises, they_are}
+
+-- ONE ROW
+
+same_document : (a b : Data) → Some a ≡ Some b → a ≡ b
+same_document a b h = cc
+
+same_body : (a b : Body) → Some a ≡ Some b → a ≡ b
+same_body a b h = cc
+
+-- the document is written as that text, and its members rise
+record IsOf (words : List ℕ) (d : Data) : Type 0 where
+  pub written : text_of d ≡ words
+  pub rises : Rises d
+
+document_of-IsOf : (words : List ℕ) (r : Result Data JsonRefusal) (d : Data) → reading words ≡ r → document_of words r ≡ Some d → IsOf words d
+document_of-IsOf words (Err refusal) d e h = absurd cc
+document_of-IsOf words (Ok v) d e h =
+    elim (is_stored v && bytes_eq (text_of v) words) as (λ b. is_stored v && bytes_eq (text_of v) words ≡ b → cond b (Some v) None ≡ Some d → IsOf words d) [
+      | true ↦ λ t g. subst (IsOf words) (same_document v d g) (record {
+        written = (bytes_eq-Decides (text_of v) words).0 (both_true (is_stored v) (bytes_eq (text_of v) words) t).1;
+        rises = read_rises words v e;
+      })
+      | false ↦ λ t g. absurd cc
+    ] refl h
+
+document_in-IsOf : (words : List ℕ) (d : Data) → document_in words ≡ Some d → IsOf words d
+document_in-IsOf words d h = elim (nat_le (length words) max_body) as (λ b. cond b (document_of words (reading words)) None ≡ Some d → IsOf words d) [
+  | true ↦ λ g. document_of-IsOf words (reading words) d refl g
+  | false ↦ λ g. absurd cc
+] h
+
+abbrev pub BodyRises : Body → Type 0
+BodyRises (doc d) = Rises d
+BodyRises gone = Unit {0}
+
+record IsBodyOf (words : Option (List ℕ)) (b : Body) : Type 0 where
+  pub written : body_text b ≡ words
+  pub rises : BodyRises b
+
+body_in-IsBodyOf : (words : Option (List ℕ)) (b : Body) → body_in words ≡ Some b → IsBodyOf words b
+body_in-IsBodyOf None b h = subst (IsBodyOf None) (same_body gone b h) (record { written = refl; rises = tt })
+body_in-IsBodyOf (Some words) b h = elim (document_in words) as (λ o. document_in words ≡ o → option_map doc o ≡ Some b → IsBodyOf (Some words) b) [
+  | None ↦ λ e g. absurd cc
+  | Some d ↦ λ e g.
+      let f = document_in-IsOf words d e in
+      subst (IsBodyOf (Some words)) (same_body (doc d) b g) (record { written = ap Some f.written; rises = f.rises })
+] refl h
+
+-- the row of a kept row
+pub record IsRowOf (k : KeptRow) (r : Row) : Type 0 where
+  pub kept : kept r ≡ k
+  pub rises : BodyRises r.body
+  pub etag : r.etag ≤ 9007199254740991
+
+abbrev row_with : KeptRow → Body → Row
+row_with k body = record { etag = k.etag; id = k.id; collection = k.collection; body = body; changed = k.changed }
+
+row_with-IsRowOf : (k : KeptRow) (b : Body) → is_etag k.etag ≡ true → body_in k.body ≡ Some b → IsRowOf k (row_with k b)
+row_with-IsRowOf k b e h =
+    let f = body_in-IsBodyOf k.body b h in
+    record {
+      kept = ap (λ (words : Option (List ℕ)). (let x : KeptRow = record { etag = k.etag; id = k.id; collection = k.collection; body = words; changed = k.changed } in x)) f.written;
+      rises = f.rises;
+      etag = leb-true k.etag 9007199254740991 (both_true (nat_lt 0 k.etag) (nat_le k.etag max_etag) e).1;
+    }
+
+pub row_in-IsRowOf : (k : KeptRow) (r : Row) → row_in k ≡ Some r → IsRowOf k r
+row_in-IsRowOf k r h = by (is_etag k.etag && is_fit max_id k.id && nat_lt 0 (length k.collection) && nat_lt k.changed moments_end) refl h
+  where
+    with : is_etag k.etag ≡ true → (o : Option Body) → body_in k.body ≡ o → option_map (row_with k) o ≡ Some r → IsRowOf k r
+    with t None e g = absurd cc
+    with t (Some b) e g = subst (IsRowOf k) (same_row (row_with k b) r g) (row_with-IsRowOf k b t e)
+
+    by : (b : Bool) → is_etag k.etag && is_fit max_id k.id && nat_lt 0 (length k.collection) && nat_lt k.changed moments_end ≡ b
+        → cond b (option_map (row_with k) (body_in k.body)) None ≡ Some r → IsRowOf k r
+    by true t g = with (both_true (is_etag k.etag) (is_fit max_id k.id) (both_true (is_etag k.etag && is_fit max_id k.id) (nat_lt 0 (length k.collection)) (both_true (is_etag k.etag && is_fit max_id k.id && nat_lt 0 (length k.collection)) (nat_lt k.changed moments_end) t).0).0).0 (body_in k.body) refl g
+    by false t g = absurd cc
+
+-- ROWS, ONE BEHIND ANOTHER
+
+pub AreRising-push : (low : ℕ) (rows : List Row) (r : Row) → AreRising low rows → last_of low rows < r.etag → AreRising low (rows ++ r ∷ [])
+AreRising-push low [] r up h = (h, tt)
+AreRising-push low (x ∷ rows) r up h = (up.0, AreRising-push x.etag rows r up.1 h)
+
+pub none_then : (q : List ℕ) (x : Row) (rows : List Row) → row_at q (x ∷ rows) ≡ None → (same_key q (key x) ≡ false) × (row_at q rows ≡ None)
+none_then q x rows h = elim (same_key q (key x)) as (λ b. cond b (Some x) (row_at q rows) ≡ None → (b ≡ false) × (row_at q rows ≡ None)) [
+  | true ↦ λ g. absurd cc
+  | false ↦ λ g. (refl, g)
+] h
+
+none_pushed : (q : List ℕ) (rows : List Row) (r : Row) → row_at q rows ≡ None → same_key q (key r) ≡ false → row_at q (rows ++ r ∷ []) ≡ None
+none_pushed q rows r none other =
+    row_at-append q rows (r ∷ []) ∙ ap (λ o. option_or o (row_at q (r ∷ []))) none ∙ ap (λ b. cond b (Some r) None) other
+
+pub AreApart-push : (rows : List Row) (r : Row) → AreApart rows → row_at (key r) rows ≡ None → AreApart (rows ++ r ∷ [])
+AreApart-push [] r apart none = (refl, tt)
+AreApart-push (x ∷ rows) r apart none =
+    let f = none_then (key r) x rows none in
+    (none_pushed (key x) rows r apart.0 (nat_list_eq_equiv.symm (key x) (key r) ∙ f.0), AreApart-push rows r apart.1 f.1)
+
+-- rows that may be a store, as far as they have come
+pub record Stand (max : ℕ) (rows : List Row) : Type 0 where
+  pub rising : AreRising 0 rows
+  pub apart : AreApart rows
+  pub count : length rows ≤ max
+  pub etags : last_of 0 rows ≤ 9007199254740991
+  pub rises : (r : Row) → Has rows r → BodyRises r.body
+
+is-none : (o : Option Row) → is_none o ≡ true → o ≡ None
+is-none None h = refl
+is-none (Some r) h = absurd cc
+
+last_of-push : (low : ℕ) (rows : List Row) (r : Row) → last_of low (rows ++ r ∷ []) ≡ r.etag
+last_of-push low rows r = last_of-append low rows (r ∷ [])
+
+Stand-push : (max : ℕ) (rows : List Row) (k : KeptRow) (r : Row) → Stand max rows → IsRowOf k r → may_stand_behind max rows r ≡ true → Stand max (rows ++ r ∷ [])
+Stand-push max rows k r s is may =
+    let a = both_true (nat_lt (last_of 0 rows) r.etag && is_none (row_at (key r) rows)) (nat_lt (length rows) max) may in
+    let b = both_true (nat_lt (last_of 0 rows) r.etag) (is_none (row_at (key r) rows)) a.0 in
+    record {
+      rising = AreRising-push 0 rows r s.rising (ltb-true (last_of 0 rows) r.etag b.0);
+      apart = AreApart-push rows r s.apart (is-none (row_at (key r) rows) b.1);
+      count = let l = length-append rows (r ∷ []) in let f = ltb-true (length rows) max a.1 in omega arith;
+      etags = let l = last_of-push 0 rows r in let f = is.etag in omega arith;
+      rises = λ x h. elim (Has-append rows (r ∷ []) x h) [
+        | inl old ↦ s.rises x old
+        | inr (inl e) ↦ subst (λ (y : Row). BodyRises y.body) e is.rises
+        | inr (inr no_more) ↦ absurd no_more
+      ];
+    }
+
+-- what was read so far, and what is still to be read
+pub record AreRowsOf (max : ℕ) (held : List KeptRow) (rows : List Row) : Type 0 where
+  pub kept : all_kept rows ≡ held
+  pub stand : Stand max rows
+
+all_kept-push : (rows : List Row) (r : Row) → all_kept (rows ++ r ∷ []) ≡ all_kept rows ++ kept r ∷ []
+all_kept-push [] r = refl
+all_kept-push (x ∷ rows) r = ap (λ ks. kept x ∷ ks) (all_kept-push rows r)
+
+pub may_behind : (max : ℕ) (earlier : List Row) (o : Option Row) (r : Row) → row_behind max earlier o ≡ Some r → (o ≡ Some r) × (may_stand_behind max earlier r ≡ true)
+may_behind max earlier None r h = absurd cc
+may_behind max earlier (Some x) r h = elim (may_stand_behind max earlier x) as (λ b. may_stand_behind max earlier x ≡ b → cond b (Some x) None ≡ Some r → (Some x ≡ Some r) × (may_stand_behind max earlier r ≡ true)) [
+  | true ↦ λ e g. (g, subst (λ y. may_stand_behind max earlier y ≡ true) (same_row x r g) e)
+  | false ↦ λ e g. absurd cc
+] refl h
+
+same_rows : (a b : List Row) → (let r : Result (List Row) ℕ = Ok a in r) ≡ Ok b → a ≡ b
+same_rows a b h = cc
+
+rows_behind-Stand : (max : ℕ) (earlier : List Row) (ks : List KeptRow) (rows : List Row) → Stand max earlier → rows_behind max earlier ks ≡ Ok rows
+    → (all_kept rows ≡ all_kept earlier ++ ks) × Stand max rows
+rows_behind-Stand max earlier [] rows s h =
+    let same = same_rows earlier rows h in (ap all_kept (sym same) ∙ sym (append-nil (all_kept earlier)), subst (Stand max) same s)
+rows_behind-Stand max earlier (k ∷ ks) rows s h =
+    elim (row_behind max earlier (row_in k)) as (λ o. row_behind max earlier (row_in k) ≡ o → or_bad_row k.etag o (λ r. rows_behind max (earlier ++ r ∷ []) ks) ≡ Ok rows
+    → (all_kept rows ≡ all_kept earlier ++ k ∷ ks) × Stand max rows) [
+      | None ↦ λ e g. absurd cc
+      | Some r ↦ λ e g.
+          let f = may_behind max earlier (row_in k) r e in
+          let is = row_in-IsRowOf k r f.0 in
+          let rest = rows_behind-Stand max (earlier ++ r ∷ []) ks rows (Stand-push max earlier k r s is f.1) g in (
+            rest.0 ∙ ap (λ xs. xs ++ ks) (all_kept-push earlier r) ∙ append_assoc (all_kept earlier) (kept r ∷ []) ks ∙ ap (λ x. all_kept earlier ++ x ∷ ks) is.kept,
+            rest.1,
+          )
+    ] refl h
+
+pub rows_in-AreRowsOf : (max : ℕ) (held : List KeptRow) (rows : List Row) → rows_in max held ≡ Ok rows → AreRowsOf max held rows
+rows_in-AreRowsOf max held rows h =
+    let f = rows_behind-Stand max [] held rows (record { rising = tt; apart = tt; count = omega arith; etags = omega arith; rises = λ r at. absurd at }) h in
+    record { kept = f.0; stand = f.1 }
+
+-- THE BODY OF A DEFINITION
+
+-- what the four members of the body of a definition are
+record IsAuto (metadata collection fields kind : Option Data) (d : Definition) : Type 0 where
+  pub name : List ℕ
+  pub field : List ℕ
+  pub metadata_is : metadata ≡ Some (object no_entries)
+  pub collection_is : collection ≡ Some (text name)
+  pub fields_are : fields ≡ Some (array (item (array (item (text field) no_items)) no_items))
+  pub kind_is : kind ≡ Some (text (codes "auto"))
+  pub definition_is : Auto name ((field ∷ []) ∷ []) ≡ d
+
+same_definition : (a b : Definition) → Some a ≡ Some b → a ≡ b
+same_definition a b h = cc
+
+abbrev one_path : List ℕ → Data
+one_path field = array (item (array (item (text field) no_items)) no_items)
+
+by_kind : (c f : List ℕ) (k : Option Data) (d : Definition) → auto_read (Some (object no_entries)) (Some (text c)) (Some (one_path f)) k ≡ Some d
+    → IsAuto (Some (object no_entries)) (Some (text c)) (Some (one_path f)) k d
+by_kind c f None d h = absurd cc
+by_kind c f (Some null) d h = absurd cc
+by_kind c f (Some (flag b)) d h = absurd cc
+by_kind c f (Some (num n)) d h = absurd cc
+by_kind c f (Some (array ds)) d h = absurd cc
+by_kind c f (Some (object ms)) d h = absurd cc
+by_kind c f (Some (text kind)) d h =
+    elim (bytes_eq kind (codes "auto") && is_part f) as (λ b. bytes_eq kind (codes "auto") && is_part f ≡ b → cond b (Some (Auto c ((f ∷ []) ∷ []))) None ≡ Some d
+    → IsAuto (Some (object no_entries)) (Some (text c)) (Some (one_path f)) (Some (text kind)) d) [
+      | true ↦ λ e g. record {
+        name = c;
+        field = f;
+        metadata_is = refl;
+        collection_is = refl;
+        fields_are = refl;
+        kind_is = ap (λ s. Some (text s)) ((bytes_eq-Decides kind (codes "auto")).0 (both_true (bytes_eq kind (codes "auto")) (is_part f) e).0);
+        definition_is = same_definition _ d g;
+      }
+      | false ↦ λ e g. absurd cc
+    ] refl h
+
+by_field : (c : List ℕ) (x : Data) (inner outer : Items) (k : Option Data) (d : Definition)
+    → auto_read (Some (object no_entries)) (Some (text c)) (Some (array (item (array (item x inner)) outer))) k ≡ Some d
+    → IsAuto (Some (object no_entries)) (Some (text c)) (Some (array (item (array (item x inner)) outer))) k d
+by_field c null inner outer k d h = absurd cc
+by_field c (flag b) inner outer k d h = absurd cc
+by_field c (num n) inner outer k d h = absurd cc
+by_field c (array ds) inner outer k d h = absurd cc
+by_field c (object ms) inner outer k d h = absurd cc
+by_field c (text f) (item y ys) outer k d h = absurd cc
+by_field c (text f) no_items (item y ys) k d h = absurd cc
+by_field c (text f) no_items no_items k d h = by_kind c f k d h
+
+by_fields : (c : List ℕ) (fs k : Option Data) (d : Definition) → auto_read (Some (object no_entries)) (Some (text c)) fs k ≡ Some d → IsAuto (Some (object no_entries)) (Some (text c)) fs k d
+by_fields c None k d h = absurd cc
+by_fields c (Some null) k d h = absurd cc
+by_fields c (Some (flag b)) k d h = absurd cc
+by_fields c (Some (num n)) k d h = absurd cc
+by_fields c (Some (text s)) k d h = absurd cc
+by_fields c (Some (object ms)) k d h = absurd cc
+by_fields c (Some (array no_items)) k d h = absurd cc
+by_fields c (Some (array (item null outer))) k d h = absurd cc
+by_fields c (Some (array (item (flag b) outer))) k d h = absurd cc
+by_fields c (Some (array (item (num n) outer))) k d h = absurd cc
+by_fields c (Some (array (item (text s) outer))) k d h = absurd cc
+by_fields c (Some (array (item (object ms) outer))) k d h = absurd cc
+by_fields c (Some (array (item (array no_items) outer))) k d h = absurd cc
+by_fields c (Some (array (item (array (item x inner)) outer))) k d h = by_field c x inner outer k d h
+
+by_collection : (c fs k : Option Data) (d : Definition) → auto_read (Some (object no_entries)) c fs k ≡ Some d → IsAuto (Some (object no_entries)) c fs k d
+by_collection None fs k d h = absurd cc
+by_collection (Some null) fs k d h = absurd cc
+by_collection (Some (flag b)) fs k d h = absurd cc
+by_collection (Some (num n)) fs k d h = absurd cc
+by_collection (Some (array ds)) fs k d h = absurd cc
+by_collection (Some (object ms)) fs k d h = absurd cc
+by_collection (Some (text c)) fs k d h = by_fields c fs k d h
+
+auto_read-IsAuto : (m c fs k : Option Data) (d : Definition) → auto_read m c fs k ≡ Some d → IsAuto m c fs k d
+auto_read-IsAuto None c fs k d h = absurd cc
+auto_read-IsAuto (Some null) c fs k d h = absurd cc
+auto_read-IsAuto (Some (flag b)) c fs k d h = absurd cc
+auto_read-IsAuto (Some (num n)) c fs k d h = absurd cc
+auto_read-IsAuto (Some (text s)) c fs k d h = absurd cc
+auto_read-IsAuto (Some (array ds)) c fs k d h = absurd cc
+auto_read-IsAuto (Some (object (entry n v ms))) c fs k d h = absurd cc
+auto_read-IsAuto (Some (object no_entries)) c fs k d h = by_collection c fs k d h
+
+-- the members of a definition's body, in order
+abbrev four : List ℕ → List ℕ → Pairs
+four c f = (codes "@metadata", object no_entries) ∷ (codes "Collection", text c) ∷ (codes "Fields", one_path f) ∷ (codes "Kind", text (codes "auto")) ∷ []
+
+four-rise : (c f : List ℕ) → IsRising (four c f)
+four-rise c f = ((refl, (refl, (refl, tt))), ((refl, (refl, tt)), ((refl, tt), (tt, tt))))
+
+-- the body of a definition is the one that the server writes for it
+pub definition_read-is : (v : Data) (d : Definition) → Rises v → definition_read v ≡ Some d → v ≡ stored (row_body d)
+definition_read-is null d up h = absurd cc
+definition_read-is (flag b) d up h = absurd cc
+definition_read-is (num n) d up h = absurd cc
+definition_read-is (text s) d up h = absurd cc
+definition_read-is (array ds) d up h = absurd cc
+definition_read-is (object ms) d up h =
+    elim (length (pairs_of ms) == 4) as (λ b. length (pairs_of ms) == 4 ≡ b
+    → cond b (auto_read (member (codes "@metadata") ms) (member (codes "Collection") ms) (member (codes "Fields") ms) (member (codes "Kind") ms)) None ≡ Some d
+    → object ms ≡ stored (row_body d)) [
+      | true ↦ λ e g.
+          let a = auto_read-IsAuto (member (codes "@metadata") ms) (member (codes "Collection") ms) (member (codes "Fields") ms) (member (codes "Kind") ms) d g in
+          let they = they_are (four a.name a.field) ms (four-rise a.name a.field) up (a.metadata_is, (a.collection_is, (a.fields_are, (a.kind_is, tt)))) (let n = eqb-true (length (pairs_of ms)) 4 e in omega arith) in
+          ap object they ∙ ap (λ x. stored (row_body x)) a.definition_is
+      | false ↦ λ e g. absurd cc
+    ] refl h
+
+definition_in-is : (b : Body) (d : Definition) → BodyRises b → elim b as (λ x. Option Definition) [ doc v ↦ definition_read v | gone ↦ None ] ≡ Some d → b ≡ doc (stored (row_body d))
+definition_in-is (doc v) d up h = ap doc (definition_read-is v d up h)
+definition_in-is gone d up h = absurd cc
+
+-- THE KEY OF A DEFINITION'S ROW
+
+pub folded-drop : (n : ℕ) (xs : List ℕ) → folded (drop n xs) ≡ drop n (folded xs)
+folded-drop zero xs = refl
+folded-drop (suc n) [] = refl
+folded-drop (suc n) (x ∷ xs) = folded-drop n xs
+
+-- the id of a row of an index is that of its name, without regard to case
+pub indexed : (id : List ℕ) → is_index_id id ≡ true → folded id ≡ folded (index_id (drop 7 id))
+indexed id h =
+    let front = (bytes_eq-Decides (codes "@index/") (take 7 (folded id))).0 h in
+    sym (take-append-drop 7 (folded id)) ∙ ap (λ xs. xs ++ drop 7 (folded id)) (sym front) ∙ ap (λ xs. codes "@index/" ++ xs) (sym (folded-drop 7 id))
+
+-- SLOTS, ONE BEHIND ANOTHER
+
+-- the slot is that of a row of a definition
+pub record IsMade (rows : List Row) (x : Slot) : Type 0 where
+  pub from : Row
+  pub there : Has rows from
+  pub defining : is_defining from ≡ true
+  pub indexed : is_index_id from.id ≡ true
+  pub definition : Definition
+  pub defined : definition_in from ≡ Some definition
+  pub made : slot_of from definition ≡ x
+
+-- the slots of the rows so far
+pub record AreMade (max : ℕ) (rows : List Row) (slots : List Slot) : Type 0 where
+  pub rising : NumbersRise 0 slots
+  pub under : (x : Slot) → Has slots x → x.number ≤ last_of 0 rows
+  pub each : (x : Slot) → Has slots x → IsMade rows x
+  pub only : (r : Row) → Has rows r → is_defining r ≡ true → (x : Slot) × Has slots x × (key r ≡ folded (index_id x.name))
+  pub count : length slots ≤ max
+
+IsMade-further : (rows : List Row) (r : Row) (x : Slot) → IsMade rows x → IsMade (rows ++ r ∷ []) x
+IsMade-further rows r x m = record {
+  from = m.from;
+  there = Has-left rows (r ∷ []) m.from m.there;
+  defining = m.defining;
+  indexed = m.indexed;
+  definition = m.definition;
+  defined = m.defined;
+  made = m.made;
+}
+
+-- a row that is no definition's leaves the slots
+plain-AreMade : (max : ℕ) (rows : List Row) (slots : List Slot) (r : Row) → AreMade max rows slots → last_of 0 rows < r.etag → is_defining r ≡ false → AreMade max (rows ++ r ∷ []) slots
+plain-AreMade max rows slots r a up plain = record {
+  rising = a.rising;
+  under = λ x h. let u = a.under x h in let l = last_of-push 0 rows r in omega arith;
+  each = λ x h. IsMade-further rows r x (a.each x h);
+  only = λ y h is. elim (Has-append rows (r ∷ []) y h) [
+    | inl old ↦ a.only y old is
+    | inr (inl e) ↦ absurd (let f = ap is_defining e in cc)
+    | inr (inr no_more) ↦ absurd no_more
+  ];
+  count = a.count;
+}
+
+-- a row of a definition brings its slot
+defining-AreMade : (max : ℕ) (rows : List Row) (slots : List Slot) (r : Row) (d : Definition) → AreMade max rows slots → last_of 0 rows < r.etag → length slots < max
+    → is_defining r ≡ true → is_index_id r.id ≡ true → definition_in r ≡ Some d → AreMade max (rows ++ r ∷ []) (slots ++ slot_of r d ∷ [])
+defining-AreMade max rows slots r d a up room is filed means = record {
+  rising = NumbersRise-push 0 slots (slot_of r d) a.rising (omega arith) (λ x h. let u = a.under x h in omega arith);
+  under = λ x h. let l = last_of-push 0 rows r in elim (Has-append slots (slot_of r d ∷ []) x h) [
+    | inl old ↦ let u = a.under x old in omega arith
+    | inr (inl e) ↦ let f : r.etag ≡ x.number = ap (λ (y : Slot). y.number) e in omega arith
+    | inr (inr no_more) ↦ absurd no_more
+  ];
+  each = λ x h. elim (Has-append slots (slot_of r d ∷ []) x h) [
+    | inl old ↦ IsMade-further rows r x (a.each x old)
+    | inr (inl e) ↦ record { from = r; there = Has-right rows (r ∷ []) r (inl refl); defining = is; indexed = filed; definition = d; defined = means; made = e }
+    | inr (inr no_more) ↦ absurd no_more
+  ];
+  only = λ y h at. elim (Has-append rows (r ∷ []) y h) [
+    | inl old ↦ let x = a.only y old at in (x.0, Has-left slots (slot_of r d ∷ []) x.0 x.1, x.2)
+    | inr (inl e) ↦ (slot_of r d, Has-right slots (slot_of r d ∷ []) (slot_of r d) (inl refl), ap key (sym e) ∙ indexed r.id filed)
+    | inr (inr no_more) ↦ absurd no_more
+  ];
+  count = let l = length-append slots (slot_of r d ∷ []) in omega arith;
+}
+
+same_slots : (a b : List Slot) → Some a ≡ Some b → a ≡ b
+same_slots a b h = cc
+
+-- what a row that is taken has met
+pub record IsTaken (s : Setting) (slots : List Slot) (r : Row) (more : List Slot) : Type 0 where
+  pub room : is_defining r && nat_le s.max_slots (length slots) ≡ false
+  pub filed : is_filed r ≡ true
+  pub rest : slots_with slots r ≡ Some more
+
+pub not_false : (b : Bool) → not b ≡ false → b ≡ true
+not_false true h = refl
+not_false false h = absurd cc
+
+pub taken-of : (s : Setting) (n : ℕ) (slots : List Slot) (r : Row) (more : List Slot) → slots_after s n slots r ≡ Some more → IsTaken s slots r more
+taken-of s n slots r more h = elim (is_too_many s n slots r || not (is_filed r)) as (λ b. is_too_many s n slots r || not (is_filed r) ≡ b → cond b None (slots_with slots r) ≡ Some more → IsTaken s slots r more) [
+  | true ↦ λ e g. absurd cc
+  | false ↦ λ e g.
+      let f = either_false (is_too_many s n slots r) (not (is_filed r)) e in
+      record {
+        room = (either_false (nat_le s.max_rows n) (is_defining r && nat_le s.max_slots (length slots)) f.0).1;
+        filed = not_false (is_filed r) f.1;
+        rest = g;
+      }
+] refl h
+
+filed-indexed : (r : Row) → is_filed r ≡ true → is_defining r ≡ true → is_index_id r.id ≡ true
+filed-indexed r filed is =
+    sym (ap (λ b. cond b (is_index_id r.id) (not (is_index_id r.id))) (both_true (is_document r) (bytes_eq r.collection (codes "@indexes")) is).1) ∙ filed
+
+pub with_slot-is : (slots : List Slot) (r : Row) (o : Option Definition) (more : List Slot) → with_slot slots r o ≡ Some more → (d : Definition) × (o ≡ Some d) × (slots ++ slot_of r d ∷ [] ≡ more)
+with_slot-is slots r None more h = absurd cc
+with_slot-is slots r (Some d) more h = elim (is_auto_name (name_in r)) as (λ b. cond b (Some (slots ++ slot_of r d ∷ [])) None ≡ Some more → (c : Definition) × (Some d ≡ Some c) × (slots ++ slot_of r c ∷ [] ≡ more)) [
+  | true ↦ λ g. (d, refl, same_slots _ more g)
+  | false ↦ λ g. absurd cc
+] h
+
+slots_after-AreMade : (s : Setting) (n : ℕ) (rows : List Row) (slots : List Slot) (r : Row) (more : List Slot) → AreMade s.max_slots rows slots → last_of 0 rows < r.etag
+    → slots_after s n slots r ≡ Some more → AreMade s.max_slots (rows ++ r ∷ []) more
+slots_after-AreMade s n rows slots r more a up h =
+    let t = taken-of s n slots r more h in
+    elim (is_defining r) as (λ b. is_defining r ≡ b → cond b (with_slot slots r (definition_in r)) (Some slots) ≡ Some more → AreMade s.max_slots (rows ++ r ∷ []) more) [
+      | true ↦ λ e g.
+          let w = with_slot-is slots r (definition_in r) more g in
+          let free = sym (ap (λ b. b && nat_le s.max_slots (length slots)) e) ∙ t.room in
+          subst (AreMade s.max_slots (rows ++ r ∷ [])) w.2
+          (defining-AreMade s.max_slots rows slots r w.0 a up (leb-false s.max_slots (length slots) free) e (filed-indexed r t.filed e) w.1)
+      | false ↦ λ e g. subst (AreMade s.max_slots (rows ++ r ∷ [])) (same_slots slots more g) (plain-AreMade s.max_slots rows slots r a up e)
+    ] refl t.rest
+
+same_opened : (a b : List Slot) → (let r : Result (List Slot) ℕ = Ok a in r) ≡ Ok b → a ≡ b
+same_opened a b h = cc
+
+slots_from-AreMade : (s : Setting) (n : ℕ) (earlier : List Row) (slots : List Slot) (rows : List Row) (all : List Slot) → AreMade s.max_slots earlier slots → AreRising (last_of 0 earlier) rows
+    → slots_from s n slots rows ≡ Ok all → AreMade s.max_slots (earlier ++ rows) all
+slots_from-AreMade s n earlier slots [] all a up h =
+    subst (λ xs. AreMade s.max_slots xs all) (sym (append-nil earlier)) (subst (AreMade s.max_slots earlier) (same_opened slots all h) a)
+slots_from-AreMade s n earlier slots (r ∷ rows) all a up h =
+    elim (slots_after s n slots r) as (λ o. slots_after s n slots r ≡ o → and_then (or_bad r.etag o) (λ more. slots_from s (n + 1) more rows) ≡ Ok all → AreMade s.max_slots (earlier ++ r ∷ rows) all) [
+      | None ↦ λ e g. absurd cc
+      | Some more ↦ λ e g.
+          subst (λ xs. AreMade s.max_slots xs all) (append_assoc earlier (r ∷ []) rows)
+          (slots_from-AreMade s (n + 1) (earlier ++ r ∷ []) more rows all (slots_after-AreMade s n earlier slots r more a up.0 e)
+          (subst (λ low. AreRising low rows) (sym (last_of-push 0 earlier r)) up.1) g)
+    ] refl h
+
+-- THE WORLD
+
+-- a row of a store is found under its key
+pub Has-found : (rows : List Row) (r : Row) → AreApart rows → Has rows r → row_at (key r) rows ≡ Some r
+Has-found [] r apart h = absurd h
+Has-found (x ∷ rows) r apart (inl e) =
+    ap (λ b. cond b (Some x) (row_at (key r) rows)) (ap (λ (y : Row). same_key (key r) (key y)) e ∙ same_itself (key r)) ∙ ap Some e
+Has-found (x ∷ rows) r apart (inr h) =
+    elim (same_key (key r) (key x)) as (λ b. same_key (key r) (key x) ≡ b → cond b (Some x) (row_at (key r) rows) ≡ Some r) [
+      | true ↦ λ e. absurd (let none = apart.0 in let there = Has-found rows r apart.1 h in let same = subst (λ k. row_at k rows ≡ Some r) (same_means (key r) (key x) e) there in cc)
+      | false ↦ λ e. Has-found rows r apart.1 h
+    ] refl
+
+opened-apart : (max : ℕ) (rows : List Row) (slots : List Slot) → AreApart rows → AreMade max rows slots → NamesApart slots
+opened-apart max rows slots apart a s t h g e =
+    let x = a.each s h in
+    let y = a.each t g in
+    let named : folded (index_id (drop 7 x.from.id)) ≡ folded (index_id (drop 7 y.from.id)) =
+    ap (λ n. folded (codes "@index/") ++ n) (ap (λ (z : Slot). folded z.name) x.made ∙ e ∙ ap (λ (z : Slot). folded z.name) (sym y.made)) in
+    let keyed : key x.from ≡ key y.from = indexed x.from.id x.indexed ∙ named ∙ sym (indexed y.from.id y.indexed) in
+    let same : x.from ≡ y.from = same_row x.from y.from (sym (Has-found rows x.from apart x.there) ∙ ap (λ k. row_at k rows) keyed ∙ Has-found rows y.from apart y.there) in
+    let defined : x.definition ≡ y.definition = same_definition x.definition y.definition (sym x.defined ∙ ap definition_in same ∙ y.defined) in
+    sym x.made ∙ (λ i. slot_of (same i) (defined i)) ∙ y.made
+
+opened-listed : (max : ℕ) (rows : List Row) (slots : List Slot) → Stand max rows → (most : ℕ) → AreMade most rows slots → AreListed (record { rows = rows }) slots
+opened-listed max rows slots s most a = record {
+  each = λ x h.
+      let m = a.each x h in
+      let shut = both_true (is_document m.from) (bytes_eq m.from.collection (codes "@indexes")) m.defining in
+      record {
+        row = m.from;
+        found = ap (λ (z : Slot). row_at (folded (index_id z.name)) rows) (sym m.made) ∙ ap (λ k. row_at k rows) (sym (indexed m.from.id m.indexed)) ∙ Has-found rows m.from s.apart m.there;
+        etag = ap (λ (z : Slot). z.row) m.made;
+        collection = (bytes_eq-Decides m.from.collection (codes "@indexes")).0 shut.1;
+        body = definition_in-is m.from.body m.definition (s.rises m.from m.there) m.defined ∙ ap (λ (z : Slot). doc (stored (row_body z.version.definition))) m.made;
+      };
+  only = λ q r h is c.
+      let at = find-Has (λ x. same_key q (key x)) rows r h in
+      let named = (bytes_eq-Decides r.collection (codes "@indexes")).1 c in
+      let defining : is_defining r ≡ true = ap (λ b. b && bytes_eq r.collection (codes "@indexes")) is ∙ named in
+      let x = a.only r at.0 defining in
+      (x.0, x.1, found_key q rows r h ∙ x.2);
+}
+
+-- the machine that rows open
+pub record IsOpened (s : Setting) (held : List KeptRow) (M : Machine) : Type 0 where
+  pub sound : Sound M.world
+  pub kept : all_kept M.world.store.rows ≡ held
+  pub setting : M.world.setting ≡ s
+  pub notes : M.world.notes ≡ []
+  pub slots : (x : Slot) → Has M.world.slots x → x.version ≡ fresh x.version.definition
+
+abbrev machine_of : Setting → List Row → List Slot → Machine
+machine_of s rows slots = record { world = record { setting = s; store = record { rows = rows }; slots = slots; notes = [] } }
+
+world-Sound : (s : Setting) (rows : List Row) (slots : List Slot) → Stand s.max_rows rows → AreMade s.max_slots rows slots → Sound (machine_of s rows slots).world
+world-Sound s rows slots f a =
+    let o : IsStore (record { rows = rows }) = record { rising = f.rising; apart = f.apart } in
+    record {
+      store = o;
+      fits = λ x h. let m = a.each x h in subst (λ (z : Slot). Fits (record { rows = rows }) z.version) m.made (Fits-fresh (record { rows = rows }) m.definition o);
+      numbers = a.under;
+      rising = a.rising;
+      apart = opened-apart s.max_slots rows slots f.apart a;
+      listed = opened-listed s.max_rows rows slots f s.max_slots a;
+      notes = λ n h. absurd h;
+      limits = record { rows = f.count; slots = a.count; notes = omega arith; etags = f.etags };
+    }
+
+none-AreMade : (max : ℕ) → AreMade max [] []
+none-AreMade max = record { rising = tt; under = λ x h. absurd h; each = λ x h. absurd h; only = λ r h. absurd h; count = omega arith }
+
+same_machine_of : (a b : Machine) → (let r : Result Machine ℕ = Ok a in r) ≡ Ok b → a ≡ b
+same_machine_of a b h = cc
+
+opened-is : (s : Setting) (held : List KeptRow) (M : Machine) (r : Result (List Row) ℕ) → rows_in s.max_rows held ≡ r → opened_by s r ≡ Ok M → IsOpened s held M
+opened-is s held M (Err etag) e h = absurd cc
+opened-is s held M (Ok rows) e h =
+    let f = rows_in-AreRowsOf s.max_rows held rows e in
+    elim (slots_from s 0 [] rows) as (λ o. slots_from s 0 [] rows ≡ o → opened_with s rows o ≡ Ok M → IsOpened s held M) [
+      | Err etag ↦ λ k g. absurd cc
+      | Ok slots ↦ λ k g.
+          let stand = f.stand in
+          let a = slots_from-AreMade s 0 [] [] rows slots (none-AreMade s.max_slots) stand.rising k in
+          subst (IsOpened s held) (same_machine_of (machine_of s rows slots) M g) (record {
+            sound = world-Sound s rows slots f.stand a;
+            kept = f.kept;
+            setting = refl;
+            notes = refl;
+            slots = λ x h. let m = a.each x h in ap (λ (z : Slot). z.version) (sym m.made) ∙ ap (λ (z : Slot). fresh z.version.definition) m.made;
+          })
+    ] refl h
+
+pub opened_from-is : (s : Setting) (held : List KeptRow) (M : Machine) → opened_from s held ≡ Ok M → IsOpened s held M
+opened_from-is s held M h = opened-is s held M (rows_in s.max_rows held) refl h

@@ -1,0 +1,8 @@
+use Rattle.raven_laws.proofs.KeepLemmas.{held-run, held-lines}
+use Rattle.raven_laws.proofs.keeping.keepers_keep_on.Goals as goal
+
+pub returns-clause-requests : goal.returns-clause-requests
+returns-clause-requests c = held-run
+
+pub returns-clause-lines : goal.returns-clause-lines
+returns-clause-lines c = held-lines

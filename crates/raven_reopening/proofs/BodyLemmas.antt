@@ -1,0 +1,211 @@
+-- What is kept of a body is read back.
+use Rattle.std.proofs.Common.{◌≡◌, ℕ, ◌≤◌, List, [], ◌∷◌, Bool, true, false, not, ◌||◌, cond, filter, length, codes, Option, Some, None, IsUtf8, Less, Equal, Greater, refl, sym, ap, ◌∙◌, subst, arith}
+use Rattle.std.proofs.lemmas.Slice.Eq.{bytes_eq-Decides}
+use Rattle.std.specs.List.{list_any}
+use Rattle.std.specs.Ordering.{match_ordering}
+use Rattle.std.specs.Str.{bytes_eq}
+use Rattle.json.proofs.Printed.Utf8.{IsUtf8-are_ascii}
+use Rattle.raven_data.specs.Data.{Data, null, flag, num, text, array, object, Entries, no_entries, entry, depth, entries_depth, entries_of, pairs_of}
+use Rattle.raven_data.specs.Folding.{key_cmp}
+use Rattle.raven_data.specs.Members.{member}
+use Rattle.raven_data.specs.Rising.{Pairs, IsBelowAll, IsRising, put}
+use Rattle.raven_data.specs.Sound.{IsSound, HasSound}
+use Rattle.raven_data.specs.Written.{text_of}
+use Rattle.raven_model.specs.Commit.{clean_metadata, is_own, stored}
+use Rattle.raven_model.specs.Kept.{is_clean, max_body}
+use Rattle.raven_model.specs.Mapping.{Auto}
+use Rattle.raven_model.specs.World.{row_body}
+use Rattle.raven_laws.proofs.KeyedLemmas.{differ_greater}
+use Rattle.raven_laws.proofs.MemberLemmas.{IsRising-put, pairs-entries}
+use Rattle.raven_reopening.specs.Form.{IsBody, IsDocument}
+use Rattle.raven_reopening.proofs.ReadLemmas.{IsReadBack, document-back}
+
+entries-pairs : (ms : Entries) → entries_of (pairs_of ms) ≡ ms
+entries-pairs no_entries = refl
+entries-pairs (entry k d ms) = ap (entry k d) (entries-pairs ms)
+
+-- SOUND MEMBERS
+
+-- each name and each value is sound
+abbrev ArePairsSound : Pairs → Type 0
+ArePairsSound [] = Unit {0}
+ArePairsSound (m ∷ ms) = IsUtf8 m.0 × (IsSound m.1 × ArePairsSound ms)
+
+pairs-sound : (ms : Entries) → HasSound ms → ArePairsSound (pairs_of ms)
+pairs-sound no_entries h = tt
+pairs-sound (entry k d ms) h = (h.0, (h.1.0, pairs-sound ms h.1.1))
+
+entries-sound : (ps : Pairs) → ArePairsSound ps → HasSound (entries_of ps)
+entries-sound [] h = tt
+entries-sound (p ∷ ps) h = (h.0, (h.1.0, entries-sound ps h.1.1))
+
+put-sound : (k : List ℕ) (d : Data) (ps : Pairs) → IsUtf8 k → IsSound d → ArePairsSound ps → ArePairsSound (put k d ps)
+put-sound k d [] u s h = (u, (s, tt))
+put-sound k d (p ∷ ps) u s h = elim (key_cmp k p.0) as (λ o. ArePairsSound (match_ordering o ((k, d) ∷ p ∷ ps) ((k, d) ∷ ps) (p ∷ put k d ps))) [
+  | Less ↦ (u, (s, h))
+  | Equal ↦ (u, (s, h.1.1))
+  | Greater ↦ (h.0, (h.1.0, put-sound k d ps u s h.1.1))
+]
+
+filter-sound : (p : List ℕ × Data → Bool) (ps : Pairs) → ArePairsSound ps → ArePairsSound (filter p ps)
+filter-sound p [] h = tt
+filter-sound p (m ∷ ps) h = elim (p m) as (λ b. ArePairsSound (cond b (m ∷ filter p ps) (filter p ps))) [
+  | true ↦ (h.0, (h.1.0, filter-sound p ps h.1.1))
+  | false ↦ filter-sound p ps h.1.1
+]
+
+below-filter : (k : List ℕ) (p : List ℕ × Data → Bool) (ps : Pairs) → IsBelowAll k ps → IsBelowAll k (filter p ps)
+below-filter k p [] h = tt
+below-filter k p (m ∷ ps) h = elim (p m) as (λ b. IsBelowAll k (cond b (m ∷ filter p ps) (filter p ps))) [ true ↦ (h.0, below-filter k p ps h.1) | false ↦ below-filter k p ps h.1 ]
+
+rising-filter : (p : List ℕ × Data → Bool) (ps : Pairs) → IsRising ps → IsRising (filter p ps)
+rising-filter p [] h = tt
+rising-filter p (m ∷ ps) h = elim (p m) as (λ b. IsRising (cond b (m ∷ filter p ps) (filter p ps))) [ true ↦ (below-filter m.0 p ps h.0, rising-filter p ps h.1) | false ↦ rising-filter p ps h.1 ]
+
+same_value : (a b : Data) → Some a ≡ Some b → a ≡ b
+same_value a b h = cc
+
+member-sound : (k : List ℕ) (ms : Entries) (d : Data) → HasSound ms → member k ms ≡ Some d → IsSound d
+member-sound k no_entries d h is = absurd cc
+member-sound k (entry l e ms) d h is = elim (bytes_eq k l) as (λ b. cond b (Some e) (member k ms) ≡ Some d → IsSound d) [
+  | true ↦ λ g. subst IsSound (same_value e d g) h.1.0
+  | false ↦ λ g. member-sound k ms d h.1.1 g
+] is
+
+object-sound : (ps : Pairs) → IsRising ps → ArePairsSound ps → IsSound (object (entries_of ps))
+object-sound ps up h = (subst (λ (x : Pairs). IsRising x) (sym (pairs-entries ps)) up, entries-sound ps h)
+
+-- HOW DEEP MEMBERS ARE
+
+put-depth : (k : List ℕ) (d : Data) (ps : Pairs) (n : ℕ) → depth d ≤ n → entries_depth (entries_of ps) ≤ n → entries_depth (entries_of (put k d ps)) ≤ n
+put-depth k d [] n le h = omega arith
+put-depth k d (p ∷ ps) n le h =
+    let more = put-depth k d ps n le (omega arith) in
+    elim (key_cmp k p.0) as (λ o. entries_depth (entries_of (match_ordering o ((k, d) ∷ p ∷ ps) ((k, d) ∷ ps) (p ∷ put k d ps))) ≤ n) [
+      | Less ↦ omega arith
+      | Equal ↦ omega arith
+      | Greater ↦ omega arith
+    ]
+
+filter-depth : (p : List ℕ × Data → Bool) (ps : Pairs) → entries_depth (entries_of (filter p ps)) ≤ entries_depth (entries_of ps)
+filter-depth p [] = omega arith
+filter-depth p (m ∷ ps) = let more = filter-depth p ps in elim (p m) as (λ b. entries_depth (entries_of (cond b (m ∷ filter p ps) (filter p ps))) ≤ entries_depth (entries_of (m ∷ ps))) [
+  | true ↦ omega arith
+  | false ↦ omega arith
+]
+
+member-depth : (k : List ℕ) (ms : Entries) (d : Data) → member k ms ≡ Some d → depth d ≤ entries_depth ms
+member-depth k no_entries d is = absurd cc
+member-depth k (entry l e ms) d is = elim (bytes_eq k l) as (λ b. cond b (Some e) (member k ms) ≡ Some d → depth d ≤ entries_depth (entry l e ms)) [
+  | true ↦ λ g. let same = ap depth (same_value e d g) in omega arith
+  | false ↦ λ g. let more = member-depth k ms d g in omega arith
+] is
+
+-- CLEAN METADATA
+
+abbrev is_others : List ℕ × Data → Bool
+is_others m = not (is_own m.0)
+
+clean-sound : (o : Option Data) → ((d : Data) → o ≡ Some d → IsSound d) → IsSound (clean_metadata o)
+clean-sound None h = (tt, tt)
+clean-sound (Some null) h = (tt, tt)
+clean-sound (Some (flag b)) h = (tt, tt)
+clean-sound (Some (num n)) h = (tt, tt)
+clean-sound (Some (text s)) h = (tt, tt)
+clean-sound (Some (array ds)) h = (tt, tt)
+clean-sound (Some (object ms)) h =
+    let s = h (object ms) refl in
+    object-sound (filter is_others (pairs_of ms)) (rising-filter is_others (pairs_of ms) s.0) (filter-sound is_others (pairs_of ms) (pairs-sound ms s.1))
+
+clean-depth : (o : Option Data) (n : ℕ) → 1 ≤ n → ((d : Data) → o ≡ Some d → depth d ≤ n) → depth (clean_metadata o) ≤ n
+clean-depth None n some h = some
+clean-depth (Some null) n some h = some
+clean-depth (Some (flag b)) n some h = some
+clean-depth (Some (num z)) n some h = some
+clean-depth (Some (text s)) n some h = some
+clean-depth (Some (array ds)) n some h = some
+clean-depth (Some (object ms)) n some h =
+    let whole = h (object ms) refl in
+    let same = ap entries_depth (entries-pairs ms) in
+    let less = filter-depth is_others (pairs_of ms) in omega arith
+
+none_own : (ps : Pairs) → list_any (λ m. is_own m.0) (filter is_others ps) ≡ false
+none_own [] = refl
+none_own (m ∷ ps) = elim (is_own m.0) as (λ b. is_own m.0 ≡ b → list_any (λ x. is_own x.0) (cond (not b) (m ∷ filter is_others ps) (filter is_others ps)) ≡ false) [
+  | true ↦ λ e. none_own ps
+  | false ↦ λ e. ap (λ b. b || list_any (λ x. is_own x.0) (filter is_others ps)) e ∙ none_own ps
+] refl
+
+clean-clean : (o : Option Data) → is_clean (Some (clean_metadata o)) ≡ true
+clean-clean None = refl
+clean-clean (Some null) = refl
+clean-clean (Some (flag b)) = refl
+clean-clean (Some (num n)) = refl
+clean-clean (Some (text s)) = refl
+clean-clean (Some (array ds)) = refl
+clean-clean (Some (object ms)) =
+    ap (λ ps. not (list_any (λ m. is_own m.0) ps)) (pairs-entries (filter is_others (pairs_of ms))) ∙ ap not (none_own (pairs_of ms))
+
+-- what was put is found
+member-put : (k : List ℕ) (d : Data) (ps : Pairs) → member k (entries_of (put k d ps)) ≡ Some d
+member-put k d [] = ap (λ b. cond b (Some d) None) ((bytes_eq-Decides k k).1 refl)
+member-put k d (p ∷ ps) = elim (key_cmp k p.0) as (λ o. key_cmp k p.0 ≡ o → member k (entries_of (match_ordering o ((k, d) ∷ p ∷ ps) ((k, d) ∷ ps) (p ∷ put k d ps))) ≡ Some d) [
+  | Less ↦ λ e. ap (λ b. cond b (Some d) (member k (entries_of (p ∷ ps)))) ((bytes_eq-Decides k k).1 refl)
+  | Equal ↦ λ e. ap (λ b. cond b (Some d) (member k (entries_of ps))) ((bytes_eq-Decides k k).1 refl)
+  | Greater ↦ λ e. ap (λ b. cond b (Some p.1) (member k (entries_of (put k d ps)))) (differ_greater k p.0 e) ∙ member-put k d ps
+] refl
+
+-- STORED BODIES
+
+stored-document : (ms : Entries) → IsSound (object ms) → depth (object ms) ≤ 100 → length (text_of (stored (object ms))) ≤ max_body → IsDocument (stored (object ms))
+stored-document ms s few small =
+    let name = codes "@metadata" in
+    let clean = clean_metadata (member name ms) in
+    let clean_is = clean-sound (member name ms) (λ d is. member-sound name ms d s.1 is) in
+    let shallow : depth clean ≤ 99 = clean-depth (member name ms) 99 (omega arith) (λ d is. let a = member-depth name ms d is in omega arith) in
+    let same = ap entries_depth (entries-pairs ms) in
+    let inner = put-depth name clean (pairs_of ms) 99 shallow (omega arith) in
+    record {
+      sound = object-sound (put name clean (pairs_of ms)) (IsRising-put name clean (pairs_of ms) s.0) (put-sound name clean (pairs_of ms) (IsUtf8-are_ascii name refl) clean_is (pairs-sound ms s.1));
+      shallow = omega arith;
+      clean = ap is_clean (member-put name clean (pairs_of ms)) ∙ clean-clean (member name ms);
+      small = small;
+    }
+
+-- what is kept of a body is read back
+pub stored-back : (d : Data) → IsBody d → length (text_of (stored d)) ≤ max_body → IsReadBack (stored d)
+stored-back d b small =
+    let same = b.an_object in
+    subst (λ x. IsReadBack (stored x)) (sym same)
+    (document-back (stored (object b.members))
+    (stored-document b.members (subst IsSound same b.sound) (subst (λ x. depth x ≤ 100) same b.shallow) (subst (λ x. length (text_of (stored x)) ≤ max_body) same small)))
+
+-- the body of a definition is one
+pub definition-body : (c f : List ℕ) → IsUtf8 c → IsUtf8 f → IsBody (row_body (Auto c ((f ∷ []) ∷ [])))
+definition-body c f u v = record {
+  sound = (
+    ((refl, (refl, (refl, tt))), ((refl, (refl, tt)), ((refl, tt), (tt, tt)))),
+    (
+      IsUtf8-are_ascii _ refl,
+      (
+        ((tt, tt), (IsUtf8-are_ascii _ refl, (IsUtf8-are_ascii _ refl, tt))),
+        (
+          IsUtf8-are_ascii _ refl,
+          (
+            u,
+            (
+              IsUtf8-are_ascii _ refl,
+              (
+                ((v, tt), tt),
+                (IsUtf8-are_ascii _ refl, (IsUtf8-are_ascii _ refl, tt)),
+              ),
+            ),
+          ),
+        ),
+      ),
+    ),
+  );
+  shallow = omega arith;
+  members = _;
+  an_object = refl;
+}
