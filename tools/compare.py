@@ -3,16 +3,20 @@
 
     tools/compare.py [--program PATH | --try] [--rounds N] [--lines N] [--seed N] [--random]
 
-Before the random rounds it tries the statuses, and scripts that stand at each limit; not so with --random. A script on which
-the two differ is kept in a file, whose name is printed beside the first line that differs; the status is then 1. At the end it
-says how often the random scripts reached each kind of reply.
+Before the random rounds it tries the statuses, the options, and scripts that stand at each limit; not so with --random. A
+script on which the two differ is kept in a file, whose name is printed beside the first line that differs; the status is then
+1. At the end it says how often the random scripts reached each kind of reply.
 
-With --try no built program is needed: `rt try` builds it once, proves nothing, and runs all scripts. The statuses are then
-left out.
+The moments that documents show are the program's own: each has to be that of 1970 or one of the run, and is then taken as
+that of 1970, which the model writes.
+
+With --try no built program is needed: `rt try` builds it once, proves nothing, and runs all scripts. The statuses and the
+options are then left out. Without it, and without a built program, it says `skipped` and ends with 0.
 """
 
 import argparse
 import collections
+import datetime
 import os
 import pathlib
 import subprocess
@@ -25,14 +29,30 @@ sys.path.insert(0, str(TOP / "tools"))
 import model
 import scripts
 
-NAMES = {2: "Usage", 3: "ReadFault", 4: "WriteFault", 9: "InputTooLarge"}
+NAMES = {0: "Done", 2: "Usage", 3: "ReadFault", 4: "WriteFault", 5: "KeptFault", 9: "InputTooLarge"}
 # `rt try` gives no answer past this.
 MAX_TRIED = 1_048_576
 
 
+def moment_now(seconds):
+    """The moment so many seconds from now, as a document shows it."""
+    now = datetime.datetime.now(datetime.timezone.utc) + datetime.timedelta(seconds=seconds)
+    return now.strftime("%Y-%m-%dT%H:%M:%S.%f0Z")
+
+
+def wrong_moment(written, began, ended):
+    """A moment that is neither that of 1970 nor one of the run, if there is one. As texts they stand in their order."""
+    for moment in model.MOMENTS.findall(written):
+        if moment.decode() != model.MOMENT and not began <= moment.decode() <= ended:
+            return moment
+    return None
+
+
 def written_by(program, script):
+    """The status, the output without its moments, and a moment that is wrong."""
+    began = moment_now(-2)
     ended = subprocess.run([program, "run"], input=script, stdout=subprocess.PIPE, stderr=subprocess.PIPE, timeout=600)
-    return ended.returncode, ended.stdout
+    return ended.returncode, model.at_no_moment(ended.stdout), wrong_moment(ended.stdout, began, moment_now(2))
 
 
 def expected_of(script):
@@ -48,8 +68,9 @@ def first_difference(expected, found):
 
 
 def differs(program, script, name):
-    expected, found = expected_of(script), written_by(program, script)
-    if expected == found:
+    expected = expected_of(script)
+    *found, wrong = written_by(program, script)
+    if [*expected] == found and not wrong:
         return False
     kept = tempfile.NamedTemporaryFile(prefix="differs-", suffix=".raven", delete=False)
     with kept:
@@ -57,7 +78,10 @@ def differs(program, script, name):
     print(f"{name}: they differ on {kept.name}")
     if expected[0] != found[0]:
         print(f"status: model {expected[0]}, program {found[0]}")
-    print(first_difference(expected[1], found[1]))
+    if wrong:
+        print(f"a moment that is not one of the run: {wrong.decode()}")
+    if expected[1] != found[1]:
+        print(first_difference(expected[1], found[1]))
     return True
 
 
@@ -75,7 +99,10 @@ def has_status(program, words, wanted, name, given=None, taken=None):
 
 def statuses(program):
     """How many of the statuses that no script can have are wrong."""
-    words = [[], ["RUN"], ["run", "run"], ["run", "--id", "short"], ["run", ""], [""], [b"run\xff"]]
+    words = [[], ["RUN"], ["run", "run"], ["run", ""], [""], [b"run\xff"], ["--data", "x"], ["run", "--db", "x"]]
+    words += [["run", "--data"], ["run", "--data", ""], ["run", "--data", "-x"], ["run", "--data=x"], ["run", "--data", "x", "y"]]
+    words += [["run", "--id", text] for text in ("short", "A" * 21, "A" * 23, "A" * 21 + "-", "A" * 21 + "\u00e9")]
+    words += [["run", "--data", "x", "--data", "x"], ["run", "--id", "A" * 22, "--id", "A" * 22]]
     wrong = sum(not has_status(program, these, 2, f"words {these}") for these in words)
     with open("/dev/full", "wb") as full:
         wrong += not has_status(program, ["run"], 4, "a full output", taken=full)
@@ -91,10 +118,39 @@ def statuses(program):
     return wrong
 
 
+def options(program):
+    """How many of the calls with `--id` and `--data` are wrong. None is tried where the program takes no options yet."""
+    base, other = model.BASE, "0123456789abcdefghiXYZ"
+    with tempfile.TemporaryDirectory() as folder:
+        kept, text, link = (os.path.join(folder, name) for name in ("kept", "text", "no/file"))
+        pathlib.Path(text).write_bytes(b"PUT a {}\n" * 1_000)
+        stats = '{"CountOfDocuments":2,"CountOfIndexes":0,"CountOfTombstones":0,"LastDocEtag":3}\n'
+        cases = [
+            (["--id", other], "PUT a {}\n", 0, f'{{"ChangeVector":"A:1-{other}","Id":"a"}}\n'),
+            (["--data", kept], "PUT a {}\n", 0, f'{{"ChangeVector":"A:1-{base}","Id":"a"}}\n'),
+            (["--data", kept], "PUT b {}\n", 0, f'{{"ChangeVector":"A:2-{base}","Id":"b"}}\n'),
+            (["--id", other, "--data", kept], f"PUTIF A A:1-{other} {{}}\n", 0, f'{{"ChangeVector":"A:3-{other}","Id":"a"}}\n'),
+            (["--data", kept, "--id", base], "STATS\n", 0, stats),
+            (["--data", folder], "STATS\n", 5, ""),
+            (["--data", link], "STATS\n", 5, ""),
+            (["--data", text], "STATS\n", 5, ""),
+        ]
+        wrong = 0
+        for words, script, status, written in cases:
+            ended = subprocess.run([program, "run", *words], input=script.encode(), capture_output=True, timeout=60)
+            if ended.returncode == 2 and words == cases[0][0]:
+                print("skipped: this program takes no options yet")
+                return 0
+            if (ended.returncode, ended.stdout.decode()) != (status, written) or f"raven: {NAMES[status]}" not in ended.stderr.decode():
+                wrong += 1
+                print(f"words {words}: status {ended.returncode} in place of {status}, {ended.stderr!r}, {ended.stdout!r} in place of {written!r}")
+        return wrong
+
+
 def tried(named_scripts):
     """How many scripts differ where `rt try` runs them all; it prints where, and keeps the scripts if any differs."""
     folder = pathlib.Path(tempfile.mkdtemp(prefix="differs-"))
-    names, left_out = [], 0
+    names, left_out = {}, 0
     for name, script in named_scripts:
         expected = expected_of(script)[1]
         if len(expected) > MAX_TRIED:
@@ -102,55 +158,69 @@ def tried(named_scripts):
             continue
         case = f"{len(names):04}"
         (folder / case).write_bytes(script)
-        (folder / f"{case}.stdout").write_bytes(expected)
-        names.append((case, name))
+        names[case] = name, expected
     command = ["rt", "try", "--seconds", "600", "--cases", str(folder), "--", "run"]
-    told = subprocess.run(command, cwd=TOP / "crates/raven", stderr=subprocess.PIPE).stderr.decode(errors="replace").splitlines()
-    said = [line.split() for line in told if line.startswith("case=")]
-    alike = {words[0][5:] for words in said if "run=ended" in words and "output=expected" in words}
-    found = [(case, name) for case, name in names if case not in alike]
+    began = moment_now(-2)
+    ended = subprocess.run(command, cwd=TOP / "crates/raven", stdout=subprocess.PIPE, stderr=subprocess.PIPE)
+    written, case = {}, None
+    # It prints `== CASE` before what a case writes; no reply begins like this.
+    for line in ended.stdout.split(b"\n")[:-1]:
+        if line.startswith(b"== "):
+            case = line[3:].decode()
+            written[case] = []
+        elif case:
+            written[case].append(line + b"\n")
+    found = 0
+    for case, (name, expected) in names.items():
+        replies = b"".join(written.get(case, [b"no answer"]))
+        if model.at_no_moment(replies) != expected or wrong_moment(replies, began, moment_now(2)):
+            found += 1
+            print(f"{name}: they differ on {folder / case}")
+            print(first_difference(expected, model.at_no_moment(replies)))
     if found:
-        print(*told, sep="\n")
+        print(ended.stderr.decode(errors="replace")[-2000:])
     else:
         for path in folder.iterdir():
             path.unlink()
         folder.rmdir()
-    for case, name in found:
-        print(f"{name}: they differ on {folder / case}")
     if left_out:
         print(f"{left_out} scripts have too many replies for `rt try` and were left out")
-    return len(found)
+    return found
 
 
 def main():
     sys.setrecursionlimit(10_000)
-    options = argparse.ArgumentParser(description="Holds the built program against the model.")
-    options.add_argument("--program", default=str(TOP / "crates/raven/out/raven"))
-    options.add_argument("--try", dest="is_tried", action="store_true")
-    options.add_argument("--rounds", type=int, default=200)
-    options.add_argument("--lines", type=int, default=60)
-    options.add_argument("--seed", type=int, default=1)
-    options.add_argument("--random", action="store_true")
-    options = options.parse_args()
+    given = argparse.ArgumentParser(description="Holds the built program against the model.")
+    given.add_argument("--program", default=str(TOP / "crates/raven/out/raven"))
+    given.add_argument("--try", dest="is_tried", action="store_true")
+    given.add_argument("--rounds", type=int, default=200)
+    given.add_argument("--lines", type=int, default=60)
+    given.add_argument("--seed", type=int, default=1)
+    given.add_argument("--random", action="store_true")
+    given = given.parse_args()
+
+    if not given.is_tried and not os.access(given.program, os.X_OK):
+        print(f"skipped: no program at {given.program}")
+        return 0
 
     kinds = collections.Counter()
 
     def named_scripts():
-        if not options.random:
+        if not given.random:
             yield from scripts.at_the_limits()
-        for round_ in range(options.rounds):
-            maker = scripts.Maker(options.seed * 1_000_003 + round_)
-            yield f"seed {options.seed}, round {round_}", maker.script(options.lines)
+        for round_ in range(given.rounds):
+            maker = scripts.Maker(given.seed * 1_000_003 + round_)
+            yield f"seed {given.seed}, round {round_}", maker.script(given.lines)
             kinds.update(maker.kinds)
 
-    if options.is_tried:
+    if given.is_tried:
         found = tried(named_scripts())
     else:
-        found = 0 if options.random else statuses(options.program)
-        found += sum(differs(options.program, script, name) for name, script in named_scripts())
+        found = 0 if given.random else statuses(given.program) + options(given.program)
+        found += sum(differs(given.program, script, name) for name, script in named_scripts())
     print("reached: " + ", ".join(f"{kind} {count}" for kind, count in kinds.most_common()))
-    before = "" if options.random else "the limits and "
-    print(f"{before}{options.rounds} random scripts of {options.lines} lines with seed {options.seed}: {found} differ")
+    before = "" if given.random else "the limits and "
+    print(f"{before}{given.rounds} random scripts of {given.lines} lines with seed {given.seed}: {found} differ")
     return 1 if found else 0
 
 

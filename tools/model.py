@@ -21,8 +21,9 @@ MAX_ROWS = 4_000_000
 MAX_ETAG = 9_007_199_254_740_991
 MAX_BATCH = 65_536
 BASE = "A" * 22
-# Each line comes at the same moment: there is no clock yet.
+# Each line comes at the same moment here. A program with a clock shows others: `at_no_moment` puts this one in their place.
 MOMENT = "1970-01-01T00:00:00.0000000Z"
+MOMENTS = re.compile(rb'"@last-modified":"([0-9]{4}-[0-9]{2}-[0-9]{2}T[0-9]{2}:[0-9]{2}:[0-9]{2}\.[0-9]{7}Z)"')
 
 UPPER = {code: code + 32 for code in range(ord("A"), ord("Z") + 1)}
 
@@ -34,6 +35,11 @@ def folded(text):
 
 def size(text):
     return len(text.encode())
+
+
+def at_no_moment(written):
+    """What was written, with each moment of a document replaced by that of 1970."""
+    return MOMENTS.sub(f'"@last-modified":"{MOMENT}"'.encode(), written)
 
 
 class Refused(Exception):
