@@ -5,3 +5,7 @@ pub mod Answered
 pub mod Asking
 pub mod Performed
 pub mod WordLemmas
+pub mod Opened
+pub mod Ended
+pub mod Completes
+pub mod Kept

@@ -4,6 +4,7 @@ use Rattle.raven_data.specs.Rows.{Row}
 use Rattle.raven_model.specs.Machine.{Machine, Change, Replied, Request, change_of, settled, same_machine, step}
 use Rattle.raven_model.specs.Replies.{Reply, KeeperFault, printed}
 use Rattle.raven_console.specs.Outside.{KeeperState, Asked, circumstance}
+use Rattle.raven_console.proofs.Kept.{rising, past}
 
 taken_by : (M : Machine) (c : Change) (rows : List Row) (now : ℕ) (before after : KeeperState) → c.rows ≡ rows
     → settled M (circumstance now true before after).keeping c ≡ (let r : Replied = record { reply = c.reply; machine = c.machine } in r)
@@ -41,4 +42,4 @@ pub asked_rows : (M : Machine) (c : Change) (now : ℕ) (request : Request) (bef
     → Asked before after taken (change_of M now request).rows
 asked_rows M c now request before after taken e a = subst (λ (d : Change). Asked before after taken d.rows) e a
 
-pub ruleset performs = (taken_reply, taken_machine, failed_reply, failed_machine, asked_rows)
+pub ruleset performs = (taken_reply, taken_machine, failed_reply, failed_machine, asked_rows, rising, past)

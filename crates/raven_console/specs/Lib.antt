@@ -5,3 +5,5 @@ pub mod Outcome
 pub mod OutcomeView
 pub mod Ends
 pub mod WordsView
+pub mod Openings
+pub mod Prepared

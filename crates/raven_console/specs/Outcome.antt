@@ -1,7 +1,7 @@
 -- What a run leaves of its input, its output and its keeper, where they tell it.
-use Rattle.std.specs.Prelude.{◌≡◌, ℕ, zero, suc, ◌≤◌, List, [], ◌∷◌, ◌++◌, length, map, Option, Some, None, IfSome, option_map, Ok, Err}
+use Rattle.std.specs.Prelude.{◌≡◌, ℕ, ◌≤◌, List, [], ◌∷◌, ◌++◌, length, map, Option, Some, None, IfSome, Ok, Err}
 use Rattle.raven_data.specs.Kept.{KeptRow}
-use Rattle.raven_ports.specs.Plan.{Plan, one_later}
+use Rattle.raven_ports.specs.Plan.{calls_later}
 use Rattle.raven_ports.specs.Told.{appended}
 use Rattle.raven_model.specs.Commit.{Setting}
 use Rattle.raven_model.specs.Kept.{opened_from}
@@ -70,11 +70,6 @@ pub record Opens (setting : Setting) (held : Option (List KeptRow)) (M : Machine
 -- the row of this etag is the first that breaks the form, where the keeper tells its rows
 abbrev pub IsBad : Setting → Option (List KeptRow) → ℕ → Type 0
 IsBad setting held etag = IfSome held (λ all. opened_from setting all ≡ Err etag)
-
--- so many calls later
-abbrev pub calls_later : ℕ → Option Plan → Option Plan
-calls_later zero plan = plan
-calls_later (suc n) plan = calls_later n (option_map one_later plan)
 
 -- a keeper was asked for its rows, and holds what it held
 pub record Loads (before after : KeeperState) : Type 0 where

@@ -1,12 +1,14 @@
 //! The machine that answers lines.
-ghost use Rattle.std.specs.Prelude.{◌≡◌, ◌<◌, ◌≤◌, IfOk, OnErr};
+ghost use Rattle.std.specs.Prelude.{◌≡◌, ◌<◌, ◌≤◌, true, false, IfOk, OnErr};
 ghost use Rattle.raven_data.specs.Moments.{moments_end};
 ghost use Rattle.raven_model.specs.Machine.{change_of, step};
-ghost use Rattle.raven_model.specs.Replies.{printed as spec_printed};
+ghost use Rattle.raven_model.specs.Replies.{KeeperFault, printed as spec_printed};
 ghost use Rattle.raven_model.specs.Script.{after_line, reply_to};
 ghost use Rattle.raven_reply.specs.ReplyView.{reply_view};
 ghost use Rattle.raven_console.specs.Outside.{Asked, Keeps, circumstance, given, rows_written, seen};
 ghost use Rattle.raven_console.specs.OutcomeView.{world_left};
+ghost use Rattle.raven_console.specs.Prepared.{IsPrepared};
+ghost use Rattle.raven_world.specs.Told.{machine_of};
 ghost use Rattle.raven_script.specs.RequestView.{request_view};
 
 use crate::keeping::keep;
@@ -15,6 +17,7 @@ use crate::refusal::reply_to_refusal;
 use raven_base::NoMemory;
 use raven_ports::Keeper;
 use raven_script::{Line, Request, line};
+use raven_value::Rows;
 use raven_world::{Reply, World, reply_text};
 use std::alloc::Global;
 use std::marker::Model;
@@ -54,6 +57,44 @@ fn printed(alloc: Global, reply: &Reply) -> Result<Vec<u8>, NoMemory>
     Ok(text)
 }
 
+// All that a change needs before the keeper is asked: what is written for it, the new world where there is one, and its rows.
+#[derive(Drop)]
+struct Prepared {
+    text: Vec<u8>,
+    world: Option<World>,
+    rows: Rows,
+}
+
+fn prepared(text: Vec<u8>, outcome: Outcome) -> Prepared
+    ensures text { result.text ≡ text }
+    ensures world { result.world ≡ outcome.world }
+    ensures rows { result.rows ≡ outcome.rows }
+{
+    let Outcome { world, rows, .. } = outcome;
+    Prepared { text, world, rows }
+}
+
+fn prepare(
+    alloc: Global,
+    world: &World,
+    now: u64,
+    request: Request,
+) -> Result<Prepared, NoMemory>
+    ensures { IfOk result (λ p. IsPrepared world.now (change_of (machine_of world.now) now (request_view request)) p) }
+{
+    let outcome = outcome_of(alloc, world, now, request)?;
+    let text = printed(alloc, &outcome.reply)?;
+    Ok(prepared(text, outcome))
+}
+
+fn not_taken(alloc: Global, before: u64, after: u64) -> Result<Answer, NoMemory>
+    ensures text { IfOk result (λ a. a.text.items ≡ spec_printed (KeeperFault before after)) }
+    ensures taken { IfOk result (λ a. a.taken ≡ false) }
+{
+    let text = printed(alloc, &Reply::KeeperFault { before, after })?;
+    Ok(Answer { text, taken: false })
+}
+
 impl Machine {
     /// The machine of this world.
     pub fn of(world: World) -> Machine
@@ -62,13 +103,18 @@ impl Machine {
         Machine { world }
     }
 
-    fn put(&mut self, world: Option<World>)
-        ensures { self.new.world ≡ world_left self.old.world world }
+    // Puts the world in place, which takes no memory.
+    fn take(&mut self, prepared: Prepared) -> Answer
+        ensures text { result.text.items ≡ prepared.text.items }
+        ensures taken { result.taken ≡ true }
+        ensures world { self.new.world ≡ world_left self.old.world prepared.world }
     {
+        let Prepared { text, world, .. } = prepared;
         match world {
             Some(world) => self.world = world,
             None => {}
         }
+        Answer { text, taken: true }
     }
 
     #[tactic(auto, using(crate::proofs::Performed::performs))]
@@ -87,15 +133,11 @@ impl Machine {
         ensures later { K.count keeper.old ≤ K.count keeper.new }
     {
         let before = keeper.faults();
-        let Outcome { reply, world, rows } = outcome_of(alloc, &self.world, now, request)?;
-        let text = printed(alloc, &reply)?;
-        if keep(alloc, keeper, &rows)? {
-            self.put(world);
-            return Ok(Answer { text, taken: true });
+        let prepared = prepare(alloc, &self.world, now, request)?;
+        if keep(alloc, keeper, &prepared.rows)? {
+            return Ok(self.take(prepared));
         }
-        let after = keeper.faults();
-        let text = printed(alloc, &Reply::KeeperFault { before, after })?;
-        Ok(Answer { text, taken: false })
+        not_taken(alloc, before, keeper.faults())
     }
 
     /// What is written for a line that comes at this moment, in microseconds since 1970. The keeper holds the rows of the database, where
