@@ -1,9 +1,8 @@
 -- A sound value, as `serde_json` has it, is read back, and converted back.
-use Rattle.std.proofs.Common.{◌≡◌, ℕ, suc, max, ◌≤◌, ◌<◌, ◌^◌, ℤ, pos, negsuc, List, [], ◌∷◌, ◌++◌, Bool, true, false, Option, Some, None, option_map, option_and_then, Ordering, Less, Equal, Greater, nat_cmp, refl, sym, ap, ◌∙◌, subst, append_assoc, append-nil, arith, lt-ltb, FitsSigned, w64}
+use Rattle.std.proofs.Common.{◌≡◌, ℕ, suc, max, ◌≤◌, ◌<◌, ◌^◌, ℤ, pos, negsuc, List, [], ◌∷◌, ◌++◌, Option, Some, option_map, option_and_then, Less, Greater, refl, sym, ap, ◌∙◌, append_assoc, append-nil, arith, lt-ltb, FitsSigned, w64}
 use Rattle.std.proofs.lemmas.Cmp.{nat_list_cmp_total}
-use Rattle.std.specs.Ordering.{match_ordering, ordering_reverse}
+use Rattle.std.specs.Ordering.{ordering_reverse}
 use Rattle.json.specs.Json as tree
-use Rattle.json.specs.Print.{print}
 use Rattle.json.specs.Tree.{json_tokens, HasNumbers, ItemsHaveNumbers, MembersHaveNumbers, depth as tree_depth, items_depth as tree_items_depth, members_depth as tree_members_depth}
 use Rattle.json.specs.Lex.{tokens}
 use Rattle.json.specs.Token.{Token}
@@ -19,7 +18,7 @@ use Rattle.serde_json.proofs.Texts.{print-outline}
 use Rattle.raven_data.specs.Data.{Data, null, flag, num, text, array, object, Items, no_items, item, Entries, no_entries, entry, depth, items_depth, entries_depth, items_of, list_of, entries_of, pairs_of}
 use Rattle.raven_data.specs.Folding.{key_cmp}
 use Rattle.raven_data.specs.Json as is
-use Rattle.raven_data.specs.Rising.{Pairs, IsBelowAll, IsRising, put}
+use Rattle.raven_data.specs.Rising.{IsBelowAll, IsRising, put}
 use Rattle.raven_data.specs.Sound.{IsSound, AreSound, HasSound}
 use Rattle.raven_json.proofs.Compact.{json_of, items_json, members_json}
 

@@ -1,5 +1,5 @@
 -- The text of a value is the compact text of the same value of `serde_json`.
-use Rattle.std.proofs.Common.{◌≡◌, ℕ, ℤ, pos, negsuc, List, [], ◌∷◌, ◌++◌, Bool, true, false, ◌==◌, inl, inr, refl, sym, ap, ◌∙◌, append_assoc, flat_map, ne_eqb}
+use Rattle.std.proofs.Common.{◌≡◌, ℕ, ℤ, pos, negsuc, List, [], ◌∷◌, ◌++◌, Bool, true, false, inl, inr, refl, ap, ◌∙◌, append_assoc, flat_map, ne_eqb}
 use Rattle.std.proofs.lemmas.Bool.{cases_eq}
 use Rattle.json.specs.Print.{escape_byte, quoted as json_quoted}
 use Rattle.serde_json.specs.Data as json

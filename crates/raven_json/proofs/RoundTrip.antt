@@ -1,5 +1,5 @@
 -- What is written of a sound value is read as that value.
-use Rattle.std.proofs.Common.{◌≡◌, ◌≤◌, ℕ, List, Ok, ap, ◌∙◌, arith}
+use Rattle.std.proofs.Common.{◌≡◌, ◌≤◌, ℕ, List, Ok, IsUtf8, sym, ap, ◌∙◌, subst, arith}
 use Rattle.raven_data.specs.Data.{Data, depth}
 use Rattle.raven_data.specs.Json.{reading, or_refusal, number_not_whole}
 use Rattle.raven_data.specs.Sound.{IsSound}
@@ -18,3 +18,6 @@ reading-text_of d h few =
 
 pub read_back : (bytes : List ℕ) (d : Data) → bytes ≡ text_of d → IsSound d → depth d ≤ 100 → reading bytes ≡ Ok d
 read_back bytes d e h few = ap reading e ∙ reading-text_of d h few
+
+pub written_utf8 : (bytes : List ℕ) (d : Data) → bytes ≡ text_of d → IsSound d → IsUtf8 bytes
+written_utf8 bytes d e h = subst IsUtf8 (sym e) (utf8_text d h)

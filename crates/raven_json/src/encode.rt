@@ -128,6 +128,7 @@ fn write_members(alloc: Global, out: &mut Vec<u8>, members: &Members) -> Result<
 #[tactic(auto, using(crate::proofs::RoundTrip::read_back))]
 pub fn write(alloc: Global, value: &Value) -> Result<Vec<u8>, NoMemory>
     ensures text { IfOk result (λ bytes. bytes.items ≡ text_of (data_of value.now)) }
+    ensures utf8 { IfOk result (λ bytes. IsUtf8 bytes.items) }
     ensures reads_back { IfOk result (λ bytes. depth (data_of value.now) ≤ 100 → reading bytes.items ≡ Ok (data_of value.now)) }
 {
     let mut out = Vec::new(alloc);
