@@ -157,8 +157,9 @@ impl Store {
         }
     }
 
-    /// The store with one row more, in place of an earlier row of its id.
-    pub(crate) fn with_row(&self, alloc: Global, row: &Row) -> Result<Store, NoMemory>
+    /// The store with one row more, in place of an earlier row of its id. Its etag is past all others, and it is in the
+    /// collection of the earlier row.
+    pub fn with_row(&self, alloc: Global, row: &Row) -> Result<Store, NoMemory>
         requires stands { MayStand self.now row.now }
         requires within { IsWithin (with_row self.now row.now) }
         ensures { IfOk result (λ store. store ≡ with_row self.now row.now) }

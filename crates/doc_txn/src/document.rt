@@ -8,7 +8,8 @@ use raven_base::NoMemory;
 use raven_value::{Members, Path, Text, Value};
 use std::alloc::Global;
 
-fn is_own(name: &str) -> bool
+/// Whether the server writes the member of this name in metadata itself.
+pub fn is_own(name: &str) -> bool
     ensures { result ≡ spec_is_own name.now }
 {
     name == "@id"

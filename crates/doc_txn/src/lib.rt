@@ -12,7 +12,7 @@ mod transaction;
 
 pub use base_id::{BaseId, is_base_id, vector};
 pub use command::{Command, Commands, Expect, Writer};
-pub use document::{collection_of, stored};
+pub use document::{collection_of, is_own, stored};
 pub use fault::{TxnFault, TxnKind};
 pub use limits::Limits;
 pub use transaction::{Etags, Transaction, commit, transact};
