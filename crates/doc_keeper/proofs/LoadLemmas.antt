@@ -1,5 +1,5 @@
 -- Rows are loaded one page after another.
-use Rattle.std.proofs.Common.{◌≡◌, ℕ, suc, ◌<◌, ◌≤◌, ◌+◌, ◌-◌, ◌^◌, List, [], ◌∷◌, ◌++◌, Bool, true, false, cond, is_none, Option, Some, None, IfSome, Result, Ok, Err, IsTrue, ◌↔◌, filter, length, take, drop, min, refl, sym, ap, ◌∙◌, subst, arith}
+use Rattle.std.proofs.Common.{◌≡◌, ℕ, zero, suc, ◌<◌, ◌≤◌, ◌+◌, ◌-◌, ◌^◌, List, [], ◌∷◌, ◌++◌, Bool, true, false, cond, is_none, Option, Some, None, option_map, IfSome, Result, Ok, Err, IsTrue, ◌↔◌, filter, length, take, drop, min, refl, sym, ap, ◌∙◌, subst, arith}
 use Rattle.std.proofs.lemmas.Bool.{ltb-true, lt-ltb, le-ltb}
 use Rattle.std.proofs.lemmas.List.{append_assoc, append-nil, length-append, length-take, take-append-drop}
 use Rattle.raven_data.specs.Kept.{KeptRow, EtagsRise, is_past, last_kept}
@@ -11,7 +11,8 @@ use Rattle.doc_store.specs.Bounds.{IsWithin}
 use Rattle.doc_store.specs.Steps.{MayStand}
 use Rattle.doc_store.proofs.MapLemmas.{none_out}
 use Rattle.raven_ports.specs.Faults.{Rose}
-use Rattle.doc_keeper.specs.Loading.{IsCause, IsLoaded, IsPage, Tells}
+use Rattle.raven_ports.specs.Plan.{Plan, calls_later, one_later}
+use Rattle.doc_keeper.specs.Loading.{AreCalls, IsCause, IsLoaded, IsPage, Tells}
 use Rattle.doc_keeper.specs.declared.loading.LoadFault.{LoadFault}
 use Rattle.doc_keeper.specs.declared.loading.LoadFault.TheVariants.{Failed, KeptBad, NoMemory}
 
@@ -278,3 +279,20 @@ has_rows b (k ∷ page) is h = omega arith
 pub smaller : (max : ℕ) (loaded further : List Row) (page : List KeptRow) (b : Bool) → length further ≤ max → rows_behind max loaded page ≡ Ok further → IsTrue b ↔ (page ≡ []) → b ≡ false
     → max - length further < max - length loaded
 smaller max loaded further page b most is none h = let a = behind_length max loaded further page is in let c = has_rows b page none h in omega arith
+
+-- CALLS
+
+called_later : (n : ℕ) (plan : Option Plan) → option_map one_later (calls_later n plan) ≡ calls_later (suc n) plan
+called_later zero plan = refl
+called_later (suc n) plan = called_later n (option_map one_later plan)
+
+pub no_call : (plan : Option Plan) → AreCalls plan plan
+no_call plan = record { calls = 0; after_them = refl }
+
+pub first_call : (before after : Option Plan) → after ≡ option_map one_later before → AreCalls before after
+first_call before after e = record { calls = 1; after_them = e }
+
+pub one_more_call : (before between after : Option Plan) → AreCalls before between → after ≡ option_map one_later between → AreCalls before after
+one_more_call before between after h e = record { calls = suc h.calls; after_them = e ∙ ap (option_map one_later) h.after_them ∙ called_later h.calls before }
+
+pub ruleset calls = (no_call, first_call, one_more_call)

@@ -3,6 +3,7 @@ use Rattle.std.specs.Prelude.{◌≡◌, ℕ, List, Option, None, IfSome, Result
 use Rattle.raven_data.specs.Kept.{KeptRow, EtagsRise, kept_after}
 use Rattle.raven_data.specs.Rows.{Row}
 use Rattle.raven_model.specs.Kept.{rows_in}
+use Rattle.raven_ports.specs.Plan.{Plan, calls_later}
 use Rattle.doc_keeper.specs.declared.loading.LoadFault.{LoadFault}
 use Rattle.doc_keeper.specs.declared.loading.LoadFault.TheVariants.{Failed, KeptBad, NoMemory}
 
@@ -34,3 +35,8 @@ abbrev pub Tells : LoadFault → Result (List Row) ℕ → Type 0
 Tells Failed loaded = ⊥
 Tells (KeptBad etag) loaded = loaded ≡ Err etag
 Tells NoMemory loaded = Unit {0}
+
+-- some calls later
+pub record AreCalls (before after : Option Plan) : Type 0 where
+  pub calls : ℕ
+  pub after_them : after ≡ calls_later calls before

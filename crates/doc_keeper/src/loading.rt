@@ -1,10 +1,11 @@
 //! Loading the rows of a database from their keeper.
-ghost use Rattle.std.specs.Prelude.{◌≡◌, ◌≤◌, ◌++◌, ℕ, [], ◌∷◌, true, IfErr, IfOk, IsErrOf, Ok, length};
-ghost use Rattle.doc_keeper.specs.Loading.{IsCause, IsLoaded, IsPage, Tells};
+ghost use Rattle.std.specs.Prelude.{◌≡◌, ◌≤◌, ◌++◌, ℕ, [], ◌∷◌, true, option_map, IfErr, IfOk, IsErrOf, Ok, length};
+ghost use Rattle.doc_keeper.specs.Loading.{AreCalls, IsCause, IsLoaded, IsPage, Tells};
 ghost use Rattle.doc_keeper.specs.declared.loading.LoadFault.TheVariants.{NoMemory as OutOfMemory};
 ghost use Rattle.raven_data.specs.Kept.{last_kept};
 ghost use Rattle.raven_model.specs.Kept.{max_etag, may_stand_behind, rows_behind};
 ghost use Rattle.raven_ports.specs.Faults.{Rose};
+ghost use Rattle.raven_ports.specs.Plan.{one_later};
 
 use crate::form::row_of;
 use doc_store::{OpenFault, Store};
@@ -162,6 +163,7 @@ fn load_page<K: Keeper>(
     ensures page { IfOk result (IsPage (K.Keeper.held keeper.old) after) }
     ensures fault { IfErr result (λ fault. (max : ℕ) → IsCause max (K.Keeper.held keeper.old) fault) }
     ensures same { K.Keeper.held keeper.new ≡ K.Keeper.held keeper.old }
+    ensures called { K.Keeper.plan keeper.new ≡ option_map one_later (K.Keeper.plan keeper.old) }
     ensures later { K.Keeper.count keeper.old ≤ K.Keeper.count keeper.new }
     ensures cause { IsErrOf result LoadFault.Failed → Rose (K.Keeper.count keeper.old) (K.Keeper.count keeper.new) }
 {
@@ -176,6 +178,7 @@ fn load_page<K: Keeper>(
 ///
 /// A kept row is bad where `row_of` refuses it; where its etag is not past those of the rows before it; where one of these
 /// has its id, without regard to case; and where there are `limits.rows` of them. Of several the first is told.
+#[tactic(auto, using(crate::proofs::LoadLemmas::calls))]
 pub fn load_all<K: Keeper>(
     alloc: Global,
     keeper: &mut K,
@@ -185,6 +188,7 @@ pub fn load_all<K: Keeper>(
     ensures most { IfOk result (λ rows. length rows ≤ limits.now.rows) }
     ensures fault { IfErr result (IsCause limits.now.rows (K.Keeper.held keeper.old)) }
     ensures same { K.Keeper.held keeper.new ≡ K.Keeper.held keeper.old }
+    ensures called { AreCalls (K.Keeper.plan keeper.old) (K.Keeper.plan keeper.new) }
     ensures later { K.Keeper.count keeper.old ≤ K.Keeper.count keeper.new }
     ensures cause { IsErrOf result LoadFault.Failed → Rose (K.Keeper.count keeper.old) (K.Keeper.count keeper.new) }
 {

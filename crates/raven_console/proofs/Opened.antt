@@ -18,11 +18,11 @@ use Rattle.doc_store.specs.Opening.{first_bad, is_sound_after}
 use Rattle.doc_txn.specs.SettingView.{setting_of}
 use Rattle.doc_txn.specs.declared.limits.Limits.{Limits}
 use Rattle.raven_laws.proofs.StoreLemmas.{both_true}
-use Rattle.doc_keeper.specs.Loading.{IsLoaded}
+use Rattle.doc_keeper.specs.Loading.{AreCalls, IsLoaded}
 use Rattle.raven_world.specs.Opened as worlds
 use Rattle.raven_laws.proofs.OpenLemmas.{opened_from-is}
-use Rattle.raven_console.specs.Outcome.{IsBad, Opens}
-use Rattle.raven_console.specs.Outside.{Keeps}
+use Rattle.raven_console.specs.Outcome.{IsBad, Loads, Opens}
+use Rattle.raven_console.specs.Outside.{KeeperState, Keeps}
 
 -- THE LIMITS OF THE PROGRAM
 
@@ -157,4 +157,7 @@ keeps_from setting held after M e o =
 pub few_rows : (limits : Limits) (n : ℕ) → setting_of base_id limits ≡ program → n ≤ limits.rows → n < 2 ^ 32
 few_rows limits n l le = let e : limits.rows ≡ 4000000 = ap (λ (s : Setting). s.max_rows) l in omega arith
 
-pub ruleset opening = (opens, bad_row, bad_definition, keeps_from, few_rows)
+pub loads : (before after : KeeperState) → after.held ≡ before.held → AreCalls before.plan after.plan → before.count ≤ after.count → Loads before after
+loads before after s c l = record { same = s; called = c; later = l }
+
+pub ruleset opening = (opens, bad_row, bad_definition, keeps_from, few_rows, loads)

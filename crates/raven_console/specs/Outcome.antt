@@ -1,8 +1,8 @@
 -- What a run leaves of its input, its output and its keeper, where they tell it.
 use Rattle.std.specs.Prelude.{◌≡◌, ℕ, ◌≤◌, List, [], ◌∷◌, ◌++◌, length, map, Option, Some, None, IfSome, Ok, Err}
 use Rattle.raven_data.specs.Kept.{KeptRow}
-use Rattle.raven_ports.specs.Plan.{calls_later}
 use Rattle.raven_ports.specs.Told.{appended}
+use Rattle.doc_keeper.specs.Loading.{AreCalls}
 use Rattle.raven_model.specs.Commit.{Setting}
 use Rattle.raven_model.specs.Kept.{opened_from}
 use Rattle.raven_model.specs.Lines.{lines}
@@ -74,8 +74,7 @@ IsBad setting held etag = IfSome held (λ all. opened_from setting all ≡ Err e
 -- a keeper was asked for its rows, and holds what it held
 pub record Loads (before after : KeeperState) : Type 0 where
   pub same : after.held ≡ before.held
-  pub calls : ℕ
-  pub planned : after.plan ≡ calls_later calls before.plan
+  pub called : AreCalls before.plan after.plan
   pub later : before.count ≤ after.count
 
 -- THE WHOLE RUN

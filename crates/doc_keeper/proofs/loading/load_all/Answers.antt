@@ -3,12 +3,13 @@ use Rattle.raven_data.specs.Kept.{KeptRow, last_kept}
 use Rattle.raven_model.specs.Kept.{rows_behind}
 use Rattle.doc_keeper.specs.Loading.{IsCause, IsPage, Tells}
 use Rattle.doc_keeper.specs.declared.loading.LoadFault.TheVariants.{Failed}
-use Rattle.doc_keeper.proofs.LoadLemmas.{start, go_on, stop, finish, few, smaller, rose_since, other_error, has_none}
+use Rattle.doc_keeper.proofs.LoadLemmas.{start, go_on, stop, finish, few, smaller, rose_since, other_error, has_none, first_call, one_more_call}
 use Rattle.doc_keeper.proofs.loading.load_all.Goals as goal
 
 pub loop-alloc-init : goal.loop-alloc-init
 loop-alloc-init g c = record {
   so_far = start c.args.limits.now.rows (g.K.Keeper.held c.args.keeper.now) c.in_ok-loaded.loaded c.in-Ok.first c.in_ok-loaded.ensures c.in-Ok.ensures.page;
+  called = first_call _ _ c.load_page.ensures.called;
   same = c.load_page.ensures.same;
   later = c.load_page.ensures.later;
 }
@@ -20,6 +21,7 @@ loop-alloc-preserved g c = record {
       c.loop-alloc.invariant.so_far (ap (rows_behind c.args.limits.now.rows c.loop-alloc.loaded) (sym c.as_slice.ensures) ∙ c.in-Ok-with_page.ensures.ok)
       (c.last_etag-after.ensures ∙ ap (last_kept c.loop-alloc.after) c.as_slice-in-loop-alloc.ensures)
       (subst (λ (held : Option (List KeptRow)). IsPage held c.last_etag-after.result c.in-Ok-load_page.next) c.loop-alloc.invariant.same c.in-Ok-load_page.ensures.page);
+  called = one_more_call _ _ _ c.loop-alloc.invariant.called c.load_page-in-loop-alloc.ensures.called;
   same = c.load_page-in-loop-alloc.ensures.same ∙ c.loop-alloc.invariant.same;
   later = let a = c.loop-alloc.invariant.later in let b = c.load_page-in-loop-alloc.ensures.later in omega arith;
 }
