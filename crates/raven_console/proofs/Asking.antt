@@ -8,6 +8,7 @@ use Rattle.raven_console.specs.Outside.{KeeperState, Asked, AskedOnce}
 
 pub not_asked : (before after : KeeperState) (rows : List Row) → rows ≡ [] → after ≡ before → Asked before after true rows
 not_asked before after [] e s = (refl, s)
+not_asked before after (r ∷ rows) e s = absurd cc
 
 pub asked_once : (before after : KeeperState) (taken : Bool) (rows : List Row) → rows ≢ [] → AskedOnce before after taken rows → Asked before after taken rows
 asked_once before after taken [] n a = absurd (n refl)

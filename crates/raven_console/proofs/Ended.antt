@@ -1,5 +1,5 @@
 -- How a run ends.
-use Rattle.std.proofs.Common.{◌≡◌, ℕ, List, Option, Some, None, IfSome, ⊤, tt, refl, sym, subst}
+use Rattle.std.proofs.Common.{◌≡◌, ◌⊎◌, inl, inr, ℕ, List, Option, Some, None, IfSome, [], refl, sym, subst}
 use Rattle.raven_data.specs.Kept.{KeptRow}
 use Rattle.raven_model.specs.Machine.{Machine}
 use Rattle.raven_model.specs.Options.{Options, options_in, setting_with}
@@ -36,7 +36,17 @@ stopped_early words clock before begun after old new left left_after script o M 
     of_script left left_after script (StoppedEarly words clock before after old new) all
       (record { begun = begun; first = M; last = N; begins = begins words o before begun M e opens loads; stops = a; holds = k.holds })
 
+-- before one of the lines or at its reply
+pub stopped_short : (words : List (List ℕ)) (clock : Option ℕ) (before begun after : KeeperState) (old new left left_after : Option (List ℕ)) (script : List ℕ) (o : Options) (M N : Machine)
+    → options_in words ≡ Some o → Opens (setting_with o.base) before.held M → Loads before begun → IfSome left (λ l. (l ≡ script) × (left_after ≡ Some []))
+    → StopsBefore clock begun after old new script M N ⊎ StopsIn clock begun after old new script M N → Keeps after.held N
+    → IfSome left (StoppedEarly words clock before after old new) ⊎ IfSome left (Stopped words clock before after old new)
+stopped_short words clock before begun after old new left left_after script o M N e opens loads all (inl a) k =
+    inl (stopped_early words clock before begun after old new left left_after script o M N e opens loads all a k)
+stopped_short words clock before begun after old new left left_after script o M N e opens loads all (inr a) k =
+    inr (stopped words clock before begun after old new left left_after script o M N e opens loads all a k)
+
 pub kept_bad : (words : List (List ℕ)) (held : Option (List KeptRow)) (etag : ℕ) (o : Options) → options_in words ≡ Some o → IsBad (setting_with o.base) held etag → IsKeptBad words held etag
 kept_bad words held etag o e b = record { options = o; ordered = e; bad = b }
 
-pub ruleset ends = (finished, stopped, stopped_early, kept_bad)
+pub ruleset ends = (finished, stopped, kept_bad)

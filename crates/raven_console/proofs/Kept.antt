@@ -1,5 +1,5 @@
 -- The keeper holds the rows of the machine while lines are answered.
-use Rattle.std.proofs.Common.{◌≡◌, ℕ, List, [], ◌∷◌, Bool, true, false, Option, Some, None, option_map, IfSome, Result, Ok, Err, tt, refl, sym, ap, ◌∙◌, subst}
+use Rattle.std.proofs.Common.{◌≡◌, ℕ, List, [], ◌∷◌, Bool, true, false, Option, Some, None, option_map, IfSome, Result, Ok, Err, refl, sym, ap, ◌∙◌, subst}
 use Rattle.raven_data.specs.Kept.{KeptRow, EtagsRise, all_kept, keep_all, last_kept}
 use Rattle.raven_data.specs.Rows.{Row}
 use Rattle.raven_model.specs.Machine.{Machine, Change, Request, change_of, settled}

@@ -1,5 +1,5 @@
 -- Opening from what a keeper holds.
-use Rattle.std.proofs.Common.{◌≡◌, ℕ, ◌<◌, ◌≤◌, ◌^◌, List, [], ◌∷◌, ◌++◌, Bool, true, false, not, ◌&&◌, nat_lt, nat_le, is_some, is_none, cond, Option, Some, None, IfSome, Result, Ok, Err, length, refl, sym, ap, ◌∙◌, subst, append_assoc, arith, tt}
+use Rattle.std.proofs.Common.{◌≡◌, ℕ, ◌<◌, ◌≤◌, ◌^◌, List, [], ◌∷◌, ◌++◌, Bool, true, false, not, ◌&&◌, nat_lt, nat_le, is_some, is_none, cond, Option, Some, None, IfSome, Result, Ok, Err, length, refl, sym, ap, ◌∙◌, subst, append_assoc, arith}
 use Rattle.std.specs.Option.{option_map}
 use Rattle.std.proofs.lemmas.Bool.{ltb-true}
 use Rattle.std.proofs.lemmas.List.{append-nil, length-append}
@@ -97,16 +97,18 @@ rows_behind-AreSound max earlier [] rows h = record {
     same : (a b : List Row) → (let x : Result (List Row) ℕ = Ok a in x) ≡ Ok b → a ≡ b
     same a b e = cc
 
-rows_behind-AreSound max earlier (k ∷ ks) rows h = at (row_in k) refl h
+rows_behind-AreSound max earlier (k ∷ ks) rows h = at (row_in k) refl h (λ r g. rows_behind-AreSound max (earlier ++ r ∷ []) ks rows g)
   where
     with : (r : Row) (b : Bool) → row_in k ≡ Some r → may_stand_behind max earlier r ≡ b
-        → or_bad_row k.etag (cond b (Some r) None) (λ r. rows_behind max (earlier ++ r ∷ []) ks) ≡ Ok rows → AreSound max earlier rows
-    with r true e m g = more_are max earlier r rows m (behind_is_sound max earlier r m (row_in-IsFit k r e)) (rows_behind-AreSound max (earlier ++ r ∷ []) ks rows g)
-    with r false e m g = absurd cc
+        → or_bad_row k.etag (cond b (Some r) None) (λ r. rows_behind max (earlier ++ r ∷ []) ks) ≡ Ok rows
+        → ((r : Row) → rows_behind max (earlier ++ r ∷ []) ks ≡ Ok rows → AreSound max (earlier ++ r ∷ []) rows) → AreSound max earlier rows
+    with r true e m g more = more_are max earlier r rows m (behind_is_sound max earlier r m (row_in-IsFit k r e)) (more r g)
+    with r false e m g more = absurd cc
 
-    at : (o : Option Row) → row_in k ≡ o → or_bad_row k.etag (row_behind max earlier o) (λ r. rows_behind max (earlier ++ r ∷ []) ks) ≡ Ok rows → AreSound max earlier rows
-    at None e g = absurd cc
-    at (Some r) e g = with r (may_stand_behind max earlier r) e refl g
+    at : (o : Option Row) → row_in k ≡ o → or_bad_row k.etag (row_behind max earlier o) (λ r. rows_behind max (earlier ++ r ∷ []) ks) ≡ Ok rows
+        → ((r : Row) → rows_behind max (earlier ++ r ∷ []) ks ≡ Ok rows → AreSound max (earlier ++ r ∷ []) rows) → AreSound max earlier rows
+    at None e g more = absurd cc
+    at (Some r) e g more = with r (may_stand_behind max earlier r) e refl g more
 
 read_are_sound : (max : ℕ) (held : List KeptRow) (rows : List Row) → rows_in max held ≡ Ok rows → first_bad [] rows ≡ None
 read_are_sound max held rows h = let a = rows_behind-AreSound max [] held rows h in subst (λ xs. first_bad [] xs ≡ None) (sym a.split) a.sound

@@ -13,7 +13,7 @@ taken_by M c (r ∷ rows) now before after e = ap (λ all. settled M (circumstan
 
 failed_by : (M : Machine) (c : Change) (rows : List Row) (now : ℕ) (before after : KeeperState) → c.rows ≡ rows → Asked before after false rows
     → settled M (circumstance now false before after).keeping c ≡ same_machine M (KeeperFault before.count after.count)
-failed_by M c [] now before after e a = absurd (let f : false ≡ true = a.0 in f)
+failed_by M c [] now before after e a = let f : false ≡ true = a.0 in absurd cc
 failed_by M c (r ∷ rows) now before after e a = ap (λ all. settled M (circumstance now false before after).keeping (record { reply = c.reply; machine = c.machine; rows = all })) e
 
 -- the change was taken, or nothing was asked

@@ -25,8 +25,8 @@ texts_of-after (l ∷ ls) line more = ap (λ z. l.0 ∷ z) (texts_of-after ls li
 
 come_on : (clock : Option ℕ) (before at after : KeeperState) (M : Machine) (done : List Given) (line : Given) → Come clock before at M done → Comes clock at after (after_lines done M) line
     → Come clock before after M (done ++ line ∷ [])
-come_on clock before at after M [] line e c = (after, (let P : KeeperState → Type 0 = λ k. Comes clock k after M line in subst P e c, refl))
-come_on clock before at after M (l ∷ ls) line h c = (h.0, (h.1.0, come_on clock h.0 at after (after_line l M) ls line h.1.1 c))
+come_on clock before at after M [] line e c = (after, (let P : KeeperState → Type 0 = λ k. Comes clock k after M line in subst P e c), refl)
+come_on clock before at after M (l ∷ ls) line h c = (h.0, h.1, come_on clock h.0 at after (after_line l M) ls line h.2 c)
 
 -- some lines were answered, and the rest is still to be
 pub record HasRun (clock : Option ℕ) (before at : KeeperState) (old now : Option (List ℕ)) (script rest : List ℕ) (M N : Machine) : Type 0 where

@@ -65,7 +65,7 @@ struct Prepared {
     rows: Rows,
 }
 
-fn prepared(text: Vec<u8>, outcome: Outcome) -> Prepared
+fn with_text(outcome: Outcome, text: Vec<u8>) -> Prepared
     ensures text { result.text ≡ text }
     ensures world { result.world ≡ outcome.world }
     ensures rows { result.rows ≡ outcome.rows }
@@ -84,7 +84,7 @@ fn prepare(
 {
     let outcome = outcome_of(alloc, world, now, request)?;
     let text = printed(alloc, &outcome.reply)?;
-    Ok(prepared(text, outcome))
+    Ok(with_text(outcome, text))
 }
 
 fn not_taken(alloc: Global, before: u64, after: u64) -> Result<Answer, NoMemory>

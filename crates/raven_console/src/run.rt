@@ -150,7 +150,7 @@ pub fn raven<R: AllocGlobal, S: Source, O: Sink, K: Keeper + Drop, C: Clock + Dr
         → IfSome result.keeper (λ k. ¬ Rose (K.count keeper) (K.count k)) → (result.status ≡ Status.Done) ⊎ (result.status ≡ Status.NoMemory) }
 {
     let mut keeper = keeper;
-    let status = run(rt.alloc(), words, input, output, &mut keeper, &clock);
+    let status = run(rt.alloc(), words, input, output, &mut keeper, &*clock);
     Finish {
         status,
         keeper: Some(keeper),

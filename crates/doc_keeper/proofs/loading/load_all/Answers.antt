@@ -55,3 +55,6 @@ returns-clause-ok g c =
 
 pub returns-clause-most : goal.returns-clause-most
 returns-clause-most g c = let most = few c.args.limits.now.rows _ _ _ _ c.loop-alloc.invariant.so_far in let same = ap length c.into_rows.ensures in omega arith
+
+pub returns-in-Err-load_page-clause-called : goal.returns-in-Err-load_page-clause-called
+returns-in-Err-load_page-clause-called g c = one_more_call _ _ _ c.loop-alloc.invariant.called c.load_page-in-loop-alloc.ensures.called
