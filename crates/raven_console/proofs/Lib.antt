@@ -2,4 +2,10 @@ pub mod LineLemmas
 pub mod Pieces
 pub mod Runs
 pub mod Answered
+pub mod Asking
+pub mod Performed
 pub mod WordLemmas
+pub mod Opened
+pub mod Ended
+pub mod Completes
+pub mod Kept

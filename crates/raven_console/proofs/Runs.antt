@@ -1,12 +1,13 @@
--- Lines that are run one after another.
-use Rattle.std.proofs.Common.{◌≡◌, ◌∷◌, ℕ, List, [], ◌++◌, Option, refl, ap, sym, ◌∙◌, append_assoc, map}
-use Rattle.std.proofs.lemmas.List.{append-nil}
+-- Lines that are answered one after another.
+use Rattle.std.proofs.Common.{◌≡◌, ℕ, ◌≤◌, ◌<◌, List, [], ◌∷◌, ◌++◌, Bool, Option, IfSome, refl, ap, sym, ◌∙◌, append_assoc, map, subst}
+use Rattle.std.proofs.lemmas.List.{append-nil, map-append}
+use Rattle.raven_data.specs.Moments.{moments_end}
 use Rattle.raven_ports.specs.Told.{appended}
 use Rattle.raven_model.specs.Lines.{lines}
 use Rattle.raven_model.specs.Machine.{Machine}
 use Rattle.raven_model.specs.Script.{Given, reply_to, replies_to, after_line, after_lines}
-use Rattle.raven_console.specs.Given.{given_lines, plainly}
-use Rattle.raven_console.specs.Outcome.{GivesFront, StopsBefore, StopsIn}
+use Rattle.raven_console.specs.Outside.{KeeperState, Asked, Come, Comes, Keeps, MayTell, given, rows_written}
+use Rattle.raven_console.specs.Outcome.{Answers, GivesFront, StopsBefore, StopsIn, texts_of}
 use Rattle.raven_console.proofs.Pieces.{appended-appended, appended-nil}
 
 replies_to-after : (done : List Given) (line : Given) (M : Machine) → replies_to (done ++ line ∷ []) M ≡ replies_to done M ++ reply_to line (after_lines done M)
@@ -18,56 +19,92 @@ after_lines-after : (done : List Given) (line : Given) (M : Machine) → after_l
 after_lines-after [] line M = refl
 after_lines-after (l ∷ ls) line M = after_lines-after ls line (after_line l M)
 
--- some lines were run, and the rest is still to be
-pub record HasRun (old now : Option (List ℕ)) (script rest : List ℕ) (before M : Machine) : Type 0 where
+texts_of-after : (done : List Given) (line : Given) (more : List (List ℕ)) → texts_of (done ++ line ∷ []) ++ more ≡ texts_of done ++ line.0 ∷ more
+texts_of-after [] line more = refl
+texts_of-after (l ∷ ls) line more = ap (λ z. l.0 ∷ z) (texts_of-after ls line more)
+
+come_on : (clock : Option ℕ) (before at after : KeeperState) (M : Machine) (done : List Given) (line : Given) → Come clock before at M done → Comes clock at after (after_lines done M) line
+    → Come clock before after M (done ++ line ∷ [])
+come_on clock before at after M [] line e c = (after, (let P : KeeperState → Type 0 = λ k. Comes clock k after M line in subst P e c), refl)
+come_on clock before at after M (l ∷ ls) line h c = (h.0, h.1, come_on clock h.0 at after (after_line l M) ls line h.2 c)
+
+-- some lines were answered, and the rest is still to be
+pub record HasRun (clock : Option ℕ) (before at : KeeperState) (old now : Option (List ℕ)) (script rest : List ℕ) (M N : Machine) : Type 0 where
   pub done : List Given
-  pub split : given_lines script ≡ done ++ given_lines rest
-  pub given : now ≡ appended old (replies_to done before)
-  pub left : M ≡ after_lines done before
+  pub split : lines script ≡ texts_of done ++ lines rest
+  pub come : Come clock before at M done
+  pub given : now ≡ appended old (replies_to done M)
+  pub left : N ≡ after_lines done M
 
-pub starts : (old : Option (List ℕ)) (script : List ℕ) (M : Machine) → HasRun old old script script M M
-starts old script M = record { done = []; split = refl; given = sym (appended-nil old); left = refl }
+-- the line that was answered
+pub record Answered (clock : Option ℕ) (at after : KeeperState) (N O : Machine) (line : List ℕ) (moment : ℕ) (taken : Bool) (reply : List ℕ) : Type 0 where
+  pub moment_is : MayTell clock moment
+  pub asked : Asked at after taken (rows_written N moment line)
+  pub reply_is : reply ≡ reply_to (given line moment taken at after) N
+  pub machine_is : O ≡ after_line (given line moment taken at after) N
 
-pub runs_on : (old now new : Option (List ℕ)) (script rest line more : List ℕ) (before M : Machine) → HasRun old now script rest before M → lines rest ≡ line ∷ lines more
-    → new ≡ appended now (reply_to (plainly line) M) → HasRun old new script more before (after_line (plainly line) M)
-runs_on old now new script rest line more before M h l k = record {
-  done = h.done ++ plainly line ∷ [];
-  split = h.split ∙ ap (λ z. h.done ++ map plainly z) l ∙ sym (append_assoc h.done (plainly line ∷ []) (given_lines more));
-  given = k ∙ ap (λ z. appended z (reply_to (plainly line) M)) h.given ∙ appended-appended old (replies_to h.done before) (reply_to (plainly line) M)
-      ∙ ap (λ z. appended old (replies_to h.done before ++ reply_to (plainly line) z)) h.left ∙ ap (appended old) (sym (replies_to-after h.done (plainly line) before));
-  left = ap (after_line (plainly line)) h.left ∙ sym (after_lines-after h.done (plainly line) before);
-}
+pub answered : (clock : Option ℕ) (at after : KeeperState) (N O : Machine) (line : List ℕ) (moment : ℕ) (taken : Bool) (reply : List ℕ)
+    → moment < moments_end → IfSome clock (λ m. moment ≡ m) → Asked at after taken (rows_written N moment line)
+    → reply ≡ reply_to (given line moment taken at after) N → O ≡ after_line (given line moment taken at after) N → Answered clock at after N O line moment taken reply
+answered clock at after N O line moment taken reply b s a r m = record { moment_is = record { below = b; still = s }; asked = a; reply_is = r; machine_is = m }
 
-pub runs_out : (old now : Option (List ℕ)) (script rest : List ℕ) (before M : Machine) → HasRun old now script rest before M → rest ≡ [] → now ≡ appended old (replies_to (given_lines script) before)
-runs_out old now script rest before M h e =
-    h.given ∙ ap (λ z. appended old (replies_to z before)) (sym (append-nil h.done) ∙ ap (λ z. h.done ++ given_lines z) (sym e) ∙ sym h.split)
+came : (clock : Option ℕ) (at after : KeeperState) (N L O : Machine) (line : List ℕ) (moment : ℕ) (taken : Bool) (reply : List ℕ) → N ≡ L
+    → Answered clock at after N O line moment taken reply → Comes clock at after L (given line moment taken at after)
+came clock at after N L O line moment taken reply e a =
+    record { line = line; now = moment; taken = taken; is = refl; moment = a.moment_is; asked = let P : Machine → Type 0 = λ x. Asked at after taken (rows_written x moment line) in subst P e a.asked }
 
-pub runs_through : (old now : Option (List ℕ)) (script rest : List ℕ) (before M : Machine) → HasRun old now script rest before M → rest ≡ [] → M ≡ after_lines (given_lines script) before
-runs_through old now script rest before M h e = h.left ∙ ap (λ z. after_lines z before) (sym (append-nil h.done) ∙ ap (λ z. h.done ++ given_lines z) (sym e) ∙ sym h.split)
+pub starts : (clock : Option ℕ) (k : KeeperState) (old : Option (List ℕ)) (script : List ℕ) (M : Machine) → HasRun clock k k old old script script M M
+starts clock k old script M = record { done = []; split = refl; come = refl; given = sym (appended-nil old); left = refl }
 
-pub stops_in : (old now new : Option (List ℕ)) (script rest line reply : List ℕ) (more : List (List ℕ)) (before M N : Machine) → HasRun old now script rest before M → lines rest ≡ line ∷ more
-    → reply ≡ reply_to (plainly line) M → N ≡ after_line (plainly line) M → GivesFront now new reply → StopsIn old new (given_lines script) before N
-stops_in old now new script rest line reply more before M N h l r n k = record {
+pub runs_on : (clock : Option ℕ) (before at after : KeeperState) (old now new : Option (List ℕ)) (script rest line more : List ℕ) (M N O : Machine) (moment : ℕ) (taken : Bool) (reply : List ℕ)
+    → HasRun clock before at old now script rest M N → lines rest ≡ line ∷ lines more → Answered clock at after N O line moment taken reply → new ≡ appended now reply
+    → HasRun clock before after old new script more M O
+runs_on clock before at after old now new script rest line more M N O moment taken reply h l a k =
+    let g : Given = given line moment taken at after in
+    record {
+      done = h.done ++ g ∷ [];
+      split = h.split ∙ ap (λ z. texts_of h.done ++ z) l ∙ sym (texts_of-after h.done g (lines more));
+      come = come_on clock before at after M h.done g h.come (came clock at after N (after_lines h.done M) O line moment taken reply h.left a);
+      given = k ∙ ap (λ z. appended z reply) h.given ∙ appended-appended old (replies_to h.done M) reply
+          ∙ ap (λ z. appended old (replies_to h.done M ++ z)) (a.reply_is ∙ ap (reply_to g) h.left) ∙ ap (appended old) (sym (replies_to-after h.done g M));
+      left = a.machine_is ∙ ap (after_line g) h.left ∙ sym (after_lines-after h.done g M);
+    }
+
+pub runs_out : (clock : Option ℕ) (before at : KeeperState) (old now : Option (List ℕ)) (script rest : List ℕ) (M N : Machine) → HasRun clock before at old now script rest M N → rest ≡ []
+    → Answers clock before at old now script M N
+runs_out clock before at old now script rest M N h e =
+    record { all = h.done; split = h.split ∙ ap (λ z. texts_of h.done ++ lines z) e ∙ append-nil (texts_of h.done); come = h.come; given = h.given; executed = h.left }
+
+pub stops_in : (clock : Option ℕ) (before at after : KeeperState) (old now new : Option (List ℕ)) (script rest line : List ℕ) (more : List (List ℕ)) (M N O : Machine) (moment : ℕ) (taken : Bool) (reply : List ℕ)
+    → HasRun clock before at old now script rest M N → lines rest ≡ line ∷ more → Answered clock at after N O line moment taken reply → GivesFront now new reply
+    → StopsIn clock before after old new script M O
+stops_in clock before at after old now new script rest line more M N O moment taken reply h l a k =
+    let g : Given = given line moment taken at after in
+    record {
+      done = h.done;
+      line = g;
+      more = more;
+      part = k.front;
+      rest = k.rest;
+      split = h.split ∙ ap (λ z. texts_of h.done ++ z) l ∙ sym (texts_of-after h.done g more);
+      piece = ap (reply_to g) (sym h.left) ∙ sym a.reply_is ∙ k.split;
+      come = come_on clock before at after M h.done g h.come (came clock at after N (after_lines h.done M) O line moment taken reply h.left a);
+      given = k.given ∙ ap (λ z. appended z k.front) h.given ∙ appended-appended old (replies_to h.done M) k.front;
+      executed = a.machine_is ∙ ap (after_line g) h.left ∙ sym (after_lines-after h.done g M);
+    }
+
+pub stops_before : (clock : Option ℕ) (before at after : KeeperState) (old now : Option (List ℕ)) (script rest line : List ℕ) (more : List (List ℕ)) (M N : Machine)
+    → HasRun clock before at old now script rest M N → lines rest ≡ line ∷ more → after.held ≡ at.held → StopsBefore clock before after old now script M N
+stops_before clock before at after old now script rest line more M N h l s = record {
   done = h.done;
-  line = plainly line;
-  more = map plainly more;
-  part = k.front;
-  rest = k.rest;
-  split = h.split ∙ ap (λ z. h.done ++ map plainly z) l;
-  piece = ap (reply_to (plainly line)) (sym h.left) ∙ sym r ∙ k.split;
-  given = k.given ∙ ap (λ z. appended z k.front) h.given ∙ appended-appended old (replies_to h.done before) k.front;
-  executed = n ∙ ap (after_line (plainly line)) h.left ∙ sym (after_lines-after h.done (plainly line) before);
-}
-
-pub stops_before : (old now : Option (List ℕ)) (script rest line more : List ℕ) (before M : Machine) → HasRun old now script rest before M → lines rest ≡ line ∷ lines more
-    → StopsBefore old now (given_lines script) before M
-stops_before old now script rest line more before M h l = record {
-  done = h.done;
-  line = plainly line;
-  more = given_lines more;
-  split = h.split ∙ ap (λ z. h.done ++ map plainly z) l;
+  line = line;
+  more = more;
+  split = h.split ∙ ap (λ z. texts_of h.done ++ z) l;
+  reached = at;
+  come = h.come;
+  same = s;
   given = h.given;
   executed = h.left;
 }
 
-pub ruleset steps = (starts, runs_on, runs_out, runs_through, stops_in, stops_before)
+pub ruleset steps = (starts, answered, runs_on, runs_out)

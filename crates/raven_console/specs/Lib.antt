@@ -1,6 +1,9 @@
 pub mod LineEnds
 pub mod Input
+pub mod Outside
 pub mod Outcome
-pub mod Given
 pub mod OutcomeView
+pub mod Ends
 pub mod WordsView
+pub mod Openings
+pub mod Prepared

@@ -1,14 +1,16 @@
--- What a run leaves of its input and its output, where they tell it.
-use Rattle.std.specs.Prelude.{◌≡◌, ℕ, ◌≤◌, List, [], ◌∷◌, ◌++◌, length, Option, Some, None}
+-- What a run leaves of its input, its output and its keeper, where they tell it.
+use Rattle.std.specs.Prelude.{◌≡◌, ℕ, ◌≤◌, List, [], ◌∷◌, ◌++◌, length, map, Option, Some, None, IfSome, Ok, Err}
+use Rattle.raven_data.specs.Kept.{KeptRow}
 use Rattle.raven_ports.specs.Told.{appended}
-use Rattle.raven_model.specs.Machine.{Machine, start}
+use Rattle.doc_keeper.specs.Loading.{AreCalls}
+use Rattle.raven_model.specs.Commit.{Setting}
+use Rattle.raven_model.specs.Kept.{opened_from}
+use Rattle.raven_model.specs.Lines.{lines}
+use Rattle.raven_model.specs.Machine.{Machine}
+use Rattle.raven_model.specs.Options.{Options, options_in, setting_with}
 use Rattle.raven_model.specs.Script.{Given, reply_to, replies_to, after_lines}
-use Rattle.raven_model.specs.Words.{max_input, program}
-use Rattle.raven_console.specs.Given.{given_lines}
-
--- what is written for a script
-abbrev pub output_of : List ℕ → List ℕ
-output_of script = replies_to (given_lines script) (start program)
+use Rattle.raven_model.specs.Words.{max_input}
+use Rattle.raven_console.specs.Outside.{KeeperState, Come, Holds}
 
 -- a front of these bytes was added
 pub record GivesFront (old new : Option (List ℕ)) (bytes : List ℕ) : Type 0 where
@@ -17,44 +19,121 @@ pub record GivesFront (old new : Option (List ℕ)) (bytes : List ℕ) : Type 0 
   pub split : bytes ≡ front ++ rest
   pub given : new ≡ appended old front
 
--- all was read, and the replies to its lines were written
-abbrev pub Finishes : Option (List ℕ) → Option (List ℕ) → Option (List ℕ) → Option (List ℕ) → Type 0
-Finishes (Some script) left old new = (left ≡ Some []) × (length script ≤ max_input) × (new ≡ appended old (output_of script))
-Finishes None left old new = Unit {0}
+-- ANSWERING LINES ON A MACHINE
+
+abbrev pub texts_of : List Given → List (List ℕ)
+texts_of all = map (λ g. g.0) all
+
+-- all lines were executed, one after another, and their replies written
+pub record Answers (clock : Option ℕ) (before after : KeeperState) (old new : Option (List ℕ)) (script : List ℕ) (M N : Machine) : Type 0 where
+  pub all : List Given
+  pub split : lines script ≡ texts_of all
+  pub come : Come clock before after M all
+  pub given : new ≡ appended old (replies_to all M)
+  pub executed : N ≡ after_lines all M
+
+-- It stopped at the reply to one of the lines: the replies to the lines before were written whole, and then a front of this one. The machine left
+-- is that after the lines up to this one, so no later line was executed.
+pub record StopsIn (clock : Option ℕ) (before after : KeeperState) (old new : Option (List ℕ)) (script : List ℕ) (M N : Machine) : Type 0 where
+  pub done : List Given
+  pub line : Given
+  pub more : List (List ℕ)
+  pub part : List ℕ
+  pub rest : List ℕ
+  pub split : lines script ≡ texts_of (done ++ line ∷ []) ++ more
+  pub piece : reply_to line (after_lines done M) ≡ part ++ rest
+  pub come : Come clock before after M (done ++ line ∷ [])
+  pub given : new ≡ appended old (replies_to done M ++ part)
+  pub executed : N ≡ after_lines (done ++ line ∷ []) M
+
+-- It stopped before one of the lines: the replies to the lines before were written whole, and neither this line nor a later one was executed.
+-- The keeper holds what it held after the lines before.
+pub record StopsBefore (clock : Option ℕ) (before after : KeeperState) (old new : Option (List ℕ)) (script : List ℕ) (M N : Machine) : Type 0 where
+  pub done : List Given
+  pub line : List ℕ
+  pub more : List (List ℕ)
+  pub split : lines script ≡ texts_of done ++ line ∷ more
+  pub reached : KeeperState
+  pub come : Come clock before reached M done
+  pub same : after.held ≡ reached.held
+  pub given : new ≡ appended old (replies_to done M)
+  pub executed : N ≡ after_lines done M
+
+-- OPENING
+
+-- the database of what the keeper gave, which is all that it holds where it tells it
+pub record Opens (setting : Setting) (held : Option (List KeptRow)) (M : Machine) : Type 0 where
+  pub rows : List KeptRow
+  pub told : IfSome held (λ all. all ≡ rows)
+  pub opened : opened_from setting rows ≡ Ok M
+
+-- the row of this etag is the first that breaks the form, where the keeper tells its rows
+abbrev pub IsBad : Setting → Option (List KeptRow) → ℕ → Type 0
+IsBad setting held etag = IfSome held (λ all. opened_from setting all ≡ Err etag)
+
+-- a keeper was asked for its rows, and holds what it held
+pub record Loads (before after : KeeperState) : Type 0 where
+  pub same : after.held ≡ before.held
+  pub called : AreCalls before.plan after.plan
+  pub later : before.count ≤ after.count
+
+-- THE WHOLE RUN
+
+-- the words are of the form, and the database of the kept rows was opened
+pub record Begins (words : List (List ℕ)) (before begun : KeeperState) (M : Machine) : Type 0 where
+  pub options : Options
+  pub ordered : options_in words ≡ Some options
+  pub opens : Opens (setting_with options.base) before.held M
+  pub loads : Loads before begun
+
+-- the words are of the form, and the keeper holds a bad row
+pub record IsKeptBad (words : List (List ℕ)) (held : Option (List KeptRow)) (etag : ℕ) : Type 0 where
+  pub options : Options
+  pub ordered : options_in words ≡ Some options
+  pub bad : IsBad (setting_with options.base) held etag
+
+-- all lines were executed and all replies were written, and the keeper holds the rows of the last store
+pub record Finished (words : List (List ℕ)) (clock : Option ℕ) (before after : KeeperState) (old new : Option (List ℕ)) (script : List ℕ) : Type 0 where
+  pub begun : KeeperState
+  pub first : Machine
+  pub last : Machine
+  pub begins : Begins words before begun first
+  pub answers : Answers clock begun after old new script first last
+  pub holds : Holds after.held last
+
+-- it stopped at the reply to one of the lines, and the keeper holds the rows of the store after this line
+pub record Stopped (words : List (List ℕ)) (clock : Option ℕ) (before after : KeeperState) (old new : Option (List ℕ)) (script : List ℕ) : Type 0 where
+  pub begun : KeeperState
+  pub first : Machine
+  pub last : Machine
+  pub begins : Begins words before begun first
+  pub stops : StopsIn clock begun after old new script first last
+  pub holds : Holds after.held last
+
+-- it stopped before one of the lines, and the keeper holds the rows of the store before this line
+pub record StoppedEarly (words : List (List ℕ)) (clock : Option ℕ) (before after : KeeperState) (old new : Option (List ℕ)) (script : List ℕ) : Type 0 where
+  pub begun : KeeperState
+  pub first : Machine
+  pub last : Machine
+  pub begins : Begins words before begun first
+  pub stops : StopsBefore clock begun after old new script first last
+  pub holds : Holds after.held last
 
 -- all was read, and it was no more than may be
 abbrev pub IsRead : Option (List ℕ) → Option (List ℕ) → Type 0
 IsRead (Some script) left = (left ≡ Some []) × (length script ≤ max_input)
 IsRead None left = Unit {0}
 
--- It stopped at the reply to one of these lines: the replies to the lines before were written whole, and then a front of this one. The machine left
--- is that after the lines up to this one, so no later line was executed.
-pub record StopsIn (old new : Option (List ℕ)) (all : List Given) (before left : Machine) : Type 0 where
-  pub done : List Given
-  pub line : Given
-  pub more : List Given
-  pub part : List ℕ
-  pub rest : List ℕ
-  pub split : all ≡ done ++ line ∷ more
-  pub piece : reply_to line (after_lines done before) ≡ part ++ rest
-  pub given : new ≡ appended old (replies_to done before ++ part)
-  pub executed : left ≡ after_lines (done ++ line ∷ []) before
+-- COMPLETENESS
 
--- It stopped before one of these lines: the replies to the lines before were written whole, and neither this line nor a later one was executed.
-pub record StopsBefore (old new : Option (List ℕ)) (all : List Given) (before left : Machine) : Type 0 where
-  pub done : List Given
-  pub line : Given
-  pub more : List Given
-  pub split : all ≡ done ++ line ∷ more
-  pub given : new ≡ appended old (replies_to done before)
-  pub executed : left ≡ after_lines done before
-
--- it stopped at the reply to one of the lines of the script
-abbrev pub Stops : Option (List ℕ) → Option (List ℕ) → Option (List ℕ) → Type 0
-Stops (Some script) old new = (left : Machine) × StopsIn old new (given_lines script) (start program) left
-Stops None old new = Unit {0}
-
--- it stopped before one of the lines of the script
-abbrev pub StopsEarly : Option (List ℕ) → Option (List ℕ) → Option (List ℕ) → Type 0
-StopsEarly (Some script) old new = (left : Machine) × StopsBefore old new (given_lines script) (start program) left
-StopsEarly None old new = Unit {0}
+-- the words are of the form, the script is no longer than may be, and the kept rows open
+pub record IsValid (words : List (List ℕ)) (left : Option (List ℕ)) (held : Option (List KeptRow)) : Type 0 where
+  pub options : Options
+  pub ordered : options_in words ≡ Some options
+  pub script : List ℕ
+  pub told : left ≡ Some script
+  pub within : length script ≤ max_input
+  pub rows : List KeptRow
+  pub kept : held ≡ Some rows
+  pub machine : Machine
+  pub opens : opened_from (setting_with options.base) rows ≡ Ok machine

@@ -1,18 +1,23 @@
 //! The machine that answers lines.
-ghost use Rattle.std.specs.Prelude.{◌≡◌, IfOk, OnOk, OnErr};
-ghost use Rattle.raven_model.specs.Machine.{change_of, start};
-ghost use Rattle.raven_model.specs.Replies.{printed as spec_printed};
+ghost use Rattle.std.specs.Prelude.{◌≡◌, ◌<◌, ◌≤◌, true, false, IfOk, OnErr};
+ghost use Rattle.raven_data.specs.Moments.{moments_end};
+ghost use Rattle.raven_model.specs.Machine.{change_of, step};
+ghost use Rattle.raven_model.specs.Replies.{KeeperFault, printed as spec_printed};
 ghost use Rattle.raven_model.specs.Script.{after_line, reply_to};
-ghost use Rattle.raven_model.specs.Words.{program};
 ghost use Rattle.raven_reply.specs.ReplyView.{reply_view};
+ghost use Rattle.raven_console.specs.Outside.{Asked, Keeps, circumstance, given, rows_written, seen};
 ghost use Rattle.raven_console.specs.OutcomeView.{world_left};
+ghost use Rattle.raven_console.specs.Prepared.{IsPrepared};
+ghost use Rattle.raven_world.specs.Told.{machine_of};
 ghost use Rattle.raven_script.specs.RequestView.{request_view};
-ghost use Rattle.raven_console.specs.Given.{plainly};
 
+use crate::keeping::keep;
 use crate::outcome::{Outcome, outcome_of};
 use crate::refusal::reply_to_refusal;
 use raven_base::NoMemory;
+use raven_ports::Keeper;
 use raven_script::{Line, Request, line};
+use raven_value::Rows;
 use raven_world::{Reply, World, reply_text};
 use std::alloc::Global;
 use std::marker::Model;
@@ -34,6 +39,16 @@ impl Model for Machine {
     ghost view = { λ a. record { world = a.world } };
 }
 
+/// What is written for a line.
+#[derive(Drop)]
+pub struct Answer {
+    /// The reply with its line end, or nothing for a line without bytes.
+    pub text: Vec<u8>,
+
+    /// Whether the keeper took the rows that the line writes, if there are any.
+    pub taken: bool,
+}
+
 fn printed(alloc: Global, reply: &Reply) -> Result<Vec<u8>, NoMemory>
     ensures { IfOk result (λ bytes. bytes.items ≡ spec_printed (reply_view reply.now)) }
 {
@@ -42,49 +57,117 @@ fn printed(alloc: Global, reply: &Reply) -> Result<Vec<u8>, NoMemory>
     Ok(text)
 }
 
+// All that a change needs before the keeper is asked: what is written for it, the new world where there is one, and its rows.
+#[derive(Drop)]
+struct Prepared {
+    text: Vec<u8>,
+    world: Option<World>,
+    rows: Rows,
+}
+
+fn with_text(outcome: Outcome, text: Vec<u8>) -> Prepared
+    ensures text { result.text ≡ text }
+    ensures world { result.world ≡ outcome.world }
+    ensures rows { result.rows ≡ outcome.rows }
+{
+    let Outcome { world, rows, .. } = outcome;
+    Prepared { text, world, rows }
+}
+
+fn prepare(
+    alloc: Global,
+    world: &World,
+    now: u64,
+    request: Request,
+) -> Result<Prepared, NoMemory>
+    ensures { IfOk result (λ p. IsPrepared world.now (change_of (machine_of world.now) now (request_view request)) p) }
+{
+    let outcome = outcome_of(alloc, world, now, request)?;
+    let text = printed(alloc, &outcome.reply)?;
+    Ok(with_text(outcome, text))
+}
+
+fn not_taken(alloc: Global, before: u64, after: u64) -> Result<Answer, NoMemory>
+    ensures text { IfOk result (λ a. a.text.items ≡ spec_printed (KeeperFault before after)) }
+    ensures taken { IfOk result (λ a. a.taken ≡ false) }
+{
+    let text = printed(alloc, &Reply::KeeperFault { before, after })?;
+    Ok(Answer { text, taken: false })
+}
+
 impl Machine {
-    /// The machine of an empty database.
-    pub fn new(alloc: Global) -> Result<Machine, NoMemory>
-        ensures { IfOk result (λ machine. machine ≡ start program) }
+    /// The machine of this world.
+    pub fn of(world: World) -> Machine
+        ensures { result ≡ record { world = world } }
     {
-        Ok(Machine {
-            world: World::empty(alloc)?,
-        })
+        Machine { world }
     }
 
-    fn keep(&mut self, world: Option<World>)
-        ensures { self.new.world ≡ world_left self.old.world world }
+    // Puts the world in place, which takes no memory.
+    fn take(&mut self, prepared: Prepared) -> Answer
+        ensures text { result.text.items ≡ prepared.text.items }
+        ensures taken { result.taken ≡ true }
+        ensures world { self.new.world ≡ world_left self.old.world prepared.world }
     {
+        let Prepared { text, world, .. } = prepared;
         match world {
             Some(world) => self.world = world,
             None => {}
         }
+        Answer { text, taken: true }
     }
 
-    fn perform(&mut self, alloc: Global, request: Request) -> Result<Vec<u8>, NoMemory>
-        ensures reply { IfOk result (λ text. text.items ≡ spec_printed (change_of self.old 0 (request_view request)).reply) }
-        ensures ok { OnOk result (self.new ≡ (change_of self.old 0 (request_view request)).machine) }
-        ensures err { OnErr result (self.new ≡ self.old) }
+    #[tactic(auto, using(crate::proofs::Performed::performs))]
+    fn perform<K: Keeper>(
+        &mut self,
+        alloc: Global,
+        keeper: &mut K,
+        now: u64,
+        request: Request,
+    ) -> Result<Answer, NoMemory>
+        requires keeps { Keeps (K.held keeper.old) self.old }
+        ensures reply { IfOk result (λ a. a.text.items ≡ spec_printed (step self.old (circumstance now a.taken (seen (K.held keeper.old) (K.plan keeper.old) (K.count keeper.old)) (seen (K.held keeper.new) (K.plan keeper.new) (K.count keeper.new))).keeping now (request_view request)).reply) }
+        ensures machine { IfOk result (λ a. self.new ≡ (step self.old (circumstance now a.taken (seen (K.held keeper.old) (K.plan keeper.old) (K.count keeper.old)) (seen (K.held keeper.new) (K.plan keeper.new) (K.count keeper.new))).keeping now (request_view request)).machine) }
+        ensures asked { IfOk result (λ a. Asked (seen (K.held keeper.old) (K.plan keeper.old) (K.count keeper.old)) (seen (K.held keeper.new) (K.plan keeper.new) (K.count keeper.new)) a.taken (change_of self.old now (request_view request)).rows) }
+        ensures err { OnErr result ((self.new ≡ self.old) × (K.held keeper.new ≡ K.held keeper.old)) }
+        ensures later { K.count keeper.old ≤ K.count keeper.new }
     {
-        let Outcome { reply, world, .. } = outcome_of(alloc, &self.world, request)?;
-        let text = printed(alloc, &reply)?;
-        self.keep(world);
-        Ok(text)
+        let before = keeper.faults();
+        let prepared = prepare(alloc, &self.world, now, request)?;
+        if keep(alloc, keeper, &prepared.rows)? {
+            return Ok(self.take(prepared));
+        }
+        not_taken(alloc, before, keeper.faults())
     }
 
-    /// What is written for a line. Want of memory changes nothing.
+    /// What is written for a line that comes at this moment, in microseconds since 1970. The keeper holds the rows of the database, where
+    /// it tells them. A fault of the keeper and want of memory change nothing.
     #[tactic(auto, using(crate::proofs::Answered::answers))]
-    pub fn answer(&mut self, alloc: Global, bytes: &[u8]) -> Result<Vec<u8>, NoMemory>
-        ensures reply { IfOk result (λ reply. reply.items ≡ reply_to (plainly bytes.now) self.old) }
-        ensures ok { OnOk result (self.new ≡ after_line (plainly bytes.now) self.old) }
-        ensures err { OnErr result (self.new ≡ self.old) }
+    pub fn answer<K: Keeper>(
+        &mut self,
+        alloc: Global,
+        keeper: &mut K,
+        now: u64,
+        bytes: &[u8],
+    ) -> Result<Answer, NoMemory>
+        requires below { now < moments_end }
+        requires keeps { Keeps (K.held keeper.old) self.old }
+        ensures reply { IfOk result (λ a. a.text.items ≡ reply_to (given bytes.now now a.taken (seen (K.held keeper.old) (K.plan keeper.old) (K.count keeper.old)) (seen (K.held keeper.new) (K.plan keeper.new) (K.count keeper.new))) self.old) }
+        ensures machine { IfOk result (λ a. self.new ≡ after_line (given bytes.now now a.taken (seen (K.held keeper.old) (K.plan keeper.old) (K.count keeper.old)) (seen (K.held keeper.new) (K.plan keeper.new) (K.count keeper.new))) self.old) }
+        ensures asked { IfOk result (λ a. Asked (seen (K.held keeper.old) (K.plan keeper.old) (K.count keeper.old)) (seen (K.held keeper.new) (K.plan keeper.new) (K.count keeper.new)) a.taken (rows_written self.old now bytes.now)) }
+        ensures err { OnErr result ((self.new ≡ self.old) × (K.held keeper.new ≡ K.held keeper.old)) }
+        ensures later { K.count keeper.old ≤ K.count keeper.new }
     {
         match line(alloc, bytes) {
-            Ok(Some(Line::Do(request))) => self.perform(alloc, request),
-            Ok(None) => Ok(Vec::new(alloc)),
+            Ok(Some(Line::Do(request))) => self.perform(alloc, keeper, now, request),
+            Ok(None) => Ok(Answer {
+                text: Vec::new(alloc),
+                taken: true,
+            }),
             Err(refusal) => {
                 let reply = reply_to_refusal(refusal)?;
-                printed(alloc, &reply)
+                let text = printed(alloc, &reply)?;
+                Ok(Answer { text, taken: true })
             }
         }
     }

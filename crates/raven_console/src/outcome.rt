@@ -14,9 +14,6 @@ use raven_value::{Rows, Text};
 use raven_world::{Answered, Change, Reply, World, WorldFault};
 use std::alloc::Global;
 
-/// Every request comes at this moment, until there is a clock.
-const MOMENT: u64 = 0;
-
 /// The reply to a request, the new world where there is one, and the rows that it wrote.
 #[derive(Drop)]
 pub struct Outcome {
@@ -58,33 +55,39 @@ fn settled(alloc: Global, answer: Result<Change, WorldFault>) -> Result<Outcome,
 fn picked(
     alloc: Global,
     world: &World,
+    now: u64,
     collection: &Text,
     field: &Text,
 ) -> Result<Outcome, NoMemory>
-    ensures { IfOk result (λ outcome. outcome_view world.now outcome ≡ change_of (machine_of world.now) 0 (Auto collection.now field.now)) }
+    ensures { IfOk result (λ outcome. outcome_view world.now outcome ≡ change_of (machine_of world.now) now (Auto collection.now field.now)) }
 {
     match world.answer(alloc, collection, field)? {
         Answered::Reply(reply) => Ok(unchanged(alloc, reply)),
-        Answered::MustMake => settled(alloc, world.make(alloc, collection, field, MOMENT)),
+        Answered::MustMake => settled(alloc, world.make(alloc, collection, field, now)),
     }
 }
 
-/// What the request leaves of the world.
-pub fn outcome_of(alloc: Global, world: &World, request: Request) -> Result<Outcome, NoMemory>
-    ensures { IfOk result (λ outcome. outcome_view world.now outcome ≡ change_of (machine_of world.now) 0 (request_view request)) }
+/// What the request leaves of the world, at this moment.
+pub fn outcome_of(
+    alloc: Global,
+    world: &World,
+    now: u64,
+    request: Request,
+) -> Result<Outcome, NoMemory>
+    ensures { IfOk result (λ outcome. outcome_view world.now outcome ≡ change_of (machine_of world.now) now (request_view request)) }
 {
     match request {
         Request::Put { id, expected, body } => {
             let command = Command::Put { id, expected, body };
-            settled(alloc, world.commit_one(alloc, command, MOMENT))
+            settled(alloc, world.commit_one(alloc, command, now))
         }
         Request::Delete { id, expected } => {
             let command = Command::Delete { id, expected };
-            settled(alloc, world.commit_one(alloc, command, MOMENT))
+            settled(alloc, world.commit_one(alloc, command, now))
         }
-        Request::Bulk { commands } => settled(alloc, world.commit(alloc, &commands, MOMENT)),
+        Request::Bulk { commands } => settled(alloc, world.commit(alloc, &commands, now)),
         Request::Get { id } => Ok(unchanged(alloc, world.get(alloc, &id)?)),
-        Request::Auto { collection, field } => picked(alloc, world, &collection, &field),
+        Request::Auto { collection, field } => picked(alloc, world, now, &collection, &field),
         Request::Find { index, field, text } => {
             Ok(unchanged(alloc, world.find(alloc, &index, &field, &text)?))
         }

@@ -1,7 +1,9 @@
 //! Scripts and the replies that the rules ask for, and how the program ends.
-use crate::{Status, raven};
+use crate::{Finish, Status, raven};
 use raven_base::{Bytes, Numbers};
-use raven_ports::{ByteSink, ByteSource};
+use raven_ports::{ByteSink, ByteSource, KeptRow, KeptRows, MemKeeper, StillClock};
+use raven_value::Text;
+use std::sync::Arc;
 use std::test::Fail;
 
 // The replies of a database whose base id is 22 letters `A`.
@@ -11,23 +13,73 @@ const PUT_REPLY: &str = "{\"ChangeVector\":\"A:1-AAAAAAAAAAAAAAAAAAAAAA\",\"Id\"
 
 const UNKNOWN: &str = "{\"Error\":\"UnknownLine\"}\n";
 
-fn run(
+// An empty keeper whose calls of these numbers fail. Opening asks it once, and each change that writes rows once more.
+fn keeper(rt: &HostRuntime, fails: &[u64]) -> Result<MemKeeper, Fail> {
+    let alloc = rt.alloc();
+    Ok(MemKeeper::of(
+        KeptRows::new(alloc),
+        Numbers::copied(alloc, fails)?,
+    ))
+}
+
+// A keeper of one row, the document `{"@metadata":{}}` or none.
+fn keeper_of(
     rt: &HostRuntime,
-    word: &str,
+    etag: u64,
+    id: &str,
+    collection: &str,
+    body: Option<&str>,
+) -> Result<MemKeeper, Fail> {
+    let alloc = rt.alloc();
+    let row = KeptRow {
+        etag,
+        id: Text::of(alloc, id)?,
+        collection: Text::of(alloc, collection)?,
+        body: match body {
+            Some(text) => Some(Text::of(alloc, text)?),
+            None => None,
+        },
+        changed: 0,
+    };
+    let mut rows = KeptRows::new(alloc);
+    rows.push(row)?;
+    Ok(MemKeeper::of(rows, Numbers::new(alloc)))
+}
+
+// The words are parted by spaces.
+fn run_over(
+    rt: &HostRuntime,
+    words: &str,
     script: &[u8],
     reads: &[u64],
     writes: &[u64],
-) -> Result<(Status, String), Fail> {
+    keeper: MemKeeper,
+) -> Result<(Finish<MemKeeper>, String), Fail> {
     let alloc = rt.alloc();
-    let words = vec![in alloc; String::from_str(alloc, word)?]?;
+    let mut list = Vec::new(alloc);
+    for word in words.split(' ') {
+        list.push(String::from_str(alloc, word)?)?;
+    }
     let mut input = ByteSource::of(
         Bytes::copied(alloc, script)?,
         Numbers::copied(alloc, reads)?,
     );
     let mut output = ByteSink::of(Bytes::new(alloc), Numbers::copied(alloc, writes)?);
-    let status = raven(rt, &words, &mut input, &mut output);
+    let clock = Arc::new(alloc, StillClock::at(0))?;
+    let finish = raven(rt, &list, &mut input, &mut output, keeper, clock);
     let text = Vec::from_slice(alloc, output.held())?;
-    Ok((status, String::from_utf8(text)?))
+    Ok((finish, String::from_utf8(text)?))
+}
+
+fn run(
+    rt: &HostRuntime,
+    words: &str,
+    script: &[u8],
+    reads: &[u64],
+    writes: &[u64],
+) -> Result<(Status, String), Fail> {
+    let (finish, text) = run_over(rt, words, script, reads, writes, keeper(rt, &[])?)?;
+    Ok((finish.status, text))
 }
 
 // The replies, or the status of a run that was not done.
@@ -37,6 +89,20 @@ fn replies(rt: &HostRuntime, script: &str) -> Result<String, Fail> {
         Ok(text)
     } else {
         Ok(format!(in rt.alloc(); "{status:?}")?)
+    }
+}
+
+// The replies over this keeper, and the keeper that is handed back.
+fn replies_over(
+    rt: &HostRuntime,
+    script: &str,
+    keeper: MemKeeper,
+) -> Result<(String, MemKeeper), Fail> {
+    let (finish, text) = run_over(rt, "run", script.as_bytes(), &[], &[], keeper)?;
+    assert_eq!(rt; finish.status, Status::Done);
+    match finish.keeper {
+        Some(keeper) => Ok((text, keeper)),
+        None => Err(Fail::new("no keeper was handed back")),
     }
 }
 
@@ -301,5 +367,93 @@ fn an_id_has_512_bytes_at_most(rt: HostRuntime) -> Result<(), Fail> {
     )?;
     let got = replies(&rt, script.as_str())?;
     assert_eq!(rt; got.as_str(), wanted.as_str());
+    Ok(())
+}
+
+#[test]
+fn a_fault_of_the_keeper_changes_nothing(rt: HostRuntime) -> Result<(), Fail> {
+    let script = "PUT a {}\nPUT b {}\nGET b\nSTATS\nPUT b {}\n";
+    let wanted = "{\"ChangeVector\":\"A:1-AAAAAAAAAAAAAAAAAAAAAA\",\"Id\":\"a\"}\n\
+        {\"Error\":\"KeeperFault\"}\n\
+        {\"Error\":\"NoDocument\",\"Id\":\"b\"}\n\
+        {\"CountOfDocuments\":1,\"CountOfIndexes\":0,\"CountOfTombstones\":0,\"LastDocEtag\":1}\n\
+        {\"ChangeVector\":\"A:2-AAAAAAAAAAAAAAAAAAAAAA\",\"Id\":\"b\"}\n";
+    let (got, keeper) = replies_over(&rt, script, keeper(&rt, &[3])?)?;
+    assert_eq!(rt; got.as_str(), wanted);
+    assert_eq!(rt; keeper.rows().len(), 2);
+    Ok(())
+}
+
+#[test]
+fn opens_what_was_kept(rt: HostRuntime) -> Result<(), Fail> {
+    let script = format!(in rt.alloc(); "{PUT}PUT b {{}}\nAUTO Users Name\nPUMP 64\nDEL b\n")?;
+    let (_, kept) = replies_over(&rt, script.as_str(), keeper(&rt, &[])?)?;
+    assert_eq!(rt; kept.rows().len(), 3);
+    let script = "STATS\n\
+        FIND Auto/Users/ByName Name ada\n\
+        PUMP 64\n\
+        FIND Auto/Users/ByName Name ada\n\
+        GET b\n\
+        PUT b {\"@metadata\":{\"@collection\":\"Users\"}}\n\
+        PUTIF USERS/1 A:1-AAAAAAAAAAAAAAAAAAAAAA {\"@metadata\":{\"@collection\":\"Users\"}}\n";
+    let wanted = "{\"CountOfDocuments\":1,\"CountOfIndexes\":1,\"CountOfTombstones\":1,\"LastDocEtag\":4}\n\
+        {\"Ids\":[],\"IndexEtag\":0,\"IsStale\":true}\n\
+        {\"Pumped\":[{\"From\":0,\"Index\":\"Auto/Users/ByName\",\"To\":4}]}\n\
+        {\"Ids\":[\"users/1\"],\"IndexEtag\":4,\"IsStale\":false}\n\
+        {\"Error\":\"NoDocument\",\"Id\":\"b\"}\n\
+        {\"At\":0,\"Error\":\"CollectionChanged\",\"From\":\"@empty\"}\n\
+        {\"ChangeVector\":\"A:5-AAAAAAAAAAAAAAAAAAAAAA\",\"Id\":\"users/1\"}\n";
+    let (got, kept) = replies_over(&rt, script, kept)?;
+    assert_eq!(rt; got.as_str(), wanted);
+    assert_eq!(rt; kept.rows().len(), 3);
+    Ok(())
+}
+
+#[test]
+fn tells_why_it_does_not_open(rt: HostRuntime) -> Result<(), Fail> {
+    let (finish, text) = run_over(&rt, "run", PUT.as_bytes(), &[], &[], keeper(&rt, &[1])?)?;
+    assert_eq!(rt; finish.status, Status::KeptFault);
+    assert_eq!(rt; text.as_str(), "");
+    let bad = keeper_of(&rt, 0, "a", "@empty", None)?;
+    let (finish, text) = run_over(&rt, "run", PUT.as_bytes(), &[], &[], bad)?;
+    assert_eq!(rt; finish.status, Status::KeptBad { etag: 0 });
+    assert_eq!(rt; text.as_str(), "");
+    let bad = keeper_of(&rt, 7, "@index/Auto/C/ByF", "@indexes", Some("{\"@metadata\":{}}"))?;
+    let (finish, _) = run_over(&rt, "run", PUT.as_bytes(), &[], &[], bad)?;
+    assert_eq!(rt; finish.status, Status::KeptBad { etag: 7 });
+    Ok(())
+}
+
+#[test]
+fn etags_come_to_an_end(rt: HostRuntime) -> Result<(), Fail> {
+    let last = keeper_of(&rt, 9_007_199_254_740_991, "a", "@empty", None)?;
+    let (got, _) = replies_over(&rt, "PUT b {}\nDEL a\n", last)?;
+    let wanted = "{\"At\":0,\"Error\":\"EtagsSpent\",\"Last\":9007199254740991}\n{\"Deleted\":false,\"Id\":\"a\"}\n";
+    assert_eq!(rt; got.as_str(), wanted);
+    Ok(())
+}
+
+#[test]
+fn what_was_written_is_kept_where_the_output_fails(rt: HostRuntime) -> Result<(), Fail> {
+    let script = format!(in rt.alloc(); "{PUT}AUTO Users Name\nPUT b {{}}\n")?;
+    let (finish, text) = run_over(&rt, "run", script.as_bytes(), &[], &[2], keeper(&rt, &[])?)?;
+    assert_eq!(rt; finish.status, Status::WriteFault);
+    assert_eq!(rt; text.as_str(), PUT_REPLY);
+    let Some(keeper) = finish.keeper else {
+        return Err(Fail::new("no keeper was handed back"));
+    };
+    assert_eq!(rt; keeper.rows().len(), 2);
+    Ok(())
+}
+
+#[test]
+fn the_base_id_stands_in_vectors(rt: HostRuntime) -> Result<(), Fail> {
+    let words = "run --id abcdefghijklmnopqrstu0";
+    let (status, text) = run(&rt, words, b"PUT a {}\n", &[], &[])?;
+    assert_eq!(rt; status, Status::Done);
+    assert_eq!(rt; text.as_str(), "{\"ChangeVector\":\"A:1-abcdefghijklmnopqrstu0\",\"Id\":\"a\"}\n");
+    let (status, text) = run(&rt, "run --id short", b"PUT a {}\n", &[], &[])?;
+    assert_eq!(rt; status, Status::Usage);
+    assert_eq!(rt; text.as_str(), "");
     Ok(())
 }

@@ -1,0 +1,298 @@
+-- Rows are loaded one page after another.
+use Rattle.std.proofs.Common.{◌≡◌, ℕ, zero, suc, ◌<◌, ◌≤◌, ◌+◌, ◌-◌, ◌^◌, List, [], ◌∷◌, ◌++◌, Bool, true, false, cond, is_none, Option, Some, None, option_map, IfSome, Result, Ok, Err, IsTrue, ◌↔◌, filter, length, take, drop, min, refl, sym, ap, ◌∙◌, subst, arith}
+use Rattle.std.proofs.lemmas.Bool.{ltb-true, lt-ltb, le-ltb}
+use Rattle.std.proofs.lemmas.List.{append_assoc, append-nil, length-append, length-take, take-append-drop}
+use Rattle.raven_data.specs.Kept.{KeptRow, EtagsRise, is_past, last_kept}
+use Rattle.raven_data.specs.Rows.{Row, key}
+use Rattle.raven_model.specs.Kept.{may_stand_behind, row_behind, row_in, or_bad_row, rows_behind, rows_in, max_etag}
+use Rattle.raven_model.specs.Store.{Store, row_at, put, last_of, with_row}
+use Rattle.raven_laws.proofs.StoreLemmas.{both_true, last_of-put}
+use Rattle.doc_store.specs.Bounds.{IsWithin}
+use Rattle.doc_store.specs.Steps.{MayStand}
+use Rattle.doc_store.proofs.MapLemmas.{none_out}
+use Rattle.raven_ports.specs.Faults.{Rose}
+use Rattle.raven_ports.specs.Plan.{Plan, calls_later, one_later}
+use Rattle.doc_keeper.specs.Loading.{AreCalls, IsCause, IsLoaded, IsPage, Tells}
+use Rattle.doc_keeper.specs.declared.loading.LoadFault.{LoadFault}
+use Rattle.doc_keeper.specs.declared.loading.LoadFault.TheVariants.{Failed, KeptBad, NoMemory}
+
+-- ONE ROW
+
+no_row : (o : Option Row) → is_none o ≡ true → o ≡ None
+no_row None h = refl
+no_row (Some r) h = cc
+
+-- what a row that may go on is
+pub is_newer : (max : ℕ) (rows : List Row) (r : Row) → may_stand_behind max rows r ≡ true → last_of 0 rows < r.etag
+is_newer max rows r h = ltb-true (last_of 0 rows) r.etag (both_true _ _ (both_true _ _ h).0).0
+
+pub is_fresh : (max : ℕ) (rows : List Row) (r : Row) → may_stand_behind max rows r ≡ true → row_at (key r) rows ≡ None
+is_fresh max rows r h = no_row (row_at (key r) rows) (both_true _ _ (both_true _ _ h).0).1
+
+pub has_room : (max : ℕ) (rows : List Row) (r : Row) → may_stand_behind max rows r ≡ true → length rows < max
+has_room max rows r h = ltb-true (length rows) max (both_true _ _ h).1
+
+-- it goes to the end
+pub at_end : (max : ℕ) (rows : List Row) (r : Row) → may_stand_behind max rows r ≡ true → put r rows ≡ rows ++ r ∷ []
+at_end max rows r h = ap (λ xs. xs ++ r ∷ []) (none_out (key r) rows (is_fresh max rows r h))
+
+stands_in : (max : ℕ) (S : Store) (r : Row) → may_stand_behind max S.rows r ≡ true → MayStand S r
+stands_in max S r h = record {
+  newer = is_newer max S.rows r h;
+  same = λ x found. let none = is_fresh max S.rows r h in absurd cc;
+}
+
+within_in : (max : ℕ) (S : Store) (r : Row) → may_stand_behind max S.rows r ≡ true → r.etag ≤ max_etag → max < 2 ^ 32 → IsWithin (with_row S r)
+within_in max S r h few small = record {
+  etags = let a = last_of-put 0 r S.rows in omega arith;
+  rows = let a = ap length (at_end max S.rows r h) in let b = has_room max S.rows r h in omega (arith, length-append S.rows (r ∷ []));
+}
+
+-- the store of these rows
+abbrev pub IsOf : Store → List Row → Type 0
+IsOf S rows = S ≡ record { rows = rows }
+
+goes_in : (max : ℕ) (S : Store) (rows : List Row) (r : Row) → IsOf S rows → may_stand_behind max rows r ≡ true → may_stand_behind max S.rows r ≡ true
+goes_in max S rows r of h = subst (λ (T : Store). may_stand_behind max T.rows r ≡ true) (sym of) h
+
+pub stands : (max : ℕ) (S : Store) (rows : List Row) (r : Row) → IsOf S rows → may_stand_behind max rows r ≡ true → MayStand S r
+stands max S rows r of h = stands_in max S r (goes_in max S rows r of h)
+
+pub stays_within : (max : ℕ) (S : Store) (rows : List Row) (r : Row) → IsOf S rows → may_stand_behind max rows r ≡ true → r.etag ≤ max_etag → max < 2 ^ 32 → IsWithin (with_row S r)
+stays_within max S rows r of h few small = within_in max S r (goes_in max S rows r of h) few small
+
+pub stays_of : (max : ℕ) (S N : Store) (rows more : List Row) (r : Row) → IsOf S rows → may_stand_behind max rows r ≡ true → N ≡ with_row S r → more ≡ rows ++ r ∷ [] → IsOf N more
+stays_of max S N rows more r of h is so =
+    is ∙ ap (λ (T : Store). with_row T r) of ∙ ap (λ (xs : List Row). record { rows = xs }) (at_end max rows r h ∙ sym so)
+
+-- ROWS BEHIND ROWS
+
+abbrev pub then_rows : ℕ → Result (List Row) ℕ → List KeptRow → Result (List Row) ℕ
+then_rows max (Err etag) ks = Err etag
+then_rows max (Ok rows) ks = rows_behind max rows ks
+
+-- rows go behind, one part of them after another
+pub behind-append : (max : ℕ) (earlier : List Row) (xs ys : List KeptRow) → rows_behind max earlier (xs ++ ys) ≡ then_rows max (rows_behind max earlier xs) ys
+behind-append max earlier [] ys = refl
+behind-append max earlier (k ∷ xs) ys =
+    elim (row_behind max earlier (row_in k)) as (λ o. or_bad_row k.etag o (λ r. rows_behind max (earlier ++ r ∷ []) (xs ++ ys)) ≡ then_rows max (or_bad_row k.etag o (λ r. rows_behind max (earlier ++ r ∷ []) xs)) ys) [
+      | None ↦ refl
+      | Some r ↦ behind-append max (earlier ++ r ∷ []) xs ys
+    ]
+
+-- a row that is good is passed
+pub passed : (max : ℕ) (earlier more : List Row) (k : KeptRow) (ks : List KeptRow) → rows_behind max earlier (k ∷ []) ≡ Ok more → rows_behind max earlier (k ∷ ks) ≡ rows_behind max more ks
+passed max earlier more k ks is = behind-append max earlier (k ∷ []) ks ∙ ap (λ l. then_rows max l ks) is
+
+-- a fault among the first is that of all
+tells_then : (max : ℕ) (f : LoadFault) (l : Result (List Row) ℕ) (ks : List KeptRow) → Tells f l → Tells f (then_rows max l ks)
+tells_then max Failed l ks h = h
+tells_then max (KeptBad etag) l ks h = ap (λ x. then_rows max x ks) h
+tells_then max NoMemory l ks h = h
+
+pub tells_on : (max : ℕ) (earlier : List Row) (f : LoadFault) (xs ys : List KeptRow) → Tells f (rows_behind max earlier xs) → Tells f (rows_behind max earlier (xs ++ ys))
+tells_on max earlier f xs ys h = subst (Tells f) (sym (behind-append max earlier xs ys)) (tells_then max f (rows_behind max earlier xs) ys h)
+
+-- HOW MANY ROWS
+
+behind_length : (max : ℕ) (earlier rows : List Row) (ks : List KeptRow) → rows_behind max earlier ks ≡ Ok rows → length rows ≡ length earlier + length ks
+behind_length max earlier rows [] is = let same : earlier ≡ rows = cc in let e = ap length same in omega arith
+behind_length max earlier rows (k ∷ ks) is =
+    elim (row_behind max earlier (row_in k)) as (λ o. or_bad_row k.etag o (λ r. rows_behind max (earlier ++ r ∷ []) ks) ≡ Ok rows → length rows ≡ length earlier + suc (length ks)) [
+      | None ↦ λ h. absurd cc
+      | Some r ↦ λ h. let e = behind_length max (earlier ++ r ∷ []) rows ks h in omega (arith, length-append earlier (r ∷ []))
+    ] is
+
+row_behind-may : (max : ℕ) (earlier : List Row) (o : Option Row) (r : Row) → row_behind max earlier o ≡ Some r → may_stand_behind max earlier r ≡ true
+row_behind-may max earlier None r h = absurd cc
+row_behind-may max earlier (Some x) r h =
+    elim (may_stand_behind max earlier x) as (λ b. may_stand_behind max earlier x ≡ b → cond b (Some x) None ≡ Some r → may_stand_behind max earlier r ≡ true) [
+      | true ↦ λ e is. let same : x ≡ r = cc in subst (λ y. may_stand_behind max earlier y ≡ true) same e
+      | false ↦ λ e is. absurd cc
+    ] refl h
+
+behind_most : (max : ℕ) (earlier rows : List Row) (ks : List KeptRow) → length earlier ≤ max → rows_behind max earlier ks ≡ Ok rows → length rows ≤ max
+behind_most max earlier rows [] few is = let same : earlier ≡ rows = cc in let e = ap length same in omega arith
+behind_most max earlier rows (k ∷ ks) few is =
+    elim (row_behind max earlier (row_in k)) as (λ o. row_behind max earlier (row_in k) ≡ o → or_bad_row k.etag o (λ r. rows_behind max (earlier ++ r ∷ []) ks) ≡ Ok rows → length rows ≤ max) [
+      | None ↦ λ e h. absurd cc
+      | Some r ↦ λ e h.
+          let room = has_room max earlier r (row_behind-may max earlier (row_in k) r e) in
+          behind_most max (earlier ++ r ∷ []) rows ks (omega (arith, length-append earlier (r ∷ []))) h
+    ] refl is
+
+-- ETAGS
+
+-- past the etag, where there is one
+abbrev pub IsPast : Option ℕ → ℕ → Type 0
+IsPast low etag = IfSome low (λ e. e < etag)
+
+past_on : (low : Option ℕ) (mid high : ℕ) → IsPast low mid → mid < high → IsPast low high
+past_on None mid high a b = tt
+past_on (Some e) mid high a b = omega arith
+
+is_past-true : (low : Option ℕ) (k : KeptRow) → IsPast low k.etag → is_past low k ≡ true
+is_past-true None k h = refl
+is_past-true (Some e) k h = lt-ltb e k.etag h
+
+-- rows past one etag are past an earlier one
+all_pass : (low : Option ℕ) (mid : ℕ) (ks : List KeptRow) → IsPast low mid → EtagsRise (Some mid) ks → filter (is_past low) ks ≡ ks
+all_pass low mid [] a up = refl
+all_pass low mid (k ∷ ks) a up =
+    let here = past_on low mid k.etag a up.0 in
+    ap (λ b. cond b (k ∷ filter (is_past low) ks) (filter (is_past low) ks)) (is_past-true low k here) ∙ ap (λ xs. k ∷ xs) (all_pass low k.etag ks here up.1)
+
+pass : (low : Option ℕ) (ks : List KeptRow) → EtagsRise low ks → filter (is_past low) ks ≡ ks
+pass low [] up = refl
+pass low (k ∷ ks) up =
+    ap (λ b. cond b (k ∷ filter (is_past low) ks) (filter (is_past low) ks)) (is_past-true low k up.0) ∙ ap (λ xs. k ∷ xs) (all_pass low k.etag ks up.0 up.1)
+
+not_past : (e : ℕ) (k : KeptRow) (ks rest : List KeptRow) → k.etag ≤ e → EtagsRise (Some e) (ks ++ rest) → is_past (last_kept (Some e) ks) k ≡ false
+not_past e k [] rest few up = le-ltb e k.etag few
+not_past e k (x ∷ ks) rest few up = not_past x.etag k ks rest (let a : e < x.etag = up.0 in omega arith) up.1
+
+-- the rows past the last of the first ones are the rest
+rest_past : (low : Option ℕ) (given rest : List KeptRow) → EtagsRise low (given ++ rest) → filter (is_past (last_kept low given)) (given ++ rest) ≡ rest
+rest_past low [] rest up = pass low rest up
+rest_past low (k ∷ given) rest up =
+    ap (λ b. cond b (k ∷ filter (is_past (last_kept (Some k.etag) given)) (given ++ rest)) (filter (is_past (last_kept (Some k.etag) given)) (given ++ rest))) (not_past k.etag k given rest (omega arith) up.1)
+    ∙ rest_past (Some k.etag) given rest up.1
+
+rises_on : (low : Option ℕ) (given page : List KeptRow) → EtagsRise low given → EtagsRise (last_kept low given) page → EtagsRise low (given ++ page)
+rises_on low [] page up next = next
+rises_on low (k ∷ given) page up next = (up.0, rises_on (Some k.etag) given page up.1 next)
+
+last_on : (low : Option ℕ) (given page : List KeptRow) → last_kept low (given ++ page) ≡ last_kept (last_kept low given) page
+last_on low [] page = refl
+last_on low (k ∷ given) page = last_on (Some k.etag) given page
+
+-- PAGES
+
+-- all rows are those that were given and the rest, which begins with this page
+pub record Told (given page all : List KeptRow) : Type 0 where
+  pub rest : List KeptRow
+  pub split : all ≡ given ++ rest
+  pub front : page ≡ take 1024 rest
+  pub order : EtagsRise None all
+
+-- and once the page is given too
+after_page : (given page all : List KeptRow) (t : Told given page all) → all ≡ (given ++ page) ++ drop 1024 t.rest
+after_page given page all t =
+    t.split ∙ ap (λ xs. given ++ xs) (sym (take-append-drop 1024 t.rest) ∙ ap (λ xs. xs ++ drop 1024 t.rest) (sym t.front)) ∙ sym (append_assoc given page (drop 1024 t.rest))
+
+-- what was loaded so far, and the page that comes next
+pub record SoFar (max : ℕ) (held : Option (List KeptRow)) (loaded : List Row) (after : Option ℕ) (page : List KeptRow) : Type 0 where
+  pub given : List KeptRow
+  pub rising : EtagsRise None given
+  pub last : last_kept None given ≡ after
+  pub read : rows_in max given ≡ Ok loaded
+  pub next : EtagsRise after page
+  pub told : IfSome held (Told given page)
+
+told_start : (held : Option (List KeptRow)) (page : List KeptRow) → IsPage held None page → IfSome held (Told [] page)
+told_start None page p = tt
+told_start (Some all) page p = record { rest = all; split = refl; front = p.rows ∙ ap (take 1024) (rest_past None [] all p.order); order = p.order }
+
+pub start : (max : ℕ) (held : Option (List KeptRow)) (loaded : List Row) (page : List KeptRow) → loaded ≡ [] → IsPage held None page → SoFar max held loaded None page
+start max held loaded page none p = record { given = []; rising = tt; last = refl; read = ap Ok (sym none); next = p.rising; told = told_start held page p }
+
+told_next : (held : Option (List KeptRow)) (after : Option ℕ) (given page more : List KeptRow) → last_kept None (given ++ page) ≡ after → IfSome held (Told given page) → IsPage held after more
+    → IfSome held (Told (given ++ page) more)
+told_next None after given page more is told p = tt
+told_next (Some all) after given page more is told p =
+    let split = after_page given page all told in
+    let past : filter (is_past after) all ≡ drop 1024 told.rest =
+    ap (λ xs. filter (is_past after) xs) split ∙ ap (λ e. filter (is_past e) ((given ++ page) ++ drop 1024 told.rest)) (sym is)
+    ∙ rest_past None (given ++ page) (drop 1024 told.rest) (subst (EtagsRise None) split p.order) in
+    record { rest = drop 1024 told.rest; split = split; front = p.rows ∙ ap (take 1024) past; order = p.order }
+
+pub go_on : (max : ℕ) (held : Option (List KeptRow)) (loaded further : List Row) (after now : Option ℕ) (page more : List KeptRow) → SoFar max held loaded after page
+    → rows_behind max loaded page ≡ Ok further → now ≡ last_kept after page → IsPage held now more → SoFar max held further now more
+go_on max held loaded further after now page more s is at p =
+    let ends : last_kept None (s.given ++ page) ≡ now = last_on None s.given page ∙ ap (λ e. last_kept e page) s.last ∙ sym at in
+    record {
+      given = s.given ++ page;
+      rising = rises_on None s.given page s.rising (subst (λ e. EtagsRise e page) (sym s.last) s.next);
+      last = ends;
+      read = behind-append max [] s.given page ∙ ap (λ l. then_rows max l page) s.read ∙ is;
+      next = p.rising;
+      told = told_next held now s.given page more ends s.told p;
+    }
+
+no_rest : (rest : List KeptRow) → [] ≡ take 1024 rest → rest ≡ []
+no_rest [] h = refl
+no_rest (k ∷ rest) h = let e = ap length h in absurd (omega (arith, length-take 1024 (k ∷ rest)))
+
+told_done : (held : Option (List KeptRow)) (given : List KeptRow) → IfSome held (Told given []) → IfSome held (λ all. given ≡ all)
+told_done None given told = tt
+told_done (Some all) given told = sym (told.split ∙ ap (λ xs. given ++ xs) (no_rest told.rest told.front) ∙ append-nil given)
+
+pub finish : (max : ℕ) (held : Option (List KeptRow)) (loaded rows : List Row) (after : Option ℕ) (page : List KeptRow) → SoFar max held loaded after page → page ≡ [] → rows ≡ loaded → IsLoaded max held (Ok rows)
+finish max held loaded rows after page s none is = record {
+  given = s.given;
+  rising = s.rising;
+  all = told_done held s.given (subst (λ p. IfSome held (Told s.given p)) none s.told);
+  rows = s.read ∙ ap Ok (sym is);
+}
+
+bad_in : (max etag : ℕ) (held : Option (List KeptRow)) (given page : List KeptRow) → EtagsRise None (given ++ page) → rows_in max (given ++ page) ≡ Err etag → IfSome held (Told given page)
+    → IsLoaded max held (Err etag)
+bad_in max etag None given page up bad told = record { given = given ++ page; rising = up; all = tt; rows = bad }
+bad_in max etag (Some all) given page up bad told = record {
+  given = all;
+  rising = told.order;
+  all = refl;
+  rows =
+      ap (rows_in max) (after_page given page all told) ∙ behind-append max [] (given ++ page) (drop 1024 told.rest)
+      ∙ ap (λ l. then_rows max l (drop 1024 told.rest)) bad;
+}
+
+pub stop : (max : ℕ) (held : Option (List KeptRow)) (loaded : List Row) (after : Option ℕ) (page : List KeptRow) (f : LoadFault) → SoFar max held loaded after page
+    → Tells f (rows_behind max loaded page) → IsCause max held f
+stop max held loaded after page Failed s h = tt
+stop max held loaded after page (KeptBad etag) s h =
+    bad_in max etag held s.given page (rises_on None s.given page s.rising (subst (λ e. EtagsRise e page) (sym s.last) s.next))
+    (behind-append max [] s.given page ∙ ap (λ l. then_rows max l page) s.read ∙ h) s.told
+stop max held loaded after page NoMemory s h = tt
+
+-- how many rows are loaded
+pub few : (max : ℕ) (held : Option (List KeptRow)) (loaded : List Row) (after : Option ℕ) (page : List KeptRow) → SoFar max held loaded after page → length loaded ≤ max
+few max held loaded after page s = behind_most max [] loaded s.given (omega arith) s.read
+
+-- FAULTS
+
+pub rose_since : (before between now : ℕ) → before ≤ between → Rose between now → Rose before now
+rose_since before between now a b = let up : min (between + 1) (2 ^ 64 - 1) ≤ now = b in omega arith
+
+pub other_error : {A B : Type 0} (x : Result A LoadFault) (y : Result B LoadFault) (a b : LoadFault) → x ≡ Err a → y ≡ Err a → y ≡ Err b → x ≡ Err b
+other_error x y a b is at h = let same : a ≡ b = cc in is ∙ ap Err same
+
+-- WHETHER A PAGE HAS ROWS
+
+pub has_none : (b : Bool) (page : List KeptRow) → IsTrue b ↔ (page ≡ []) → b ≡ true → page ≡ []
+has_none b page is h = is.0 h
+
+has_rows : (b : Bool) (page : List KeptRow) → IsTrue b ↔ (page ≡ []) → b ≡ false → 1 ≤ length page
+has_rows b [] is h = let e : b ≡ true = is.1 refl in absurd cc
+has_rows b (k ∷ page) is h = omega arith
+
+pub smaller : (max : ℕ) (loaded further : List Row) (page : List KeptRow) (b : Bool) → length further ≤ max → rows_behind max loaded page ≡ Ok further → IsTrue b ↔ (page ≡ []) → b ≡ false
+    → max - length further < max - length loaded
+smaller max loaded further page b most is none h = let a = behind_length max loaded further page is in let c = has_rows b page none h in omega arith
+
+-- CALLS
+
+called_later : (n : ℕ) (plan : Option Plan) → option_map one_later (calls_later n plan) ≡ calls_later (suc n) plan
+called_later zero plan = refl
+called_later (suc n) plan = called_later n (option_map one_later plan)
+
+pub no_call : (plan : Option Plan) → AreCalls plan plan
+no_call plan = record { calls = 0; after_them = refl }
+
+pub first_call : (before after : Option Plan) → after ≡ option_map one_later before → AreCalls before after
+first_call before after e = record { calls = 1; after_them = e }
+
+pub one_more_call : (before between after : Option Plan) → AreCalls before between → after ≡ option_map one_later between → AreCalls before after
+one_more_call before between after h e = record { calls = suc h.calls; after_them = e ∙ ap (option_map one_later) h.after_them ∙ called_later h.calls before }
+
+pub ruleset calls = (no_call, first_call, one_more_call)

@@ -1,0 +1,7 @@
+use Rattle.std.proofs.Common.{◌≡◌, drop}
+use Rattle.raven_model.specs.Kept.{rows_behind}
+use Rattle.doc_keeper.proofs.loading.Loaded.with_page.Given as goal
+
+-- the rest goes behind what went in so far
+abbrev pub invariant-loop-kept : goal.invariant-loop-kept
+invariant-loop-kept l = rows_behind l.max l.loaded (drop l.kept-index l.page) ≡ rows_behind l.max l.fn.self l.page

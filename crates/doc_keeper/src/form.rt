@@ -1,0 +1,163 @@
+//! Which kept rows are in the form of a row.
+ghost use Rattle.std.specs.Prelude.{◌≡◌, ◌&&◌, IfErr, IfOk, None, Some, if◌then◌else◌, length, map, nat_lt, option_map};
+ghost use Rattle.std.specs.List.{list_any};
+ghost use Rattle.std.specs.Str.{bytes_eq};
+ghost use Rattle.raven_data.specs.Faults.{is_fit, max_id};
+ghost use Rattle.raven_data.specs.Moments.{moments_end};
+ghost use Rattle.raven_data.specs.Written.{text_of};
+ghost use Rattle.raven_value.specs.RowView.{body_of};
+ghost use Rattle.raven_value.specs.View.{data_of, pair_of};
+ghost use Rattle.raven_model.specs.Commit.{is_own as spec_is_own};
+ghost use Rattle.raven_model.specs.Kept.{body_in as spec_body_in, document_in as spec_document_in, is_clean as spec_is_clean, is_etag, is_stored as spec_is_stored, row_in as spec_row_in};
+ghost use Rattle.doc_keeper.specs.Form.{Tells};
+
+use doc_store::OpenFault;
+use doc_txn::is_own;
+use raven_base::NoMemory;
+use raven_json::{JsonRefusal, read, write};
+use raven_ports::KeptRow;
+use raven_value::{Body, Document, Id, IdRefusal, Row, Text, Value};
+use std::alloc::Global;
+
+/// The greatest number up to which a double tells each whole number from the next.
+const MAX_ETAG: u64 = 9_007_199_254_740_991;
+
+/// The beginning of the year 9999, in microseconds since 1970 in UTC.
+const YEAR_9999: u64 = 253_370_764_800_000_000;
+
+/// The longest text of a document, in bytes.
+const MAX_BODY: usize = 1_048_576;
+
+// Whether the server writes one of these members itself.
+fn has_own(members: &[(Text, Value)]) -> bool
+    ensures { result ≡ list_any (λ m. spec_is_own m.0) (map pair_of members.now) }
+{
+    for member in members {
+        if is_own(member.0.as_str()) {
+            return true;
+        }
+    }
+    false
+}
+
+// Metadata without the members that the server writes itself.
+#[tactic(auto, using(crate::proofs::FormLemmas::pairs))]
+fn is_clean(metadata: Option<&Value>) -> bool
+    ensures { result ≡ spec_is_clean (option_map (λ v. data_of v.now) metadata.entry) }
+{
+    match metadata {
+        Some(Value::Map(members)) => !has_own(members.as_slice()),
+        _ => false,
+    }
+}
+
+// An object with clean metadata.
+fn is_stored(alloc: Global, value: &Value) -> Result<bool, NoMemory>
+    ensures { IfOk result (λ stored. stored ≡ spec_is_stored (data_of value.now)) }
+{
+    let Value::Map(members) = value else {
+        return Ok(false);
+    };
+    let name = Text::of(alloc, "@metadata")?;
+    Ok(is_clean(members.get(&name)))
+}
+
+// Whether this is the text that is written for the value.
+fn is_written(alloc: Global, value: &Value, text: &Text) -> Result<bool, NoMemory>
+    ensures { IfOk result (λ is. is ≡ bytes_eq (text_of (data_of value.now)) text.now) }
+{
+    let written = write(alloc, value)?;
+    Ok(written.as_slice() == text.as_str().as_bytes())
+}
+
+// The document, if the value is one and this is the text that is written for it.
+fn checked(alloc: Global, value: Value, text: &Text) -> Result<Option<Document>, NoMemory>
+    ensures { IfOk result (λ found. found ≡ (if spec_is_stored (data_of value) && bytes_eq (text_of (data_of value)) text.now then Some (data_of value) else None)) }
+{
+    if is_stored(alloc, &value)? && is_written(alloc, &value, text)? {
+        Ok(Some(Document::of(alloc, value)?))
+    } else {
+        Ok(None)
+    }
+}
+
+fn document_in(alloc: Global, text: &Text) -> Result<Option<Document>, NoMemory>
+    ensures { IfOk result (λ found. found ≡ spec_document_in text.now) }
+{
+    if text.as_str().len() > MAX_BODY {
+        return Ok(None);
+    }
+    match read(alloc, text.as_str().as_bytes()) {
+        Ok(value) => checked(alloc, value, text),
+        Err(JsonRefusal::NoMemory) => Err(NoMemory),
+        Err(_) => Ok(None),
+    }
+}
+
+fn body_in(alloc: Global, body: &Option<Text>) -> Result<Option<Body>, NoMemory>
+    ensures { IfOk result (λ found. option_map body_of found ≡ spec_body_in body.now) }
+{
+    let Some(text) = body else {
+        return Ok(Some(Body::Gone));
+    };
+    match document_in(alloc, text)? {
+        Some(document) => Ok(Some(Body::Doc(document))),
+        None => Ok(None),
+    }
+}
+
+fn id_in(alloc: Global, text: &Text) -> Result<Option<Id>, NoMemory>
+    ensures { IfOk result (λ found. found ≡ (if is_fit max_id text.now then Some text.now else None)) }
+{
+    match Id::new(alloc, text.as_str()) {
+        Ok(id) => Ok(Some(id)),
+        Err(IdRefusal::NoMemory) => Err(NoMemory),
+        Err(_) => Ok(None),
+    }
+}
+
+// Whether the etag, the collection and the moment are in the form.
+fn is_in_bounds(kept: &KeptRow) -> bool
+    ensures { result ≡ is_etag kept.now.etag && nat_lt 0 (length kept.now.collection) && nat_lt kept.now.changed moments_end }
+{
+    0 < kept.etag
+        && kept.etag <= MAX_ETAG
+        && 0 < kept.collection.as_str().len()
+        && kept.changed < YEAR_9999
+}
+
+fn row_in(alloc: Global, kept: &KeptRow) -> Result<Option<Row>, NoMemory>
+    ensures { IfOk result (λ row. row ≡ spec_row_in kept.now) }
+{
+    if !is_in_bounds(kept) {
+        return Ok(None);
+    }
+    let Some(id) = id_in(alloc, &kept.id)? else {
+        return Ok(None);
+    };
+    let Some(body) = body_in(alloc, &kept.body)? else {
+        return Ok(None);
+    };
+    Ok(Some(Row {
+        etag: kept.etag,
+        id,
+        collection: kept.collection.clone()?,
+        body,
+        changed: kept.changed,
+    }))
+}
+
+/// The row that is kept so.
+///
+/// A kept row is bad where its etag is not from 1 to 9,007,199,254,740,991; where its id is none; where its collection is
+/// empty; where its body has more than 1,048,576 bytes, or is not the text that is written for an object whose `@metadata` is
+/// an object without the members that the server writes itself; and where it was changed in the year 9999 or later.
+pub fn row_of(alloc: Global, kept: &KeptRow) -> Result<Row, OpenFault>
+    ensures ok { IfOk result (λ row. spec_row_in kept.now ≡ Some row) }
+    ensures fault { IfErr result (λ fault. Tells fault kept.now (spec_row_in kept.now)) }
+{
+    match row_in(alloc, kept)? {
+        Some(row) => Ok(row),
+        None => Err(OpenFault::KeptBad { etag: kept.etag }),
+    }
+}

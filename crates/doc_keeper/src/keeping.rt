@@ -1,0 +1,52 @@
+//! How a row is kept.
+ghost use Rattle.std.specs.Prelude.{◌≡◌, IfOk};
+ghost use Rattle.raven_data.specs.Kept.{all_kept as spec_all_kept, body_text as spec_body_text, kept as spec_kept};
+ghost use Rattle.raven_data.specs.Written.{text_of};
+ghost use Rattle.raven_value.specs.RowView.{body_of};
+
+use raven_base::{NoMemory, Sequence};
+use raven_json::write;
+use raven_ports::{KeptRow, KeptRows};
+use raven_value::{Body, Document, Row, Rows, Text};
+use std::alloc::Global;
+
+/// The text that is written for a document.
+pub(crate) fn document_text(alloc: Global, document: &Document) -> Result<Text, NoMemory>
+    ensures { IfOk result (λ text. text ≡ text_of document.now) }
+{
+    let bytes = write(alloc, document.value())?;
+    Ok(Text::of_string(unsafe { String::from_utf8_unchecked(bytes) }))
+}
+
+fn body_text(alloc: Global, body: &Body) -> Result<Option<Text>, NoMemory>
+    ensures { IfOk result (λ text. text ≡ spec_body_text (body_of body.now)) }
+{
+    match body {
+        Body::Doc(document) => Ok(Some(document_text(alloc, document)?)),
+        Body::Gone => Ok(None),
+    }
+}
+
+/// The row as it is kept: a document as the text that is written for it.
+pub fn kept(alloc: Global, row: &Row) -> Result<KeptRow, NoMemory>
+    ensures { IfOk result (λ kept. kept ≡ spec_kept row.now) }
+{
+    Ok(KeptRow {
+        etag: row.etag,
+        id: Text::of(alloc, row.id.as_str())?,
+        collection: row.collection.clone()?,
+        body: body_text(alloc, &row.body)?,
+        changed: row.changed,
+    })
+}
+
+/// The rows as they are kept, in the same order.
+pub fn all_kept(alloc: Global, rows: &Rows) -> Result<KeptRows, NoMemory>
+    ensures { IfOk result (λ all. all ≡ spec_all_kept rows.now) }
+{
+    let mut all = Sequence::new(alloc);
+    for row in rows.as_slice() {
+        all.push(kept(alloc, row)?)?;
+    }
+    Ok(all)
+}

@@ -1,0 +1,10 @@
+//! The keepers of rows: how a row is kept, which kept rows are those of a database, and a keeper in SQLite.
+#![tactic(auto)]
+
+mod form;
+mod keeping;
+mod loading;
+
+pub use form::row_of;
+pub use keeping::{all_kept, kept};
+pub use loading::{LoadFault, load_all};

@@ -1,0 +1,165 @@
+-- Opening from what a keeper holds.
+use Rattle.std.proofs.Common.{◌≡◌, ℕ, ◌<◌, ◌≤◌, ◌^◌, List, [], ◌∷◌, ◌++◌, Bool, true, false, not, ◌&&◌, nat_lt, nat_le, is_some, is_none, cond, Option, Some, None, IfSome, Result, Ok, Err, length, refl, sym, ap, ◌∙◌, subst, append_assoc, arith}
+use Rattle.std.specs.Option.{option_map}
+use Rattle.std.proofs.lemmas.Bool.{ltb-true}
+use Rattle.std.proofs.lemmas.List.{append-nil, length-append}
+use Rattle.raven_data.specs.Faults.{is_fit, max_id}
+use Rattle.raven_data.specs.Kept.{KeptRow, all_kept}
+use Rattle.raven_data.specs.Moments.{moments_end}
+use Rattle.raven_data.specs.Rows.{Row, Body, key}
+use Rattle.raven_model.specs.Commit.{Setting}
+use Rattle.raven_model.specs.Kept.{body_in, is_etag, max_etag, may_stand_behind, opened_by, opened_from, row_behind, row_in, rows_behind, rows_in, or_bad_row}
+use Rattle.raven_model.specs.Machine.{Machine}
+use Rattle.raven_model.specs.Opening.{opened}
+use Rattle.raven_model.specs.Options.{setting_with}
+use Rattle.raven_model.specs.Store.{last_of, row_at}
+use Rattle.raven_model.specs.Words.{base_id, program}
+use Rattle.doc_store.specs.Opening.{first_bad, is_sound_after}
+use Rattle.doc_txn.specs.SettingView.{setting_of}
+use Rattle.doc_txn.specs.declared.limits.Limits.{Limits}
+use Rattle.raven_laws.proofs.StoreLemmas.{both_true}
+use Rattle.doc_keeper.specs.Loading.{AreCalls, IsLoaded}
+use Rattle.raven_world.specs.Opened as worlds
+use Rattle.raven_laws.proofs.OpenLemmas.{opened_from-is}
+use Rattle.raven_console.specs.Outcome.{IsBad, Loads, Opens}
+use Rattle.raven_console.specs.Outside.{KeeperState, Keeps}
+
+-- THE LIMITS OF THE PROGRAM
+
+pub limits_are : (base : List ℕ) (limits : Limits) → setting_of base_id limits ≡ program → setting_of base limits ≡ setting_with base
+limits_are base limits h = ap (λ (s : Setting). (let x : Setting = record { base = base; max_rows = s.max_rows; max_slots = s.max_slots; max_notes = s.max_notes } in x)) h
+
+-- ROWS THAT ARE READ ARE ROWS OF A STORE
+
+-- what a row says of itself that is in the form
+record IsFit (r : Row) : Type 0 where
+  pub etag : nat_le r.etag max_etag ≡ true
+  pub collection : nat_lt 0 (length r.collection) ≡ true
+  pub changed : nat_lt r.changed moments_end ≡ true
+
+abbrev row_with : KeptRow → Body → Row
+row_with k body = record { etag = k.etag; id = k.id; collection = k.collection; body = body; changed = k.changed }
+
+row_in-IsFit : (k : KeptRow) (r : Row) → row_in k ≡ Some r → IsFit r
+row_in-IsFit k r h = by (is_etag k.etag && is_fit max_id k.id && nat_lt 0 (length k.collection) && nat_lt k.changed moments_end) refl h
+  where
+    same : (a b : Row) → Some a ≡ Some b → a ≡ b
+    same a b e = cc
+
+    with : (o : Option Body) → is_etag k.etag && is_fit max_id k.id && nat_lt 0 (length k.collection) && nat_lt k.changed moments_end ≡ true → option_map (row_with k) o ≡ Some r → IsFit r
+    with None t e = absurd cc
+    with (Some b) t e =
+        let all = both_true (is_etag k.etag && is_fit max_id k.id && nat_lt 0 (length k.collection)) (nat_lt k.changed moments_end) t in
+        let three = both_true (is_etag k.etag && is_fit max_id k.id) (nat_lt 0 (length k.collection)) all.0 in
+        let two = both_true (is_etag k.etag) (is_fit max_id k.id) three.0 in
+        subst IsFit (same (row_with k b) r e) (record { etag = (both_true (nat_lt 0 k.etag) (nat_le k.etag max_etag) two.0).1; collection = three.1; changed = all.1 })
+
+    by : (b : Bool) → is_etag k.etag && is_fit max_id k.id && nat_lt 0 (length k.collection) && nat_lt k.changed moments_end ≡ b
+        → cond b (option_map (row_with k) (body_in k.body)) None ≡ Some r → IsFit r
+    by true t e = with (body_in k.body) t e
+    by false t e = absurd cc
+
+none_is : (o : Option Row) → is_none o ≡ true → not (is_some o) ≡ true
+none_is None h = refl
+none_is (Some r) h = absurd cc
+
+all_true : (a b c d e : Bool) → a ≡ true → b ≡ true → c ≡ true → d ≡ true → e ≡ true → a && b && c && d && e ≡ true
+all_true a b c d e p q r s t = ap (λ x. x && b && c && d && e) p ∙ ap (λ x. true && x && c && d && e) q ∙ ap (λ x. true && true && x && d && e) r ∙ ap (λ x. true && true && true && x && e) s ∙ ap (λ x. true && true && true && true && x) t
+
+behind_is_sound : (max : ℕ) (earlier : List Row) (r : Row) → may_stand_behind max earlier r ≡ true → IsFit r → is_sound_after earlier r ≡ true
+behind_is_sound max earlier r h f =
+    let all = both_true (nat_lt (last_of 0 earlier) r.etag && is_none (row_at (key r) earlier)) (nat_lt (length earlier) max) h in
+    let two = both_true (nat_lt (last_of 0 earlier) r.etag) (is_none (row_at (key r) earlier)) all.0 in
+    all_true _ _ _ _ _ two.0 f.etag (none_is (row_at (key r) earlier) two.1) f.collection f.changed
+
+record AreSound (max : ℕ) (earlier : List Row) (rows : List Row) : Type 0 where
+  pub new : List Row
+  pub split : rows ≡ earlier ++ new
+  pub sound : first_bad earlier new ≡ None
+  pub few : length earlier ≤ max → length rows ≤ max
+
+more_are : (max : ℕ) (earlier : List Row) (r : Row) (rows : List Row) → may_stand_behind max earlier r ≡ true → is_sound_after earlier r ≡ true → AreSound max (earlier ++ r ∷ []) rows → AreSound max earlier rows
+more_are max earlier r rows m s h = record {
+  new = r ∷ h.new;
+  split = h.split ∙ append_assoc earlier (r ∷ []) h.new;
+  sound = ap (λ b. cond b (first_bad (earlier ++ r ∷ []) h.new) (Some r.etag)) s ∙ h.sound;
+  few = λ le. h.few (let l = length-append earlier (r ∷ []) in let f = ltb-true (length earlier) max (both_true (nat_lt (last_of 0 earlier) r.etag && is_none (row_at (key r) earlier)) (nat_lt (length earlier) max) m).1 in omega arith);
+}
+
+rows_behind-AreSound : (max : ℕ) (earlier : List Row) (ks : List KeptRow) (rows : List Row) → rows_behind max earlier ks ≡ Ok rows → AreSound max earlier rows
+rows_behind-AreSound max earlier [] rows h = record {
+  new = [];
+  split = sym (same earlier rows h) ∙ sym (append-nil earlier);
+  sound = refl;
+  few = λ le. subst (λ xs. length xs ≤ max) (same earlier rows h) le;
+}
+  where
+    same : (a b : List Row) → (let x : Result (List Row) ℕ = Ok a in x) ≡ Ok b → a ≡ b
+    same a b e = cc
+
+rows_behind-AreSound max earlier (k ∷ ks) rows h = at (row_in k) refl h (λ r g. rows_behind-AreSound max (earlier ++ r ∷ []) ks rows g)
+  where
+    with : (r : Row) (b : Bool) → row_in k ≡ Some r → may_stand_behind max earlier r ≡ b
+        → or_bad_row k.etag (cond b (Some r) None) (λ r. rows_behind max (earlier ++ r ∷ []) ks) ≡ Ok rows
+        → ((r : Row) → rows_behind max (earlier ++ r ∷ []) ks ≡ Ok rows → AreSound max (earlier ++ r ∷ []) rows) → AreSound max earlier rows
+    with r true e m g more = more_are max earlier r rows m (behind_is_sound max earlier r m (row_in-IsFit k r e)) (more r g)
+    with r false e m g more = absurd cc
+
+    at : (o : Option Row) → row_in k ≡ o → or_bad_row k.etag (row_behind max earlier o) (λ r. rows_behind max (earlier ++ r ∷ []) ks) ≡ Ok rows
+        → ((r : Row) → rows_behind max (earlier ++ r ∷ []) ks ≡ Ok rows → AreSound max (earlier ++ r ∷ []) rows) → AreSound max earlier rows
+    at None e g more = absurd cc
+    at (Some r) e g more = with r (may_stand_behind max earlier r) e refl g more
+
+read_are_sound : (max : ℕ) (held : List KeptRow) (rows : List Row) → rows_in max held ≡ Ok rows → first_bad [] rows ≡ None
+read_are_sound max held rows h = let a = rows_behind-AreSound max [] held rows h in subst (λ xs. first_bad [] xs ≡ None) (sym a.split) a.sound
+
+-- THE DATABASE
+
+back : (held : Option (List KeptRow)) (given : List KeptRow) → IfSome held (λ all. given ≡ all) → IfSome held (λ all. all ≡ given)
+back None given h = tt
+back (Some all) given h = sym h
+
+-- where the rows are those of the keeper and the world is theirs
+pub opens : (base : List ℕ) (limits : Limits) (held : Option (List KeptRow)) (rows : List Row) (M : Machine) → setting_of base_id limits ≡ program → IsLoaded limits.rows held (Ok rows)
+    → opened (setting_of base limits) rows ≡ Ok M → Opens (setting_with base) held M
+opens base limits held rows M l is e =
+    let whole : opened_from (setting_of base limits) is.given ≡ Ok M = ap (opened_by (setting_of base limits)) is.rows ∙ e in
+    record { rows = is.given; told = back held is.given is.all; opened = subst (λ s. opened_from s is.given ≡ Ok M) (limits_are base limits l) whole }
+
+bad_of : (s : Setting) (held : Option (List KeptRow)) (given : List KeptRow) (etag : ℕ) → IfSome held (λ all. given ≡ all) → opened_from s given ≡ Err etag → IsBad s held etag
+bad_of s None given etag h e = tt
+bad_of s (Some all) given etag h e = subst (λ x. opened_from s x ≡ Err etag) h e
+
+-- where a row is bad as it is read
+pub bad_row : (base : List ℕ) (limits : Limits) (held : Option (List KeptRow)) (etag : ℕ) → setting_of base_id limits ≡ program → IsLoaded limits.rows held (Err etag) → IsBad (setting_with base) held etag
+bad_row base limits held etag l is =
+    subst (λ s. IsBad s held etag) (limits_are base limits l) (bad_of (setting_of base limits) held is.given etag is.all (ap (opened_by (setting_of base limits)) is.rows))
+
+told_bad : (found : Option ℕ) (o : Result Machine ℕ) (etag : ℕ) → found ≡ None → worlds.bad_row found o ≡ Some etag → o ≡ Err etag
+told_bad found (Ok M) etag n b = absurd (let e : worlds.bad_row None (Ok M) ≡ Some etag = ap (λ f. worlds.bad_row f (Ok M)) (sym n) ∙ b in cc)
+told_bad found (Err x) etag n b = let e : worlds.bad_row None (Err x) ≡ Some etag = ap (λ f. worlds.bad_row f (Err x)) (sym n) ∙ b in ap Err (let same : (a c : ℕ) → Some a ≡ Some c → a ≡ c = λ a c h. cc in same x etag e)
+
+-- where a row is bad as the row of a definition
+pub bad_definition : (base : List ℕ) (limits : Limits) (held : Option (List KeptRow)) (rows : List Row) (etag : ℕ) → setting_of base_id limits ≡ program → IsLoaded limits.rows held (Ok rows)
+    → worlds.bad_row (first_bad [] rows) (opened (setting_of base limits) rows) ≡ Some etag → IsBad (setting_with base) held etag
+bad_definition base limits held rows etag l is b =
+    let e = told_bad (first_bad [] rows) (opened (setting_of base limits) rows) etag (read_are_sound limits.rows is.given rows is.rows) b in
+    subst (λ s. IsBad s held etag) (limits_are base limits l) (bad_of (setting_of base limits) held is.given etag is.all (ap (opened_by (setting_of base limits)) is.rows ∙ e))
+
+-- the keeper holds the rows of the machine that it opens
+pub keeps_from : (setting : Setting) (held after : Option (List KeptRow)) (M : Machine) → after ≡ held → Opens setting held M → Keeps after M
+keeps_from setting held after M e o =
+    let is = opened_from-is setting o.rows M o.opened in
+    subst (λ h. Keeps h M) (sym e) (record { sound = is.sound; holds = by held o.told is.kept })
+  where
+    by : (held : Option (List KeptRow)) → IfSome held (λ all. all ≡ o.rows) → all_kept M.world.store.rows ≡ o.rows → IfSome held (λ all. all ≡ all_kept M.world.store.rows)
+    by None h k = tt
+    by (Some all) h k = h ∙ sym k
+
+pub few_rows : (limits : Limits) (n : ℕ) → setting_of base_id limits ≡ program → n ≤ limits.rows → n < 2 ^ 32
+few_rows limits n l le = let e : limits.rows ≡ 4000000 = ap (λ (s : Setting). s.max_rows) l in omega arith
+
+pub loads : (before after : KeeperState) → after.held ≡ before.held → AreCalls before.plan after.plan → before.count ≤ after.count → Loads before after
+loads before after s c l = record { same = s; called = c; later = l }
+
+pub ruleset opening = (opens, bad_row, bad_definition, keeps_from, few_rows, loads)

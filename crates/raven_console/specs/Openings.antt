@@ -1,0 +1,13 @@
+-- What is told where a database does not open.
+use Rattle.std.specs.Prelude.{ℕ, List, Option}
+use Rattle.raven_data.specs.Kept.{KeptRow}
+use Rattle.raven_model.specs.Commit.{Setting}
+use Rattle.doc_keeper.specs.declared.loading.LoadFault.{LoadFault}
+use Rattle.doc_keeper.specs.declared.loading.LoadFault.TheVariants.{Failed, KeptBad, NoMemory}
+use Rattle.raven_console.specs.Outcome.{IsBad}
+
+-- a bad row is named by its etag
+abbrev pub TellsBad : Setting → Option (List KeptRow) → LoadFault → Type 0
+TellsBad setting held (KeptBad etag) = IsBad setting held etag
+TellsBad setting held Failed = Unit {0}
+TellsBad setting held NoMemory = Unit {0}

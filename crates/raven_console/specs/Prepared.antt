@@ -1,0 +1,13 @@
+-- What a change needs before the keeper is asked.
+use Rattle.std.specs.Prelude.{◌≡◌}
+use Rattle.raven_model.specs.World as is
+use Rattle.raven_model.specs.Machine.{Change}
+use Rattle.raven_model.specs.Replies.{printed}
+use Rattle.raven_world.specs.Told.{machine_of}
+use Rattle.raven_console.specs.OutcomeView.{world_left}
+use Rattle.raven_console.specs.declared.machine.Prepared.{Prepared}
+
+pub record IsPrepared (W : is.World) (c : Change) (p : Prepared) : Type 0 where
+  pub text : p.text.items ≡ printed c.reply
+  pub machine : machine_of (world_left W p.world) ≡ c.machine
+  pub rows : p.rows ≡ c.rows

@@ -1,0 +1,40 @@
+//! Opening a database from what its keeper holds.
+ghost use Rattle.std.specs.Prelude.{◌≡◌, ◌≤◌, IfErr, IfOk, IsErrOf};
+ghost use Rattle.raven_model.specs.Options.{setting_with};
+ghost use Rattle.raven_ports.specs.Faults.{Rose};
+ghost use Rattle.raven_console.specs.Outcome.{IsBad, Loads, Opens};
+ghost use Rattle.raven_console.specs.Outside.{Keeps, seen};
+ghost use Rattle.raven_console.specs.Openings.{TellsBad};
+
+use crate::machine::Machine;
+use doc_keeper::{LoadFault, load_all};
+use doc_store::OpenFault;
+use doc_txn::{BaseId, Limits};
+use raven_ports::Keeper;
+use raven_world::World;
+use std::alloc::Global;
+
+/// The machine of the rows that the keeper holds. The keeper holds them as before, whatever comes.
+#[tactic(auto, using(crate::proofs::Opened::opening))]
+pub(crate) fn open_from<K: Keeper>(
+    alloc: Global,
+    keeper: &mut K,
+    base: BaseId,
+) -> Result<Machine, LoadFault>
+    ensures opens { IfOk result (λ machine. Opens (setting_with base) (K.held keeper.old) machine) }
+    ensures keeps { IfOk result (λ machine. Keeps (K.held keeper.new) machine) }
+    ensures bad { IfErr result (λ fault. TellsBad (setting_with base) (K.held keeper.old) fault) }
+    ensures fault { IsErrOf result LoadFault.Failed → Rose (K.count keeper.old) (K.count keeper.new) }
+    ensures loads { Loads (seen (K.held keeper.old) (K.plan keeper.old) (K.count keeper.old)) (seen (K.held keeper.new) (K.plan keeper.new) (K.count keeper.new)) }
+{
+    let limits = Limits::program();
+    let rows = match load_all(alloc, keeper, &limits) {
+        Ok(rows) => rows,
+        Err(fault) => return Err(fault),
+    };
+    match World::open(alloc, &rows, base, limits) {
+        Ok(world) => Ok(Machine::of(world)),
+        Err(OpenFault::KeptBad { etag }) => Err(LoadFault::KeptBad { etag }),
+        Err(OpenFault::NoMemory) => Err(LoadFault::NoMemory),
+    }
+}
