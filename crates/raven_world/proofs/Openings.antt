@@ -7,7 +7,7 @@ use Rattle.std.specs.Str.{bytes_eq, IsCharBoundary}
 use Rattle.std.proofs.lemmas.Str.{IsCharBoundary-after_ascii}
 use Rattle.std.specs.Char.{to_ascii_lowercase}
 use Rattle.raven_model.specs.Commit.{is_index_id}
-use Rattle.raven_data.specs.Data.{Data, null, flag, num, text, array, object, no_items, item, no_entries, entry, pairs_of, entries_of, items_of}
+use Rattle.raven_data.specs.Data.{Data, array, object, pairs_of, entries_of, items_of}
 use Rattle.raven_data.specs.Faults.{Fault, empty, too_long, control, fault_of, is_control, is_fit, max_name}
 use Rattle.raven_data.specs.Folding.{folded}
 use Rattle.raven_data.specs.Members.{member}

@@ -86,8 +86,12 @@ fn found(alloc: Global, world: &World, words: &str) -> Result<String, Fail> {
     printed(alloc, &reply)
 }
 
+fn pumped(alloc: Global, world: &World) -> Result<World, Fail> {
+    Ok(world.pump(alloc, 1)?.world)
+}
+
 #[test]
-fn an_index_of_kept_rows_has_its_documents_after_batches(rt: HostRuntime) -> Result<(), Fail> {
+fn an_index_of_kept_rows_is_opened_without_documents(rt: HostRuntime) -> Result<(), Fail> {
     let alloc = rt.alloc();
     let world = opened(alloc, &three(alloc)?, limits(3, 1))??;
     assert_eq!(rt;
@@ -98,14 +102,21 @@ fn an_index_of_kept_rows_has_its_documents_after_batches(rt: HostRuntime) -> Res
         found(alloc, &world, "bob")?.as_str(),
         "{\"Ids\":[],\"IndexEtag\":0,\"IsStale\":true}"
     );
-    let first = world.pump(alloc, 1)?;
+    Ok(())
+}
+
+#[test]
+fn an_opened_index_has_its_documents_after_batches(rt: HostRuntime) -> Result<(), Fail> {
+    let alloc = rt.alloc();
+    let world = opened(alloc, &three(alloc)?, limits(3, 1))??;
+    let world = pumped(alloc, &world)?;
     assert_eq!(rt;
-        printed(alloc, &first.reply)?.as_str(),
-        "{\"Pumped\":[{\"From\":0,\"Index\":\"aUTO/Users/Byname\",\"To\":2}]}"
+        found(alloc, &world, "ann")?.as_str(),
+        "{\"Ids\":[\"users/1\"],\"IndexEtag\":2,\"IsStale\":true}"
     );
-    let second = first.world.pump(alloc, 1)?;
+    let world = pumped(alloc, &world)?;
     assert_eq!(rt;
-        found(alloc, &second.world, "bob")?.as_str(),
+        found(alloc, &world, "bob")?.as_str(),
         "{\"Ids\":[\"users/2\"],\"IndexEtag\":7,\"IsStale\":false}"
     );
     Ok(())

@@ -1,4 +1,4 @@
-use Rattle.std.proofs.Common.{◌≡◌, ◌<◌, ◌∙◌, [], List, Some, None, get_or, if◌then◌else◌, length, ap, subst, sym}
+use Rattle.std.proofs.Common.{◌<◌, ◌∙◌, List, Some, None, get_or, if◌then◌else◌, length, ap, subst, sym}
 use Rattle.raven_data.specs.Rows.{Row}
 use Rattle.doc_txn.specs.SettingView.{setting_of}
 use Rattle.raven_world.proofs.Openings.{bad-later, slots-bad, slots-next}
