@@ -135,6 +135,10 @@ is_past-true : (low : Option ℕ) (k : KeptRow) → IsPast low k.etag → is_pas
 is_past-true None k h = refl
 is_past-true (Some e) k h = lt-ltb e k.etag h
 
+past-is : (low : Option ℕ) (k : KeptRow) → is_past low k ≡ true → IsPast low k.etag
+past-is None k h = tt
+past-is (Some e) k h = ltb-true e k.etag h
+
 -- rows past one etag are past an earlier one
 all_pass : (low : Option ℕ) (mid : ℕ) (ks : List KeptRow) → IsPast low mid → EtagsRise (Some mid) ks → filter (is_past low) ks ≡ ks
 all_pass low mid [] a up = refl
@@ -165,6 +169,13 @@ rises_on low (k ∷ given) page up next = (up.0, rises_on (Some k.etag) given pa
 last_on : (low : Option ℕ) (given page : List KeptRow) → last_kept low (given ++ page) ≡ last_kept (last_kept low given) page
 last_on low [] page = refl
 last_on low (k ∷ given) page = last_on (Some k.etag) given page
+
+-- one row more
+pub rises_more : (after last : Option ℕ) (found more : List KeptRow) (k : KeptRow) → EtagsRise after found → last_kept after found ≡ last → is_past last k ≡ true → more ≡ found ++ k ∷ [] → EtagsRise after more
+rises_more after last found more k up at past is = subst (EtagsRise after) (sym is) (rises_on after found (k ∷ []) up (subst (λ e. EtagsRise e (k ∷ [])) (sym at) (past-is last k past, tt)))
+
+pub last_more : (after : Option ℕ) (found more : List KeptRow) (k : KeptRow) → more ≡ found ++ k ∷ [] → last_kept after more ≡ Some k.etag
+last_more after found more k is = ap (last_kept after) is ∙ last_on after found (k ∷ [])
 
 -- PAGES
 

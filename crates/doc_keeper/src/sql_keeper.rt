@@ -1,0 +1,297 @@
+//! A keeper in a database of SQLite, in a file or in memory.
+ghost use Rattle.std.specs.Prelude.{◌≡◌, ◌≤◌, IfErr, IfOk, IsErrOf, None, length};
+ghost use Rattle.raven_data.specs.Kept.{EtagsRise, is_past as spec_is_past};
+ghost use Rattle.raven_ports.specs.Faults.{Rose};
+
+use raven_base::{NoMemory, Sequence};
+use raven_ports::{Keeper, KeeperFault, KeptRow, KeptRows};
+use raven_value::Text;
+use sqlite::types::ValueRef;
+use sqlite::{
+    Alter, Connection, Error, ErrorCode, FileFrom, FileStore, MemStore, Row, Rows, Transaction,
+    Wary, params,
+};
+use std::alloc::Global;
+
+/// The one table: a row for each id, under the id with its ASCII letters in lower case.
+const TABLE: &str =
+    "CREATE TABLE kept (key TEXT NOT NULL PRIMARY KEY, etag INTEGER NOT NULL UNIQUE, id TEXT NOT NULL, collection TEXT NOT NULL, body TEXT, changed INTEGER NOT NULL) STRICT";
+
+/// What the database has, and the texts that made it; the indexes of the table have none.
+const OBJECTS: &str = "SELECT sql FROM sqlite_schema WHERE sql IS NOT NULL";
+
+const LOAD: &str =
+    "SELECT etag, id, collection, body, changed FROM kept WHERE etag >= ?1 ORDER BY etag LIMIT ?2";
+
+const PUT: &str =
+    "INSERT INTO kept (key, etag, id, collection, body, changed) VALUES (?1, ?2, ?3, ?4, ?5, ?6) ON CONFLICT (key) DO UPDATE SET etag = excluded.etag, id = excluded.id, collection = excluded.collection, body = excluded.body, changed = excluded.changed";
+
+/// A keeper in a database of SQLite, which it has for itself. It tells nothing of what it holds.
+///
+/// Each call that is refused for another cause than want of memory is a fault. So is a load that meets a row whose columns do
+/// not fit a kept row, or whose etag is not past the one before it.
+#[derive(Drop)]
+pub struct SqlKeeper<S: Alter + Drop> {
+    alloc: Global,
+    conn: Connection<S>,
+    faults: u64,
+}
+
+fn fault_of(error: Error) -> KeeperFault {
+    match error {
+        Error::SqliteFailure(ErrorCode::OutOfMemory) => KeeperFault::NoMemory,
+        _ => KeeperFault::Failed,
+    }
+}
+
+// Whether the database has the table and nothing else, or nothing at all.
+fn is_ours(objects: &[Row]) -> Result<bool, Error> {
+    let [table] = objects else {
+        return Ok(objects.is_empty());
+    };
+    let text: String = table.get(0)?;
+    Ok(text.as_str() == TABLE)
+}
+
+// Makes the table in a database that has nothing. Any other is left as it is, and refused unless it has just the table.
+fn prepare<S: Alter>(conn: &mut Connection<S>) -> Result<(), Error> {
+    let objects = conn.query_all(OBJECTS, &[])?;
+    if !is_ours(objects.as_slice())? {
+        return Err(Error::SqliteFailure(ErrorCode::NotADatabase));
+    }
+    if objects.is_empty() {
+        conn.execute(TABLE, &[])?;
+    }
+    Ok(())
+}
+
+// The least etag that is past this one. Etags of the database have 63 bits.
+fn least_past(after: Option<u64>) -> Option<i64> {
+    let Some(etag) = after else {
+        return Some(i64::MIN);
+    };
+    match i64::try_from(etag) {
+        Ok(last) => last.checked_add(1),
+        Err(_) => None,
+    }
+}
+
+fn begin<S: Alter>(conn: &mut Connection<S>, least: i64, max: u32) -> Result<Rows<'_, S>, Error> {
+    conn.query(LOAD, params![least, max])
+}
+
+fn text_at(row: &Row, at: usize) -> Result<Text, Error> {
+    Ok(Text::of_string(row.get(at)?))
+}
+
+fn body_of(row: &Row) -> Result<Option<Text>, Error> {
+    match row.get_ref(3)? {
+        ValueRef::Null => Ok(None),
+        _ => Ok(Some(text_at(row, 3)?)),
+    }
+}
+
+fn kept_of(row: &Row) -> Result<KeptRow, Error> {
+    Ok(KeptRow {
+        etag: row.get(0)?,
+        id: text_at(row, 1)?,
+        collection: text_at(row, 2)?,
+        body: body_of(row)?,
+        changed: row.get(4)?,
+    })
+}
+
+fn next_kept<S: Alter>(rows: &mut Rows<'_, S>) -> Result<Option<KeptRow>, Error> {
+    rows.advance()?;
+    match rows.get() {
+        Some(row) => Ok(Some(kept_of(row)?)),
+        None => Ok(None),
+    }
+}
+
+fn is_past(last: Option<u64>, kept: &KeptRow) -> bool
+    ensures { result ≡ spec_is_past last kept.now }
+{
+    match last {
+        Some(etag) => etag < kept.etag,
+        None => true,
+    }
+}
+
+// The next rows of the answer, whose etags are to rise from past this one.
+fn take<S: Alter>(
+    alloc: Global,
+    rows: &mut Rows<'_, S>,
+    after: Option<u64>,
+    max: u32,
+) -> Result<KeptRows, KeeperFault>
+    ensures rising { IfOk result (EtagsRise after) }
+    ensures most { IfOk result (λ found. length found ≤ max) }
+{
+    let mut found = Sequence::new(alloc);
+    let mut last = after;
+    for _ in 0..max {
+        let kept = match next_kept(rows) {
+            Ok(Some(kept)) => kept,
+            Ok(None) => return Ok(found),
+            Err(error) => return Err(fault_of(error)),
+        };
+        if !is_past(last, &kept) {
+            return Err(KeeperFault::Failed);
+        }
+        last = Some(kept.etag);
+        if let Err(NoMemory) = found.push(kept) {
+            return Err(KeeperFault::NoMemory);
+        }
+    }
+    Ok(found)
+}
+
+fn load_rows<S: Alter>(
+    alloc: Global,
+    conn: &mut Connection<S>,
+    after: Option<u64>,
+    max: u32,
+) -> Result<KeptRows, KeeperFault>
+    ensures rising { IfOk result (EtagsRise after) }
+    ensures most { IfOk result (λ found. length found ≤ max) }
+{
+    let Some(least) = least_past(after) else {
+        return Ok(Sequence::new(alloc));
+    };
+    match begin(conn, least, max) {
+        Ok(mut rows) => take(alloc, &mut rows, after, max),
+        Err(error) => Err(fault_of(error)),
+    }
+}
+
+// A number as the database has it, whose column is named where it does not fit.
+fn number(value: u64, column: usize) -> Result<i64, Error> {
+    i64::try_from(value).map_err(|_| Error::IntegralValueOutOfRange(column))
+}
+
+fn put<S: Alter>(
+    alloc: Global,
+    transaction: &mut Transaction<'_, S>,
+    row: &KeptRow,
+) -> Result<(), Error> {
+    let key = row.id.as_str().to_ascii_lowercase(alloc)?;
+    let etag = number(row.etag, 1)?;
+    let changed = number(row.changed, 5)?;
+    let body = match &row.body {
+        Some(text) => Some(text.as_str()),
+        None => None,
+    };
+    transaction.execute(
+        PUT,
+        params![
+            &key,
+            etag,
+            row.id.as_str(),
+            row.collection.as_str(),
+            body,
+            changed
+        ],
+    )?;
+    Ok(())
+}
+
+// All rows, or none: a transaction that is dropped leaves nothing.
+fn put_all<S: Alter>(
+    alloc: Global,
+    conn: &mut Connection<S>,
+    rows: &KeptRows,
+) -> Result<(), Error> {
+    if !conn.is_autocommit() {
+        return Err(Error::SqliteFailure(ErrorCode::TransactionState));
+    }
+    let mut transaction = conn.transaction();
+    for row in rows.as_slice() {
+        put(alloc, &mut transaction, row)?;
+    }
+    transaction.commit()
+}
+
+impl<S: Alter + Drop> SqlKeeper<S> {
+    // A keeper in this database, which has the table or nothing.
+    fn over(alloc: Global, conn: Connection<S>) -> Result<SqlKeeper<S>, KeeperFault> {
+        let mut conn = conn;
+        match prepare(&mut conn) {
+            Ok(()) => Ok(SqlKeeper {
+                alloc,
+                conn,
+                faults: 0,
+            }),
+            Err(error) => Err(fault_of(error)),
+        }
+    }
+
+    // Counts a fault, unless it is want of memory.
+    fn counted(&mut self, fault: KeeperFault) -> KeeperFault
+        ensures same { result ≡ fault }
+        ensures later { self.old.faults ≤ self.new.faults }
+        ensures cause { result ≡ KeeperFault.Failed → Rose self.old.faults self.new.faults }
+    {
+        if fault == KeeperFault::Failed {
+            self.faults = self.faults.saturating_add(1);
+        }
+        fault
+    }
+}
+
+impl SqlKeeper<MemStore> {
+    /// A keeper in memory, without rows.
+    pub fn in_memory(alloc: Global) -> Result<SqlKeeper<MemStore>, KeeperFault> {
+        match Connection::open_in_memory(alloc) {
+            Ok(conn) => SqlKeeper::over(alloc, conn),
+            Err(_) => Err(KeeperFault::NoMemory),
+        }
+    }
+}
+
+impl SqlKeeper<FileStore<FileFrom<Wary>>> {
+    /// A keeper in the file at a path, which is made where there is none. The keeper has the file for itself, with the log
+    /// beside it, whose name ends in `-wal`.
+    ///
+    /// It fails where the file is no database of SQLite, is open elsewhere, or has anything but the table of a keeper.
+    pub fn in_file(
+        rt: &HostRuntime,
+        path: &str,
+    ) -> Result<SqlKeeper<FileStore<FileFrom<Wary>>>, KeeperFault> {
+        match Connection::open_from(rt, path, false, Wary) {
+            Ok(conn) => SqlKeeper::over(rt.alloc(), conn),
+            Err((error, _)) => Err(fault_of(error)),
+        }
+    }
+}
+
+impl<S: Alter + Drop> Keeper for SqlKeeper<S> {
+    ghost held = { λ _. None };
+
+    ghost plan = { λ _. None };
+
+    ghost count = { λ k. k.faults };
+
+    fn faults(&self) -> u64 {
+        self.faults
+    }
+
+    fn load(
+        &mut self,
+        alloc: Global,
+        after: Option<u64>,
+        max: u32,
+    ) -> Result<KeptRows, KeeperFault> {
+        match load_rows(alloc, &mut self.conn, after, max) {
+            Ok(rows) => Ok(rows),
+            Err(fault) => Err(self.counted(fault)),
+        }
+    }
+
+    fn commit(&mut self, rows: &KeptRows) -> Result<(), KeeperFault> {
+        match put_all(self.alloc, &mut self.conn, rows) {
+            Ok(()) => Ok(()),
+            Err(error) => Err(self.counted(fault_of(error))),
+        }
+    }
+}
