@@ -20,21 +20,21 @@ pub finished : (words : List (List ℕ)) (clock : Option ℕ) (before begun afte
     → Answers clock begun after old new script M N → Keeps after.held N → IfSome left (Finished words clock before after old new)
 finished words clock before begun after old new left left_after script o M N e opens loads all a k =
     of_script left left_after script (Finished words clock before after old new) all
-      (record { begun = begun; first = M; last = N; begins = begins words o before begun M e opens loads; answers = a; holds = k.holds })
+    (record { begun = begun; first = M; last = N; begins = begins words o before begun M e opens loads; answers = a; holds = k.holds })
 
 pub stopped : (words : List (List ℕ)) (clock : Option ℕ) (before begun after : KeeperState) (old new left left_after : Option (List ℕ)) (script : List ℕ) (o : Options) (M N : Machine)
     → options_in words ≡ Some o → Opens (setting_with o.base) before.held M → Loads before begun → IfSome left (λ l. (l ≡ script) × (left_after ≡ Some []))
     → StopsIn clock begun after old new script M N → Keeps after.held N → IfSome left (Stopped words clock before after old new)
 stopped words clock before begun after old new left left_after script o M N e opens loads all a k =
     of_script left left_after script (Stopped words clock before after old new) all
-      (record { begun = begun; first = M; last = N; begins = begins words o before begun M e opens loads; stops = a; holds = k.holds })
+    (record { begun = begun; first = M; last = N; begins = begins words o before begun M e opens loads; stops = a; holds = k.holds })
 
 pub stopped_early : (words : List (List ℕ)) (clock : Option ℕ) (before begun after : KeeperState) (old new left left_after : Option (List ℕ)) (script : List ℕ) (o : Options) (M N : Machine)
     → options_in words ≡ Some o → Opens (setting_with o.base) before.held M → Loads before begun → IfSome left (λ l. (l ≡ script) × (left_after ≡ Some []))
     → StopsBefore clock begun after old new script M N → Keeps after.held N → IfSome left (StoppedEarly words clock before after old new)
 stopped_early words clock before begun after old new left left_after script o M N e opens loads all a k =
     of_script left left_after script (StoppedEarly words clock before after old new) all
-      (record { begun = begun; first = M; last = N; begins = begins words o before begun M e opens loads; stops = a; holds = k.holds })
+    (record { begun = begun; first = M; last = N; begins = begins words o before begun M e opens loads; stops = a; holds = k.holds })
 
 -- before one of the lines or at its reply
 pub stopped_short : (words : List (List ℕ)) (clock : Option ℕ) (before begun after : KeeperState) (old new left left_after : Option (List ℕ)) (script : List ℕ) (o : Options) (M N : Machine)

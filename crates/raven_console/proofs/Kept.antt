@@ -23,7 +23,7 @@ pub past : (held : Option (List KeptRow)) (M : Machine) (now : ℕ) (request : R
     → IfSome held (λ all. EtagsRise (last_kept None all) (all_kept rows))
 past held M now request rows k e =
     subst (λ x. IfSome held (λ all. EtagsRise (last_kept None all) (all_kept x))) (sym e)
-      (past_held held M.world.store (change_of M now request).rows k.holds (next-behind M.world.store (change_of M now request).rows (change-rows M now request).next))
+    (past_held held M.world.store (change_of M now request).rows k.holds (next-behind M.world.store (change_of M now request).rows (change-rows M now request).next))
 
 -- AND IT HOLDS THEM AFTERWARDS
 
@@ -43,7 +43,7 @@ settled_holds before after M c [] now taken e s h a =
     subst (λ all. HoldsStore after.held (settled M (circumstance now taken before after).keeping (record { reply = c.reply; machine = c.machine; rows = all })).machine.world.store) (sym e) here
 settled_holds before after M c (r ∷ rows) now true e s h a =
     let here : HoldsStore after.held c.machine.world.store =
-      subst (λ held. HoldsStore held c.machine.world.store) (sym (a.kept refl)) (subst (λ S. HoldsStore (option_map (λ all. keep_all all (all_kept (r ∷ rows))) before.held) S) (sym s) (holds_more before.held M.world.store (r ∷ rows) h)) in
+    subst (λ held. HoldsStore held c.machine.world.store) (sym (a.kept refl)) (subst (λ S. HoldsStore (option_map (λ all. keep_all all (all_kept (r ∷ rows))) before.held) S) (sym s) (holds_more before.held M.world.store (r ∷ rows) h)) in
     subst (λ all. HoldsStore after.held (settled M (circumstance now true before after).keeping (record { reply = c.reply; machine = c.machine; rows = all })).machine.world.store) (sym e) here
 settled_holds before after M c (r ∷ rows) now false e s h a =
     let here : HoldsStore after.held M.world.store = subst (λ held. HoldsStore held M.world.store) (sym (a.failed refl).0) h in

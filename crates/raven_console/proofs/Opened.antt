@@ -96,7 +96,6 @@ rows_behind-AreSound max earlier [] rows h = record {
   where
     same : (a b : List Row) → (let x : Result (List Row) ℕ = Ok a in x) ≡ Ok b → a ≡ b
     same a b e = cc
-
 rows_behind-AreSound max earlier (k ∷ ks) rows h = at (row_in k) refl h (λ r g. rows_behind-AreSound max (earlier ++ r ∷ []) ks rows g)
   where
     with : (r : Row) (b : Bool) → row_in k ≡ Some r → may_stand_behind max earlier r ≡ b

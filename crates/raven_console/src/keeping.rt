@@ -11,11 +11,7 @@ use std::alloc::Global;
 
 /// Asks the keeper once where there are rows, and says whether it took them all. A keeper that took none holds what it held.
 #[tactic(auto, using(crate::proofs::Asking::asking))]
-pub(crate) fn keep<K: Keeper>(
-    alloc: Global,
-    keeper: &mut K,
-    rows: &Rows,
-) -> Result<bool, NoMemory>
+pub(crate) fn keep<K: Keeper>(alloc: Global, keeper: &mut K, rows: &Rows) -> Result<bool, NoMemory>
     requires rising { EtagsRise None (spec_all_kept rows.now) }
     requires past { IfSome (K.held keeper.old) (λ all. EtagsRise (last_kept None all) (spec_all_kept rows.now)) }
     ensures asked { IfOk result (λ taken. Asked (seen (K.held keeper.old) (K.plan keeper.old) (K.count keeper.old)) (seen (K.held keeper.new) (K.plan keeper.new) (K.count keeper.new)) taken rows.now) }

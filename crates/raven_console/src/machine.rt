@@ -74,12 +74,7 @@ fn with_text(outcome: Outcome, text: Vec<u8>) -> Prepared
     Prepared { text, world, rows }
 }
 
-fn prepare(
-    alloc: Global,
-    world: &World,
-    now: u64,
-    request: Request,
-) -> Result<Prepared, NoMemory>
+fn prepare(alloc: Global, world: &World, now: u64, request: Request) -> Result<Prepared, NoMemory>
     ensures { IfOk result (λ p. IsPrepared world.now (change_of (machine_of world.now) now (request_view request)) p) }
 {
     let outcome = outcome_of(alloc, world, now, request)?;

@@ -16,10 +16,7 @@ const UNKNOWN: &str = "{\"Error\":\"UnknownLine\"}\n";
 // An empty keeper whose calls of these numbers fail. Opening asks it once, and each change that writes rows once more.
 fn keeper(rt: &HostRuntime, fails: &[u64]) -> Result<MemKeeper, Fail> {
     let alloc = rt.alloc();
-    Ok(MemKeeper::of(
-        KeptRows::new(alloc),
-        Numbers::copied(alloc, fails)?,
-    ))
+    Ok(MemKeeper::of(KeptRows::new(alloc), Numbers::copied(alloc, fails)?))
 }
 
 // A keeper of one row, the document `{"@metadata":{}}` or none.
@@ -99,10 +96,9 @@ fn replies_over(
     keeper: MemKeeper,
 ) -> Result<(String, MemKeeper), Fail> {
     let (finish, text) = run_over(rt, "run", script.as_bytes(), &[], &[], keeper)?;
-    assert_eq!(rt; finish.status, Status::Done);
     match finish.keeper {
-        Some(keeper) => Ok((text, keeper)),
-        None => Err(Fail::new("no keeper was handed back")),
+        Some(keeper) if finish.status == Status::Done => Ok((text, keeper)),
+        _ => Err(Fail::new("the run was not done")),
     }
 }
 
@@ -396,7 +392,8 @@ fn opens_what_was_kept(rt: HostRuntime) -> Result<(), Fail> {
         GET b\n\
         PUT b {\"@metadata\":{\"@collection\":\"Users\"}}\n\
         PUTIF USERS/1 A:1-AAAAAAAAAAAAAAAAAAAAAA {\"@metadata\":{\"@collection\":\"Users\"}}\n";
-    let wanted = "{\"CountOfDocuments\":1,\"CountOfIndexes\":1,\"CountOfTombstones\":1,\"LastDocEtag\":4}\n\
+    let wanted =
+        "{\"CountOfDocuments\":1,\"CountOfIndexes\":1,\"CountOfTombstones\":1,\"LastDocEtag\":4}\n\
         {\"Ids\":[],\"IndexEtag\":0,\"IsStale\":true}\n\
         {\"Pumped\":[{\"From\":0,\"Index\":\"Auto/Users/ByName\",\"To\":4}]}\n\
         {\"Ids\":[\"users/1\"],\"IndexEtag\":4,\"IsStale\":false}\n\
@@ -418,7 +415,13 @@ fn tells_why_it_does_not_open(rt: HostRuntime) -> Result<(), Fail> {
     let (finish, text) = run_over(&rt, "run", PUT.as_bytes(), &[], &[], bad)?;
     assert_eq!(rt; finish.status, Status::KeptBad { etag: 0 });
     assert_eq!(rt; text.as_str(), "");
-    let bad = keeper_of(&rt, 7, "@index/Auto/C/ByF", "@indexes", Some("{\"@metadata\":{}}"))?;
+    let bad = keeper_of(
+        &rt,
+        7,
+        "@index/Auto/C/ByF",
+        "@indexes",
+        Some("{\"@metadata\":{}}"),
+    )?;
     let (finish, _) = run_over(&rt, "run", PUT.as_bytes(), &[], &[], bad)?;
     assert_eq!(rt; finish.status, Status::KeptBad { etag: 7 });
     Ok(())
@@ -428,7 +431,8 @@ fn tells_why_it_does_not_open(rt: HostRuntime) -> Result<(), Fail> {
 fn etags_come_to_an_end(rt: HostRuntime) -> Result<(), Fail> {
     let last = keeper_of(&rt, 9_007_199_254_740_991, "a", "@empty", None)?;
     let (got, _) = replies_over(&rt, "PUT b {}\nDEL a\n", last)?;
-    let wanted = "{\"At\":0,\"Error\":\"EtagsSpent\",\"Last\":9007199254740991}\n{\"Deleted\":false,\"Id\":\"a\"}\n";
+    let wanted =
+        "{\"At\":0,\"Error\":\"EtagsSpent\",\"Last\":9007199254740991}\n{\"Deleted\":false,\"Id\":\"a\"}\n";
     assert_eq!(rt; got.as_str(), wanted);
     Ok(())
 }
@@ -451,7 +455,10 @@ fn the_base_id_stands_in_vectors(rt: HostRuntime) -> Result<(), Fail> {
     let words = "run --id abcdefghijklmnopqrstu0";
     let (status, text) = run(&rt, words, b"PUT a {}\n", &[], &[])?;
     assert_eq!(rt; status, Status::Done);
-    assert_eq!(rt; text.as_str(), "{\"ChangeVector\":\"A:1-abcdefghijklmnopqrstu0\",\"Id\":\"a\"}\n");
+    assert_eq!(rt;
+        text.as_str(),
+        "{\"ChangeVector\":\"A:1-abcdefghijklmnopqrstu0\",\"Id\":\"a\"}\n"
+    );
     let (status, text) = run(&rt, "run --id short", b"PUT a {}\n", &[], &[])?;
     assert_eq!(rt; status, Status::Usage);
     assert_eq!(rt; text.as_str(), "");

@@ -6,14 +6,14 @@ use Rattle.raven_console.proofs.run.answer_lines.Goals as goal
 pub returns-in-Err-clause-stopped : goal.returns-in-Err-clause-stopped
 returns-in-Err-clause-stopped g c = λ _.
     stops_in _ _ _ _ _ _ _ _ _ _ _ _ _ _ _ _ _ c.loop-rest.invariant.ran c.next_line.ensures.line
-      (answered _ _ _ _ _ _ _ _ _ c.now-now.ensures.below c.now-now.ensures.told c.in-Ok.ensures.asked (c.deref.ensures.value ∙ c.in-Ok.ensures.reply) c.in-Ok.ensures.machine)
-      c.in-Err.ensures.err
+    (answered _ _ _ _ _ _ _ _ _ c.now-now.ensures.below c.now-now.ensures.told c.in-Ok.ensures.asked (c.deref.ensures.value ∙ c.in-Ok.ensures.reply) c.in-Ok.ensures.machine)
+    c.in-Err.ensures.err
 
 pub returns-in-Err-clause-memory : goal.returns-in-Err-clause-memory
 returns-in-Err-clause-memory g c = λ _. inr
     (stops_in _ _ _ _ _ _ _ _ _ _ _ _ _ _ _ _ _ c.loop-rest.invariant.ran c.next_line.ensures.line
-      (answered _ _ _ _ _ _ _ _ _ c.now-now.ensures.below c.now-now.ensures.told c.in-Ok.ensures.asked (c.deref.ensures.value ∙ c.in-Ok.ensures.reply) c.in-Ok.ensures.machine)
-      c.in-Err.ensures.err)
+    (answered _ _ _ _ _ _ _ _ _ c.now-now.ensures.below c.now-now.ensures.told c.in-Ok.ensures.asked (c.deref.ensures.value ∙ c.in-Ok.ensures.reply) c.in-Ok.ensures.machine)
+    c.in-Err.ensures.err)
 
 pub returns-in-Err-clause-keeps : goal.returns-in-Err-clause-keeps
 returns-in-Err-clause-keeps g c = keeps_on _ _ _ _ _ _ _ c.loop-rest.invariant.keeps c.in-Ok.ensures.asked c.in-Ok.ensures.machine
