@@ -82,7 +82,8 @@ fn slot_in(alloc: Global, row: &Row) -> Result<Option<Slot>, NoMemory>
     }
 }
 
-// Adds the index of a row, if it is the live row of a definition. Whether the row is of a form, behind so many others.
+// Adds the index of a row that stands behind so many others, if it is the live row of a definition. It is false where the row
+// is bad, and nothing is added then.
 #[tactic(auto, using(crate::proofs::Openings::takes))]
 fn take_row(
     alloc: Global,
@@ -115,8 +116,8 @@ impl World {
     /// A row is bad where `Store::open` refuses it. Where it refuses none, a row is bad where there are as many rows before it
     /// as may be; where it is the live row of a definition, and there are as many indexes before it as may be; where its id
     /// begins with `@index/`, without regard to case, and its collection is another than `@indexes`, or the other way round;
-    /// and where it is the live row of a definition, and its body is none, or the rest of its id is not the name of an
-    /// automatic index. Of several the first is told.
+    /// and where it is the live row of a definition, and its body is not that of an automatic index of one field, or the rest
+    /// of its id is not the name of such an index. Of several the first is told.
     #[tactic(auto, using(crate::proofs::Openings::opening))]
     pub fn open(
         alloc: Global,

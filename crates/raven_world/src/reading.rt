@@ -13,6 +13,7 @@ use raven_base::NoMemory;
 use raven_value::{Members, Text, Value};
 use std::alloc::Global;
 
+// Whether the byte cannot stand in a part of a path.
 fn is_break(byte: u8) -> bool
     ensures { result ≡ ((byte == 46) || (byte == 40) || (byte == 41)) }
 {
@@ -31,6 +32,7 @@ fn is_part(text: &str) -> bool
     !text.is_empty() && !has_break(text)
 }
 
+// Whether the value is an object without members.
 #[tactic(auto, using(crate::proofs::Openings::bodies))]
 fn is_bare(value: Option<&Value>) -> bool
     ensures { result ≡ spec_is_bare (option_map (λ v. data_of v.now) value.entry) }
@@ -50,6 +52,7 @@ fn text_in(value: Option<&Value>) -> Option<&Text>
     }
 }
 
+// The item of a list that has one.
 #[tactic(auto, using(crate::proofs::Openings::bodies))]
 fn only_item(value: Option<&Value>) -> Option<&Value>
     ensures { option_map (λ v. data_of v.now) result ≡ spec_only_item (option_map (λ v. data_of v.now) value.entry) }
@@ -73,7 +76,7 @@ fn member<'a>(
     Ok(members.get(&Text::of(alloc, name)?))
 }
 
-// The definition of these four members.
+// The definition that these four members make, if they make one.
 fn auto_of(
     alloc: Global,
     metadata: Option<&Value>,
