@@ -1,5 +1,5 @@
 -- What is written for a line, and what it leaves, by what it asks.
-use Rattle.std.proofs.Common.{◌≡◌, ℕ, List, [], ◌∷◌, Bool, true, Option, Some, None, Result, Ok, Err, refl, sym, ap, ◌∙◌, subst}
+use Rattle.std.proofs.Common.{◌≡◌, ℕ, List, [], Bool, true, Option, Some, None, Result, Ok, Err, refl, sym, ap, ◌∙◌, subst}
 use Rattle.raven_data.specs.Rows.{Row}
 use Rattle.raven_model.specs.Machine.{Machine, Request, change_of, step}
 use Rattle.raven_model.specs.Replies.{Reply, printed}

@@ -1,9 +1,6 @@
 -- What asking a keeper does.
-use Rattle.std.proofs.Common.{◌≡◌, ◌≢◌, ◌≤◌, ℕ, List, [], ◌∷◌, Bool, true, false, not, Option, option_map, IfSome, refl}
-use Rattle.raven_data.specs.Kept.{all_kept, keep_all}
+use Rattle.std.proofs.Common.{◌≡◌, ◌≢◌, List, [], ◌∷◌, Bool, true, refl}
 use Rattle.raven_data.specs.Rows.{Row}
-use Rattle.raven_ports.specs.Faults.{Rose}
-use Rattle.raven_ports.specs.Plan.{Plan, is_failing, one_later}
 use Rattle.raven_console.specs.Outside.{KeeperState, Asked, AskedOnce}
 
 pub not_asked : (before after : KeeperState) (rows : List Row) → rows ≡ [] → after ≡ before → Asked before after true rows

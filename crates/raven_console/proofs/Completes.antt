@@ -1,12 +1,10 @@
 -- Where no count rises, a valid input is answered to its end.
-use Rattle.std.proofs.Common.{◌≡◌, ℕ, ◌+◌, ◌≤◌, List, ◌++◌, Option, Some, None, Result, Ok, Err, length, ◌⊎◌, inl, inr, refl, sym, ap, ◌∙◌, subst, arith}
+use Rattle.std.proofs.Common.{◌≡◌, ℕ, ◌+◌, ◌≤◌, List, ◌++◌, Option, Some, None, Ok, Err, length, ◌⊎◌, inl, inr, refl, sym, ap, ◌∙◌, subst, arith}
 use Rattle.std.proofs.lemmas.List.{length-append}
 use Rattle.raven_data.specs.Kept.{KeptRow}
 use Rattle.raven_ports.specs.Told.{preceded}
 use Rattle.raven_model.specs.Kept.{opened_from}
-use Rattle.raven_model.specs.Machine.{Machine}
 use Rattle.raven_model.specs.Options.{Options, options_in, setting_with}
-use Rattle.raven_model.specs.Words.{max_input}
 use Rattle.raven_console.specs.declared.status.Status.{Status}
 use Rattle.raven_console.specs.declared.status.Status.TheVariants as status
 use Rattle.raven_console.specs.Ends.{TellsKeptBad}

@@ -1,5 +1,5 @@
 -- How a run ends.
-use Rattle.std.proofs.Common.{◌≡◌, ◌⊎◌, inl, inr, ℕ, List, Option, Some, None, IfSome, [], refl, sym, subst}
+use Rattle.std.proofs.Common.{◌≡◌, ◌⊎◌, inl, inr, ℕ, List, Option, Some, None, IfSome, [], sym, subst}
 use Rattle.raven_data.specs.Kept.{KeptRow}
 use Rattle.raven_model.specs.Machine.{Machine}
 use Rattle.raven_model.specs.Options.{Options, options_in, setting_with}

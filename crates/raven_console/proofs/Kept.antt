@@ -7,7 +7,7 @@ use Rattle.raven_model.specs.Script.{Line, Do, ReadRefusal, after_line, left_by,
 use Rattle.raven_model.specs.Store.{Store, with_rows}
 use Rattle.raven_laws.proofs.KeepLemmas.{change-rows, kept-with_rows, next-alone, next-behind}
 use Rattle.raven_laws.proofs.MachineLemmas.{step-Moves}
-use Rattle.raven_console.specs.Outside.{KeeperState, Asked, Holds, Keeps, circumstance, given, rows_in, rows_written}
+use Rattle.raven_console.specs.Outside.{KeeperState, Asked, Keeps, circumstance, given, rows_in, rows_written}
 
 -- THE ROWS OF A CHANGE ARE IN ORDER BEHIND WHAT THE KEEPER HOLDS
 

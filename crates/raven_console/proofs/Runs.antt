@@ -1,12 +1,12 @@
 -- Lines that are answered one after another.
-use Rattle.std.proofs.Common.{◌≡◌, ℕ, ◌≤◌, ◌<◌, List, [], ◌∷◌, ◌++◌, Bool, Option, IfSome, refl, ap, sym, ◌∙◌, append_assoc, map, subst}
-use Rattle.std.proofs.lemmas.List.{append-nil, map-append}
+use Rattle.std.proofs.Common.{◌≡◌, ℕ, ◌<◌, List, [], ◌∷◌, ◌++◌, Bool, Option, IfSome, refl, ap, sym, ◌∙◌, append_assoc, subst}
+use Rattle.std.proofs.lemmas.List.{append-nil}
 use Rattle.raven_data.specs.Moments.{moments_end}
 use Rattle.raven_ports.specs.Told.{appended}
 use Rattle.raven_model.specs.Lines.{lines}
 use Rattle.raven_model.specs.Machine.{Machine}
 use Rattle.raven_model.specs.Script.{Given, reply_to, replies_to, after_line, after_lines}
-use Rattle.raven_console.specs.Outside.{KeeperState, Asked, Come, Comes, Keeps, MayTell, given, rows_written}
+use Rattle.raven_console.specs.Outside.{KeeperState, Asked, Come, Comes, MayTell, given, rows_written}
 use Rattle.raven_console.specs.Outcome.{Answers, GivesFront, StopsBefore, StopsIn, texts_of}
 use Rattle.raven_console.proofs.Pieces.{appended-appended, appended-nil}
 

@@ -1,5 +1,5 @@
 -- What is told where a database does not open.
-use Rattle.std.specs.Prelude.{ℕ, List, Option}
+use Rattle.std.specs.Prelude.{List, Option}
 use Rattle.raven_data.specs.Kept.{KeptRow}
 use Rattle.raven_model.specs.Commit.{Setting}
 use Rattle.doc_keeper.specs.declared.loading.LoadFault.{LoadFault}

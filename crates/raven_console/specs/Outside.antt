@@ -5,7 +5,7 @@ use Rattle.raven_data.specs.Moments.{moments_end}
 use Rattle.raven_data.specs.Rows.{Row}
 use Rattle.raven_ports.specs.Faults.{Rose}
 use Rattle.raven_ports.specs.Plan.{Plan, is_failing, one_later}
-use Rattle.raven_model.specs.Machine.{Machine, Keeping, change_of}
+use Rattle.raven_model.specs.Machine.{Machine, change_of}
 use Rattle.raven_model.specs.Script.{Circumstance, Given, Line, Do, ReadRefusal, after_line, line_of}
 use Rattle.raven_model.specs.Sound.{Sound}
 

@@ -1,4 +1,4 @@
-use Rattle.std.proofs.Common.{◌≡◌, List, [], ℕ, Some, Err, IfSome, inr, option_map, refl, sym, ap, ◌∙◌, subst}
+use Rattle.std.proofs.Common.{◌≡◌, List, [], ℕ, Some, Err, IfSome, inr, option_map, sym, ap, ◌∙◌, subst}
 use Rattle.raven_console.specs.WordsView.{options_view}
 use Rattle.raven_console.proofs.Ended.{stopped_short}
 use Rattle.raven_console.proofs.run.run.Goals as goal
