@@ -1,0 +1,16 @@
+-- What can be said of a list of tokens.
+use Rattle.std.specs.Prelude.{◌≡◌, List}
+use Rattle.exact_parse.specs.Limits.{Verdict}
+use Rattle.exact_parse.specs.Exact.{SpellsText, UnexpectedAt, TooLargeAt}
+
+-- a tree, or the tokens from the refused one on
+pub data Answer (T A : Type 0) : Type 0 where
+  Spelled : A → Answer T A
+  IsUnexpected : List T → Answer T A
+  IsTooLarge : List T → Answer T A
+
+module _ {T A : Type 0} (X : List T → A → List T → Type 0) (limit : (s : List T) (a : A) (r : List T) → X s a r → Verdict T) where
+  abbrev pub IsAnswer : List T → Answer T A → Type 0
+  IsAnswer ts (Spelled a) = SpellsText X limit ts a
+  IsAnswer ts (IsUnexpected p) = UnexpectedAt X limit ts p
+  IsAnswer ts (IsTooLarge p) = TooLargeAt X limit ts p
