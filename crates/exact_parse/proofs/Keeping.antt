@@ -244,3 +244,8 @@ module _ {T K V B : Type 0} (k : K) (value : T → Option V) (Z : List T → B �
     where
       short : Goes Z []
       short = skip_short Z (q v) x (h x v is)
+
+module _ {T K B : Type 0} (k : K) (value : T → Option (Unit {0})) (Z : List T → B → List T → Type 0) (q : Reader T K B) where
+  -- the one token that is taken, and what follows
+  pub token_keeps : (x : T) → value x ≡ Some tt → ((y : T) (v : Unit {0}) → value y ≡ Some v → y ≡ x) → Keeps (λ m b r. Z (x ∷ m) b r) q → Keeps Z (take k value >>= λ _. q)
+  token_keeps x is only g = take_keeps k value Z (λ _. q) x tt is (λ y v e. subst (λ y. Keeps (λ m b r. Z (y ∷ m) b r) q) (sym (only y v e)) g)

@@ -4,3 +4,4 @@ pub mod Keeps
 pub mod Loops
 pub mod Exact
 pub mod Answers
+pub mod Sample
