@@ -3,7 +3,7 @@ use Rattle.std.proofs.Common.{◌≡◌, ℕ, suc, ◌+◌, ◌<◌, ◌≤◌, 
 use Rattle.exact_parse.specs.Steps.{head, Cause, Unexpected, TooLarge, Outcome, Read, Refused, Reader}
 use Rattle.exact_parse.specs.Limits.{Verdict, Fine, Over}
 use Rattle.exact_parse.specs.Keeps.{Goes, Front, Fits, FitsRead, FitsRefused, Keeps}
-use Rattle.exact_parse.specs.Answers.{Answer, Spelled, IsUnexpected, IsTooLarge, IsAnswer}
+use Rattle.exact_parse.specs.Answers.{Answer, Spelled, IsUnexpected, IsTooLarge, IsAnswer, answer_of}
 use Rattle.exact_parse.specs.Exact.{Meets, SpellsText, GoesOn, UnexpectedAt, TooLargeAt}
 use Rattle.exact_parse.proofs.Cuts.{Cut, same, earlier, later, cut, cut_same}
 use Rattle.exact_parse.proofs.Keeping.{head-swap}
@@ -170,18 +170,16 @@ module _ {T K A : Type 0} (X : List T → A → List T → Type 0) (limit : (s :
 
   -- ---- one answer each
 
-  abbrev answer_of : Outcome T K A → Answer T A
-  answer_of (Read a c r) = Spelled a
-  answer_of (Refused (Unexpected k) p) = IsUnexpected p
-  answer_of (Refused TooLarge p) = IsTooLarge p
-
-  pub some_answer : (ts : List T) → (answer : Answer T A) × IsAnswer X limit ts answer
-  some_answer ts = from (f 0 ts) refl
+  pub said : (ts : List T) → IsAnswer X limit ts (answer_of (f 0 ts))
+  said ts = from (f 0 ts) refl
     where
-      from : (o : Outcome T K A) → f 0 ts ≡ o → (answer : Answer T A) × IsAnswer X limit ts answer
-      from (Read a c r) e = (Spelled a, read_text ts a c r e)
-      from (Refused (Unexpected k) p) e = (IsUnexpected p, unexpected_at k ts p e)
-      from (Refused TooLarge p) e = (IsTooLarge p, too_large_at ts p e)
+      from : (o : Outcome T K A) → f 0 ts ≡ o → IsAnswer X limit ts (answer_of o)
+      from (Read a c r) e = read_text ts a c r e
+      from (Refused (Unexpected k) p) e = unexpected_at k ts p e
+      from (Refused TooLarge p) e = too_large_at ts p e
+
+  pub answer_is : (ts : List T) (answer : Answer T A) → answer_of (f 0 ts) ≡ answer → IsAnswer X limit ts answer
+  answer_is ts answer e = subst (IsAnswer X limit ts) e (said ts)
 
   answered : (ts : List T) (x : Answer T A) → IsAnswer X limit ts x → answer_of (f 0 ts) ≡ x
   answered ts (Spelled a) h = ap answer_of ((text_read ts a h).2)

@@ -3,4 +3,3 @@ pub mod Cuts
 pub mod Loops
 pub mod Meeting
 pub mod Exact
-pub mod Sample

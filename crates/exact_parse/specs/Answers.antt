@@ -1,6 +1,7 @@
 -- What can be said of a list of tokens.
 use Rattle.std.specs.Prelude.{◌≡◌, List}
 use Rattle.exact_parse.specs.Limits.{Verdict}
+use Rattle.exact_parse.specs.Steps.{Cause, Unexpected, TooLarge, Outcome, Read, Refused}
 use Rattle.exact_parse.specs.Exact.{SpellsText, UnexpectedAt, TooLargeAt}
 
 -- a tree, or the tokens from the refused one on
@@ -8,6 +9,12 @@ pub data Answer (T A : Type 0) : Type 0 where
   Spelled : A → Answer T A
   IsUnexpected : List T → Answer T A
   IsTooLarge : List T → Answer T A
+
+-- the answer of a reading
+abbrev pub answer_of : {T K A : Type 0} → Outcome T K A → Answer T A
+answer_of (Read a c r) = Spelled a
+answer_of (Refused (Unexpected k) p) = IsUnexpected p
+answer_of (Refused TooLarge p) = IsTooLarge p
 
 module _ {T A : Type 0} (X : List T → A → List T → Type 0) (limit : (s : List T) (a : A) (r : List T) → X s a r → Verdict T) where
   abbrev pub IsAnswer : List T → Answer T A → Type 0

@@ -4,4 +4,3 @@ pub mod Keeps
 pub mod Loops
 pub mod Exact
 pub mod Answers
-pub mod Sample

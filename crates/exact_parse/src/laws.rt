@@ -3,7 +3,7 @@
 use super::language::Language;
 
 ghost use Rattle.std.specs.Prelude.{◌≡◌, ◌++◌, ℕ, List};
-ghost use Rattle.exact_parse.specs.Answers.{Answer, Spelled, IsUnexpected, IsTooLarge, IsAnswer};
+ghost use Rattle.exact_parse.specs.Answers.{Answer, IsAnswer, answer_of};
 ghost use Rattle.exact_parse.specs.Exact.{SpellsText, UnexpectedAt, TooLargeAt};
 ghost use Rattle.exact_parse.specs.Steps.{head, Cause, Outcome, Read, Refused, Unexpected, TooLarge};
 
@@ -34,7 +34,7 @@ pub fn too_large_is_exact<L: Language>()
 /// Each list of tokens is a text, or has one token that is unexpected, or one that is too large: just one of these, of one tree or at one
 /// place. So no token is both, and where no text goes on with a token it is unexpected, whatever limits there are.
 pub fn answers_are_one<L: Language>()
-    ensures some { (ts : List L.Token) → (answer : Answer L.Token L.Tree) × IsAnswer L.spells L.limit ts answer }
+    ensures some { (ts : List L.Token) → IsAnswer L.spells L.limit ts (answer_of (L.reading 0 ts)) }
     ensures one { (ts : List L.Token) (x y : Answer L.Token L.Tree) → IsAnswer L.spells L.limit ts x → IsAnswer L.spells L.limit ts y → x ≡ y }
     ensures apart { (ts p : List L.Token) → UnexpectedAt L.spells L.limit ts p → TooLargeAt L.spells L.limit ts p → ⊥ }
 {}

@@ -5,8 +5,8 @@ use Rattle.exact_parse.specs.Limits.{Verdict, Fine, Over, and_fine, opens, count
 use Rattle.exact_parse.specs.Keeps.{Goes, Fits, Keeps, Then}
 use Rattle.exact_parse.specs.Loops.{LoopKeeps, NextKeeps}
 use Rattle.exact_parse.specs.Exact.{Meets}
-use Rattle.exact_parse.specs.Sample.{Token, Number, Mark, Comma, Open, Close, End, Tree, One, Marked, Both, Inner, Rule, Row, Part, Core, Spells, first, both, plain, marked, number, inner, IsText, most_open, most_commas, verdict, limit, close, end, Kind, Reading, Deeper, mark_next, comma_next}
-use Rattle.exact_parse.specs.Sample as read
+use Rattle.exact_sample.specs.Lists.{Token, Number, Mark, Comma, Open, Close, End, Tree, One, Marked, Both, Inner, Rule, Row, Part, Core, Spells, first, both, plain, marked, number, inner, IsText, most_open, most_commas, verdict, limit, close, end, Kind, Reading, Deeper, mark_next, comma_next}
+use Rattle.exact_sample.specs.Lists as read
 use Rattle.exact_parse.proofs.Keeping.{pure_at, pure_keeps, refuse_at, refuse_keeps, choose_keeps, skip_at, within_at, bind_keeps, map_keeps, token_keeps}
 use Rattle.exact_parse.proofs.Loops.{loop_keeps}
 use Rattle.exact_parse.proofs.Meeting.{then_meets, after_meets, ComesTo, loop_begins, loop_goes_on, loop_goes_on_counted, loop_stops}
