@@ -8,14 +8,14 @@ use Rattle.exact_parse.specs.Exact.{Meets, SpellsText, GoesOn, UnexpectedAt, Too
 use Rattle.exact_parse.proofs.Cuts.{Cut, same, earlier, later, cut, cut_same}
 use Rattle.exact_parse.proofs.Keeping.{head-swap}
 
-module _ {T K A : Type 0} (X : List T → A → List T → Type 0) (limit : (s : List T) (a : A) (r : List T) → X s a r → Verdict T) (f : Reader T K A) (keeps : Keeps X f)
+module _ {T K A : Type 0} (X : List T → A → List T → Type 0) (limit : (s : List T) (a : A) (r : List T) → X s a r → Verdict T K) (f : Reader T K A) (keeps : Keeps X f)
     (meets : (s r : List T) (a : A) (x : X s a r) → Meets (limit s a r x) a r (f 0 s)) where
   pub read_text : (ts : List T) (a : A) (c : ℕ) (r : List T) → f 0 ts ≡ Read a c r → SpellsText X limit ts a
   read_text ts a c r e = from (f 0 ts) refl (keeps.fits 0 ts)
     where
-      within : (x : X ts a r) (v : Verdict T) → limit ts a r x ≡ v → Meets v a r (f 0 ts) → (n : ℕ) × (limit ts a r x ≡ Fine n)
+      within : (x : X ts a r) (v : Verdict T K) → limit ts a r x ≡ v → Meets v a r (f 0 ts) → (n : ℕ) × (limit ts a r x ≡ Fine n)
       within x (Fine n) is m = (n, is)
-      within x (Over p) is m = let bad : ◌≡◌ {A = Outcome T K A} (Read a c r) (Refused TooLarge p) = sym e ∙ m in cc
+      within x (Over j p) is m = let bad : ◌≡◌ {A = Outcome T K A} (Read a c r) (Refused (TooLarge j) p) = sym e ∙ m in cc
 
       from : (o : Outcome T K A) → f 0 ts ≡ o → Fits X f 0 ts o → SpellsText X limit ts a
       from (Refused k s) is u = let bad : ◌≡◌ {A = Outcome T K A} (Read a c r) (Refused k s) = sym e ∙ is in cc
@@ -33,17 +33,18 @@ module _ {T K A : Type 0} (X : List T → A → List T → Type 0) (limit : (s :
   not_spelled : (k : K) (s r q : List T) (a : A) (x : X s a r) → f 0 s ≡ Refused (Unexpected k) q → ⊥
   not_spelled k s r q a x e = by (limit s a r x) (meets s r a x)
     where
-      by : (v : Verdict T) → Meets v a r (f 0 s) → ⊥
+      by : (v : Verdict T K) → Meets v a r (f 0 s) → ⊥
       by (Fine c) m = let bad : ◌≡◌ {A = Outcome T K A} (Read a c r) (Refused (Unexpected k) q) = sym m ∙ e in cc
-      by (Over p) m = let bad : ◌≡◌ {A = Outcome T K A} (Refused TooLarge p) (Refused (Unexpected k) q) = sym m ∙ e in cc
+      by (Over j p) m = let bad : ◌≡◌ {A = Outcome T K A} (Refused (TooLarge j) p) (Refused (Unexpected k) q) = sym m ∙ e in cc
 
   -- what is refused as too large, and spelled, is past the limit there
-  over_there : (s r q : List T) (a : A) (x : X s a r) → f 0 s ≡ Refused TooLarge q → limit s a r x ≡ Over q
-  over_there s r q a x e = by (limit s a r x) refl (meets s r a x)
+  over_there : (j : K) (s r q : List T) (a : A) (x : X s a r) → f 0 s ≡ Refused (TooLarge j) q → limit s a r x ≡ Over j q
+  over_there j s r q a x e = by (limit s a r x) refl (meets s r a x)
     where
-      by : (v : Verdict T) → limit s a r x ≡ v → Meets v a r (f 0 s) → limit s a r x ≡ Over q
-      by (Fine c) is m = let bad : ◌≡◌ {A = Outcome T K A} (Read a c r) (Refused TooLarge q) = sym m ∙ e in cc
-      by (Over p) is m = let both : ◌≡◌ {A = Outcome T K A} (Refused TooLarge p) (Refused TooLarge q) = sym m ∙ e in let same : p ≡ q = cc in is ∙ ap Over same
+      by : (v : Verdict T K) → limit s a r x ≡ v → Meets v a r (f 0 s) → limit s a r x ≡ Over j q
+      by (Fine c) is m = let bad : ◌≡◌ {A = Outcome T K A} (Read a c r) (Refused (TooLarge j) q) = sym m ∙ e in cc
+      by (Over i p) is m = let both : ◌≡◌ {A = Outcome T K A} (Refused (TooLarge i) p) (Refused (TooLarge j) q) = sym m ∙ e in
+          let kind : i ≡ j = cc in let same : p ≡ q = cc in is ∙ ap (λ i. Over i p) kind ∙ ap (Over j) same
 
   -- what is refused in one list is refused in each that begins alike
   pub alike : (k : Cause K) (ts p : List T) → f 0 ts ≡ Refused k p → (before : List T) × (ts ≡ before ++ p) × Front X k before p × ((z : List T) → head z ≡ head p → f 0 (before ++ z) ≡ Refused k z)
@@ -62,25 +63,25 @@ module _ {T K A : Type 0} (X : List T → A → List T → Type 0) (limit : (s :
 
   -- ---- where a token is refused as unexpected
 
-  no_other : (k : K) (s p q : List T) → f 0 s ≡ Refused (Unexpected k) p → f 0 s ≡ Refused TooLarge q → ⊥
-  no_other k s p q a b = let both : ◌≡◌ {A = Outcome T K A} (Refused (Unexpected k) p) (Refused TooLarge q) = sym a ∙ b in cc
+  no_other : (k j : K) (s p q : List T) → f 0 s ≡ Refused (Unexpected k) p → f 0 s ≡ Refused (TooLarge j) q → ⊥
+  no_other k j s p q a b = let both : ◌≡◌ {A = Outcome T K A} (Refused (Unexpected k) p) (Refused (TooLarge j) q) = sym a ∙ b in cc
 
-  within_cut : (k : K) {w m v q : List T} → Cut w m v q → (p : List T) → f 0 (w ++ p) ≡ Refused (Unexpected k) p →
-      ((z : List T) → head z ≡ head q → f 0 (v ++ z) ≡ Refused TooLarge z) → length q ≤ length m
-  within_cut k same p e large = omega arith
-  within_cut k (earlier {p = m} {v = v} x u) p e large =
-      let bad : f 0 (v ++ (x ∷ (u ++ p))) ≡ Refused TooLarge (x ∷ (u ++ p)) = large (x ∷ (u ++ p)) refl in
+  within_cut : (k j : K) {w m v q : List T} → Cut w m v q → (p : List T) → f 0 (w ++ p) ≡ Refused (Unexpected k) p →
+      ((z : List T) → head z ≡ head q → f 0 (v ++ z) ≡ Refused (TooLarge j) z) → length q ≤ length m
+  within_cut k j same p e large = omega arith
+  within_cut k j (earlier {p = m} {v = v} x u) p e large =
+      let bad : f 0 (v ++ (x ∷ (u ++ p))) ≡ Refused (TooLarge j) (x ∷ (u ++ p)) = large (x ∷ (u ++ p)) refl in
       let good : f 0 (v ++ (x ∷ (u ++ p))) ≡ Refused (Unexpected k) p = subst (λ t. f 0 t ≡ Refused (Unexpected k) p) (append_assoc v (x ∷ u) p) e in
-      absurd (no_other k (v ++ (x ∷ (u ++ p))) p (x ∷ (u ++ p)) good bad)
-  within_cut k (later {q = q} x u) p e large = omega (arith, length-append u q)
+      absurd (no_other k j (v ++ (x ∷ (u ++ p))) p (x ∷ (u ++ p)) good bad)
+  within_cut k j (later {q = q} x u) p e large = omega (arith, length-append u q)
 
-  within_front : (k : K) (w m r p : List T) (a : A) (x : X (w ++ m) a r) → f 0 (w ++ p) ≡ Refused (Unexpected k) p → (q : List T) → limit (w ++ m) a r x ≡ Over q → length q ≤ length m
-  within_front k w m r p a x e q over =
-      let large : f 0 (w ++ m) ≡ Refused TooLarge q = subst (λ v. Meets v a r (f 0 (w ++ m))) over (meets (w ++ m) r a x) in
-      by large (alike TooLarge (w ++ m) q large)
+  within_front : (k : K) (w m r p : List T) (a : A) (x : X (w ++ m) a r) → f 0 (w ++ p) ≡ Refused (Unexpected k) p → (j : K) (q : List T) → limit (w ++ m) a r x ≡ Over j q → length q ≤ length m
+  within_front k w m r p a x e j q over =
+      let large : f 0 (w ++ m) ≡ Refused (TooLarge j) q = subst (λ v. Meets v a r (f 0 (w ++ m))) over (meets (w ++ m) r a x) in
+      by large (alike (TooLarge j) (w ++ m) q large)
     where
-      by : f 0 (w ++ m) ≡ Refused TooLarge q → (v : List T) × (w ++ m ≡ v ++ q) × Front {K = K} X TooLarge v q × ((z : List T) → head z ≡ head q → f 0 (v ++ z) ≡ Refused TooLarge z) → length q ≤ length m
-      by large (v, split, g, again) = within_cut k (cut w m v q split) p e again
+      by : f 0 (w ++ m) ≡ Refused (TooLarge j) q → (v : List T) × (w ++ m ≡ v ++ q) × Front {K = K} X (TooLarge j) v q × ((z : List T) → head z ≡ head q → f 0 (v ++ z) ≡ Refused (TooLarge j) z) → length q ≤ length m
+      by large (v, split, g, again) = within_cut k j (cut w m v q split) p e again
 
   pub unexpected_at : (k : K) (ts p : List T) → f 0 ts ≡ Refused (Unexpected k) p → UnexpectedAt X limit ts p
   unexpected_at k ts p e = at (alike (Unexpected k) ts p e)
@@ -101,10 +102,10 @@ module _ {T K A : Type 0} (X : List T → A → List T → Type 0) (limit : (s :
 
   -- ---- where a token is refused as too large
 
-  pub too_large_at : (ts p : List T) → f 0 ts ≡ Refused TooLarge p → TooLargeAt X limit ts p
-  too_large_at ts p e = at p (alike TooLarge ts p e)
+  pub too_large_at : (j : K) (ts p : List T) → f 0 ts ≡ Refused (TooLarge j) p → TooLargeAt X limit j ts p
+  too_large_at j ts p e = at p (alike (TooLarge j) ts p e)
     where
-      at : (p : List T) → (before : List T) × (ts ≡ before ++ p) × Front {K = K} X TooLarge before p × ((z : List T) → head z ≡ head p → f 0 (before ++ z) ≡ Refused TooLarge z) → TooLargeAt X limit ts p
+      at : (p : List T) → (before : List T) × (ts ≡ before ++ p) × Front {K = K} X (TooLarge j) before p × ((z : List T) → head z ≡ head p → f 0 (before ++ z) ≡ Refused (TooLarge j) z) → TooLargeAt X limit j ts p
       at [] (w, split, g, again) = absurd g
       at (x ∷ p) (w, split, g, again) =
           let spelling : X (w ++ (x ∷ (g.more ++ []))) g.tree [] = subst (λ t. X t g.tree []) (append_assoc w (x ∷ []) (g.more ++ [])) (g.spells []) in
@@ -116,16 +117,16 @@ module _ {T K A : Type 0} (X : List T → A → List T → Type 0) (limit : (s :
             tree = g.tree;
             same = refl;
             spelling = spelling;
-            over = over_there (w ++ (x ∷ (g.more ++ []))) [] (x ∷ (g.more ++ [])) g.tree spelling (again (x ∷ (g.more ++ [])) refl);
+            over = over_there j (w ++ (x ∷ (g.more ++ []))) [] (x ∷ (g.more ++ [])) g.tree spelling (again (x ∷ (g.more ++ [])) refl);
           }
 
-  pub too_large_only : (ts p : List T) → TooLargeAt X limit ts p → f 0 ts ≡ Refused TooLarge p
-  too_large_only ts p t =
-      let large : f 0 (t.before ++ t.more) ≡ Refused TooLarge t.more = subst (λ v. Meets v t.tree t.rest (f 0 (t.before ++ t.more))) t.over (meets (t.before ++ t.more) t.rest t.tree t.spelling) in
-      at (alike TooLarge (t.before ++ t.more) t.more large)
+  pub too_large_only : (j : K) (ts p : List T) → TooLargeAt X limit j ts p → f 0 ts ≡ Refused (TooLarge j) p
+  too_large_only j ts p t =
+      let large : f 0 (t.before ++ t.more) ≡ Refused (TooLarge j) t.more = subst (λ v. Meets v t.tree t.rest (f 0 (t.before ++ t.more))) t.over (meets (t.before ++ t.more) t.rest t.tree t.spelling) in
+      at (alike (TooLarge j) (t.before ++ t.more) t.more large)
     where
-      at : (v : List T) × (t.before ++ t.more ≡ v ++ t.more) × Front {K = K} X TooLarge v t.more × ((z : List T) → head z ≡ head t.more → f 0 (v ++ z) ≡ Refused TooLarge z) → f 0 ts ≡ Refused TooLarge p
-      at (v, split, g, again) = subst (λ s. f 0 s ≡ Refused TooLarge p) (ap (λ w. w ++ p) (sym (cut_same (cut t.before t.more v t.more split) refl)) ∙ sym t.split) (again p (sym t.same))
+      at : (v : List T) × (t.before ++ t.more ≡ v ++ t.more) × Front {K = K} X (TooLarge j) v t.more × ((z : List T) → head z ≡ head t.more → f 0 (v ++ z) ≡ Refused (TooLarge j) z) → f 0 ts ≡ Refused (TooLarge j) p
+      at (v, split, g, again) = subst (λ s. f 0 s ≡ Refused (TooLarge j) p) (ap (λ w. w ++ p) (sym (cut_same (cut t.before t.more v t.more split) refl)) ∙ sym t.split) (again p (sym t.same))
 
   -- ---- nothing else is refused as unexpected
 
@@ -139,17 +140,17 @@ module _ {T K A : Type 0} (X : List T → A → List T → Type 0) (limit : (s :
   refused : {w p v s : List T} → Cut w p v s → (k : Cause K) → Front X k v s → ((z : List T) → head z ≡ head s → f 0 (v ++ z) ≡ Refused k z) → GoesOn X limit w → Dead w p → (j : K) × (k ≡ Unexpected j) × (s ≡ p)
   unfolding Dead
   refused same (Unexpected j) g again on none = (j, refl, refl)
-  refused {s = []} same TooLarge g again on none = absurd g
-  refused {w = w} {s = y ∷ s} same TooLarge g again on none = absurd (no_goes w [] s y none g)
+  refused {s = []} same (TooLarge j) g again on none = absurd g
+  refused {w = w} {s = y ∷ s} same (TooLarge j) g again on none = absurd (no_goes w [] s y none g)
   refused (earlier {p = p} {v = v} x u) (Unexpected j) g again on none =
       absurd (not_spelled j (v ++ (x ∷ (u ++ on.more))) on.rest (x ∷ (u ++ on.more)) on.tree (subst (λ t. X t on.tree on.rest) (append_assoc v (x ∷ u) on.more) on.spelling) (again (x ∷ (u ++ on.more)) refl))
-  refused (earlier {p = p} {v = v} x u) TooLarge g again on none =
-      let large : f 0 ((v ++ x ∷ u) ++ on.more) ≡ Refused TooLarge (x ∷ (u ++ on.more)) = subst (λ t. f 0 t ≡ Refused TooLarge (x ∷ (u ++ on.more))) (sym (append_assoc v (x ∷ u) on.more)) (again (x ∷ (u ++ on.more)) refl) in
-      let long = on.within (x ∷ (u ++ on.more)) (over_there ((v ++ x ∷ u) ++ on.more) on.rest (x ∷ (u ++ on.more)) on.tree on.spelling large) in
+  refused (earlier {p = p} {v = v} x u) (TooLarge j) g again on none =
+      let large : f 0 ((v ++ x ∷ u) ++ on.more) ≡ Refused (TooLarge j) (x ∷ (u ++ on.more)) = subst (λ t. f 0 t ≡ Refused (TooLarge j) (x ∷ (u ++ on.more))) (sym (append_assoc v (x ∷ u) on.more)) (again (x ∷ (u ++ on.more)) refl) in
+      let long = on.within j (x ∷ (u ++ on.more)) (over_there j ((v ++ x ∷ u) ++ on.more) on.rest (x ∷ (u ++ on.more)) on.tree on.spelling large) in
       absurd (omega (arith, length-append u on.more, long))
   refused (later {w = w} {q = q} x u) (Unexpected j) g again on none = absurd (no_goes w u (u ++ q) x none g)
-  refused (later {w = w} {q = []} x u) TooLarge g again on none = absurd g
-  refused (later {w = w} {q = y ∷ q} x u) TooLarge g again on none =
+  refused (later {w = w} {q = []} x u) (TooLarge j) g again on none = absurd g
+  refused (later {w = w} {q = y ∷ q} x u) (TooLarge j) g again on none =
       absurd (no_goes w (u ++ y ∷ []) (u ++ y ∷ q) x none (subst (Goes X) (append_assoc w (x ∷ u) (y ∷ [])) g))
 
   pub unexpected_only : (ts p : List T) → UnexpectedAt X limit ts p → (k : K) × (f 0 ts ≡ Refused (Unexpected k) p)
@@ -176,21 +177,21 @@ module _ {T K A : Type 0} (X : List T → A → List T → Type 0) (limit : (s :
       from : (o : Outcome T K A) → f 0 ts ≡ o → IsAnswer X limit ts (answer_of o)
       from (Read a c r) e = read_text ts a c r e
       from (Refused (Unexpected k) p) e = unexpected_at k ts p e
-      from (Refused TooLarge p) e = too_large_at ts p e
+      from (Refused (TooLarge j) p) e = too_large_at j ts p e
 
-  pub answer_is : (ts : List T) (answer : Answer T A) → answer_of (f 0 ts) ≡ answer → IsAnswer X limit ts answer
+  pub answer_is : (ts : List T) (answer : Answer T K A) → answer_of (f 0 ts) ≡ answer → IsAnswer X limit ts answer
   answer_is ts answer e = subst (IsAnswer X limit ts) e (said ts)
 
-  answered : (ts : List T) (x : Answer T A) → IsAnswer X limit ts x → answer_of (f 0 ts) ≡ x
+  answered : (ts : List T) (x : Answer T K A) → IsAnswer X limit ts x → answer_of (f 0 ts) ≡ x
   answered ts (Spelled a) h = ap answer_of ((text_read ts a h).2)
   answered ts (IsUnexpected p) h = ap answer_of ((unexpected_only ts p h).1)
-  answered ts (IsTooLarge p) h = ap answer_of (too_large_only ts p h)
+  answered ts (IsTooLarge j p) h = ap answer_of (too_large_only j ts p h)
 
-  pub one_answer : (ts : List T) (x y : Answer T A) → IsAnswer X limit ts x → IsAnswer X limit ts y → x ≡ y
+  pub one_answer : (ts : List T) (x y : Answer T K A) → IsAnswer X limit ts x → IsAnswer X limit ts y → x ≡ y
   one_answer ts x y h k = sym (answered ts x h) ∙ answered ts y k
 
-  pub no_both : (ts p : List T) → UnexpectedAt X limit ts p → TooLargeAt X limit ts p → ⊥
-  no_both ts p h k = let bad : ◌≡◌ {A = Answer T A} (IsUnexpected p) (IsTooLarge p) = one_answer ts (IsUnexpected p) (IsTooLarge p) h k in cc
+  pub no_both : (j : K) (ts p : List T) → UnexpectedAt X limit ts p → TooLargeAt X limit j ts p → ⊥
+  no_both j ts p h k = let bad : ◌≡◌ {A = Answer T K A} (IsUnexpected p) (IsTooLarge j p) = one_answer ts (IsUnexpected p) (IsTooLarge j p) h k in cc
 
   pub again : (ts p : List T) (k : Cause K) → f 0 ts ≡ Refused k p → (before : List T) × (ts ≡ before ++ p) × ((z : List T) → head z ≡ head p → f 0 (before ++ z) ≡ Refused k z)
   again ts p k e = let a = alike k ts p e in (a.0, a.1, a.3)

@@ -23,8 +23,8 @@ refuse_at k g c s = record { taken = []; split = refl; goes = g; same = λ z e. 
 pub refuse_keeps : {T K A : Type 0} {X : List T → A → List T → Type 0} (k : K) → Goes X [] → Keeps X (refuse k)
 refuse_keeps {X = X} k g = record { short = g; fits = λ c s. refuse_at {X = X} k g c s }
 
-pub too_large_at : {T K A : Type 0} {X : List T → A → List T → Type 0} {x : T} → Goes X (x ∷ []) → (c : ℕ) (s : List T) → Fits X (too_large {K = K}) c (x ∷ s) (Refused TooLarge (x ∷ s))
-too_large_at g c s = record { taken = []; split = refl; goes = g; same = λ z e. refl }
+pub too_large_at : {T K A : Type 0} {X : List T → A → List T → Type 0} {x : T} (k : K) → Goes X (x ∷ []) → (c : ℕ) (s : List T) → Fits X (too_large k) c (x ∷ s) (Refused (TooLarge k) (x ∷ s))
+too_large_at k g c s = record { taken = []; split = refl; goes = g; same = λ z e. refl }
 
 module _ {T K A : Type 0} (X : List T → A → List T → Type 0) (p : Option T → Reader T K A) where
   choose_same : (s s' w z : List T) → s ≡ w ++ s' → head z ≡ head s' → head (w ++ z) ≡ head s
@@ -80,8 +80,8 @@ skip_to Z q x c s (Refused (Unexpected k) s') f = record {
   goes = record { more = f.goes.more; tree = f.goes.tree; spells = f.goes.spells };
   same = f.same;
 }
-skip_to Z q x c s (Refused TooLarge []) f = absurd f.goes
-skip_to Z q x c s (Refused TooLarge (y ∷ s')) f = record {
+skip_to Z q x c s (Refused (TooLarge k) []) f = absurd f.goes
+skip_to Z q x c s (Refused (TooLarge k) (y ∷ s')) f = record {
   taken = x ∷ f.taken;
   split = ap (λ m. x ∷ m) f.split;
   goes = record { more = f.goes.more; tree = f.goes.tree; spells = f.goes.spells };
@@ -90,27 +90,27 @@ skip_to Z q x c s (Refused TooLarge (y ∷ s')) f = record {
 
 -- a step at a token that goes on, if it is only done where there is room for the token
 module _ {T K B : Type 0} (Z : List T → B → List T → Type 0) (x : T) (p : Reader T K B) (goes : Goes Z (x ∷ [])) where
-  pub room_at : ((c : ℕ) (s : List T) → Fits Z p c (x ∷ s) (p c (x ∷ s))) → (b : Bool) (c : ℕ) (s : List T) → Fits Z (within b p) c (x ∷ s) (within b p c (x ∷ s))
-  room_at fits true c s = fits c s
-  room_at fits false c s = too_large_at {X = Z} goes c s
+  pub room_at : ((c : ℕ) (s : List T) → Fits Z p c (x ∷ s) (p c (x ∷ s))) → (k : K) (b : Bool) (c : ℕ) (s : List T) → Fits Z (within k b p) c (x ∷ s) (within k b p c (x ∷ s))
+  room_at fits k true c s = fits c s
+  room_at fits k false c s = too_large_at {X = Z} k goes c s
 
-  counted_as : (most : ℕ) (d : Bool) (c : ℕ) (s : List T) → nat_lt c most ≡ d → (o : Outcome T K B) →
-      Fits Z (within d p) (c + 1) s o → Fits Z (counted most p) c s o
-  counted_as most d c s e (Read a c' s') f = record {
+  counted_as : (k : K) (most : ℕ) (d : Bool) (c : ℕ) (s : List T) → nat_lt c most ≡ d → (o : Outcome T K B) →
+      Fits Z (within k d p) (c + 1) s o → Fits Z (counted k most p) c s o
+  counted_as k most d c s e (Read a c' s') f = record {
     taken = f.taken;
     split = f.split;
     spells = f.spells;
-    same = λ z h. subst (λ d. within d p (c + 1) (f.taken ++ z) ≡ Read a c' z) (sym e) (f.same z h);
+    same = λ z h. subst (λ d. within k d p (c + 1) (f.taken ++ z) ≡ Read a c' z) (sym e) (f.same z h);
   }
-  counted_as most d c s e (Refused k s') f = record {
+  counted_as k most d c s e (Refused j s') f = record {
     taken = f.taken;
     split = f.split;
     goes = f.goes;
-    same = λ z h. subst (λ d. within d p (c + 1) (f.taken ++ z) ≡ Refused k z) (sym e) (f.same z h);
+    same = λ z h. subst (λ d. within k d p (c + 1) (f.taken ++ z) ≡ Refused j z) (sym e) (f.same z h);
   }
 
-  pub count_at : ((c : ℕ) (s : List T) → Fits Z p c (x ∷ s) (p c (x ∷ s))) → (most c : ℕ) (s : List T) → Fits Z (counted most p) c (x ∷ s) (counted most p c (x ∷ s))
-  count_at fits most c s = counted_as most (nat_lt c most) c (x ∷ s) refl (counted most p c (x ∷ s)) (room_at fits (nat_lt c most) (c + 1) s)
+  pub count_at : ((c : ℕ) (s : List T) → Fits Z p c (x ∷ s) (p c (x ∷ s))) → (k : K) (most c : ℕ) (s : List T) → Fits Z (counted k most p) c (x ∷ s) (counted k most p c (x ∷ s))
+  count_at fits k most c s = counted_as k most (nat_lt c most) c (x ∷ s) refl (counted k most p c (x ∷ s)) (room_at fits k (nat_lt c most) (c + 1) s)
 
 module _ {T K B : Type 0} (Z : List T → B → List T → Type 0) (q : Reader T K B) (x : T) (g : Keeps (λ m b r. Z (x ∷ m) b r) q) where
   pub skip_at : (c : ℕ) (s : List T) → Fits Z (skip >> q) c (x ∷ s) (q c s)
@@ -122,10 +122,10 @@ module _ {T K B : Type 0} (Z : List T → B → List T → Type 0) (q : Reader T
   pub skip_short : Goes Z []
   skip_short = record { more = x ∷ g.short.more; tree = g.short.tree; spells = g.short.spells }
 
-  pub within_at : (b : Bool) (c : ℕ) (s : List T) → Fits Z (within b (skip >> q)) c (x ∷ s) (within b (skip >> q) c (x ∷ s))
+  pub within_at : (k : K) (b : Bool) (c : ℕ) (s : List T) → Fits Z (within k b (skip >> q)) c (x ∷ s) (within k b (skip >> q) c (x ∷ s))
   within_at = room_at Z x (skip >> q) skip_goes skip_at
 
-  pub counted_at : (most c : ℕ) (s : List T) → Fits Z (counted most (skip >> q)) c (x ∷ s) (counted most (skip >> q) c (x ∷ s))
+  pub counted_at : (k : K) (most c : ℕ) (s : List T) → Fits Z (counted k most (skip >> q)) c (x ∷ s) (counted k most (skip >> q) c (x ∷ s))
   counted_at = count_at Z x (skip >> q) skip_goes skip_at
 
 -- ---- one after the other
@@ -163,8 +163,8 @@ module _ {T K A B : Type 0} (X : List T → A → List T → Type 0) (Z : List T
         ∙ ap (λ o. and_then o h) (u.same (v.taken ++ z) (head-swap v.taken z s2 e ∙ sym (ap head v.split)))
         ∙ v.same z e;
   }
-  bind_more c s a c1 s1 u (Refused TooLarge []) v = absurd v.goes
-  bind_more c s a c1 s1 u (Refused TooLarge (y ∷ s2)) v = record {
+  bind_more c s a c1 s1 u (Refused (TooLarge k) []) v = absurd v.goes
+  bind_more c s a c1 s1 u (Refused (TooLarge k) (y ∷ s2)) v = record {
     taken = u.taken ++ v.taken;
     split = u.split ∙ ap (λ m. u.taken ++ m) v.split ∙ sym (append_assoc u.taken v.taken (y ∷ s2));
     goes = subst (Goes Z) (sym (append_assoc u.taken v.taken (y ∷ []))) (then_goes_on u.taken (v.taken ++ y ∷ []) a u.spells v.goes);
@@ -181,8 +181,8 @@ module _ {T K A B : Type 0} (X : List T → A → List T → Type 0) (Z : List T
     goes = then_goes u.taken u.goes.more u.goes.tree u.goes.spells ((g u.goes.tree).short);
     same = λ z e. ap (λ o. and_then o h) (u.same z e);
   }
-  bind_at g c s (Refused TooLarge []) u = absurd u.goes
-  bind_at g c s (Refused TooLarge (y ∷ s1)) u = record {
+  bind_at g c s (Refused (TooLarge k) []) u = absurd u.goes
+  bind_at g c s (Refused (TooLarge k) (y ∷ s1)) u = record {
     taken = u.taken;
     split = u.split;
     goes = then_goes (u.taken ++ y ∷ []) u.goes.more u.goes.tree u.goes.spells ((g u.goes.tree).short);
@@ -207,8 +207,8 @@ module _ {T K A : Type 0} (X Z : List T → A → List T → Type 0) (f : Reader
   map_at : (c : ℕ) (s : List T) (o : Outcome T K A) → Fits X f c s o → Fits Z f c s o
   map_at c s (Read a c' s') u = record { taken = u.taken; split = u.split; spells = λ z. k (u.taken ++ z) a z (u.spells z); same = u.same }
   map_at c s (Refused (Unexpected j) s') u = record { taken = u.taken; split = u.split; goes = map_goes u.taken u.goes; same = u.same }
-  map_at c s (Refused TooLarge []) u = absurd u.goes
-  map_at c s (Refused TooLarge (y ∷ s')) u = record { taken = u.taken; split = u.split; goes = map_goes (u.taken ++ y ∷ []) u.goes; same = u.same }
+  map_at c s (Refused (TooLarge k) []) u = absurd u.goes
+  map_at c s (Refused (TooLarge k) (y ∷ s')) u = record { taken = u.taken; split = u.split; goes = map_goes (u.taken ++ y ∷ []) u.goes; same = u.same }
 
   map_as : Keeps X f → Keeps Z f
   map_as g = record { short = map_goes [] g.short; fits = λ c s. map_at c s (f c s) (g.fits c s) }
@@ -229,13 +229,9 @@ module _ {T K A : Type 0} (X : List T → A → List T → Type 0) (f g : Reader
 -- ---- one token with a value
 
 module _ {T K V B : Type 0} (k : K) (value : T → Option V) (Z : List T → B → List T → Type 0) (q : V → Reader T K B) where
-  passes : (v : V) (c : ℕ) (s : List T) → (skip >> q v) c s ≡ (take_as k (Some v) >>= q) c s
-  passes v c [] = refl
-  passes v c (x ∷ s) = refl
-
   take_to : Goes Z [] → (x : T) (o : Option V) → ((v : V) → o ≡ Some v → Keeps (λ m b r. Z (x ∷ m) b r) (q v)) → (c : ℕ) (s : List T) →
       Fits Z (take_as k o >>= q) c (x ∷ s) ((take_as k o >>= q) c (x ∷ s))
-  take_to g x (Some v) h c s = alike_at Z (skip >> q v) (take_as k (Some v) >>= q) (passes v) c (x ∷ s) (q v c s) (skip_at Z (q v) x (h v refl) c s)
+  take_to g x (Some v) h c s = skip_at Z (q v) x (h v refl) c s
   take_to g x None h c s = refuse_at {X = Z} k g c _
 
   -- a token, and what follows on its value

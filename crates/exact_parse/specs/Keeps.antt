@@ -11,8 +11,8 @@ pub record Goes {T A : Type 0} (X : List T → A → List T → Type 0) (w : Lis
 -- what holds of the tokens before a refused one; a token that is too large goes on too
 abbrev pub Front : {T K A : Type 0} → (List T → A → List T → Type 0) → Cause K → List T → List T → Type 0
 Front X (Unexpected k) w s = Goes X w
-Front X TooLarge w [] = ⊥
-Front X TooLarge w (x ∷ s) = Goes X (w ++ x ∷ [])
+Front X (TooLarge k) w [] = ⊥
+Front X (TooLarge k) w (x ∷ s) = Goes X (w ++ x ∷ [])
 
 pub record FitsRead {T K A : Type 0} (X : List T → A → List T → Type 0) (f : Reader T K A) (c : ℕ) (s : List T) (a : A) (c' : ℕ) (s' : List T) : Type 0 where
   pub taken : List T

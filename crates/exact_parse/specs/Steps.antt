@@ -5,10 +5,10 @@ abbrev pub head : {T : Type 0} → List T → Option T
 head [] = None
 head (x ∷ s) = Some x
 
--- Why a token is refused: nothing of the grammar goes on with it, for which a language has kinds of its own; or it is past a limit.
+-- Why a token is refused: nothing of the grammar goes on with it, or it is past a limit. A language has its own kinds of both.
 pub data Cause (K : Type 0) : Type 0 where
   Unexpected : K → Cause K
-  TooLarge : Cause K
+  TooLarge : K → Cause K
 
 -- A tree, the count so far, and the tokens that are left; or a cause, and the tokens from the refused one on.
 pub data Outcome (T K A : Type 0) : Type 0 where
@@ -41,28 +41,28 @@ abbrev pub refuse : {T K A : Type 0} → K → Reader T K A
 refuse k = λ c s. Refused (Unexpected k) s
 
 -- refuses the next token, which is past a limit
-abbrev pub too_large : {T K A : Type 0} → Reader T K A
-too_large = λ c s. Refused TooLarge s
+abbrev pub too_large : {T K A : Type 0} → K → Reader T K A
+too_large k = λ c s. Refused (TooLarge k) s
 
 -- goes by the next token
 abbrev pub choose : {T K A : Type 0} → (Option T → Reader T K A) → Reader T K A
 choose p = λ c s. p (head s) c s
 
-abbrev pub skip_of : {T K : Type 0} → List T → ℕ → Outcome T K (Unit {0})
-skip_of [] c = Refused TooLarge []
-skip_of (x ∷ s) c = Read tt c s
+abbrev pub tail : {T : Type 0} → List T → List T
+tail [] = []
+tail (x ∷ s) = s
 
 -- passes the next token, of which `choose` has told that it is there
 abbrev pub skip : {T K : Type 0} → Reader T K (Unit {0})
-skip = λ c s. skip_of s c
+skip = λ c s. Read tt c (tail s)
 
 -- at a token that opens a part: refused there if there is no room for it
-abbrev pub within : {T K A : Type 0} → Bool → Reader T K A → Reader T K A
-within has_room p = if has_room then p else too_large
+abbrev pub within : {T K A : Type 0} → K → Bool → Reader T K A → Reader T K A
+within k has_room p = if has_room then p else too_large k
 
 -- counts the next token, of which there may be so many
-abbrev pub counted : {T K A : Type 0} → ℕ → Reader T K A → Reader T K A
-counted most p = λ c s. within (nat_lt c most) p (c + 1) s
+abbrev pub counted : {T K A : Type 0} → K → ℕ → Reader T K A → Reader T K A
+counted k most p = λ c s. within k (nat_lt c most) p (c + 1) s
 
 -- counts anew
 abbrev pub fresh : {T K A : Type 0} → Reader T K A → Reader T K A
@@ -87,18 +87,18 @@ take k value = choose (take_by k value)
 pub data Next (T K A B : Type 0) : Type 0 where
   Ends : Reader T K B → Next T K A B
   More : Reader T K A → Next T K A B
-  Counts : ℕ → Reader T K A → Next T K A B
+  Counts : K → ℕ → Reader T K A → Next T K A B
 
-abbrev pub turn : {T K A B : Type 0} → Bool → (A → Reader T K B) → Next T K A B → Reader T K B
-turn has_turn more (Ends q) = q
-turn has_turn more (More p) = within has_turn (skip >> (p >>= more))
-turn has_turn more (Counts most p) = counted most (within has_turn (skip >> (p >>= more)))
+abbrev pub turn : {T K A B : Type 0} → K → Bool → (A → Reader T K B) → Next T K A B → Reader T K B
+turn k has_turn more (Ends q) = q
+turn k has_turn more (More p) = within k has_turn (skip >> (p >>= more))
+turn k has_turn more (Counts j most p) = counted j most (within k has_turn (skip >> (p >>= more)))
 
--- the loop with so many turns
-unfoldable pub turns : {T K A B : Type 0} → (A → Option T → Next T K A B) → ℕ → A → Reader T K B
-turns next zero a = choose (λ h. turn false (λ b. too_large) (next a h))
-turns next (suc n) a = choose (λ h. turn true (turns next n) (next a h))
+-- the loop with so many turns, and the kind of refusal where one more is wanted
+unfoldable pub turns : {T K A B : Type 0} → K → (A → Option T → Next T K A B) → ℕ → A → Reader T K B
+turns k next zero a = choose (λ h. turn k false (λ b. too_large k) (next a h))
+turns k next (suc n) a = choose (λ h. turn k true (turns k next n) (next a h))
 
--- The loop: a turn for each token that is left is enough, since each turn passes one.
-unfoldable pub loop : {T K A B : Type 0} → (A → Option T → Next T K A B) → A → Reader T K B
-loop next a = λ c s. turns next (length s) a c s
+-- The loop: a turn for each token that is left is enough, since each turn passes one. So the kind is one that no text gives.
+unfoldable pub loop : {T K A B : Type 0} → K → (A → Option T → Next T K A B) → A → Reader T K B
+loop k next a = λ c s. turns k next (length s) a c s

@@ -20,23 +20,23 @@ pub fn what_is_spelled_is_read<L: Language>()
 /// A token is refused as unexpected exactly where no text of the grammar begins with the tokens up to and with it, though some text
 /// begins with those before it, of which none is past a limit.
 pub fn unexpected_is_exact<L: Language>()
-    ensures refused { (ts p : List L.Token) (k : L.Kind) → L.reading 0 ts ≡ Refused (Unexpected k) p → UnexpectedAt L.spells L.limit ts p }
+    ensures refused { (k : L.Kind) (ts p : List L.Token) → L.reading 0 ts ≡ Refused (Unexpected k) p → UnexpectedAt L.spells L.limit ts p }
     ensures only { (ts p : List L.Token) → UnexpectedAt L.spells L.limit ts p → (k : L.Kind) × (L.reading 0 ts ≡ Refused (Unexpected k) p) }
 {}
 
 /// A token is refused as too large exactly where some text of the grammar begins with the tokens up to and with it, and in that text it is the
-/// first past a limit.
+/// first past a limit, which is of that kind.
 pub fn too_large_is_exact<L: Language>()
-    ensures refused { (ts p : List L.Token) → L.reading 0 ts ≡ Refused TooLarge p → TooLargeAt L.spells L.limit ts p }
-    ensures only { (ts p : List L.Token) → TooLargeAt L.spells L.limit ts p → L.reading 0 ts ≡ Refused TooLarge p }
+    ensures refused { (k : L.Kind) (ts p : List L.Token) → L.reading 0 ts ≡ Refused (TooLarge k) p → TooLargeAt L.spells L.limit k ts p }
+    ensures only { (k : L.Kind) (ts p : List L.Token) → TooLargeAt L.spells L.limit k ts p → L.reading 0 ts ≡ Refused (TooLarge k) p }
 {}
 
 /// Each list of tokens is a text, or has one token that is unexpected, or one that is too large: just one of these, of one tree or at one
 /// place. So no token is both, and where no text goes on with a token it is unexpected, whatever limits there are.
 pub fn answers_are_one<L: Language>()
     ensures some { (ts : List L.Token) → IsAnswer L.spells L.limit ts (answer_of (L.reading 0 ts)) }
-    ensures one { (ts : List L.Token) (x y : Answer L.Token L.Tree) → IsAnswer L.spells L.limit ts x → IsAnswer L.spells L.limit ts y → x ≡ y }
-    ensures apart { (ts p : List L.Token) → UnexpectedAt L.spells L.limit ts p → TooLargeAt L.spells L.limit ts p → ⊥ }
+    ensures one { (ts : List L.Token) (x y : Answer L.Token L.Kind L.Tree) → IsAnswer L.spells L.limit ts x → IsAnswer L.spells L.limit ts y → x ≡ y }
+    ensures apart { (k : L.Kind) (ts p : List L.Token) → UnexpectedAt L.spells L.limit ts p → TooLargeAt L.spells L.limit k ts p → ⊥ }
 {}
 
 /// A refusal hangs on the tokens up to and with the refused one, and on none behind it.

@@ -6,7 +6,7 @@ use Rattle.exact_sample.specs.Lists.{Token, Tree, One, Marked, Both, Inner, Numb
 use Rattle.exact_parse.proofs.Exact.{answer_is}
 use Rattle.exact_sample.specs.Facts.{text_keeps, text_meets}
 
-says : (ts : List Token) (answer : Answer Token Tree) → answer_of (text 0 ts) ≡ answer → IsAnswer IsText limit ts answer
+says : (ts : List Token) (answer : Answer Token Kind Tree) → answer_of (text 0 ts) ≡ answer → IsAnswer IsText limit ts answer
 says = answer_is IsText limit text text_keeps text_meets
 
 pub marks : IsAnswer IsText limit (Number 7 ∷ Mark ∷ Mark ∷ End ∷ []) (Spelled (Marked (Marked (One 7))))
@@ -21,13 +21,13 @@ pub two_open : IsAnswer IsText limit (Open ∷ Open ∷ Number 1 ∷ Close ∷ C
 unfolding text row part core deeper_of loop turns
 two_open = says (Open ∷ Open ∷ Number 1 ∷ Close ∷ Close ∷ End ∷ []) (Spelled (Inner (Inner (One 1)))) refl
 
-pub third_open : IsAnswer IsText limit (Open ∷ Open ∷ Open ∷ Number 1 ∷ Close ∷ []) (IsTooLarge (Open ∷ Number 1 ∷ Close ∷ []))
+pub third_open : IsAnswer IsText limit (Open ∷ Open ∷ Open ∷ Number 1 ∷ Close ∷ []) (IsTooLarge tt (Open ∷ Number 1 ∷ Close ∷ []))
 unfolding text row part core deeper_of loop turns
-third_open = says (Open ∷ Open ∷ Open ∷ Number 1 ∷ Close ∷ []) (IsTooLarge (Open ∷ Number 1 ∷ Close ∷ [])) refl
+third_open = says (Open ∷ Open ∷ Open ∷ Number 1 ∷ Close ∷ []) (IsTooLarge tt (Open ∷ Number 1 ∷ Close ∷ [])) refl
 
-pub fourth_comma : IsAnswer IsText limit (Number 1 ∷ Comma ∷ Number 2 ∷ Comma ∷ Open ∷ Number 3 ∷ Comma ∷ Number 4 ∷ Close ∷ Comma ∷ Mark ∷ []) (IsTooLarge (Comma ∷ Mark ∷ []))
+pub fourth_comma : IsAnswer IsText limit (Number 1 ∷ Comma ∷ Number 2 ∷ Comma ∷ Open ∷ Number 3 ∷ Comma ∷ Number 4 ∷ Close ∷ Comma ∷ Mark ∷ []) (IsTooLarge tt (Comma ∷ Mark ∷ []))
 unfolding text row part core deeper_of loop turns
-fourth_comma = says (Number 1 ∷ Comma ∷ Number 2 ∷ Comma ∷ Open ∷ Number 3 ∷ Comma ∷ Number 4 ∷ Close ∷ Comma ∷ Mark ∷ []) (IsTooLarge (Comma ∷ Mark ∷ [])) refl
+fourth_comma = says (Number 1 ∷ Comma ∷ Number 2 ∷ Comma ∷ Open ∷ Number 3 ∷ Comma ∷ Number 4 ∷ Close ∷ Comma ∷ Mark ∷ []) (IsTooLarge tt (Comma ∷ Mark ∷ [])) refl
 
 pub last_comma : IsAnswer IsText limit (Number 1 ∷ Comma ∷ End ∷ []) (IsUnexpected (End ∷ []))
 unfolding text row part core deeper_of loop turns

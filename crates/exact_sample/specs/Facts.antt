@@ -56,7 +56,7 @@ module _ (deeper : Deeper) (row_keeps : Keeps (Spells Row) deeper.row) where
 
   core_token : (x : Token) (c : ℕ) (s : List Token) → Fits (Spells Core) (read.core_by deeper (Some x)) c (x ∷ s) (read.core_by deeper (Some x) c (x ∷ s))
   core_token (Number n) c s = skip_at (Spells Core) (pure (One n)) (Number n) (pure_keeps (λ z. number)) c s
-  core_token Open c s = within_at (Spells Core) (deeper.row >>= λ a. take tt close >>= λ _. pure (Inner a)) Open inner_keeps deeper.has_room c s
+  core_token Open c s = within_at (Spells Core) (deeper.row >>= λ a. take tt close >>= λ _. pure (Inner a)) Open inner_keeps tt deeper.has_room c s
   core_token _ c s = refuse_at {X = Spells Core} tt short c _
 
   core_keeps : Keeps (Spells Core) (read.core deeper)
@@ -65,12 +65,12 @@ module _ (deeper : Deeper) (row_keeps : Keeps (Spells Row) deeper.row) where
 
   part_keeps : Keeps (Spells Part) (read.part deeper)
   unfolding read.part
-  part_keeps = bind_keeps (loop mark_next) (map_keeps (λ s a r. plain) core_keeps) (loop_keeps (On Part) mark_next marks_keep)
+  part_keeps = bind_keeps (loop tt mark_next) (map_keeps (λ s a r. plain) core_keeps) (loop_keeps tt (On Part) mark_next marks_keep)
 
   row_keep : Keeps (Spells Row) (read.row deeper)
   unfolding read.row
-  row_keep = bind_keeps (loop (comma_next (read.part deeper))) (map_keeps (λ s a r. first) part_keeps)
-      (loop_keeps (On Row) (comma_next (read.part deeper)) (commas_keep (read.part deeper) part_keeps))
+  row_keep = bind_keeps (loop tt (comma_next (read.part deeper))) (map_keeps (λ s a r. first) part_keeps)
+      (loop_keeps tt (On Row) (comma_next (read.part deeper)) (commas_keep (read.part deeper) part_keeps))
 
 deeper_keeps : (room : ℕ) → Keeps (Spells Row) (read.deeper_of room).row
 unfolding read.deeper_of
@@ -97,10 +97,10 @@ module _ (room : ℕ) where
   deeper = read.deeper_of room
 
   marks : Tree → Reading
-  marks = loop mark_next
+  marks = loop tt mark_next
 
   commas : Tree → Reading
-  commas = loop (comma_next (read.part deeper))
+  commas = loop tt (comma_next (read.part deeper))
 
   -- what a rule's reading gives at a spelling
   abbrev Reach : (rule : Rule) {s r : List Token} {a : Tree} → Spells rule s a r → ℕ → List Token → Tree → List Token → Type 0
@@ -111,12 +111,12 @@ module _ (room : ℕ) where
   -- a part to its end
   part_read : {s r : List Token} {a : Tree} (x : Spells Part s a r) (c : ℕ) → Reach Part x c s a r → PartStops r → Meets (verdict x room c) a r (read.part deeper c s)
   unfolding marks
-  part_read {s = s} {r = r} {a = a} x c h stops = loop_stops (On Part) mark_next marks_keep (verdict x room c) a r (read.part deeper c s) a (stops a) h
+  part_read {s = s} {r = r} {a = a} x c h stops = loop_stops tt (On Part) mark_next marks_keep (verdict x room c) a r (read.part deeper c s) a (stops a) h
 
   -- a row to its end
   row_read : {s r : List Token} {a : Tree} (x : Spells Row s a r) (c : ℕ) → Reach Row x c s a r → PartStops r → RowStops r → Meets (verdict x room c) a r (read.row deeper c s)
   unfolding commas
-  row_read {s = s} {r = r} {a = a} x c h stops ends = loop_stops (On Row) (comma_next (read.part deeper)) (commas_keep (read.part deeper) (part_keeps deeper (deeper_keeps room)))
+  row_read {s = s} {r = r} {a = a} x c h stops ends = loop_stops tt (On Row) (comma_next (read.part deeper)) (commas_keep (read.part deeper) (part_keeps deeper (deeper_keeps room)))
       (verdict x room c) a r (read.row deeper c s) a (ends (read.part deeper) a) (h stops)
 
   first_reach : {s r : List Token} {a : Tree} (x : Spells Part s a r) (c : ℕ) → Reach Part x c s a r → Reach Row (first x) c s a r
@@ -127,22 +127,22 @@ module _ (room : ℕ) where
       Reach Row x c s a (Comma ∷ m) → ((c : ℕ) → Reach Part y c m b r) → Reach Row (both x y) c s (Both a b) r
   unfolding commas
   both_reach {s = s} {m = m} {r = r} {a = a} {b = b} x y c h k stops =
-      loop_goes_on_counted (On Row) (comma_next (read.part deeper)) (commas_keep (read.part deeper) (part_keeps deeper (deeper_keeps room)))
-      (verdict x room c) a Comma m (read.row deeper c s) most_commas (read.part deeper >>= λ b. pure (Both a b)) (λ c. verdict y room c) (Both a b) r (h (λ a. refl)) refl
+      loop_goes_on_counted tt (On Row) (comma_next (read.part deeper)) (commas_keep (read.part deeper) (part_keeps deeper (deeper_keeps room)))
+      (verdict x room c) a Comma m (read.row deeper c s) tt most_commas (read.part deeper >>= λ b. pure (Both a b)) (λ c. verdict y room c) (Both a b) r (h (λ a. refl)) refl
       (λ c. after_meets (verdict y room c) b r (read.part deeper c m) (λ b. pure (Both a b)) (Both a b) r (part_read y c (k c) stops) (λ c. refl))
 
   plain_reach : {s r : List Token} {a : Tree} (x : Spells Core s a r) (c : ℕ) → Reach Core x c s a r → Reach Part (plain x) c s a r
   unfolding read.part marks
   plain_reach {s = s} {r = r} {a = a} x c h = loop_begins marks (verdict x room c) a r (read.core deeper c s) h
 
-  fine_alone : (v : Verdict Token) (a : Tree) (r : List Token) (o : Outcome Token Kind Tree) → ComesTo marks (and_fine v (λ c. Fine c)) a r o → ComesTo marks v a r o
+  fine_alone : (v : Verdict Token Kind) (a : Tree) (r : List Token) (o : Outcome Token Kind Tree) → ComesTo marks (and_fine v (λ c. Fine c)) a r o → ComesTo marks v a r o
   fine_alone (Fine c) a r o h = h
-  fine_alone (Over p) a r o h = h
+  fine_alone (Over k p) a r o h = h
 
   marked_reach : {s r : List Token} {a : Tree} (x : Spells Part s a (Mark ∷ r)) (c : ℕ) → Reach Part x c s a (Mark ∷ r) → Reach Part (marked x) c s (Marked a) r
   unfolding marks
   marked_reach {s = s} {r = r} {a = a} x c h = fine_alone (verdict x room c) (Marked a) r (read.part deeper c s)
-      (loop_goes_on (On Part) mark_next marks_keep (verdict x room c) a Mark r (read.part deeper c s) (pure (Marked a)) (λ c. Fine c) (Marked a) r h refl (λ c. refl))
+      (loop_goes_on tt (On Part) mark_next marks_keep (verdict x room c) a Mark r (read.part deeper c s) (pure (Marked a)) (λ c. Fine c) (Marked a) r h refl (λ c. refl))
 
 inner_reach : {s r : List Token} {a : Tree} (x : Spells Row s a (Close ∷ r)) → ((room c : ℕ) → Reach room Row x c s a (Close ∷ r)) → (room c : ℕ) → Reach room Core (inner x) c (Open ∷ s) (Inner a) r
 unfolding read.core read.deeper_of

@@ -42,6 +42,10 @@ IsText s a r = Spells Row s a (End ∷ r)
 
 -- ---- the limits
 
+-- of refusals for either cause there is but one kind
+abbrev pub Kind : Type 0
+Kind = Unit {0}
+
 abbrev pub most_open : ℕ
 most_open = 2
 
@@ -49,15 +53,15 @@ abbrev pub most_commas : ℕ
 most_commas = 3
 
 -- The open parentheses are no more than the room, and the commas of a text no more than may be; marks have no limit.
-abbrev pub verdict : {rule : Rule} {s r : List Token} {a : Tree} → Spells rule s a r → ℕ → ℕ → Verdict Token
+abbrev pub verdict : {rule : Rule} {s r : List Token} {a : Tree} → Spells rule s a r → ℕ → ℕ → Verdict Token Kind
 verdict (first x) room c = verdict x room c
-verdict (both {m = m} x y) room c = and_fine (verdict x room c) (λ c. counts most_commas c (Comma ∷ m) (λ c. verdict y room c))
+verdict (both {m = m} x y) room c = and_fine (verdict x room c) (λ c. counts tt most_commas c (Comma ∷ m) (λ c. verdict y room c))
 verdict (plain x) room c = verdict x room c
 verdict (marked x) room c = verdict x room c
 verdict number room c = Fine c
-verdict (inner {s = s} x) room c = opens room (Open ∷ s) (λ room. verdict x room c)
+verdict (inner {s = s} x) room c = opens tt room (Open ∷ s) (λ room. verdict x room c)
 
-abbrev pub limit : (s : List Token) (a : Tree) (r : List Token) → IsText s a r → Verdict Token
+abbrev pub limit : (s : List Token) (a : Tree) (r : List Token) → IsText s a r → Verdict Token Kind
 limit s a r x = verdict x most_open 0
 
 -- ---- the reading
@@ -69,10 +73,6 @@ close _ = None
 abbrev pub end : Token → Option (Unit {0})
 end End = Some tt
 end _ = None
-
--- there is one kind of refusal for a token with which nothing goes on
-abbrev pub Kind : Type 0
-Kind = Unit {0}
 
 abbrev pub Reading : Type 0
 Reading = Reader Token Kind Tree
@@ -87,23 +87,23 @@ mark_next a (Some Mark) = More (pure (Marked a))
 mark_next a _ = Ends (pure a)
 
 abbrev pub comma_next : Reading → Tree → Option Token → Next Token Kind Tree Tree
-comma_next part a (Some Comma) = Counts most_commas (part >>= λ b. pure (Both a b))
+comma_next part a (Some Comma) = Counts tt most_commas (part >>= λ b. pure (Both a b))
 comma_next part a _ = Ends (pure a)
 
 module _ (deeper : Deeper) where
   abbrev pub core_by : Option Token → Reading
   core_by (Some (Number n)) = skip >> pure (One n)
-  core_by (Some Open) = within deeper.has_room (skip >> (deeper.row >>= λ a. take tt close >>= λ _. pure (Inner a)))
+  core_by (Some Open) = within tt deeper.has_room (skip >> (deeper.row >>= λ a. take tt close >>= λ _. pure (Inner a)))
   core_by _ = refuse tt
 
   unfoldable pub core : Reading
   core = choose core_by
 
   unfoldable pub part : Reading
-  part = core >>= loop mark_next
+  part = core >>= loop tt mark_next
 
   unfoldable pub row : Reading
-  row = part >>= loop (comma_next part)
+  row = part >>= loop tt (comma_next part)
 
 -- what may be nested that deep
 unfoldable pub deeper_of : ℕ → Deeper

@@ -28,8 +28,8 @@ pub fn number_lists_are_exact()
     ensures marks { IsAnswer lists.IsText lists.limit (Number 7 ∷ Mark ∷ Mark ∷ End ∷ []) (Spelled (Marked (Marked (One 7)))) }
     ensures grouped { IsAnswer lists.IsText lists.limit (Number 1 ∷ Comma ∷ Number 2 ∷ Comma ∷ Number 3 ∷ End ∷ []) (Spelled (Both (Both (One 1) (One 2)) (One 3))) }
     ensures two_open { IsAnswer lists.IsText lists.limit (Open ∷ Open ∷ Number 1 ∷ Close ∷ Close ∷ End ∷ []) (Spelled (Inner (Inner (One 1)))) }
-    ensures third_open { IsAnswer lists.IsText lists.limit (Open ∷ Open ∷ Open ∷ Number 1 ∷ Close ∷ []) (IsTooLarge (Open ∷ Number 1 ∷ Close ∷ [])) }
-    ensures fourth_comma { IsAnswer lists.IsText lists.limit (Number 1 ∷ Comma ∷ Number 2 ∷ Comma ∷ Open ∷ Number 3 ∷ Comma ∷ Number 4 ∷ Close ∷ Comma ∷ Mark ∷ []) (IsTooLarge (Comma ∷ Mark ∷ [])) }
+    ensures third_open { IsAnswer lists.IsText lists.limit (Open ∷ Open ∷ Open ∷ Number 1 ∷ Close ∷ []) (IsTooLarge tt (Open ∷ Number 1 ∷ Close ∷ [])) }
+    ensures fourth_comma { IsAnswer lists.IsText lists.limit (Number 1 ∷ Comma ∷ Number 2 ∷ Comma ∷ Open ∷ Number 3 ∷ Comma ∷ Number 4 ∷ Close ∷ Comma ∷ Mark ∷ []) (IsTooLarge tt (Comma ∷ Mark ∷ [])) }
     ensures last_comma { IsAnswer lists.IsText lists.limit (Number 1 ∷ Comma ∷ End ∷ []) (IsUnexpected (End ∷ [])) }
     ensures not_closed { IsAnswer lists.IsText lists.limit (Open ∷ Number 1 ∷ End ∷ Close ∷ []) (IsUnexpected (End ∷ Close ∷ [])) }
     ensures grammar_first { IsAnswer lists.IsText lists.limit (Number 1 ∷ Comma ∷ Number 2 ∷ Comma ∷ Number 3 ∷ Comma ∷ Comma ∷ []) (IsUnexpected (Comma ∷ [])) }
