@@ -45,12 +45,12 @@ module _ {T K A B : Type 0} (k : K) (Z : A → List T → B → List T → Type 
   turns_keep (suc n) a = choose_keeps (Z a) (λ h. turn k true (turns k next n) (next a h)) (keeps.short a)
       (λ c. end_fits a true (turns k next n) c (next a None) (keeps.none a)) (λ x c s. next_fits a (turns k next n) (turns_keep n) x c s (next a (Some x)) (keeps.some a x))
 
-  -- ---- more turns than tokens change nothing
+  -- ---- more turns than tokens change nothing, and no text gives the kind of a loop that has none left
 
-  ends_alike : (b d : Bool) (f g : A → Reader T K B) (a : A) (c : ℕ) (o : Next T K A B) → EndKeeps (Z a) o → turn k b f o c [] ≡ turn k d g o c []
-  ends_alike b d f g a c (Ends q) h = refl
-  ends_alike b d f g a c (More p) h = absurd h
-  ends_alike b d f g a c (Counts j most p) h = absurd h
+  ends_alike : (i j : K) (b d : Bool) (f g : A → Reader T K B) (a : A) (c : ℕ) (o : Next T K A B) → EndKeeps (Z a) o → turn i b f o c [] ≡ turn j d g o c []
+  ends_alike i j b d f g a c (Ends q) h = refl
+  ends_alike i j b d f g a c (More p) h = absurd h
+  ends_alike i j b d f g a c (Counts l most p) h = absurd h
 
   then_alike : (p : Reader T K A) (c : ℕ) (s : List T) (f g : A → Reader T K B) → ((b : A) (c' : ℕ) (n : List T) → p c s ≡ Read b c' n → f b c' n ≡ g b c' n) → (p >>= f) c s ≡ (p >>= g) c s
   then_alike p c s f g h = by (p c s) h
@@ -59,31 +59,36 @@ module _ {T K A B : Type 0} (k : K) (Z : A → List T → B → List T → Type 
       by (Read b c' n) h = h b c' n refl
       by (Refused j n) h = refl
 
-  turn_alike : (f g : A → Reader T K B) (a : A) (x : T) (c : ℕ) (s : List T) (o : Next T K A B) → NextKeeps Z a x o →
-      ((b : A) (c : ℕ) (n : List T) → length n ≤ length s → f b c n ≡ g b c n) → turn k true f o c (x ∷ s) ≡ turn k true g o c (x ∷ s)
-  turn_alike f g a x c s (Ends q) fit h = refl
-  turn_alike f g a x c s (More p) fit h = then_alike p c s f g (λ b c' n e. h b c' n (read_shorter (Link Z a x) p fit c s b c' n e))
-  turn_alike f g a x c s (Counts j most p) fit h = by (nat_lt c most)
+  turn_alike : (i j : K) (f g : A → Reader T K B) (a : A) (x : T) (c : ℕ) (s : List T) (o : Next T K A B) → NextKeeps Z a x o →
+      ((b : A) (c : ℕ) (n : List T) → length n ≤ length s → f b c n ≡ g b c n) → turn i true f o c (x ∷ s) ≡ turn j true g o c (x ∷ s)
+  turn_alike i j f g a x c s (Ends q) fit h = refl
+  turn_alike i j f g a x c s (More p) fit h = then_alike p c s f g (λ b c' n e. h b c' n (read_shorter (Link Z a x) p fit c s b c' n e))
+  turn_alike i j f g a x c s (Counts l most p) fit h = by (nat_lt c most)
     where
-      by : (d : Bool) → within j d (skip >> (p >>= f)) (c + 1) (x ∷ s) ≡ within j d (skip >> (p >>= g)) (c + 1) (x ∷ s)
+      by : (d : Bool) → within l d (skip >> (p >>= f)) (c + 1) (x ∷ s) ≡ within l d (skip >> (p >>= g)) (c + 1) (x ∷ s)
       by true = then_alike p (c + 1) s f g (λ b c' n e. h b c' n (read_shorter (Link Z a x) p fit (c + 1) s b c' n e))
       by false = refl
 
-  enough : (m n : ℕ) (a : A) (c : ℕ) (s : List T) → length s ≤ m → length s ≤ n → turns k next m a c s ≡ turns k next n a c s
+  enough : (i j : K) (m n : ℕ) (a : A) (c : ℕ) (s : List T) → length s ≤ m → length s ≤ n → turns i next m a c s ≡ turns j next n a c s
   unfolding turns
-  enough zero zero a c s i j = refl
-  enough zero (suc n) a c [] i j = ends_alike false true (λ b. too_large k) (turns k next n) a c (next a None) (keeps.none a)
-  enough (suc m) zero a c [] i j = ends_alike true false (turns k next m) (λ b. too_large k) a c (next a None) (keeps.none a)
-  enough (suc m) (suc n) a c [] i j = ends_alike true true (turns k next m) (turns k next n) a c (next a None) (keeps.none a)
-  enough zero (suc n) a c (x ∷ s) i j = absurd (omega (arith, i))
-  enough (suc m) zero a c (x ∷ s) i j = absurd (omega (arith, j))
-  enough (suc m) (suc n) a c (x ∷ s) i j = turn_alike (turns k next m) (turns k next n) a x c s (next a (Some x)) (keeps.some a x)
-      (λ b c' r h. enough m n b c' r (omega (arith, h, i)) (omega (arith, h, j)))
+  enough i j zero zero a c [] l h = ends_alike i j false false (λ b. too_large i) (λ b. too_large j) a c (next a None) (keeps.none a)
+  enough i j zero (suc n) a c [] l h = ends_alike i j false true (λ b. too_large i) (turns j next n) a c (next a None) (keeps.none a)
+  enough i j (suc m) zero a c [] l h = ends_alike i j true false (turns i next m) (λ b. too_large j) a c (next a None) (keeps.none a)
+  enough i j (suc m) (suc n) a c [] l h = ends_alike i j true true (turns i next m) (turns j next n) a c (next a None) (keeps.none a)
+  enough i j zero n a c (x ∷ s) l h = absurd (omega (arith, l))
+  enough i j (suc m) zero a c (x ∷ s) l h = absurd (omega (arith, h))
+  enough i j (suc m) (suc n) a c (x ∷ s) l h = turn_alike i j (turns i next m) (turns j next n) a x c s (next a (Some x)) (keeps.some a x)
+      (λ b c' r short. enough i j m n b c' r (omega (arith, short, l)) (omega (arith, short, h)))
 
   -- So many turns as there are tokens, or more, are the loop.
   pub turns_suffice : (n : ℕ) (a : A) (c : ℕ) (s : List T) → length s ≤ n → turns k next n a c s ≡ loop k next a c s
   unfolding loop
-  turns_suffice n a c s h = enough n (length s) a c s h (omega arith)
+  turns_suffice n a c s h = enough k k n (length s) a c s h (omega arith)
+
+  -- The kind is one that no text gives.
+  pub loop_kinds : (j : K) (a : A) (c : ℕ) (s : List T) → loop k next a c s ≡ loop j next a c s
+  unfolding loop
+  loop_kinds j a c s = enough k j (length s) (length s) a c s (omega arith) (omega arith)
 
   -- ---- the loop
 
@@ -121,7 +126,7 @@ module _ {T K A B : Type 0} (k : K) (Z : A → List T → B → List T → Type 
 
   -- the turns that are left are the loop
   left : (a : A) (x : T) (s : List T) (o : Next T K A B) (c : ℕ) → NextKeeps Z a x o → turn k true (turns k next (length s)) o c (x ∷ s) ≡ turn k true (loop k next) o c (x ∷ s)
-  left a x s o c fit = turn_alike (turns k next (length s)) (loop k next) a x c s o fit (λ b c' n h. turns_suffice (length s) b c' n h)
+  left a x s o c fit = turn_alike k k (turns k next (length s)) (loop k next) a x c s o fit (λ b c' n h. turns_suffice (length s) b c' n h)
 
   on : (a : A) (c : ℕ) (x : T) (s : List T) → loop k next a c (x ∷ s) ≡ turn k true (loop k next) (next a (Some x)) c (x ∷ s)
   unfolding loop turns

@@ -28,26 +28,26 @@ row_short : Goes (Spells Row) []
 row_short = record { more = Number 0 ∷ []; tree = One 0; spells = λ z. first (plain number) }
 
 -- what goes on behind a part that is spelled
-abbrev On : Rule → Tree → List Token → Tree → List Token → Type 0
-On rule = Then (Spells rule) (Spells rule)
+abbrev pub Behind : Rule → Tree → List Token → Tree → List Token → Type 0
+Behind rule = Then (Spells rule) (Spells rule)
 
-stays : {rule : Rule} (a : Tree) → Goes (On rule a) []
+stays : {rule : Rule} (a : Tree) → Goes (Behind rule a) []
 stays a = record { more = []; tree = a; spells = λ z s d. d }
 
-marks_keep : LoopKeeps (On Part) mark_next
-marks_keep = record { short = stays; none = λ a c. pure_at {X = On Part a} (λ z s d. d) c []; some = some }
+pub marks_keep : LoopKeeps (Behind Part) mark_next
+marks_keep = record { short = stays; none = λ a c. pure_at {X = Behind Part a} (λ z s d. d) c []; some = some }
   where
-    some : (a : Tree) (x : Token) → NextKeeps (On Part) a x (mark_next a (Some x))
+    some : (a : Tree) (x : Token) → NextKeeps (Behind Part) a x (mark_next a (Some x))
     some a Mark = pure_keeps (λ z d r h s0 x. h s0 (marked x))
-    some a _ = λ c s. pure_at {X = On Part a} (λ z s d. d) c _
+    some a _ = λ c s. pure_at {X = Behind Part a} (λ z s d. d) c _
 
 module _ (part : Reading) (part_keeps : Keeps (Spells Part) part) where
-  commas_keep : LoopKeeps (On Row) (comma_next part)
-  commas_keep = record { short = stays; none = λ a c. pure_at {X = On Row a} (λ z s d. d) c []; some = some }
+  commas_keep : LoopKeeps (Behind Row) (comma_next part)
+  commas_keep = record { short = stays; none = λ a c. pure_at {X = Behind Row a} (λ z s d. d) c []; some = some }
     where
-      some : (a : Tree) (x : Token) → NextKeeps (On Row) a x (comma_next part a (Some x))
+      some : (a : Tree) (x : Token) → NextKeeps (Behind Row) a x (comma_next part a (Some x))
       some a Comma = bind_keeps (λ b. pure (Both a b)) part_keeps (λ b. pure_keeps (λ z m y d r h s0 x. h s0 (both x y)))
-      some a _ = λ c s. pure_at {X = On Row a} (λ z s d. d) c _
+      some a _ = λ c s. pure_at {X = Behind Row a} (λ z s d. d) c _
 
 module _ (deeper : Deeper) (row_keeps : Keeps (Spells Row) deeper.row) where
   inner_keeps : Keeps (λ m b r. Spells Core (Open ∷ m) b r) (deeper.row >>= λ a. take tt close >>= λ _. pure (Inner a))
@@ -65,12 +65,12 @@ module _ (deeper : Deeper) (row_keeps : Keeps (Spells Row) deeper.row) where
 
   part_keeps : Keeps (Spells Part) (read.part deeper)
   unfolding read.part
-  part_keeps = bind_keeps (loop tt mark_next) (map_keeps (λ s a r. plain) core_keeps) (loop_keeps tt (On Part) mark_next marks_keep)
+  part_keeps = bind_keeps (loop tt mark_next) (map_keeps (λ s a r. plain) core_keeps) (loop_keeps tt (Behind Part) mark_next marks_keep)
 
   row_keep : Keeps (Spells Row) (read.row deeper)
   unfolding read.row
   row_keep = bind_keeps (loop tt (comma_next (read.part deeper))) (map_keeps (λ s a r. first) part_keeps)
-      (loop_keeps tt (On Row) (comma_next (read.part deeper)) (commas_keep (read.part deeper) part_keeps))
+      (loop_keeps tt (Behind Row) (comma_next (read.part deeper)) (commas_keep (read.part deeper) part_keeps))
 
 deeper_keeps : (room : ℕ) → Keeps (Spells Row) (read.deeper_of room).row
 unfolding read.deeper_of
@@ -111,12 +111,12 @@ module _ (room : ℕ) where
   -- a part to its end
   part_read : {s r : List Token} {a : Tree} (x : Spells Part s a r) (c : ℕ) → Reach Part x c s a r → PartStops r → Meets (verdict x room c) a r (read.part deeper c s)
   unfolding marks
-  part_read {s = s} {r = r} {a = a} x c h stops = loop_stops tt (On Part) mark_next marks_keep (verdict x room c) a r (read.part deeper c s) a (stops a) h
+  part_read {s = s} {r = r} {a = a} x c h stops = loop_stops tt (Behind Part) mark_next marks_keep (verdict x room c) a r (read.part deeper c s) a (stops a) h
 
   -- a row to its end
   row_read : {s r : List Token} {a : Tree} (x : Spells Row s a r) (c : ℕ) → Reach Row x c s a r → PartStops r → RowStops r → Meets (verdict x room c) a r (read.row deeper c s)
   unfolding commas
-  row_read {s = s} {r = r} {a = a} x c h stops ends = loop_stops tt (On Row) (comma_next (read.part deeper)) (commas_keep (read.part deeper) (part_keeps deeper (deeper_keeps room)))
+  row_read {s = s} {r = r} {a = a} x c h stops ends = loop_stops tt (Behind Row) (comma_next (read.part deeper)) (commas_keep (read.part deeper) (part_keeps deeper (deeper_keeps room)))
       (verdict x room c) a r (read.row deeper c s) a (ends (read.part deeper) a) (h stops)
 
   first_reach : {s r : List Token} {a : Tree} (x : Spells Part s a r) (c : ℕ) → Reach Part x c s a r → Reach Row (first x) c s a r
@@ -127,7 +127,7 @@ module _ (room : ℕ) where
       Reach Row x c s a (Comma ∷ m) → ((c : ℕ) → Reach Part y c m b r) → Reach Row (both x y) c s (Both a b) r
   unfolding commas
   both_reach {s = s} {m = m} {r = r} {a = a} {b = b} x y c h k stops =
-      loop_goes_on_counted tt (On Row) (comma_next (read.part deeper)) (commas_keep (read.part deeper) (part_keeps deeper (deeper_keeps room)))
+      loop_goes_on_counted tt (Behind Row) (comma_next (read.part deeper)) (commas_keep (read.part deeper) (part_keeps deeper (deeper_keeps room)))
       (verdict x room c) a Comma m (read.row deeper c s) tt most_commas (read.part deeper >>= λ b. pure (Both a b)) (λ c. verdict y room c) (Both a b) r (h (λ a. refl)) refl
       (λ c. after_meets (verdict y room c) b r (read.part deeper c m) (λ b. pure (Both a b)) (Both a b) r (part_read y c (k c) stops) (λ c. refl))
 
@@ -142,7 +142,7 @@ module _ (room : ℕ) where
   marked_reach : {s r : List Token} {a : Tree} (x : Spells Part s a (Mark ∷ r)) (c : ℕ) → Reach Part x c s a (Mark ∷ r) → Reach Part (marked x) c s (Marked a) r
   unfolding marks
   marked_reach {s = s} {r = r} {a = a} x c h = fine_alone (verdict x room c) (Marked a) r (read.part deeper c s)
-      (loop_goes_on tt (On Part) mark_next marks_keep (verdict x room c) a Mark r (read.part deeper c s) (pure (Marked a)) (λ c. Fine c) (Marked a) r h refl (λ c. refl))
+      (loop_goes_on tt (Behind Part) mark_next marks_keep (verdict x room c) a Mark r (read.part deeper c s) (pure (Marked a)) (λ c. Fine c) (Marked a) r h refl (λ c. refl))
 
 inner_reach : {s r : List Token} {a : Tree} (x : Spells Row s a (Close ∷ r)) → ((room c : ℕ) → Reach room Row x c s a (Close ∷ r)) → (room c : ℕ) → Reach room Core (inner x) c (Open ∷ s) (Inner a) r
 unfolding read.core read.deeper_of

@@ -3,4 +3,4 @@
 
 mod lists;
 
-pub use lists::{NumberLists, number_lists_are_exact};
+pub use lists::{Marks, NumberLists, number_lists_are_exact};

@@ -1,12 +1,12 @@
 //! A small language that is read through the laws: numbers with marks behind them, in lists with commas and parentheses.
 
-use exact_parse::Language;
+use exact_parse::{Language, Looping};
 
 ghost use Rattle.std.specs.Prelude.{List, [], ◌∷◌};
-ghost use Rattle.exact_sample.specs.Facts.{text_keeps, text_meets};
+ghost use Rattle.exact_sample.specs.Facts.{Behind, marks_keep, text_keeps, text_meets};
 ghost use Rattle.exact_parse.specs.Answers.{IsAnswer, Spelled, IsUnexpected, IsTooLarge};
 ghost use Rattle.exact_sample.specs.Lists as lists;
-ghost use Rattle.exact_sample.specs.Lists.{One, Marked, Both, Inner, Number, Mark, Comma, Open, Close, End};
+ghost use Rattle.exact_sample.specs.Lists.{Part, One, Marked, Both, Inner, Number, Mark, Comma, Open, Close, End};
 
 /// Lists of numbers: at most two parentheses are open at once, a text has at most three commas, and a part has as many marks as it likes.
 #[derive(Drop)]
@@ -21,6 +21,20 @@ impl Language for NumberLists {
     ghost reading = { lists.text };
     ghost keeps = { text_keeps };
     ghost meets = { text_meets };
+}
+
+/// The marks behind a part: a loop without a limit.
+#[derive(Drop)]
+pub struct Marks;
+
+impl Looping for Marks {
+    ghost Token = { lists.Token };
+    ghost Kind = { lists.Kind };
+    ghost Value = { lists.Tree };
+    ghost Tree = { lists.Tree };
+    ghost spells = { Behind Part };
+    ghost next = { lists.mark_next };
+    ghost keeps = { marks_keep };
 }
 
 /// What is said of some texts: the place of a refusal is given by the tokens from it on.
