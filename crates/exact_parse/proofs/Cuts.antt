@@ -1,5 +1,5 @@
 -- Two ways to cut one list.
-use Rattle.std.proofs.Common.{◌≡◌, ℕ, suc, ◌+◌, ◌≤◌, List, [], ◌∷◌, ◌++◌, length, refl, sym, ◌∙◌, ap, subst, length-append, arith}
+use Rattle.std.proofs.Common.{◌≡◌, List, [], ◌∷◌, ◌++◌, length, refl, sym, subst, length-append, arith}
 
 pub data Cut {T : Type 0} : List T → List T → List T → List T → Type 0 where
   same : {w p : List T} → Cut w p w p

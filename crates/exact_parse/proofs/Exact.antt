@@ -1,12 +1,11 @@
 -- A reading that keeps to a grammar and reads all that is spelled is exact, with the place of each refusal.
-use Rattle.std.proofs.Common.{◌≡◌, ℕ, suc, ◌+◌, ◌<◌, ◌≤◌, List, [], ◌∷◌, ◌++◌, length, refl, sym, ◌∙◌, ap, subst, append_assoc, length-append, append-nil, arith, ◌⊎◌, inl, inr, ◌≢◌}
+use Rattle.std.proofs.Common.{◌≡◌, ℕ, ◌≤◌, List, [], ◌∷◌, ◌++◌, length, refl, sym, ◌∙◌, ap, subst, append_assoc, length-append, arith}
 use Rattle.exact_parse.specs.Steps.{head, Cause, Unexpected, TooLarge, Outcome, Read, Refused, Reader}
 use Rattle.exact_parse.specs.Limits.{Verdict, Fine, Over}
-use Rattle.exact_parse.specs.Keeps.{Goes, Front, Fits, FitsRead, FitsRefused, Keeps}
+use Rattle.exact_parse.specs.Keeps.{Goes, Front, Fits, Keeps}
 use Rattle.exact_parse.specs.Answers.{Answer, Spelled, IsUnexpected, IsTooLarge, IsAnswer, answer_of}
 use Rattle.exact_parse.specs.Exact.{Meets, SpellsText, GoesOn, UnexpectedAt, TooLargeAt}
 use Rattle.exact_parse.proofs.Cuts.{Cut, same, earlier, later, cut, cut_same}
-use Rattle.exact_parse.proofs.Keeping.{head-swap}
 
 module _ {T K A : Type 0} (X : List T → A → List T → Type 0) (limit : (s : List T) (a : A) (r : List T) → X s a r → Verdict T K) (f : Reader T K A) (keeps : Keeps X f)
     (meets : (s r : List T) (a : A) (x : X s a r) → Meets (limit s a r x) a r (f 0 s)) where

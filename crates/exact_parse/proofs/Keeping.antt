@@ -1,7 +1,7 @@
 -- The steps keep to a relation, if their parts do.
 use Rattle.std.proofs.Common.{◌≡◌, ℕ, ◌+◌, ◌≤◌, Bool, true, false, nat_lt, List, [], ◌∷◌, ◌++◌, length, Option, Some, None, refl, sym, ◌∙◌, ap, subst, append_assoc, length-append, arith}
-use Rattle.exact_parse.specs.Steps.{head, Cause, Unexpected, TooLarge, Outcome, Read, Refused, Reader, and_then, ◌>>=◌, ◌>>◌, pure, refuse, too_large, choose, skip, within, counted, fresh, take, take_by, take_as}
-use Rattle.exact_parse.specs.Keeps.{Goes, Front, FitsRead, FitsRefused, Fits, Keeps, Then}
+use Rattle.exact_parse.specs.Steps.{head, Unexpected, TooLarge, Outcome, Read, Refused, Reader, and_then, ◌>>=◌, ◌>>◌, pure, refuse, too_large, choose, skip, within, counted, fresh, take, take_by, take_as}
+use Rattle.exact_parse.specs.Keeps.{Goes, FitsRead, Fits, Keeps, Then}
 
 -- ---- lists
 

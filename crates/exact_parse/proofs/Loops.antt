@@ -1,10 +1,10 @@
 -- A loop keeps to a relation, goes by its next token, and needs no more turns than there are tokens.
-use Rattle.std.proofs.Common.{◌≡◌, ℕ, zero, suc, ◌+◌, ◌≤◌, Bool, true, false, nat_lt, List, [], ◌∷◌, ◌++◌, length, Option, Some, None, refl, sym, ◌∙◌, ap, subst, length-append, append_assoc, arith, cond}
-use Rattle.exact_parse.specs.Steps.{head, Cause, Unexpected, TooLarge, Outcome, Read, Refused, Reader, and_then, ◌>>=◌, ◌>>◌, pure, refuse, too_large, choose, skip, within, counted, Next, Ends, More, Counts, turn, turns, loop}
-use Rattle.exact_parse.specs.Keeps.{Goes, FitsRead, FitsRefused, Fits, Keeps, Then}
+use Rattle.std.proofs.Common.{◌≡◌, ℕ, zero, suc, ◌+◌, ◌≤◌, Bool, true, false, nat_lt, List, [], ◌∷◌, ◌++◌, length, Option, Some, None, refl, sym, ◌∙◌, ap, subst, append_assoc, arith, cond}
+use Rattle.exact_parse.specs.Steps.{head, TooLarge, Outcome, Read, Refused, Reader, and_then, ◌>>=◌, ◌>>◌, too_large, skip, within, Next, Ends, More, Counts, turn, turns, loop}
+use Rattle.exact_parse.specs.Keeps.{Goes, FitsRead, FitsRefused, Fits, Keeps}
 use Rattle.exact_parse.specs.Loops.{Link, EndKeeps, NextKeeps, LoopKeeps}
 use Rattle.exact_parse.proofs.Cuts.{cut, cut_same}
-use Rattle.exact_parse.proofs.Keeping.{choose_keeps, map_keeps, bind_keeps, too_large_at, skip_at, skip_goes, count_at, read_shorter, then_goes}
+use Rattle.exact_parse.proofs.Keeping.{choose_keeps, map_keeps, bind_keeps, too_large_at, skip_at, count_at, read_shorter}
 
 module _ {T K A B : Type 0} (k : K) (Z : A → List T → B → List T → Type 0) (next : A → Option T → Next T K A B) (keeps : LoopKeeps Z next) where
   -- ---- so many turns

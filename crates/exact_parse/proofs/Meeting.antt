@@ -1,6 +1,6 @@
 -- What is spelled is read, unless it is past a limit, and then refused there: one step after the other.
-use Rattle.std.proofs.Common.{◌≡◌, ℕ, zero, suc, ◌+◌, Bool, true, false, nat_lt, List, [], ◌∷◌, Option, Some, None, refl, sym, ◌∙◌, ap, cond}
-use Rattle.exact_parse.specs.Steps.{head, Cause, Unexpected, TooLarge, Outcome, Read, Refused, Reader, and_then, ◌>>=◌, ◌>>◌, pure, refuse, choose, skip, take, take_as, Next, Ends, More, Counts, loop}
+use Rattle.std.proofs.Common.{◌≡◌, ℕ, ◌+◌, Bool, true, false, nat_lt, List, ◌∷◌, Option, Some, ◌∙◌, ap, cond}
+use Rattle.exact_parse.specs.Steps.{head, TooLarge, Outcome, Read, Refused, Reader, and_then, ◌>>=◌, pure, take, take_as, Next, Ends, More, Counts, loop}
 use Rattle.exact_parse.specs.Limits.{Verdict, Fine, Over, and_fine, counts}
 use Rattle.exact_parse.specs.Exact.{Meets}
 use Rattle.exact_parse.specs.Loops.{LoopKeeps}

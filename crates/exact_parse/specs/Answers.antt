@@ -1,7 +1,7 @@
 -- What can be said of a list of tokens.
-use Rattle.std.specs.Prelude.{◌≡◌, List}
+use Rattle.std.specs.Prelude.{List}
 use Rattle.exact_parse.specs.Limits.{Verdict}
-use Rattle.exact_parse.specs.Steps.{Cause, Unexpected, TooLarge, Outcome, Read, Refused}
+use Rattle.exact_parse.specs.Steps.{Unexpected, TooLarge, Outcome, Read, Refused}
 use Rattle.exact_parse.specs.Exact.{SpellsText, UnexpectedAt, TooLargeAt}
 
 -- a tree; or the tokens from the refused one on, and the kind of the limit

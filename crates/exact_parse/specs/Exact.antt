@@ -1,7 +1,7 @@
 -- What the reading of a whole text is to give, for a grammar `X` and its limits.
-use Rattle.std.specs.Prelude.{◌≡◌, ℕ, ◌≤◌, List, [], ◌∷◌, ◌++◌, length}
+use Rattle.std.specs.Prelude.{◌≡◌, ℕ, ◌≤◌, List, ◌++◌, length}
 use Rattle.exact_parse.specs.Limits.{Verdict, Fine, Over}
-use Rattle.exact_parse.specs.Steps.{head, Cause, Unexpected, TooLarge, Outcome, Read, Refused}
+use Rattle.exact_parse.specs.Steps.{head, TooLarge, Outcome, Read, Refused}
 
 -- what a verdict lets be read
 abbrev pub Meets : {T K A : Type 0} → Verdict T K → A → List T → Outcome T K A → Type 0

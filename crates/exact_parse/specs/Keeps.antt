@@ -1,5 +1,5 @@
 -- A reading that keeps to a relation: what it reads is spelled so, where it stops something goes on, and neither hangs on a later token.
-use Rattle.std.specs.Prelude.{◌≡◌, ℕ, List, [], ◌∷◌, ◌++◌, Option, Some, None}
+use Rattle.std.specs.Prelude.{◌≡◌, ℕ, List, [], ◌∷◌, ◌++◌}
 use Rattle.exact_parse.specs.Steps.{head, Cause, Unexpected, TooLarge, Outcome, Read, Refused, Reader}
 
 -- Some tokens go on from these to a spelling, whatever stands behind.

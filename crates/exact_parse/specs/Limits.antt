@@ -1,5 +1,5 @@
 -- Where a spelling is past its limits.
-use Rattle.std.specs.Prelude.{ℕ, zero, suc, ◌+◌, Bool, true, false, if◌then◌else◌, nat_lt, List}
+use Rattle.std.specs.Prelude.{ℕ, zero, suc, ◌+◌, if◌then◌else◌, nat_lt, List}
 
 -- the count so far; or the kind of the limit, and the tokens from the first one on that is past it
 pub data Verdict (T K : Type 0) : Type 0 where

@@ -1,6 +1,6 @@
 -- A loop whose turns keep to a relation.
-use Rattle.std.specs.Prelude.{◌≡◌, ℕ, List, [], ◌∷◌, Option, Some, None}
-use Rattle.exact_parse.specs.Steps.{Reader, Next, Ends, More, Counts}
+use Rattle.std.specs.Prelude.{ℕ, List, [], ◌∷◌, Option, Some, None}
+use Rattle.exact_parse.specs.Steps.{Next, Ends, More, Counts}
 use Rattle.exact_parse.specs.Keeps.{Goes, Fits, Keeps}
 
 -- A token and what is read behind it lead from `a` to `b`: what goes on from `b` goes on from `a` with them.

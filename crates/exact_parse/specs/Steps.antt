@@ -1,5 +1,5 @@
 -- The steps that the reading of every rule is made of, for any kind of token, of refusal and of tree.
-use Rattle.std.specs.Prelude.{◌≡◌, ℕ, zero, suc, ◌+◌, Bool, true, false, if◌then◌else◌, nat_lt, List, [], ◌∷◌, length, Option, Some, None}
+use Rattle.std.specs.Prelude.{ℕ, zero, suc, ◌+◌, Bool, true, false, if◌then◌else◌, nat_lt, List, [], ◌∷◌, length, Option, Some, None}
 
 abbrev pub head : {T : Type 0} → List T → Option T
 head [] = None

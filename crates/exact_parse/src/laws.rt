@@ -1,11 +1,11 @@
 //! The laws of exact parsing, each the contract of a function without a body.
 
-use super::language::Language;
-
 ghost use Rattle.std.specs.Prelude.{◌≡◌, ◌++◌, ℕ, List};
 ghost use Rattle.exact_parse.specs.Answers.{Answer, IsAnswer, answer_of};
 ghost use Rattle.exact_parse.specs.Exact.{SpellsText, UnexpectedAt, TooLargeAt};
 ghost use Rattle.exact_parse.specs.Steps.{head, Cause, Outcome, Read, Refused, Unexpected, TooLarge};
+
+use super::language::Language;
 
 /// What is read is spelled so, with no token past a limit.
 pub fn what_is_read_is_spelled<L: Language>()

@@ -1,7 +1,7 @@
 -- What the small language's reading gives at some texts.
 use Rattle.std.proofs.Common.{◌≡◌, List, [], ◌∷◌, refl}
 use Rattle.exact_parse.specs.Answers.{Answer, Spelled, IsUnexpected, IsTooLarge, IsAnswer, answer_of}
-use Rattle.exact_parse.specs.Steps.{Cause, Unexpected, TooLarge, Outcome, Read, Refused, turns, loop}
+use Rattle.exact_parse.specs.Steps.{turns, loop}
 use Rattle.exact_sample.specs.Lists.{Token, Tree, One, Marked, Both, Inner, Number, Mark, Comma, Open, Close, End, Kind, IsText, limit, text, row, part, core, deeper_of}
 use Rattle.exact_parse.proofs.Exact.{answer_is}
 use Rattle.exact_sample.specs.Facts.{text_keeps, text_meets}

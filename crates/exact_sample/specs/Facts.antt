@@ -1,7 +1,7 @@
 -- The small language keeps to its grammar, and reads what is spelled.
-use Rattle.std.proofs.Common.{◌≡◌, ℕ, zero, suc, Bool, true, false, List, [], ◌∷◌, Option, Some, None, refl, sym, ◌∙◌, ap, subst, arith}
-use Rattle.exact_parse.specs.Steps.{head, Cause, Outcome, Read, Refused, Reader, and_then, ◌>>=◌, ◌>>◌, pure, refuse, choose, skip, within, take, Next, Ends, More, Counts, loop}
-use Rattle.exact_parse.specs.Limits.{Verdict, Fine, Over, and_fine, opens, counts}
+use Rattle.std.proofs.Common.{◌≡◌, ℕ, zero, suc, List, [], ◌∷◌, Some, refl}
+use Rattle.exact_parse.specs.Steps.{head, Outcome, ◌>>=◌, pure, take, Ends, loop}
+use Rattle.exact_parse.specs.Limits.{Verdict, Fine, Over, and_fine}
 use Rattle.exact_parse.specs.Keeps.{Goes, Fits, Keeps, Then}
 use Rattle.exact_parse.specs.Loops.{LoopKeeps, NextKeeps}
 use Rattle.exact_parse.specs.Exact.{Meets}
@@ -9,7 +9,7 @@ use Rattle.exact_sample.specs.Lists.{Token, Number, Mark, Comma, Open, Close, En
 use Rattle.exact_sample.specs.Lists as read
 use Rattle.exact_parse.proofs.Keeping.{pure_at, pure_keeps, refuse_at, refuse_keeps, choose_keeps, skip_at, within_at, bind_keeps, map_keeps, token_keeps}
 use Rattle.exact_parse.proofs.Loops.{loop_keeps}
-use Rattle.exact_parse.proofs.Meeting.{then_meets, after_meets, ComesTo, loop_begins, loop_goes_on, loop_goes_on_counted, loop_stops}
+use Rattle.exact_parse.proofs.Meeting.{after_meets, ComesTo, loop_begins, loop_goes_on, loop_goes_on_counted, loop_stops}
 
 -- ---- what is read is spelled
 

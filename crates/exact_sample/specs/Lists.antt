@@ -1,6 +1,6 @@
 -- A small language, to which the laws are applied: numbers with marks, in lists with commas and parentheses.
-use Rattle.std.specs.Prelude.{◌≡◌, ℕ, zero, suc, Bool, true, false, List, [], ◌∷◌, Option, Some, None}
-use Rattle.exact_parse.specs.Limits.{Verdict, Fine, Over, and_fine, opens, counts}
+use Rattle.std.specs.Prelude.{ℕ, zero, suc, Bool, true, false, List, ◌∷◌, Option, Some, None}
+use Rattle.exact_parse.specs.Limits.{Verdict, Fine, and_fine, opens, counts}
 use Rattle.exact_parse.specs.Steps.{Reader, ◌>>=◌, ◌>>◌, pure, refuse, choose, skip, within, take, Next, Ends, More, Counts, loop}
 
 pub data Token : Type 0 where

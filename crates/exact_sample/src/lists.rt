@@ -1,12 +1,12 @@
 //! A small language that is read through the laws: numbers with marks behind them, in lists with commas and parentheses.
 
-use exact_parse::{Language, Looping};
-
 ghost use Rattle.std.specs.Prelude.{List, [], ◌∷◌};
 ghost use Rattle.exact_sample.specs.Facts.{Behind, marks_keep, text_keeps, text_meets};
 ghost use Rattle.exact_parse.specs.Answers.{IsAnswer, Spelled, IsUnexpected, IsTooLarge};
 ghost use Rattle.exact_sample.specs.Lists as lists;
 ghost use Rattle.exact_sample.specs.Lists.{Part, One, Marked, Both, Inner, Number, Mark, Comma, Open, Close, End};
+
+use exact_parse::{Language, Looping};
 
 /// Lists of numbers: at most two parentheses are open at once, a text has at most three commas, and a part has as many marks as it likes.
 #[derive(Drop)]
@@ -14,12 +14,19 @@ pub struct NumberLists;
 
 impl Language for NumberLists {
     ghost Token = { lists.Token };
+
     ghost Kind = { lists.Kind };
+
     ghost Tree = { lists.Tree };
+
     ghost spells = { lists.IsText };
+
     ghost limit = { lists.limit };
+
     ghost reading = { lists.text };
+
     ghost keeps = { text_keeps };
+
     ghost meets = { text_meets };
 }
 
@@ -29,11 +36,17 @@ pub struct Marks;
 
 impl Looping for Marks {
     ghost Token = { lists.Token };
+
     ghost Kind = { lists.Kind };
+
     ghost Value = { lists.Tree };
+
     ghost Tree = { lists.Tree };
+
     ghost spells = { Behind Part };
+
     ghost next = { lists.mark_next };
+
     ghost keeps = { marks_keep };
 }
 
