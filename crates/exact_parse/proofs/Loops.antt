@@ -132,6 +132,12 @@ module _ {T K A B : Type 0} (k : K) (Z : A → List T → B → List T → Type 
   unfolding loop turns
   on a c x s = left a x s (next a (Some x)) c (keeps.some a x)
 
+  -- One turn, and the loop again: so code that turns has come to the loop from where it stands.
+  pub loop_turn : (a : A) (c : ℕ) (s : List T) → loop k next a c s ≡ turn k true (loop k next) (next a (head s)) c s
+  unfolding loop turns
+  loop_turn a c [] = ends_alike k k false true (λ b. too_large k) (loop k next) a c (next a None) (keeps.none a)
+  loop_turn a c (x ∷ s) = on a c x s
+
   pub loop_more : (a : A) (c : ℕ) (x : T) (s : List T) (p : Reader T K A) → next a (Some x) ≡ More p → loop k next a c (x ∷ s) ≡ (p >>= loop k next) c s
   loop_more a c x s p e = on a c x s ∙ ap (λ o. turn k true (loop k next) o c (x ∷ s)) e
 
