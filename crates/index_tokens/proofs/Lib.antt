@@ -4,5 +4,6 @@ pub mod RunLemmas
 pub mod NumberLemmas
 pub mod QuotedLemmas
 pub mod Longest
+pub mod TextLemmas
 pub mod FrontLemmas
 pub mod TurnLemmas

@@ -15,18 +15,18 @@ double_mark s more a b x is rest goes found =
     ap mark_front (is ∙ ap (λ z. a ∷ z) goes) ∙ ap (λ o. or_all (a ∷ b ∷ rest) (or_shorter 2 o (or_shorter 1 (single a) None))) found
 
 -- no mark of two bytes
-no_double : (a : ℕ) (more : List ℕ) → Type 0
+abbrev pub no_double : (a : ℕ) (more : List ℕ) → Type 0
 no_double a more = (b : ℕ) (rest : List ℕ) → more ≡ b ∷ rest → double a b ≡ None
 
 pub one_mark : (a : ℕ) (more : List ℕ) → no_double a more → mark_at (a ∷ more) ≡ or_shorter 1 (single a) None
-one_mark a [] no = refl
-one_mark a (b ∷ rest) no = ap (λ o. or_shorter 2 o (or_shorter 1 (single a) None)) (no b rest refl)
+one_mark a [] lone = refl
+one_mark a (b ∷ rest) lone = ap (λ o. or_shorter 2 o (or_shorter 1 (single a) None)) (lone b rest refl)
 
 pub single_mark : (s more : List ℕ) (a : ℕ) (x : Token) → s ≡ a ∷ more → no_double a more → single a ≡ Some x → mark_front s ≡ (x, 1)
-single_mark s more a x is no found = ap mark_front is ∙ ap (or_all (a ∷ more)) (one_mark a more no ∙ ap (λ o. or_shorter 1 o None) found)
+single_mark s more a x is lone found = ap mark_front is ∙ ap (or_all (a ∷ more)) (one_mark a more lone ∙ ap (λ o. or_shorter 1 o None) found)
 
 pub no_mark : (s more : List ℕ) (a : ℕ) → s ≡ a ∷ more → no_double a more → single a ≡ None → mark_front s ≡ (t.Bad, length s)
-no_mark s more a is no found = ap mark_front is ∙ ap (or_all (a ∷ more)) (one_mark a more no ∙ ap (λ o. or_shorter 1 o None) found) ∙ ap (λ z. (t.Bad, length z)) (sym is)
+no_mark s more a is lone found = ap mark_front is ∙ ap (or_all (a ∷ more)) (one_mark a more lone ∙ ap (λ o. or_shorter 1 o None) found) ∙ ap (λ z. (t.Bad, length z)) (sym is)
 
 pub behind_one : (s more : List ℕ) (a : ℕ) → s ≡ a ∷ more → a < 128 → IsUtf8 s → IsUtf8 (drop 1 s)
 behind_one s more a is small u = subst (λ z. IsUtf8 (drop 1 z)) (sym is) (behind_ascii a more small (subst IsUtf8 is u))

@@ -4,8 +4,8 @@ use Rattle.index_tokens.proofs.reading.tokenise.Given as goal
 
 abbrev pub invariant-loop-byte : goal.invariant-loop-byte
 invariant-loop-byte l = record {
-  read : tokens_of l.bytes ≡ l.tokens.items ++ tokens_from l.at 0 l.rest;
-  fits : l.at + length l.rest ≡ length l.bytes;
+  read : tokens_of l.text ≡ l.tokens.items ++ tokens_from l.at 0 l.rest;
+  fits : l.at + length l.rest ≡ length l.text;
   utf8 : IsUtf8 l.rest;
 }
 
