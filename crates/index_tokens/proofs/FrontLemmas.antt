@@ -1,6 +1,6 @@
 -- The first byte tells which pass finds the longest token.
 use Rattle.std.proofs.Common.{◌≡◌, ◌≢◌, ◌<◌, ◌≤◌, ◌+◌, ℕ, suc, zero, List, [], ◌∷◌, length, take, arith, refl, sym, subst, ap, ◌∙◌, add-one, Option, Some, None, Bool, true, false, ne_eqb}
-use Rattle.std.specs.Prelude.{◌==◌, if◌then◌else◌}
+use Rattle.std.specs.Prelude.{◌==◌, if◌then◌else◌, Result, Ok, Err, IfOk}
 use Rattle.std.specs.List.{list_all}
 use Rattle.index_tokens.specs.declared.token.Token.{Token}
 use Rattle.index_tokens.specs.declared.token.Token.TheVariants as t
@@ -77,6 +77,10 @@ mark_by b (c ∷ cs) spells = pair b (c ∷ cs) spells (single b) (double b c) c
 
 mark_first : (b : ℕ) (bs : List ℕ) → is_letter b ≡ false → is_digit b ≡ false → b ≢ 34 → first_token (b ∷ bs) ≡ mark_front (b ∷ bs)
 mark_first b bs letter digit quote = mark_by b bs (λ m. rw (letter, digit) (rw (ne_eqb b 34 quote) refl))
+
+pub in_ok : {X E : Type 0} {P Q : X → Type 0} (r : Result X E) → ((x : X) → P x → Q x) → IfOk r P → IfOk r Q
+in_ok (Ok x) f h = f x h
+in_ok (Err e) f h = h
 
 -- OF BYTES THAT A TEST TOOK APART
 

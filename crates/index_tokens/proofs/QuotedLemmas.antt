@@ -57,6 +57,13 @@ drop_more s bs whole b n is left = rw add-one (drop_suc whole n bs b (sym left �
     drop_suc (x ∷ whole) zero bs b h = ap (drop 1) h
     drop_suc (x ∷ whole) (suc n) bs b h = drop_suc whole n bs b h
 
+pub drop_two : (s bs rest whole : List ℕ) (b c n : ℕ) → s ≡ b ∷ bs → bs ≡ c ∷ rest → s ≡ drop n whole → rest ≡ drop (n + 2) whole
+drop_two s bs rest whole b c n is goes left =
+    let once : drop (n + 1) whole ≡ bs = drop_more s bs whole b n is left in
+    let twice : drop (n + 1 + 1) whole ≡ rest = drop_more bs rest whole c (n + 1) goes (sym once) in
+    let more : n + 1 + 1 ≡ n + 2 = omega arith in
+    sym twice ∙ ap (λ k. drop k whole) more
+
 -- what stands at the seam of two lists
 at_seam : (value bs : List ℕ) (b : ℕ) → get_or (value ++ b ∷ bs) (length value) 0 ≡ b
 at_seam [] bs b = refl

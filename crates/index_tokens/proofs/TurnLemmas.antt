@@ -1,5 +1,6 @@
 -- The tokens from a place on, token by token.
 use Rattle.std.proofs.Common.{◌≡◌, ◌<◌, ◌≤◌, ◌+◌, ◌-◌, ℕ, suc, zero, List, [], ◌∷◌, ◌++◌, length, drop, arith, refl, sym, subst, ap, ◌∙◌, add-one, Option, Some, None, Bool, true, false}
+use Rattle.std.proofs.lemmas.Grind.{common_steps}
 use Rattle.std.specs.Prelude.{if◌then◌else◌}
 use Rattle.index_tokens.specs.declared.token.Token.{Token}
 use Rattle.index_tokens.specs.declared.token.Token.TheVariants as t
@@ -64,5 +65,8 @@ at_token s bs b place n x is blank e =
     ap (tokens_from place 0) is ∙ step ∙ ap (λ f. placed place f.0 ∷ tokens_from (place + 1) (f.1 - 1) bs) first
     ∙ ap (λ z. placed place x ∷ z) (behind_first b bs place n (has_bytes s bs b n x is e) small)
     ∙ ap (λ z. placed place x ∷ tokens_from (place + n) 0 (drop n z)) (sym is)
+
+pub blank_ascii : (b : ℕ) → is_blank b ≡ true → b < 128
+blank_ascii b h = grind (arith, common_steps)
 
 pub ruleset turns = (has_bytes, fits, at_end, at_blank, at_token)

@@ -24,7 +24,8 @@ pub fn tokenise(alloc: Global, text: &str) -> Result<Vec<Placed>, NoMemory>
         } else {
             let (token, len) = first_token(alloc, rest)?;
             tokens.push(Placed { at, token })?;
-            rest = &rest[len..];
+            let (_, behind) = rest.split_at(len);
+            rest = behind;
             at += len;
         }
     }
