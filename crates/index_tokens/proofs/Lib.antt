@@ -7,3 +7,4 @@ pub mod Longest
 pub mod TextLemmas
 pub mod FrontLemmas
 pub mod TurnLemmas
+pub mod LawLemmas

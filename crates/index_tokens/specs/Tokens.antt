@@ -1,5 +1,5 @@
 -- The tokens of a text.
-use Rattle.std.specs.Prelude.{ℕ, zero, suc, ◌+◌, ◌-◌, List, [], ◌∷◌, if◌then◌else◌, Option, Some, None, length, take}
+use Rattle.std.specs.Prelude.{◌≡◌, ◌<◌, ◌≤◌, ℕ, zero, suc, ◌+◌, ◌-◌, true, false, List, [], ◌∷◌, if◌then◌else◌, Option, Some, None, length, take, drop}
 use Rattle.index_tokens.specs.declared.token.Token.{Token}
 use Rattle.index_tokens.specs.declared.token.Token.TheVariants as t
 use Rattle.index_tokens.specs.declared.token.Placed.{Placed}
@@ -37,3 +37,22 @@ tokens_from place zero (b ∷ bs) =
 
 abbrev pub tokens_of : List ℕ → List Placed
 tokens_of bytes = tokens_from 0 0 bytes
+
+-- THE SAME AS A RELATION
+
+-- no front of more than so many bytes spells a token
+abbrev pub NoneLonger : ℕ → List ℕ → Type 0
+NoneLonger n s = (m : ℕ) → n < m → m ≤ length s → spelled_by (take m s) ≡ None
+
+-- Which token stands at the front of bytes, and how many bytes it takes: the longest front that spells one, or
+-- all that is left, where no front does.
+pub data IsFirst : List ℕ → Token → ℕ → Type 0 where
+  spelled : {s : List ℕ} {x : Token} {n : ℕ} → n ≤ length s → spelled_by (take n s) ≡ Some x → NoneLonger n s → IsFirst s x n
+  bad : {s : List ℕ} {n : ℕ} → NoneLonger 0 s → n ≡ length s → IsFirst s t.Bad n
+
+-- Which list holds the tokens of the bytes from a place on.
+pub data AreTokens : ℕ → List ℕ → List Placed → Type 0 where
+  ends : {place : ℕ} → AreTokens place [] (placed place t.End ∷ [])
+  blank : {place b : ℕ} {s : List ℕ} {xs : List Placed} → is_blank b ≡ true → AreTokens (place + 1) s xs → AreTokens place (b ∷ s) xs
+  token : {place b n : ℕ} {s : List ℕ} {x : Token} {xs : List Placed} →
+      is_blank b ≡ false → IsFirst (b ∷ s) x n → AreTokens (place + n) (drop n (b ∷ s)) xs → AreTokens place (b ∷ s) (placed place x ∷ xs)

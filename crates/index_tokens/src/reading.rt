@@ -1,6 +1,6 @@
 //! All tokens of a text.
 ghost use Rattle.std.specs.Prelude.{◌≡◌, IfOk};
-ghost use Rattle.index_tokens.specs.Tokens.{tokens_of};
+ghost use Rattle.index_tokens.specs.Tokens.{tokens_of, AreTokens};
 
 use crate::classes::is_blank;
 use crate::fronts::first_token;
@@ -9,9 +9,11 @@ use raven_base::NoMemory;
 use std::alloc::Global;
 
 /// The tokens of a text, each the longest that the bytes allow, and the end as the last of them.
-#[tactic(auto, using(crate::proofs::TurnLemmas::turns))]
+#[tactic(auto, using(crate::proofs::LawLemmas::laws))]
 pub fn tokenise(alloc: Global, text: &str) -> Result<Vec<Placed>, NoMemory>
-    ensures { IfOk result (λ tokens. tokens.items ≡ tokens_of text.now) }
+    ensures list { IfOk result (λ tokens. tokens.items ≡ tokens_of text.now) }
+    // Each token is one that its bytes spell, and no more of the bytes spell one.
+    ensures longest { IfOk result (λ tokens. AreTokens 0 text.now tokens.items) }
 {
     let bytes = text.as_bytes();
     let mut tokens = Vec::new(alloc);

@@ -1,6 +1,8 @@
-use Rattle.std.proofs.Common.{◌≡◌, ◌+◌, ◌++◌, ◌∷◌, [], suc, length, drop, IsUtf8, arith, subst, sym, ap, ◌∙◌, append_assoc}
-use Rattle.index_tokens.specs.Tokens.{placed, tokens_from}
-use Rattle.index_tokens.proofs.TurnLemmas.{has_bytes, fits, at_blank, at_token, blank_ascii}
+use Rattle.std.proofs.Common.{rules, ◌≡◌, ◌+◌, ◌++◌, ◌∷◌, [], suc, length, drop, IsUtf8, arith, subst, sym, ap, ◌∙◌, append_assoc}
+use Rattle.index_tokens.specs.Tokens.{placed, tokens_from, tokens_of}
+use Rattle.index_tokens.proofs.TurnLemmas.{has_bytes, fits, at_end, at_blank, at_token, blank_ascii}
+use Rattle.index_tokens.proofs.LawLemmas.{all_longest}
+use Rattle.std.proofs.lemmas.Grind.{common_steps}
 use Rattle.index_tokens.proofs.Seams.{behind_ascii}
 use Rattle.index_tokens.proofs.reading.tokenise.Goals as goal
 
@@ -41,3 +43,8 @@ loop-byte-preserved c =
       fits = omega (arith, c.split_at.ensures.back_len, c.loop-byte.invariant.fits);
       utf8 = subst IsUtf8 (sym c.split_at.ensures.back) c.in_ok-token.ensures.rest;
     }
+
+pub returns-clause-longest : goal.returns-clause-longest
+returns-clause-longest c =
+    let list : c.push-2.new.self.items ≡ tokens_of c.args.text.now = first_of (search rules, grind (arith, common_steps, at_end)) in
+    all_longest c.args.text.now _ list
