@@ -24,8 +24,8 @@ word_first b bs is =
     let n = run is_name_byte bs in
     let spells : (m : ℕ) → spelled b bs m ≡ where_true (list_all is_name_byte (take m bs)) (t.Word (b ∷ take m bs)) = λ m. rw is refl in
     first_found b bs n (t.Word (b ∷ take n bs)) (run_le is_name_byte bs)
-        (spells n ∙ ap (λ h. where_true h (t.Word (b ∷ take n bs))) (run_all is_name_byte bs))
-        (λ m h l. spells m ∙ ap (λ h. where_true h (t.Word (b ∷ take m bs))) (run_past is_name_byte bs m h l))
+    (spells n ∙ ap (λ h. where_true h (t.Word (b ∷ take n bs))) (run_all is_name_byte bs))
+    (λ m h l. spells m ∙ ap (λ h. where_true h (t.Word (b ∷ take m bs))) (run_past is_name_byte bs m h l))
     ∙ ap (λ k. (t.Word (take k (b ∷ bs)), k)) (sym (run_more is_name_byte b bs (letter_name b is)))
 
 number_first : (b : ℕ) (bs : List ℕ) → is_letter b ≡ false → is_digit b ≡ true → first_token (b ∷ bs) ≡ number_front (b ∷ bs)
@@ -33,8 +33,8 @@ number_first b bs letter is =
     let n = run is_digit bs in
     let spells : (m : ℕ) → spelled b bs m ≡ where_true (list_all is_digit (take m bs)) (number_of (b ∷ take m bs)) = λ m. rw (letter, is) refl in
     first_found b bs n (number_of (b ∷ take n bs)) (run_le is_digit bs)
-        (spells n ∙ ap (λ h. where_true h (number_of (b ∷ take n bs))) (run_all is_digit bs))
-        (λ m h l. spells m ∙ ap (λ h. where_true h (number_of (b ∷ take m bs))) (run_past is_digit bs m h l))
+    (spells n ∙ ap (λ h. where_true h (number_of (b ∷ take n bs))) (run_all is_digit bs))
+    (λ m h l. spells m ∙ ap (λ h. where_true h (number_of (b ∷ take m bs))) (run_past is_digit bs m h l))
     ∙ ap (λ k. (number_of (take k (b ∷ bs)), k)) (sym (run_more is_digit b bs is))
 
 -- MARKS

@@ -4,14 +4,14 @@
 mod classes;
 mod fronts;
 mod marks;
-mod texts;
-mod reserved;
-mod token;
 mod reading;
+mod reserved;
+mod texts;
+mod token;
 
+pub use reading::tokenise;
 pub use reserved::is_reserved;
 pub use token::{Placed, Token};
-pub use reading::tokenise;
 
 #[cfg(test)]
 mod tests;
