@@ -1,0 +1,10 @@
+pub mod Seams
+pub mod MarkLemmas
+pub mod RunLemmas
+pub mod NumberLemmas
+pub mod QuotedLemmas
+pub mod Longest
+pub mod TextLemmas
+pub mod FrontLemmas
+pub mod TurnLemmas
+pub mod LawLemmas

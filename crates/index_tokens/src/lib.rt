@@ -1,0 +1,17 @@
+//! From the text of an index definition to its tokens.
+#![tactic(auto)]
+
+mod classes;
+mod fronts;
+mod marks;
+mod reading;
+mod reserved;
+mod texts;
+mod token;
+
+pub use reading::tokenise;
+pub use reserved::is_reserved;
+pub use token::{Placed, Token};
+
+#[cfg(test)]
+mod tests;

@@ -1,0 +1,24 @@
+//! The reserved words.
+ghost use Rattle.std.specs.Prelude.{◌≡◌};
+ghost use Rattle.index_tokens.specs.Spelling.{is_reserved as spec_is_reserved};
+
+/// Whether a name is a reserved word, which is no variable.
+pub fn is_reserved(word: &str) -> bool
+    ensures { result ≡ spec_is_reserved word.now }
+{
+    word == "from"
+        || word == "in"
+        || word == "docs"
+        || word == "where"
+        || word == "let"
+        || word == "select"
+        || word == "new"
+        || word == "results"
+        || word == "group"
+        || word == "by"
+        || word == "into"
+        || word == "true"
+        || word == "false"
+        || word == "null"
+        || word == "LoadDocument"
+}

@@ -1,0 +1,74 @@
+//! The tokens, and where they stand.
+use raven_value::Text;
+
+/// A token of the index language.
+#[derive(Debug, Drop)]
+pub enum Token {
+    /// A name. Reserved words are names too, since any name may stand after a point and as a member's name.
+    Word(Text),
+    /// A number that digits write, from 0 on.
+    Number(i64),
+    /// A text, by its value.
+    Quoted(Text),
+    /// `{`
+    OpenBrace,
+    /// `}`
+    CloseBrace,
+    /// `(`
+    Open,
+    /// `)`
+    Close,
+    /// `,`
+    Comma,
+    /// `.`
+    Point,
+    /// `=`
+    Assign,
+    /// `=>`
+    Arrow,
+    /// `?`
+    Question,
+    /// `:`
+    Colon,
+    /// `||`
+    OrOr,
+    /// `&&`
+    AndAnd,
+    /// `==`
+    Equals,
+    /// `!=`
+    NotEquals,
+    /// `<`
+    Below,
+    /// `<=`
+    AtMost,
+    /// `>`
+    Above,
+    /// `>=`
+    AtLeast,
+    /// `+`
+    Plus,
+    /// `-`
+    Dash,
+    /// `*`
+    Star,
+    /// `/`
+    Slash,
+    /// `%`
+    Percent,
+    /// `!`
+    Bang,
+    /// What no rule takes: digits whose number is too great, or all that is left where no token begins.
+    Bad,
+    /// The end of the text, the last token of each.
+    End,
+}
+
+/// A token and its place.
+#[derive(Debug, Drop)]
+pub struct Placed {
+    /// Where the token's first byte stands, counted from 0. The end stands behind the last byte.
+    pub at: usize,
+    /// The token.
+    pub token: Token,
+}
