@@ -1,0 +1,10 @@
+//! The trees of index definitions: what a map and a reduce say, without how they are spelled.
+#![tactic(auto)]
+
+mod expression;
+mod map_query;
+mod reduce_query;
+
+pub use expression::{BinaryOp, Expr, ExprKind, UnaryOp};
+pub use map_query::{Clause, Clauses, MapMember, MapMembers, MapQuery};
+pub use reduce_query::{FoldKind, FoldMember, FoldMembers, FoldValue, ReduceQuery, Texts};

@@ -1,0 +1,55 @@
+//! Reduces.
+use raven_base::Sequence;
+use raven_value::Text;
+
+/// How the values of a field become one.
+#[derive(Clone, Copy, Debug, PartialEq, Eq, Drop)]
+pub enum FoldKind {
+    /// The sum of the numbers.
+    Sum,
+    /// The least value.
+    Min,
+    /// The greatest value.
+    Max,
+}
+
+/// The value of a field of a group.
+#[derive(Debug, Drop)]
+pub enum FoldValue {
+    /// A part of the key.
+    Key(Text),
+    /// The values of a field of the entries, as one. `var` is the name that an entry has here.
+    Fold {
+        kind: FoldKind,
+        var: Text,
+        field: Text,
+    },
+}
+
+/// A field of the groups.
+#[derive(Debug, Drop)]
+pub struct FoldMember {
+    pub name: Text,
+    pub value: FoldValue,
+}
+
+/// Members in order.
+pub type FoldMembers = Sequence<FoldMember>;
+
+/// Texts in order.
+pub type Texts = Sequence<Text>;
+
+/// What the groups of entries are, and what each gives.
+#[derive(Debug, Drop)]
+pub struct ReduceQuery {
+    /// The name of an entry in the key.
+    pub var: Text,
+
+    /// The name of a group.
+    pub group: Text,
+
+    /// The fields by which entries are grouped.
+    pub key: Texts,
+
+    pub members: FoldMembers,
+}
