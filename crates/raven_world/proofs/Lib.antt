@@ -1,5 +1,3 @@
-pub mod Joins
-pub mod Batches
 pub mod Clean
 pub mod Steps
 pub mod Pairs

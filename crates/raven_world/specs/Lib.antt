@@ -1,5 +1,3 @@
-pub mod DefinitionView
-pub mod EntryView
 pub mod ChoiceView
 pub mod Told
 pub mod Roomy

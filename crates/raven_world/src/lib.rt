@@ -2,20 +2,14 @@
 #![tactic(auto)]
 
 mod answer;
-mod batch;
 mod choice;
-mod definition;
-mod entry;
 mod find;
 mod make;
-mod mapping;
 mod naming;
 mod opening;
 mod pump;
 mod reading;
 mod slot;
-mod table;
-mod version;
 mod world;
 mod write;
 

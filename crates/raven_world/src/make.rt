@@ -16,7 +16,7 @@ ghost use Rattle.raven_reply.specs.ReplyView.{reply_view};
 ghost use Rattle.raven_world.specs.Told.{AnswersQuery, change_view, machine_of, told};
 
 use crate::choice::{Choice, pick};
-use crate::definition::auto_definition;
+use index_version::auto_definition;
 use crate::naming::{auto_name, index_id, is_served};
 use crate::slot::{Slot, copies, fresh_slot};
 use crate::world::{Answered, Change, World, WorldFault};

@@ -4,15 +4,14 @@ ghost use Rattle.doc_store.specs.Opening.{Tells, first_bad};
 ghost use Rattle.doc_txn.specs.SettingView.{setting_of};
 ghost use Rattle.raven_model.specs.Commit.{is_index_id as spec_is_index_id};
 ghost use Rattle.raven_model.specs.Opening.{definition_in as spec_definition_in, is_defining as spec_is_defining, is_filed as spec_is_filed, is_too_many as spec_is_too_many, opened, slots_after, with_slot};
-ghost use Rattle.raven_world.specs.DefinitionView.{definition_view};
+ghost use Rattle.index_version.specs.DefinitionView.{definition_view};
 ghost use Rattle.raven_world.specs.Opened.{bad_row};
 ghost use Rattle.raven_world.specs.Told.{machine_of};
 
-use crate::definition::Definition;
+use index_version::{Definition, is_document};
 use crate::naming::read_auto_name;
 use crate::reading::definition_of;
 use crate::slot::{Slot, fresh_slot};
-use crate::table::is_document;
 use crate::world::World;
 use doc_store::{OpenFault, Store};
 use doc_txn::{BaseId, Limits};

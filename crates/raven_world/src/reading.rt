@@ -5,10 +5,10 @@ ghost use Rattle.raven_data.specs.Data.{entries_of};
 ghost use Rattle.raven_data.specs.Members.{member as spec_member};
 ghost use Rattle.raven_value.specs.View.{data_of};
 ghost use Rattle.raven_model.specs.Opening.{auto_read, definition_read, is_part as spec_is_part};
-ghost use Rattle.raven_world.specs.DefinitionView.{definition_view};
+ghost use Rattle.index_version.specs.DefinitionView.{definition_view};
 ghost use Rattle.raven_world.specs.Reading.{is_bare as spec_is_bare, only_item as spec_only_item, text_in as spec_text_in};
 
-use crate::definition::{Definition, auto_definition};
+use index_version::{Definition, auto_definition};
 use raven_base::NoMemory;
 use raven_value::{Members, Text, Value};
 use std::alloc::Global;

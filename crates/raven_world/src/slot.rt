@@ -2,10 +2,9 @@
 ghost use Rattle.std.specs.Prelude.{◌≡◌, IfOk, option_copied};
 ghost use Rattle.raven_data.specs.Folding.{folded, same_key};
 ghost use Rattle.raven_model.specs.World.{fresh, serving as spec_serving};
-ghost use Rattle.raven_world.specs.DefinitionView.{definition_view};
+ghost use Rattle.index_version.specs.DefinitionView.{definition_view};
 
-use crate::definition::Definition;
-use crate::version::IndexVersion;
+use index_version::{Definition, IndexVersion};
 use raven_base::NoMemory;
 use raven_value::Name;
 use std::alloc::{AllocError, Global};

@@ -2,7 +2,7 @@ use Rattle.std.proofs.Common.{◌∙◌, ap, sym, drop, option_map}
 use Rattle.raven_data.specs.Rows.{Row}
 use Rattle.raven_model.specs.Opening.{definition_in}
 use Rattle.raven_model.specs.World.{Slot, fresh}
-use Rattle.raven_world.specs.DefinitionView.{definition_view}
+use Rattle.index_version.specs.DefinitionView.{definition_view}
 use Rattle.raven_world.proofs.Openings.{slot-none, slot-some}
 use Rattle.raven_world.proofs.opening.slot_in.Goals as goal
 

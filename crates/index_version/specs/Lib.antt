@@ -1,0 +1,2 @@
+pub mod DefinitionView
+pub mod EntryView
