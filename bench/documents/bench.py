@@ -20,7 +20,6 @@ Where the program is not built, or GNU time is missing, it says `skipped` and en
 import argparse
 import os
 import pathlib
-import platform
 import random
 import shutil
 import subprocess
@@ -30,7 +29,8 @@ import time
 
 TOP = pathlib.Path(__file__).resolve().parents[2]
 sys.dont_write_bytecode = True
-sys.path.insert(0, str(TOP / "tools"))
+sys.path[:0] = [str(TOP / "tools"), str(TOP / "bench")]
+import machine
 import model
 
 NAMES = ["Ada", "Alan", "Barbara", "Donald", "Edsger", "Frances", "Grace", "John", "Margaret", "Niklaus"]
@@ -196,16 +196,6 @@ def row(store, repeat):
     return "| " + " | ".join(cells) + " |"
 
 
-def processor():
-    try:
-        for line in pathlib.Path("/proc/cpuinfo").read_text().splitlines():
-            if line.startswith("model name"):
-                return line.split(":", 1)[1].strip()
-    except OSError:
-        pass
-    return platform.processor() or platform.machine()
-
-
 def stores(options, program, folder):
     for count in map(int, options.sizes.split(",")):
         yield InMemory(program, count)
@@ -240,7 +230,7 @@ def main():
         if folder and not takes_data(program, folder):
             print("skipped with a file: this program takes no --data\n")
             folder = None
-        print(f"{os.cpu_count()} cores, {processor()}; load before: {os.getloadavg()[0]:.1f}", end="\n\n")
+        print(f"{os.cpu_count()} cores, {machine.processor()}; load before: {os.getloadavg()[0]:.1f}", end="\n\n")
         print("| Documents | In | PUT per second | GET per second | BULK of 100 per second | Seconds to fill or open | Memory a document | JSON text | Ratio |")
         print("|---:|---|---:|---:|---:|---:|---:|---:|---:|")
         try:

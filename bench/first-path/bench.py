@@ -10,7 +10,6 @@ by default that of crates/raven. The table that is printed belongs into docs/per
 import argparse
 import os
 import pathlib
-import platform
 import subprocess
 import sys
 import tempfile
@@ -18,7 +17,8 @@ import time
 
 TOP = pathlib.Path(__file__).resolve().parents[2]
 sys.dont_write_bytecode = True
-sys.path.insert(0, str(TOP / "tools"))
+sys.path[:0] = [str(TOP / "tools"), str(TOP / "bench")]
+import machine
 import model
 
 NAMES = ["Ada", "Alan", "Barbara", "Donald", "Edsger", "Frances", "Grace", "John", "Margaret", "Niklaus"]
@@ -57,16 +57,6 @@ def first_wrong(expected, found):
     return f"{found.count(10)} replies in place of {expected.count(10)}"
 
 
-def processor():
-    try:
-        for line in pathlib.Path("/proc/cpuinfo").read_text().splitlines():
-            if line.startswith("model name"):
-                return line.split(":", 1)[1].strip()
-    except OSError:
-        pass
-    return platform.processor() or platform.machine()
-
-
 def main():
     options = argparse.ArgumentParser(description="Measures `raven run`, and checks its replies.")
     options.add_argument("program", nargs="?", default=str(TOP / "crates/raven/out/raven"))
@@ -80,7 +70,7 @@ def main():
     if not os.access("/usr/bin/time", os.X_OK):
         print("no /usr/bin/time, which tells the peak of memory", file=sys.stderr)
         return 2
-    print(f"{os.cpu_count()} cores, {processor()}; load before: {os.getloadavg()[0]:.1f}", end="\n\n")
+    print(f"{os.cpu_count()} cores, {machine.processor()}; load before: {os.getloadavg()[0]:.1f}", end="\n\n")
     print("| Documents | Lines | Seconds | Processor seconds | Lines per second | Peak memory | Replies |")
     print("|---:|---:|---:|---:|---:|---:|---|")
     failed = False

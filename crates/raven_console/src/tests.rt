@@ -376,7 +376,7 @@ fn a_fault_of_the_keeper_changes_nothing(rt: HostRuntime) -> Result<(), Fail> {
         {\"ChangeVector\":\"A:2-AAAAAAAAAAAAAAAAAAAAAA\",\"Id\":\"b\"}\n";
     let (got, keeper) = replies_over(&rt, script, keeper(&rt, &[3])?)?;
     assert_eq!(rt; got.as_str(), wanted);
-    assert_eq!(rt; keeper.rows().len(), 2);
+    assert_eq!(rt; keeper.rows(rt.alloc())?.len(), 2);
     Ok(())
 }
 
@@ -384,7 +384,7 @@ fn a_fault_of_the_keeper_changes_nothing(rt: HostRuntime) -> Result<(), Fail> {
 fn opens_what_was_kept(rt: HostRuntime) -> Result<(), Fail> {
     let script = format!(in rt.alloc(); "{PUT}PUT b {{}}\nAUTO Users Name\nPUMP 64\nDEL b\n")?;
     let (_, kept) = replies_over(&rt, script.as_str(), keeper(&rt, &[])?)?;
-    assert_eq!(rt; kept.rows().len(), 3);
+    assert_eq!(rt; kept.rows(rt.alloc())?.len(), 3);
     let script = "STATS\n\
         FIND Auto/Users/ByName Name ada\n\
         PUMP 64\n\
@@ -402,7 +402,7 @@ fn opens_what_was_kept(rt: HostRuntime) -> Result<(), Fail> {
         {\"ChangeVector\":\"A:5-AAAAAAAAAAAAAAAAAAAAAA\",\"Id\":\"users/1\"}\n";
     let (got, kept) = replies_over(&rt, script, kept)?;
     assert_eq!(rt; got.as_str(), wanted);
-    assert_eq!(rt; kept.rows().len(), 3);
+    assert_eq!(rt; kept.rows(rt.alloc())?.len(), 3);
     Ok(())
 }
 
@@ -446,7 +446,7 @@ fn what_was_written_is_kept_where_the_output_fails(rt: HostRuntime) -> Result<()
     let Some(keeper) = finish.keeper else {
         return Err(Fail::new("no keeper was handed back"));
     };
-    assert_eq!(rt; keeper.rows().len(), 2);
+    assert_eq!(rt; keeper.rows(rt.alloc())?.len(), 2);
     Ok(())
 }
 

@@ -1,8 +1,11 @@
 -- Etags still rise once rows are put in.
-use Rattle.std.proofs.Common.{◌≡◌, ℕ, zero, suc, ◌<◌, List, [], ◌∷◌, ◌++◌, Bool, true, false, cond, not, nat_lt, Option, Some, None, IfSome, filter, take, refl, sym, subst, arith}
+use Rattle.std.proofs.Common.{◌≡◌, ℕ, zero, suc, ◌<◌, List, [], ◌∷◌, ◌++◌, Bool, true, false, cond, not, ◌||◌, nat_lt, Option, Some, None, IfSome, filter, take, drop, length, get_or, ◌+◌, refl, sym, ap, ◌∙◌, subst, arith}
 use Rattle.std.proofs.lemmas.Bool.{ltb-true}
+use Rattle.std.proofs.lemmas.List.{append_assoc, drop_more}
+use Rattle.std.proofs.lemmas.List.Elements.{filter-append}
 use Rattle.raven_data.specs.Folding.{same_key}
 use Rattle.raven_data.specs.Kept.{KeptRow, EtagsRise, is_past, kept_after, last_kept, keep, keep_all, kept_key}
+use Rattle.raven_ports.specs.Filed.{is_among}
 
 -- past the etag, where there is one
 abbrev pub IsPast : Option ℕ → ℕ → Type 0
@@ -21,7 +24,7 @@ last_rising low e [] up h = h
 last_rising low e (k ∷ ks) up h = let a = last_rising k.etag e ks up.1 h in let b : low < k.etag = up.0 in omega arith
 
 -- one row
-keep_rises : (low : Option ℕ) (k : KeptRow) (held : List KeptRow) → EtagsRise low held → IsPast (last_kept low held) k.etag → EtagsRise low (keep k held)
+pub keep_rises : (low : Option ℕ) (k : KeptRow) (held : List KeptRow) → EtagsRise low held → IsPast (last_kept low held) k.etag → EtagsRise low (keep k held)
 keep_rises low k [] up h = (h, tt)
 keep_rises low k (x ∷ held) up h =
     elim (same_key (kept_key k) (kept_key x)) as (λ b. EtagsRise low (cond (not b) (x ∷ filter (λ y. not (same_key (kept_key k) (kept_key y))) held) (filter (λ y. not (same_key (kept_key k) (kept_key y))) held) ++ k ∷ [])) [
@@ -43,8 +46,61 @@ keep_all_rises held [] up next = up
 keep_all_rises held (k ∷ ks) up next =
     keep_all_rises (keep k held) ks (keep_rises None k held up next.0) (subst (λ low. EtagsRise low ks) (sym (last_keep None k held)) next.1)
 
+-- one after another
+pub kept_on : (all next ks total : List KeptRow) (i : ℕ) (k : KeptRow) → i < length ks → get_or ks i k ≡ k → next ≡ keep k all → keep_all all (drop i ks) ≡ total → EtagsRise (last_kept None all) (drop i ks)
+    → (keep_all next (drop (i + 1) ks) ≡ total) × EtagsRise (last_kept None next) (drop (i + 1) ks)
+kept_on all next ks total i k lt here is goes past =
+    let rest : drop i ks ≡ k ∷ drop (i + 1) ks = drop_more ks i k lt ∙ ap (λ x. x ∷ drop (i + 1) ks) here in
+    let up : EtagsRise (last_kept None all) (k ∷ drop (i + 1) ks) = subst (EtagsRise (last_kept None all)) rest past in
+    let on : EtagsRise (last_kept None (keep k all)) (drop (i + 1) ks) = subst (λ low. EtagsRise low (drop (i + 1) ks)) (sym (last_keep None k all)) up.1 in
+    (ap (λ l. keep_all l (drop (i + 1) ks)) is ∙ sym (ap (keep_all all) rest) ∙ goes, subst (λ l. EtagsRise (last_kept None l) (drop (i + 1) ks)) (sym is) on)
+
 pub all_rise : (held ks all : List KeptRow) → EtagsRise None held → EtagsRise (last_kept None held) ks → all ≡ keep_all held ks → EtagsRise None all
 all_rise held ks all up next is = subst (EtagsRise None) (sym is) (keep_all_rises held ks up next)
+
+-- ROWS GIVEN, AND BEHIND THEM ROWS COMMITTED
+
+last_behind : (low : Option ℕ) (xs ys : List KeptRow) → last_kept low (xs ++ ys) ≡ last_kept (last_kept low xs) ys
+last_behind low [] ys = refl
+last_behind low (x ∷ xs) ys = last_behind (Some x.etag) xs ys
+
+rise_anyway : (low : Option ℕ) (ks : List KeptRow) → EtagsRise low ks → EtagsRise None ks
+rise_anyway low [] up = tt
+rise_anyway low (k ∷ ks) up = (tt, up.1)
+
+-- what is past all rows is past the second of them
+pub rise_past : (given committed ks : List KeptRow) → EtagsRise (last_kept None (given ++ committed)) ks → EtagsRise (last_kept None committed) ks
+rise_past given [] ks up = rise_anyway (last_kept None (given ++ [])) ks up
+rise_past given (y ∷ ys) ks up = subst (λ low. EtagsRise low ks) (last_behind None given (y ∷ ys)) up
+
+abbrev beside : List KeptRow → KeptRow → Bool
+beside ks x = not (is_among ks x)
+
+beside_none : (rows : List KeptRow) → filter (beside []) rows ≡ rows
+beside_none [] = refl
+beside_none (x ∷ rows) = ap (λ l. x ∷ l) (beside_none rows)
+
+beside_more : (k : KeptRow) (ks rows : List KeptRow) → filter (beside (k ∷ ks)) rows ≡ filter (beside ks) (filter (λ x. not (same_key (kept_key k) (kept_key x))) rows)
+beside_more k ks [] = refl
+beside_more k ks (x ∷ rows) =
+    elim (same_key (kept_key k) (kept_key x)) as (λ b. cond (not (b || is_among ks x)) (x ∷ filter (beside (k ∷ ks)) rows) (filter (beside (k ∷ ks)) rows) ≡ filter (beside ks) (cond (not b) (x ∷ filter (λ y. not (same_key (kept_key k) (kept_key y))) rows) (filter (λ y. not (same_key (kept_key k) (kept_key y))) rows))) [
+      | true ↦ beside_more k ks rows
+      | false ↦ ap (λ l. cond (not (is_among ks x)) (x ∷ l) l) (beside_more k ks rows)
+    ]
+
+-- what is committed takes out rows given, and goes behind the rows committed before
+pub kept_apart : (given committed ks : List KeptRow) → filter (λ x. not (is_among ks x)) given ++ keep_all committed ks ≡ keep_all (given ++ committed) ks
+kept_apart given committed [] = ap (λ l. l ++ committed) (beside_none given)
+kept_apart given committed (k ∷ ks) =
+    ap (λ l. l ++ keep_all (keep k committed) ks) (beside_more k ks given)
+    ∙ kept_apart (filter others given) (keep k committed) ks
+    ∙ ap (λ l. keep_all l ks) (sym (append_assoc (filter others given) (filter others committed) (k ∷ [])) ∙ ap (λ l. l ++ k ∷ []) (sym (filter-append others given committed)))
+  where
+    others : KeptRow → Bool
+    others x = not (same_key (kept_key k) (kept_key x))
+
+pub committed_after : (given committed rows left added : List KeptRow) → left ≡ filter (λ x. not (is_among rows x)) given → added ≡ keep_all committed rows → left ++ added ≡ keep_all (given ++ committed) rows
+committed_after given committed rows left added a b = ap (λ l. l ++ added) a ∙ ap (λ l. filter (beside rows) given ++ l) b ∙ kept_apart given committed rows
 
 -- WHAT IS LOADED
 

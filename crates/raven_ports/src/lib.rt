@@ -2,10 +2,12 @@
 #![tactic(auto)]
 
 mod calls;
+mod committed;
 mod keeper;
 mod mem_keeper;
 mod memory;
 mod ports;
+mod shared;
 mod still_clock;
 
 pub use keeper::{Clock, Keeper, KeeperFault, KeptRow, KeptRows};

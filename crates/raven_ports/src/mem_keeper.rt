@@ -1,34 +1,43 @@
 //! A keeper in memory, whose calls fail by a list.
-ghost use Rattle.std.specs.Prelude.{◌≡◌, ◌≤◌, ◌↔◌, Some, None, filter, length, not, true, option_map, IfOk, IfSome, OnErr, OnOk, IsErrOf};
-ghost use Rattle.raven_data.specs.Kept.{EtagsRise, is_past as spec_is_past, keep, keep_all, kept_after, kept_key, last_kept};
+ghost use Rattle.std.specs.Prelude.{◌≡◌, ◌≤◌, ◌↔◌, ◌++◌, [], Some, None, filter, length, not, true, option_map, unwrap_or, IfOk, IfSome, OnErr, OnOk, IsErrOf};
+ghost use Rattle.std.specs.Option.{option_copied};
+ghost use Rattle.raven_data.specs.Kept.{EtagsRise, is_past as spec_is_past, keep_all, kept_after, kept_key, last_kept};
 ghost use Rattle.raven_data.specs.Folding.{same_key};
 ghost use Rattle.raven_ports.specs.Faults.{Rose};
+ghost use Rattle.raven_ports.specs.Filed.{is_among};
 ghost use Rattle.raven_ports.specs.KeptMemory.{keeper_faults, plan_of};
 ghost use Rattle.raven_ports.specs.Plan.{is_failing, one_later};
 
 use crate::calls::Calls;
+use crate::committed::Committed;
 use crate::keeper::{Keeper, KeeperFault, KeptRow, KeptRows};
 use raven_base::{NoMemory, Numbers, Sequence};
 use std::alloc::Global;
 use std::marker::Model;
 
 /// A keeper that holds rows in memory.
+///
+/// A commit takes time and memory that grow with the number of its rows and the logarithm of the number of rows that were
+/// committed before; and time, but no memory, with the number of the rows that it was made with.
 #[derive(Drop)]
 pub struct MemKeeper {
-    rows: KeptRows,
+    /// What it was made with, but for what commits have replaced. Several of these may have one id.
+    given: Vec<KeptRow>,
+    /// What was committed to it; none before the first commit.
+    committed: Option<Committed>,
     calls: Calls,
 }
 
 impl Model for MemKeeper {
-    ghost use Rattle.std.specs.Prelude.{None};
+    ghost use Rattle.std.specs.Prelude.{◌++◌, [], None, unwrap_or};
     ghost use Rattle.raven_data.specs.Kept.{EtagsRise};
     ghost use Rattle.raven_ports.specs.KeptMemory.{KeptMemory};
 
     ghost Value = { KeptMemory };
 
-    ghost view = { λ a. record { rows = a.rows; fails = a.calls.fails; calls = a.calls.count; faults = a.calls.faults } };
+    ghost view = { λ a. record { rows = a.given.items ++ unwrap_or a.committed []; fails = a.calls.fails; calls = a.calls.count; faults = a.calls.faults } };
 
-    ghost invariant = { λ a. EtagsRise None a.rows };
+    ghost invariant = { λ a. EtagsRise None (a.given.items ++ unwrap_or a.committed []) };
 }
 
 /// Whether the row is past this etag. Without one, any row is.
@@ -69,32 +78,50 @@ fn has_one_id(row: &KeptRow, other: &KeptRow) -> bool
     row.id.as_str().eq_ignore_ascii_case(other.id.as_str())
 }
 
-// Takes the row of this row's id out.
-fn take_out(held: &mut Vec<KeptRow>, row: &KeptRow)
-    ensures { held.new.items ≡ filter (λ other. not (same_key (kept_key row.now) (kept_key other))) held.old.items }
+// Whether one of these rows is of the id of this one.
+fn is_replaced(rows: &[KeptRow], held: &KeptRow) -> bool
+    ensures { result ≡ is_among rows.now held.now }
 {
-    held.retain(|other| !has_one_id(row, other));
+    rows.iter().any(|row| has_one_id(row, held))
 }
 
-// The rows with this one at the end, in place of the row of its id.
-fn with_row(held: KeptRows, row: &KeptRow) -> Result<KeptRows, NoMemory>
-    ensures { IfOk result (λ rows. rows ≡ keep row.now held) }
+// Takes the rows of these rows' ids out.
+fn take_out(held: &mut Vec<KeptRow>, rows: &[KeptRow])
+    ensures { held.new.items ≡ filter (λ x. not (is_among rows.now x)) held.old.items }
 {
-    let mut items = held.into_vec();
-    take_out(&mut items, row);
-    items.push(row.clone()?)?;
-    Ok(Sequence::of(items))
+    held.retain(|row| !is_replaced(rows, row));
 }
 
-// The rows with these behind them, each in place of the row of its id.
-fn with_rows(held: &KeptRows, rows: &KeptRows) -> Result<KeptRows, NoMemory>
-    ensures { IfOk result (λ all. all ≡ keep_all held.now rows.now) }
+// Copies of the first rows past an etag, at most so many, of those given and then of those committed.
+fn loaded(
+    alloc: Global,
+    given: &[KeptRow],
+    committed: Option<&Committed>,
+    after: Option<u64>,
+    max: usize,
+) -> Result<KeptRows, NoMemory>
+    ensures { IfOk result (λ found. found ≡ kept_after after max (given.now ++ unwrap_or (option_copied committed.entry) [])) }
 {
-    let mut all = held.clone()?;
-    for row in rows.as_slice() {
-        all = with_row(all, row)?;
+    let mut found = first_past(alloc, given, after, max)?;
+    if let Some(committed) = committed {
+        committed.add_past(&mut found, after, max)?;
     }
-    Ok(all)
+    Ok(found)
+}
+
+// What was committed, with these rows.
+fn committed_with(
+    alloc: Global,
+    committed: Option<&Committed>,
+    rows: &[KeptRow],
+) -> Result<Committed, NoMemory>
+    requires { EtagsRise (last_kept None (unwrap_or (option_copied committed) [])) rows.now }
+    ensures { IfOk result (λ all. all ≡ keep_all (unwrap_or (option_copied committed.entry) []) rows.now) }
+{
+    match committed {
+        Some(committed) => committed.with_rows(alloc, rows),
+        None => Committed::empty(alloc)?.with_rows(alloc, rows),
+    }
 }
 
 impl MemKeeper {
@@ -104,16 +131,21 @@ impl MemKeeper {
         ensures { result ≡ record { rows = rows; fails = fails; calls = 0; faults = 0 } }
     {
         MemKeeper {
-            rows,
+            given: rows.into_vec(),
+            committed: None,
             calls: Calls::of(fails),
         }
     }
 
-    /// The rows that it holds, in order of etag.
-    pub fn rows(&self) -> &[KeptRow]
-        ensures { result.now ≡ self.now.rows }
+    /// Copies of the rows that it holds, in order of etag. It is no call of those that may be told to fail.
+    pub fn rows(&self, alloc: Global) -> Result<KeptRows, NoMemory>
+        ensures { IfOk result (λ rows. rows ≡ self.now.rows) }
     {
-        self.rows.as_slice()
+        let mut rows = KeptRows::copied(alloc, &self.given)?;
+        if let Some(committed) = &self.committed {
+            committed.add_all(&mut rows)?;
+        }
+        Ok(rows)
     }
 }
 
@@ -137,7 +169,8 @@ impl Keeper for MemKeeper {
         if self.calls.next_fails() {
             return Err(KeeperFault::Failed);
         }
-        let Ok(rows) = first_past(alloc, self.rows.as_slice(), after, max as usize) else {
+        let committed = self.committed.as_ref();
+        let Ok(rows) = loaded(alloc, &self.given, committed, after, max as usize) else {
             return Err(KeeperFault::NoMemory);
         };
         Ok(rows)
@@ -147,10 +180,13 @@ impl Keeper for MemKeeper {
         if self.calls.next_fails() {
             return Err(KeeperFault::Failed);
         }
-        let Ok(all) = with_rows(&self.rows, rows) else {
+        let alloc = *self.given.allocator();
+        let committed = self.committed.as_ref();
+        let Ok(committed) = committed_with(alloc, committed, rows.as_slice()) else {
             return Err(KeeperFault::NoMemory);
         };
-        self.rows = all;
+        take_out(&mut self.given, rows.as_slice());
+        self.committed = Some(committed);
         Ok(())
     }
 }
