@@ -1,2 +1,3 @@
 pub mod Bound
 pub mod Scan
+pub mod Fields
