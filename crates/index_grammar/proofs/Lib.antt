@@ -1,0 +1,4 @@
+pub mod Taking
+pub mod ExpressionKeeps
+pub mod Following
+pub mod ExpressionMeets
