@@ -76,7 +76,7 @@ module _ (room : ℕ) where
   unfolding read.primary
   primary_is x u r a is h n = ap (λ u. read.primary_as deeper u n (x ∷ r)) is ∙ h n
 
-  var_reach : (x : Placed) (v : List ℕ) (r : Tokens) → variable x ≡ Some v → (n : ℕ) → read.primary deeper n (x ∷ r) ≡ Read (Var v) n r
+  pub var_reach : (x : Placed) (v : List ℕ) (r : Tokens) → variable x ≡ Some v → (n : ℕ) → read.primary deeper n (x ∷ r) ≡ Read (Var v) n r
   var_reach x v r is n = let w = variable_is x v is in
       primary_is x (t.Word v) r (Var v) w.0 (λ n. ap (λ d. cond d (read.reserved_primary deeper v) (skip >> pure (Var v)) n (x ∷ r)) w.1) n
 

@@ -2,3 +2,5 @@ pub mod Taking
 pub mod ExpressionKeeps
 pub mod Following
 pub mod ExpressionMeets
+pub mod MapKeeps
+pub mod MapMeets
