@@ -2,7 +2,7 @@
 use Rattle.std.proofs.Common.{◌≡◌, ℕ, zero, suc, pos, Bool, true, false, nat_eq, List, [], ◌∷◌, Option, Some, None, refl, cond, codes}
 use Rattle.std.proofs.lemmas.Bool.{eqb-true}
 use Rattle.std.specs.Str.{bytes_eq}
-use Rattle.exact_parse.specs.Steps.{◌>>=◌, pure, refuse, take, skip, Next, Ends, More, Counts, loop}
+use Rattle.exact_parse.specs.Steps.{◌>>=◌, pure, refuse, take, skip}
 use Rattle.exact_parse.specs.Keeps.{Goes, Fits, Keeps, Then}
 use Rattle.exact_parse.specs.Loops.{LoopKeeps, NextKeeps}
 use Rattle.exact_parse.proofs.Keeping.{pure_at, pure_keeps, refuse_at, refuse_keeps, choose_keeps, skip_at, skip_short, within_at, bind_keeps, map_keeps, fresh_keeps}
@@ -11,14 +11,14 @@ use Rattle.index_tokens.specs.declared.token.Token.{Token}
 use Rattle.index_tokens.specs.declared.token.Token.TheVariants as t
 use Rattle.index_tokens.specs.declared.token.Placed.{Placed}
 use Rattle.index_tokens.specs.Spelling.{is_reserved}
-use Rattle.index_tokens.specs.Words.{Tokens, Is, word_load, the, name, quoted}
+use Rattle.index_tokens.specs.Words.{Tokens, Is, word_load, the, quoted}
 use Rattle.index_tokens.proofs.WordLemmas.{taken_is, is_variable}
 use Rattle.index_tree.specs.declared.expression.BinaryOp.{BinaryOp}
 use Rattle.index_tree.specs.declared.expression.UnaryOp.{UnaryOp}
 use Rattle.index_tree.specs.Trees.{Tree, If, Binary, Unary, Dot, Load, Num, Quoted, Flag, Null, Var}
 use Rattle.index_grammar.specs.Operators.{operator, sign, level_of}
 use Rattle.index_grammar.specs.Expressions.{Rule, Whole, Level, Post, Primary, Spells, plain, choice, tighter, binary, signed, post, first, point, number, text, yes, no, null, var, parens, load}
-use Rattle.index_grammar.specs.Limits.{Kind, most_open}
+use Rattle.index_grammar.specs.Limits.{most_open}
 use Rattle.index_grammar.specs.ExpressionReading as read
 use Rattle.index_grammar.specs.ExpressionReading.{Reads, Deeper, deeper_of}
 use Rattle.index_grammar.proofs.Taking.{at_start, the_keeps, name_keeps, quoted_keeps, either_at, word_is}

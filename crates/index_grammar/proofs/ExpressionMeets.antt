@@ -1,7 +1,7 @@
 -- What is spelled as an expression is read, unless it is past a limit, and then refused there.
-use Rattle.std.proofs.Common.{◌≡◌, ℕ, zero, suc, ◌<◌, ◌≤◌, Bool, true, false, List, [], ◌∷◌, Option, Some, None, refl, sym, ◌∙◌, ap, subst, arith, cond}
-use Rattle.exact_parse.specs.Steps.{head, Outcome, Read, Reader, and_then, ◌>>=◌, ◌>>◌, pure, skip, take, Counts, loop}
-use Rattle.exact_parse.specs.Limits.{Verdict, Fine, and_fine, opens}
+use Rattle.std.proofs.Common.{◌≡◌, ℕ, zero, suc, ◌<◌, true, false, List, [], ◌∷◌, Some, None, refl, sym, ◌∙◌, ap, subst, arith, cond}
+use Rattle.exact_parse.specs.Steps.{head, Read, ◌>>=◌, ◌>>◌, pure, skip, take}
+use Rattle.exact_parse.specs.Limits.{Fine, and_fine, opens}
 use Rattle.exact_parse.specs.Exact.{Meets}
 use Rattle.exact_parse.proofs.Meeting.{then_meets, after_meets, ComesTo, loop_begins, loop_goes_on_counted, loop_stops}
 use Rattle.index_tokens.specs.declared.token.Token.{Token}
@@ -14,7 +14,7 @@ use Rattle.index_tree.specs.declared.expression.UnaryOp.{UnaryOp}
 use Rattle.index_tree.specs.Trees.{Tree, If, Binary, Unary, Dot, Load, Num, Quoted, Flag, Null, Var}
 use Rattle.index_grammar.specs.Operators.{operator, sign_as, sign, level_of}
 use Rattle.index_grammar.specs.Expressions.{Rule, Whole, Level, Post, Primary, Spells, plain, choice, tighter, binary, signed, post, first, point, number, text, yes, no, null, var, parens, load}
-use Rattle.index_grammar.specs.Limits.{Kind, most_open, most_operators, verdict}
+use Rattle.index_grammar.specs.Limits.{most_open, most_operators, verdict}
 use Rattle.index_grammar.specs.ExpressionReading as read
 use Rattle.index_grammar.specs.ExpressionReading.{Reads, Deeper, deeper_of}
 use Rattle.index_grammar.proofs.Taking.{the_reads, name_reads, quoted_reads}
@@ -125,7 +125,7 @@ load_reach {s = s} {r = r} {k = k} {y = y} {q = q} {a = a} {v = v} w p word is x
     by (suc room) = after_meets (verdict x room n) a (k ∷ y ∷ q ∷ r) (read.whole (deeper_of room) n s) (λ a. take tt (the t.Comma) >>= λ _. take tt quoted >>= λ v. take tt (the t.Close) >>= λ _. pure (Load a v)) (Load a v) r
         (h room n (ends_expression t.Comma k (omega arith) comma))
         (λ n. the_reads t.Comma k (take tt quoted >>= λ v. take tt (the t.Close) >>= λ _. pure (Load a v)) refl comma n (y ∷ q ∷ r)
-          ∙ quoted_reads y v (λ v. take tt (the t.Close) >>= λ _. pure (Load a v)) quote n (q ∷ r) ∙ the_reads t.Close q (pure (Load a v)) refl also n r)
+        ∙ quoted_reads y v (λ v. take tt (the t.Close) >>= λ _. pure (Load a v)) quote n (q ∷ r) ∙ the_reads t.Close q (pure (Load a v)) refl also n r)
 
 choice_reach : {s m l r : Tokens} {p q : Placed} {a b f : Tree} (x : Spells (Level 6) s a (p ∷ m)) (is : Is t.Question p) (y : Spells Whole m b (q ∷ l)) (also : Is t.Colon q) (z : Spells Whole l f r) →
     ((room n : ℕ) → Reach room (Level 6) x n s a (p ∷ m)) → ((room n : ℕ) → Reach room Whole y n m b (q ∷ l)) → ((room n : ℕ) → Reach room Whole z n l f r) →
@@ -136,14 +136,14 @@ choice_reach {s = s} {m = m} {l = l} {r = r} {p = p} {q = q} {a = a} {b = b} {f 
     (λ n. opens tt room (p ∷ m) (λ room. and_fine (verdict y room n) (λ n. verdict z room n))) (If a b f) r
     (level_read room 6 x n (hx room n) (let e : looseness (Some p) ≡ 7 = ap looseness_as is in omega (arith, e)))
     (λ n. subst (λ o. Meets (opens tt room (p ∷ m) (λ room. and_fine (verdict y room n) (λ n. verdict z room n))) (If a b f) r (read.conditional_as (deeper_of room) a o n (p ∷ m)))
-      (sym (is_taken t.Question p refl is)) (by room n))
+    (sym (is_taken t.Question p refl is)) (by room n))
   where
     by : (room n : ℕ) → Meets (opens tt room (p ∷ m) (λ room. and_fine (verdict y room n) (λ n. verdict z room n))) (If a b f) r (read.conditional_as (deeper_of room) a (Some tt) n (p ∷ m))
     by zero n = refl
     by (suc room) n = then_meets (verdict y room n) b (q ∷ l) (read.whole (deeper_of room) n m) (λ b. take tt (the t.Colon) >>= λ _. read.whole (deeper_of room) >>= λ c. pure (If a b c)) (λ n. verdict z room n) (If a b f) r
         (hy room n (ends_expression t.Colon q (omega arith) also))
         (λ n. subst (Meets (verdict z room n) (If a b f) r) (sym (the_reads t.Colon q (read.whole (deeper_of room) >>= λ c. pure (If a b c)) refl also n l))
-          (after_meets (verdict z room n) f r (read.whole (deeper_of room) n l) (λ c. pure (If a b c)) (If a b f) r (hz room n low) (λ n. refl)))
+        (after_meets (verdict z room n) f r (read.whole (deeper_of room) n l) (λ c. pure (If a b c)) (If a b f) r (hz room n low) (λ n. refl)))
 
 -- ---- what an operand begins with is no operator
 

@@ -1,11 +1,11 @@
 -- Which tokens go on with an expression.
-use Rattle.std.proofs.Common.{◌≡◌, ℕ, suc, ◌<◌, ◌≤◌, Bool, true, false, nat_eq, [], ◌∷◌, Option, Some, None, refl, sym, ◌∙◌, ap, subst, arith, cond}
+use Rattle.std.proofs.Common.{◌≡◌, ℕ, suc, ◌<◌, Bool, true, false, nat_eq, [], ◌∷◌, Option, Some, None, refl, sym, ◌∙◌, ap, subst, arith, cond}
 use Rattle.std.proofs.lemmas.Bool.{eqb-true, eq-eqb}
 use Rattle.exact_parse.specs.Steps.{head, pure, Ends}
 use Rattle.index_tokens.specs.declared.token.Token.{Token}
 use Rattle.index_tokens.specs.declared.token.Token.TheVariants as t
 use Rattle.index_tokens.specs.declared.token.Placed.{Placed}
-use Rattle.index_tokens.specs.Words.{Tokens, Is, same_token, the}
+use Rattle.index_tokens.specs.Words.{Tokens, Is, same_token}
 use Rattle.index_tree.specs.declared.expression.BinaryOp.{BinaryOp}
 use Rattle.index_tree.specs.Trees.{Tree}
 use Rattle.index_grammar.specs.Operators.{operator_as, operator, level_of}

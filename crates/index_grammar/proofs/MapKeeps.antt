@@ -1,7 +1,7 @@
 -- The reading of maps keeps to the grammar.
-use Rattle.std.proofs.Common.{◌≡◌, ℕ, zero, suc, pos, Bool, true, false, List, [], ◌∷◌, ◌++◌, Option, Some, None, refl, sym, ◌∙◌, cond, codes, append_assoc}
+use Rattle.std.proofs.Common.{◌≡◌, ℕ, zero, suc, pos, Bool, true, false, List, [], ◌∷◌, ◌++◌, Option, Some, None, refl, ◌∙◌, cond, codes, append_assoc}
 use Rattle.std.specs.Str.{bytes_eq}
-use Rattle.exact_parse.specs.Steps.{◌>>=◌, ◌>>◌, pure, refuse, too_large, choose, skip, take, Next, Ends, More, loop}
+use Rattle.exact_parse.specs.Steps.{◌>>=◌, pure, choose, take, Ends, More}
 use Rattle.exact_parse.specs.Keeps.{Goes, Fits, Keeps, Then}
 use Rattle.exact_parse.specs.Loops.{LoopKeeps, NextKeeps}
 use Rattle.exact_parse.proofs.Keeping.{pure_at, pure_keeps, refuse_at, too_large_at, choose_keeps, skip_at, skip_short, bind_keeps, map_keeps, fresh_keeps}
@@ -11,19 +11,18 @@ use Rattle.index_tokens.specs.declared.token.Token.TheVariants as t
 use Rattle.index_tokens.specs.declared.token.Placed.{Placed}
 use Rattle.index_tokens.specs.Words.{Tokens, Is, word_from, word_in, word_docs, word_where, word_let, word_select, word_new, the, name, variable}
 use Rattle.index_tokens.proofs.WordLemmas.{taken_is}
-use Rattle.index_tree.specs.Trees.{Tree, Num, Var}
+use Rattle.index_tree.specs.Trees.{Num, Var}
 use Rattle.index_tree.specs.declared.map_query.Clause.{Clause}
 use Rattle.index_tree.specs.declared.map_query.Clause.TheVariants as c
 use Rattle.index_grammar.specs.declared.spelled.PlacedMember.{PlacedMember}
-use Rattle.index_grammar.specs.declared.spelled.SpelledMap.{SpelledMap}
-use Rattle.index_grammar.specs.Expressions.{Spells, Whole, Post, number, var, first}
+use Rattle.index_grammar.specs.Expressions.{Spells, Post, number, var, first}
 use Rattle.index_grammar.specs.Maps.{Origin, origin_of, SpellsOrigin, SpellsClause, filter, binding, SpellsClauses, no_clause, next_clause, last_name, placed_member, SpellsMember, named, path, SpellsMembers, last, last_comma, more, spelled_map, SpellsMap, map}
 use Rattle.index_grammar.specs.Maps as m
 use Rattle.index_grammar.specs.Limits.{Kind, most_members}
 use Rattle.index_grammar.specs.ExpressionReading as expr
 use Rattle.index_grammar.specs.ExpressionReading.{Reads}
 use Rattle.index_grammar.specs.MapReading as read
-use Rattle.index_grammar.proofs.Taking.{at_start, the_keeps, name_keeps, variable_keeps, either_at, word_is}
+use Rattle.index_grammar.proofs.Taking.{at_start, the_keeps, name_keeps, variable_keeps, word_is}
 use Rattle.index_grammar.proofs.ExpressionKeeps.{alone, zero_token, expression_keeps, Behind, points_keep}
 
 -- ---- which documents

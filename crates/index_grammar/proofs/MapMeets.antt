@@ -1,13 +1,13 @@
 -- What is spelled as a map is read, unless it is past a limit, and then refused there.
-use Rattle.std.proofs.Common.{◌≡◌, ◌≢◌, ℕ, zero, suc, ◌<◌, Bool, true, false, List, [], ◌∷◌, ◌++◌, Option, Some, None, refl, sym, ◌∙◌, ap, subst, arith, append_assoc, ◌⊎◌, inl, inr}
-use Rattle.exact_parse.specs.Steps.{head, Outcome, Read, and_then, ◌>>=◌, ◌>>◌, pure, take, choose, Ends, More, loop}
-use Rattle.exact_parse.specs.Limits.{Verdict, Fine, Over, and_fine, opens}
+use Rattle.std.proofs.Common.{◌≡◌, ℕ, zero, suc, ◌<◌, List, [], ◌∷◌, ◌++◌, Some, None, refl, sym, ◌∙◌, ap, subst, arith, append_assoc}
+use Rattle.exact_parse.specs.Steps.{head, Outcome, Read, and_then, ◌>>=◌, pure, take, choose}
+use Rattle.exact_parse.specs.Limits.{Verdict, and_fine, opens}
 use Rattle.exact_parse.specs.Exact.{Meets}
 use Rattle.exact_parse.proofs.Meeting.{then_meets, after_meets, ComesTo, loop_goes_on, loop_stops}
 use Rattle.index_tokens.specs.declared.token.Token.{Token}
 use Rattle.index_tokens.specs.declared.token.Token.TheVariants as t
 use Rattle.index_tokens.specs.declared.token.Placed.{Placed}
-use Rattle.index_tokens.specs.Words.{Tokens, Is, word_true, word_false, word_null, word_load, variable_as, word_from, word_in, word_docs, word_where, word_let, word_select, word_new, same_token, the, name, variable}
+use Rattle.index_tokens.specs.Words.{Tokens, Is, word_true, word_false, word_null, word_load, variable_as, word_from, word_in, word_docs, word_where, word_let, word_select, word_new, the, name, variable}
 use Rattle.index_tokens.proofs.WordLemmas.{is_taken, not_taken, name_is, variable_is, is_name}
 use Rattle.index_tree.specs.Trees.{Tree, Var}
 use Rattle.index_tree.specs.declared.map_query.Clause.{Clause}
@@ -22,7 +22,7 @@ use Rattle.index_grammar.specs.ExpressionReading as expr
 use Rattle.index_grammar.specs.ExpressionReading.{Reads, deeper_of}
 use Rattle.index_grammar.specs.MapReading as read
 use Rattle.index_grammar.proofs.Taking.{the_reads, name_reads, variable_reads}
-use Rattle.index_grammar.proofs.Following.{looseness_as, looseness, ends_expression}
+use Rattle.index_grammar.proofs.Following.{looseness, ends_expression}
 use Rattle.index_grammar.proofs.ExpressionMeets.{var_reach, expression_meets, post_meets}
 use Rattle.index_grammar.proofs.MapKeeps.{BehindClauses, clauses_keep}
 
@@ -49,7 +49,7 @@ binding_meets : {s r : Tokens} {v : List ℕ} {a : Tree} (x e : Placed) → vari
 unfolding read.binding
 binding_meets {s = s} {r = r} {v = v} {a = a} x e bound also y low n =
     subst (Meets (verdict y most_open 0) (c.Let v a) r) (sym (variable_reads x v (λ v. take tt (the t.Assign) >>= λ _. expr.expression >>= λ a. pure (c.Let v a)) bound n (e ∷ s)
-      ∙ the_reads t.Assign e (expr.expression >>= λ a. pure (c.Let v a)) refl also n s))
+    ∙ the_reads t.Assign e (expr.expression >>= λ a. pure (c.Let v a)) refl also n s))
     (after_meets (verdict y most_open 0) a r (expr.expression n s) (λ a. pure (c.Let v a)) (c.Let v a) r (expression_meets y low n) (λ n. refl))
 
 -- the word of a clause, and what goes on with no expression

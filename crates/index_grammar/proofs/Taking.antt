@@ -1,8 +1,8 @@
 -- What takes one token keeps to a relation, and reads that token.
-use Rattle.std.proofs.Common.{◌≡◌, ℕ, List, [], ◌∷◌, Bool, true, false, cond, Some, refl, sym, ◌∙◌, ap, codes}
+use Rattle.std.proofs.Common.{◌≡◌, ℕ, List, [], ◌∷◌, Bool, true, false, cond, Some, refl, ◌∙◌, ap, codes}
 use Rattle.std.proofs.lemmas.Slice.Eq.{bytes_eq-Decides}
 use Rattle.std.specs.Str.{bytes_eq}
-use Rattle.exact_parse.specs.Steps.{Read, and_then, ◌>>=◌, take}
+use Rattle.exact_parse.specs.Steps.{and_then, ◌>>=◌, take}
 use Rattle.exact_parse.specs.Keeps.{Fits, Keeps}
 use Rattle.exact_parse.proofs.Keeping.{take_keeps}
 use Rattle.exact_parse.proofs.Meeting.{take_reads}
@@ -11,7 +11,6 @@ use Rattle.index_tokens.specs.declared.token.Token.TheVariants as t
 use Rattle.index_tokens.specs.declared.token.Placed.{Placed}
 use Rattle.index_tokens.specs.Words.{Tokens, Is, same_token, the, name, variable, quoted}
 use Rattle.index_tokens.proofs.WordLemmas.{taken_is, is_taken}
-use Rattle.index_grammar.specs.Limits.{Kind}
 use Rattle.index_grammar.specs.ExpressionReading.{Reads}
 
 abbrev pub at_start : Token → Placed

@@ -1,5 +1,5 @@
 -- What a spelled map says, without where its members stand.
-use Rattle.std.specs.Prelude.{ℕ, List, map}
+use Rattle.std.specs.Prelude.{map}
 use Rattle.index_tree.specs.declared.map_query.MapQuery.{MapQuery}
 use Rattle.index_grammar.specs.declared.spelled.SpelledMap.{SpelledMap}
 
