@@ -1,12 +1,12 @@
 -- The reading of expressions.
-use Rattle.std.specs.Prelude.{ℕ, zero, suc, List, [], ◌∷◌, Bool, true, false, if◌then◌else◌, codes, nat_eq, Option, Some, None}
+use Rattle.std.specs.Prelude.{ℕ, zero, suc, List, Bool, true, false, if◌then◌else◌, codes, nat_eq, Option, Some, None}
 use Rattle.std.specs.Str.{bytes_eq}
-use Rattle.exact_parse.specs.Steps.{Reader, ◌>>=◌, ◌>>◌, pure, refuse, choose, skip, within, fresh, take, Next, Ends, More, Counts, loop}
+use Rattle.exact_parse.specs.Steps.{Reader, ◌>>=◌, ◌>>◌, pure, refuse, choose, skip, within, fresh, take, Next, Ends, Counts, loop}
 use Rattle.index_tokens.specs.declared.token.Token.{Token}
 use Rattle.index_tokens.specs.declared.token.Token.TheVariants as t
 use Rattle.index_tokens.specs.declared.token.Placed.{Placed}
 use Rattle.index_tokens.specs.Spelling.{is_reserved}
-use Rattle.index_tokens.specs.Words.{Tokens, the, name, quoted}
+use Rattle.index_tokens.specs.Words.{the, name, quoted}
 use Rattle.index_tree.specs.declared.expression.BinaryOp.{BinaryOp}
 use Rattle.index_tree.specs.declared.expression.UnaryOp.{UnaryOp}
 use Rattle.index_tree.specs.Trees.{Tree, If, Binary, Unary, Dot, Load, Num, Quoted, Flag, Null, Var}

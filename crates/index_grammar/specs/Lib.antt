@@ -4,3 +4,4 @@ pub mod Maps
 pub mod Limits
 pub mod ExpressionReading
 pub mod MapReading
+pub mod View

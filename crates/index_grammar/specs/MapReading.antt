@@ -6,7 +6,7 @@ use Rattle.index_tokens.specs.declared.token.Token.{Token}
 use Rattle.index_tokens.specs.declared.token.Token.TheVariants as t
 use Rattle.index_tokens.specs.declared.token.Placed.{Placed}
 use Rattle.index_tokens.specs.Words.{the, name, variable, word_from, word_in, word_docs, word_select, word_new}
-use Rattle.index_tree.specs.Trees.{Tree, Var}
+use Rattle.index_tree.specs.Trees.{Var}
 use Rattle.index_tree.specs.declared.map_query.Clause.{Clause}
 use Rattle.index_tree.specs.declared.map_query.Clause.TheVariants as c
 use Rattle.index_grammar.specs.declared.spelled.PlacedMember.{PlacedMember}

@@ -1,7 +1,11 @@
 //! What tokens spell: a map, and where its members stand.
-use index_tree::{Clauses, MapMember};
-use raven_base::Sequence;
+ghost use Rattle.std.specs.Prelude.{◌≡◌, IfOk};
+ghost use Rattle.index_grammar.specs.View.{query_of};
+
+use index_tree::{Clauses, MapMember, MapMembers, MapQuery};
+use raven_base::{NoMemory, Sequence};
 use raven_value::Text;
+use std::alloc::Global;
 
 /// A member, and where it stands.
 #[derive(Debug, Drop)]
@@ -26,4 +30,22 @@ pub struct SpelledMap {
     pub clauses: Clauses,
 
     pub members: PlacedMembers,
+}
+
+impl SpelledMap {
+    /// What it says, without where its members stand.
+    pub fn into_query(self, alloc: Global) -> Result<MapQuery, NoMemory>
+        ensures { IfOk result (λ query. query ≡ query_of self) }
+    {
+        let mut members = MapMembers::new(alloc);
+        for placed in self.members.into_vec() {
+            members.push(placed.member)?;
+        }
+        Ok(MapQuery {
+            var: self.var,
+            collection: self.collection,
+            clauses: self.clauses,
+            members,
+        })
+    }
 }
