@@ -1,2 +1,3 @@
 pub mod Scans
 pub mod Binding
+pub mod GroupScans

@@ -27,14 +27,14 @@ or_else_assoc (Some p) q r = refl
 or_else_assoc None q r = refl
 
 -- one after the other
-in_turn : (p q a b c : Option ℕ) → a ≡ or_else p b → b ≡ or_else q c → a ≡ or_else (or_else p q) c
+pub in_turn : (p q a b c : Option ℕ) → a ≡ or_else p b → b ≡ or_else q c → a ≡ or_else (or_else p q) c
 in_turn p q a b c x y = x ∙ ap (or_else p) y ∙ sym (or_else_assoc p q c)
 
 abbrev held : List ℕ → Option (List ℕ) → List ℕ
 held other (Some w) = w
 held other None = other
 
-some_same : (w n : List ℕ) → Some w ≡ Some n → w ≡ n
+pub some_same : (w n : List ℕ) → Some w ≡ Some n → w ≡ n
 some_same w n is = ap (held w) is
 
 named_by_none : (k : Token) (s : Tokens) (v : List ℕ) → quoted_as k ≡ Some v → is_named_by (name_as k) s ≡ false
@@ -126,7 +126,7 @@ module _ (m : SpelledMap) (b g : ℕ) where
 
 -- ---- clauses
 
-named_variable : (k : Token) (v : List ℕ) → variable_as k ≡ Some v → name_as k ≡ Some v
+pub named_variable : (k : Token) (v : List ℕ) → variable_as k ≡ Some v → name_as k ≡ Some v
 named_variable (t.Word w) v is = by (is_reserved w) is
   where
     by : (reserved : Bool) → cond reserved None (Some w) ≡ Some v → Some w ≡ Some v
@@ -234,7 +234,7 @@ module _ (m : SpelledMap) (b g : ℕ) where
 
 -- ---- the whole text
 
-or_else_none : (p : Option ℕ) → or_else p None ≡ p
+pub or_else_none : (p : Option ℕ) → or_else p None ≡ p
 or_else_none (Some p) = refl
 or_else_none None = refl
 

@@ -1,3 +1,5 @@
 pub mod Bound
 pub mod Scan
 pub mod Fields
+pub mod BoundGroups
+pub mod ScanGroups

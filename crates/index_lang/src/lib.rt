@@ -1,8 +1,10 @@
 //! Definitions of indexes from their texts.
 #![tactic(auto)]
 
+mod groups;
 mod members;
 mod names;
 
-pub use members::{duplicate, query_of};
+pub use groups::unbound_in_reduce;
+pub use members::duplicate;
 pub use names::unbound_name;

@@ -1,5 +1,0 @@
-use Rattle.std.proofs.Common.{◌≡◌, map}
-use Rattle.index_lang.proofs.members.members_of.Given as goal
-
-abbrev pub invariant-loop-placed : goal.invariant-loop-placed
-invariant-loop-placed l = l.members.items ≡ map (λ p. p.member) l.yielded
