@@ -6,5 +6,5 @@ mod members;
 mod names;
 
 pub use groups::unbound_in_reduce;
-pub use members::duplicate;
+pub use members::{Field, duplicate, fields_agree, irreducible};
 pub use names::unbound_name;

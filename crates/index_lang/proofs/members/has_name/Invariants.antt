@@ -1,6 +1,6 @@
-use Rattle.std.proofs.Common.{◌≡◌, drop}
-use Rattle.index_lang.specs.Fields.{has_name as spec_has_name}
+use Rattle.std.proofs.Common.{◌≡◌, take, drop}
+use Rattle.index_lang.specs.Fields as spec
 use Rattle.index_lang.proofs.members.has_name.Given as goal
 
-abbrev pub invariant-loop-placed : goal.invariant-loop-placed
-invariant-loop-placed l = spec_has_name (drop l.placed-index l.members) l.name ≡ spec_has_name l.members l.name
+abbrev pub invariant-loop-member : goal.invariant-loop-member
+invariant-loop-member g l = spec.has_name g.F.Field.label g.F.Field.place (drop l.member-index l.members) l.name ≡ spec.has_name g.F.Field.label g.F.Field.place l.members l.name
