@@ -3,3 +3,4 @@ pub mod Scan
 pub mod Fields
 pub mod BoundGroups
 pub mod ScanGroups
+pub mod Parse

@@ -1,10 +1,18 @@
 //! Definitions of indexes from their texts.
 #![tactic(auto)]
 
+mod definition;
 mod groups;
 mod members;
 mod names;
+mod parse;
+mod reading;
+mod refusal;
 
+pub use definition::{DefBody, Definition};
 pub use groups::unbound_in_reduce;
 pub use members::{Field, duplicate, fields_agree, irreducible};
 pub use names::unbound_name;
+pub use parse::MAX_TEXT;
+pub use reading::{ReadMap, ReadReduce, Trees};
+pub use refusal::{LangKind, LangRefusal, Part};
