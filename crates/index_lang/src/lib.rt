@@ -3,6 +3,7 @@
 
 mod definition;
 mod groups;
+mod laws;
 mod members;
 mod names;
 mod parse;
@@ -11,6 +12,7 @@ mod refusal;
 
 pub use definition::{DefBody, Definition};
 pub use groups::unbound_in_reduce;
+pub use laws::texts_have_one_answer;
 pub use members::{Field, duplicate, fields_agree, irreducible};
 pub use names::unbound_name;
 pub use parse::MAX_TEXT;
