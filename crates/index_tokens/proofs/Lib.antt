@@ -8,3 +8,4 @@ pub mod TextLemmas
 pub mod FrontLemmas
 pub mod TurnLemmas
 pub mod LawLemmas
+pub mod WordLemmas

@@ -1,3 +1,4 @@
 pub mod Spelling
 pub mod Tokens
 pub mod Passes
+pub mod Words

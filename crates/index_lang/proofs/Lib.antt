@@ -1,0 +1,4 @@
+pub mod Scans
+pub mod Binding
+pub mod GroupScans
+pub mod Once

@@ -1,0 +1,6 @@
+pub mod Bound
+pub mod Scan
+pub mod Fields
+pub mod BoundGroups
+pub mod ScanGroups
+pub mod Parse

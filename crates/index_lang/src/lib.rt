@@ -1,0 +1,20 @@
+//! Definitions of indexes from their texts.
+#![tactic(auto)]
+
+mod definition;
+mod groups;
+mod laws;
+mod members;
+mod names;
+mod parse;
+mod reading;
+mod refusal;
+
+pub use definition::{DefBody, Definition};
+pub use groups::unbound_in_reduce;
+pub use laws::texts_have_one_answer;
+pub use members::{Field, duplicate, fields_agree, irreducible};
+pub use names::unbound_name;
+pub use parse::MAX_TEXT;
+pub use reading::{ReadMap, ReadReduce, Trees};
+pub use refusal::{LangKind, LangRefusal, Part};
