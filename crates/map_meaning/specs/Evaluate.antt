@@ -42,11 +42,15 @@ chosen test value other = test >>= λ t. if is_true t then value else other
 abbrev pub as_flag : Asking Data → Asking Data
 as_flag c = c >>= λ v. gives (flag (is_true v))
 
--- `||` and `&&` compute the second operand only where the first does not decide; all else computes both, the left one first
+-- of both, the left one first
+abbrev pub in_turn : BinaryOp → Asking Data → Asking Data → Asking Data
+in_turn o left right = left >>= λ v. right >>= λ w. from (binary o v w)
+
+-- `||` and `&&` compute the second operand only where the first does not decide
 abbrev pub combined : BinaryOp → Asking Data → Asking Data → Asking Data
 combined op.Or left right = chosen left (gives (flag true)) (as_flag right)
 combined op.And left right = chosen left (as_flag right) (gives (flag false))
-combined o left right = left >>= λ v. right >>= λ w. from (binary o v w)
+combined o left right = in_turn o left right
 
 abbrev pub evaluate : Lookup → Bindings → Tree → Asking Data
 evaluate find bound (If test value other) = chosen (evaluate find bound test) (evaluate find bound value) (evaluate find bound other)

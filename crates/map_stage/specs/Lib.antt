@@ -1,0 +1,2 @@
+pub mod HeldView
+pub mod Reached
