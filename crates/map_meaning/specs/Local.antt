@@ -16,7 +16,7 @@ use Rattle.index_tree.specs.Trees.{Tree, If, Binary, Unary, Dot, Load, Num, Quot
 use Rattle.map_meaning.specs.Asking.{Lookup, Asking, AgreeAt, from, gives, after, goes_on, ◌>>=◌}
 use Rattle.map_meaning.specs.Operators.{is_true, part_of, binary, unary}
 use Rattle.map_meaning.specs.Evaluate.{Bindings, document_of, document_in, loaded, chosen, as_flag, combined, evaluate}
-use Rattle.map_meaning.specs.Meaning.{bound_after, fields_under, fields_if, entry_of, mapped, meaning}
+use Rattle.map_meaning.specs.Meaning.{Fields, where_some, bound_by, bound_after, fields_with, fields_under, entry_of, mapped, meaning}
 
 -- where lookups agree on all that was asked for, the same comes of it
 abbrev pub IsLocal : {A : Type 0} → (Lookup → Asking A) → Type 0
@@ -94,30 +94,37 @@ evaluate_local bound (Flag b) = λ find other h. refl
 evaluate_local bound Null = λ find other h. refl
 evaluate_local bound (Var name) = λ find other h. refl
 
+some_local : {A B : Type 0} (o : Option A) (k : Lookup → A → Asking (Option B)) → ((a : A) → IsLocal (λ find. k find a)) → IsLocal (λ find. where_some o (k find))
+some_local None k local find other h = refl
+some_local (Some a) k local find other h = local a find other h
+
+by_local : (bound : Bindings) (c : Clause) → IsLocal (λ find. bound_by find bound c)
+by_local bound (clause.Where test) =
+    then_local (λ find. evaluate find bound test) (λ find t. gives (if is_true t then Some bound else None)) (evaluate_local bound test)
+    (λ t. from_local (Some (if is_true t then Some bound else None)))
+by_local bound (clause.Let name value) =
+    then_local (λ find. evaluate find bound value) (λ find v. gives (Some ((name, v) ∷ bound))) (evaluate_local bound value) (λ v. from_local (Some (Some ((name, v) ∷ bound))))
+
 bound_local : (clauses : List Clause) (bound : Bindings) → IsLocal (λ find. bound_after find bound clauses)
 bound_local [] bound = λ find other h. refl
-bound_local (clause.Where test ∷ more) bound =
-    then_local (λ find. evaluate find bound test) (λ find t. if is_true t then bound_after find bound more else gives None) (evaluate_local bound test)
-    (λ t. if_local (is_true t) (λ find. bound_after find bound more) (λ find. gives None) (bound_local more bound) (from_local (Some None)))
-bound_local (clause.Let name value ∷ more) bound =
-    then_local (λ find. evaluate find bound value) (λ find v. bound_after find ((name, v) ∷ bound) more) (evaluate_local bound value)
-    (λ v. bound_local more ((name, v) ∷ bound))
+bound_local (c ∷ more) bound =
+    then_local (λ find. bound_by find bound c) (λ find next. where_some next (λ names. bound_after find names more)) (by_local bound c)
+    (λ next. some_local next (λ find names. bound_after find names more) (λ names. bound_local more names))
 
-fields_local : (bound : Bindings) (members : List MapMember) → IsLocal (λ find. fields_under find bound members)
-fields_local bound [] = λ find other h. refl
-fields_local bound (m ∷ more) =
-    then_local (λ find. evaluate find bound m.value) (λ find v. fields_under find bound more >>= λ rest. gives ((m.name, scalar_of v) ∷ rest)) (evaluate_local bound m.value) (λ v.
-    then_local (λ find. fields_under find bound more) (λ find rest. gives ((m.name, scalar_of v) ∷ rest)) (fields_local bound more) (λ rest. from_local (Some ((m.name, scalar_of v) ∷ rest))))
+with_local : (bound : Bindings) (members : List MapMember) (found : Fields) → IsLocal (λ find. fields_with find bound found members)
+with_local bound [] found = λ find other h. refl
+with_local bound (m ∷ more) found =
+    then_local (λ find. evaluate find bound m.value) (λ find v. fields_with find bound (found ++ (m.name, scalar_of v) ∷ []) more) (evaluate_local bound m.value)
+    (λ v. with_local bound more (found ++ (m.name, scalar_of v) ∷ []))
 
-fields_if_local : (members : List MapMember) (bound : Option Bindings) → IsLocal (λ find. fields_if find members bound)
-fields_if_local members None = λ find other h. refl
-fields_if_local members (Some bound) =
-    then_local (λ find. fields_under find bound members) (λ find fields. gives (Some fields)) (fields_local bound members) (λ fields. from_local (Some (Some fields)))
+fields_local : (members : List MapMember) (bound : Bindings) → IsLocal (λ find. fields_under find members bound)
+fields_local members bound =
+    then_local (λ find. fields_with find bound [] members) (λ find fields. gives (Some fields)) (with_local bound members []) (λ fields. from_local (Some (Some fields)))
 
 pub entry_local : (query : MapQuery) (document : Data) → IsLocal (entry_of query document)
 entry_local query document =
-    then_local (λ find. bound_after find ((query.var, document) ∷ []) query.clauses) (λ find bound. fields_if find query.members bound)
-    (bound_local query.clauses ((query.var, document) ∷ [])) (fields_if_local query.members)
+    then_local (λ find. bound_after find ((query.var, document) ∷ []) query.clauses) (λ find bound. where_some bound (fields_under find query.members))
+    (bound_local query.clauses ((query.var, document) ∷ [])) (λ bound. some_local bound (λ find names. fields_under find query.members names) (fields_local query.members))
 
 -- where two lookups give the same for all that was asked for under the first, the map gives the same under both, and asks for the same
 pub meaning_local : (query : MapQuery) (d : Row) (find other : Lookup) → AgreeAt (meaning query d find).loads find other → meaning query d other ≡ meaning query d find

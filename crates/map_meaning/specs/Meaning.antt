@@ -1,5 +1,5 @@
 -- What a map gives for a document: its entry, no entry, or a failure, and what it asked for.
-use Rattle.std.specs.Prelude.{ℕ, List, [], ◌∷◌, Option, Some, None, if◌then◌else◌}
+use Rattle.std.specs.Prelude.{ℕ, List, [], ◌∷◌, ◌++◌, Option, Some, None, if◌then◌else◌}
 use Rattle.raven_data.specs.Data.{Data}
 use Rattle.raven_data.specs.Rows.{Row}
 use Rattle.raven_data.specs.Scalars.{Scalar, scalar_of}
@@ -25,27 +25,32 @@ pub record Mapped : Type 0 where
   pub outcome : Outcome
   pub loads : List (List ℕ)
 
--- the values of the names after the clauses, each of which is computed at once; nothing where a condition is not true, which ends it
+-- what goes on only where there is something
+abbrev pub where_some : {A B : Type 0} → Option A → (A → Asking (Option B)) → Asking (Option B)
+where_some None more = gives None
+where_some (Some a) more = more a
+
+-- the values of the names after a clause, which is computed at once; nothing where its condition is not true
+abbrev pub bound_by : Lookup → Bindings → Clause → Asking (Option Bindings)
+bound_by find bound (clause.Where test) = evaluate find bound test >>= λ t. gives (if is_true t then Some bound else None)
+bound_by find bound (clause.Let name value) = evaluate find bound value >>= λ v. gives (Some ((name, v) ∷ bound))
+
+-- after clauses in order; the first that leaves nothing ends them
 abbrev pub bound_after : Lookup → Bindings → List Clause → Asking (Option Bindings)
 bound_after find bound [] = gives (Some bound)
-bound_after find bound (clause.Where test ∷ more) =
-    evaluate find bound test >>= λ t. if is_true t then bound_after find bound more else gives None
-bound_after find bound (clause.Let name value ∷ more) =
-    evaluate find bound value >>= λ v. bound_after find ((name, v) ∷ bound) more
+bound_after find bound (c ∷ more) = bound_by find bound c >>= λ next. where_some next (λ names. bound_after find names more)
 
--- the fields of the members, in order; a list or an object counts as null
-abbrev pub fields_under : Lookup → Bindings → List MapMember → Asking Fields
-fields_under find bound [] = gives []
-fields_under find bound (m ∷ more) =
-    evaluate find bound m.value >>= λ v. fields_under find bound more >>= λ rest. gives ((m.name, scalar_of v) ∷ rest)
+-- the fields of the members go in one after another; a list or an object counts as null
+abbrev pub fields_with : Lookup → Bindings → Fields → List MapMember → Asking Fields
+fields_with find bound found [] = gives found
+fields_with find bound found (m ∷ more) = evaluate find bound m.value >>= λ v. fields_with find bound (found ++ (m.name, scalar_of v) ∷ []) more
 
-abbrev pub fields_if : Lookup → List MapMember → Option Bindings → Asking (Option Fields)
-fields_if find members None = gives None
-fields_if find members (Some bound) = fields_under find bound members >>= λ fields. gives (Some fields)
+abbrev pub fields_under : Lookup → List MapMember → Bindings → Asking (Option Fields)
+fields_under find members bound = fields_with find bound [] members >>= λ fields. gives (Some fields)
 
 -- the first name is that of the document
 abbrev pub entry_of : MapQuery → Data → Lookup → Asking (Option Fields)
-entry_of query document find = bound_after find ((query.var, document) ∷ []) query.clauses >>= λ bound. fields_if find query.members bound
+entry_of query document find = bound_after find ((query.var, document) ∷ []) query.clauses >>= λ bound. where_some bound (fields_under find query.members)
 
 abbrev pub outcome_of : Option (Option Fields) → Outcome
 outcome_of None = Failed

@@ -1,10 +1,10 @@
 -- What an evaluation in the program has come to.
-use Rattle.std.specs.Prelude.{◌≡◌, ℕ, List, map, reverse, Option, option_map}
+use Rattle.std.specs.Prelude.{◌≡◌, ℕ, List, map, reverse, Bool, if◌then◌else◌, Option, Some, None, option_map}
 use Rattle.raven_data.specs.Data.{Data}
 use Rattle.raven_data.specs.Folding.{folded}
 use Rattle.raven_value.specs.declared.id.Id.{Id}
 use Rattle.map_meaning.specs.Asking.{Lookup, Asking, after}
-use Rattle.map_meaning.specs.Evaluate.{evaluate}
+use Rattle.map_meaning.specs.Evaluate.{Bindings, evaluate}
 use Rattle.index_tree.specs.Trees.{Tree}
 use Rattle.map_stage.specs.declared.held.Held.{Held}
 use Rattle.map_stage.specs.declared.scene.Binding.{Binding}
@@ -33,3 +33,7 @@ Does c old new held = reached held new ≡ from_there old c
 -- the value of an expression under the names
 abbrev pub value_under : Lookup → List Binding → Tree → Asking Data
 value_under find bound tree = evaluate find (bindings_of bound) tree
+
+-- the names and their values, where the map goes on
+abbrev pub bound_if : List Binding → Bool → Option Bindings
+bound_if bound goes = if goes then Some (bindings_of bound) else None

@@ -58,7 +58,12 @@ impl<'a, T: Lookup> Scene<'a, T> {
     }
 
     #[cycle(evaluate)]
-    fn either(&self, left: &'a Expr, right: &'a Expr, asked: &mut Ids) -> Result<Option<Held<'a>>, NoMemory>
+    fn either(
+        &self,
+        left: &'a Expr,
+        right: &'a Expr,
+        asked: &mut Ids,
+    ) -> Result<Option<Held<'a>>, NoMemory>
         ensures { IfOk result (Does (value_under (T.rows self.now.rows.now) self.now.bound.items (Binary Or left.now right.now)) asked.old asked.new) }
     {
         let Some(held) = self.evaluate(left, asked)? else {
@@ -71,7 +76,12 @@ impl<'a, T: Lookup> Scene<'a, T> {
     }
 
     #[cycle(evaluate)]
-    fn both(&self, left: &'a Expr, right: &'a Expr, asked: &mut Ids) -> Result<Option<Held<'a>>, NoMemory>
+    fn both(
+        &self,
+        left: &'a Expr,
+        right: &'a Expr,
+        asked: &mut Ids,
+    ) -> Result<Option<Held<'a>>, NoMemory>
         ensures { IfOk result (Does (value_under (T.rows self.now.rows.now) self.now.bound.items (Binary And left.now right.now)) asked.old asked.new) }
     {
         let Some(held) = self.evaluate(left, asked)? else {
@@ -113,7 +123,12 @@ impl<'a, T: Lookup> Scene<'a, T> {
     }
 
     #[cycle(evaluate)]
-    fn apply(&self, op: UnaryOp, operand: &'a Expr, asked: &mut Ids) -> Result<Option<Held<'a>>, NoMemory>
+    fn apply(
+        &self,
+        op: UnaryOp,
+        operand: &'a Expr,
+        asked: &mut Ids,
+    ) -> Result<Option<Held<'a>>, NoMemory>
         ensures { IfOk result (Does (value_under (T.rows self.now.rows.now) self.now.bound.items (Unary op operand.now)) asked.old asked.new) }
     {
         let Some(held) = self.evaluate(operand, asked)? else {
@@ -123,7 +138,12 @@ impl<'a, T: Lookup> Scene<'a, T> {
     }
 
     #[cycle(evaluate)]
-    fn part(&self, holder: &'a Expr, name: &'a Text, asked: &mut Ids) -> Result<Option<Held<'a>>, NoMemory>
+    fn part(
+        &self,
+        holder: &'a Expr,
+        name: &'a Text,
+        asked: &mut Ids,
+    ) -> Result<Option<Held<'a>>, NoMemory>
         ensures { IfOk result (Does (value_under (T.rows self.now.rows.now) self.now.bound.items (Dot holder.now name.now)) asked.old asked.new) }
     {
         let Some(held) = self.evaluate(holder, asked)? else {
@@ -133,7 +153,12 @@ impl<'a, T: Lookup> Scene<'a, T> {
     }
 
     #[cycle(evaluate)]
-    fn load(&self, id: &'a Expr, collection: &'a Text, asked: &mut Ids) -> Result<Option<Held<'a>>, NoMemory>
+    fn load(
+        &self,
+        id: &'a Expr,
+        collection: &'a Text,
+        asked: &mut Ids,
+    ) -> Result<Option<Held<'a>>, NoMemory>
         ensures { IfOk result (Does (value_under (T.rows self.now.rows.now) self.now.bound.items (Load id.now collection.now)) asked.old asked.new) }
     {
         let Some(held) = self.evaluate(id, asked)? else {

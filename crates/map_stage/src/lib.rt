@@ -2,12 +2,17 @@
 #![tactic(auto)]
 
 mod date;
+mod entry;
 mod evaluate;
 mod held;
+mod lang_mapper;
 mod load;
 mod lookup;
+mod mapper;
 mod number;
 mod operator;
 mod scene;
 
+pub use lang_mapper::LangMapper;
 pub use lookup::Lookup;
+pub use mapper::{Entry, Mapped, Mapper, Outcome};

@@ -148,11 +148,7 @@ fn total<'a>(m: i64, n: i64) -> Option<Held<'a>>
     Some(Held::Num(number::sum(m, n)?))
 }
 
-fn plus<'a>(
-    alloc: Global,
-    left: &Held<'a>,
-    right: &Held<'a>,
-) -> Result<Option<Held<'a>>, NoMemory>
+fn plus<'a>(alloc: Global, left: &Held<'a>, right: &Held<'a>) -> Result<Option<Held<'a>>, NoMemory>
     ensures { IfOk result (λ held. option_map held_of held ≡ plus (held_of left.now) (held_of right.now)) }
 {
     match (left, right) {
