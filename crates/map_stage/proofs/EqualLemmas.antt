@@ -1,4 +1,4 @@
-use Rattle.std.proofs.Common.{◌≡◌, ◌&&◌, Bool, List, [], ◌∷◌, map, refl, ap, sym, ◌∙◌}
+use Rattle.std.proofs.Common.{◌≡◌, ◌&&◌, Bool, List, [], ◌∷◌, map, refl, ap, ◌∙◌}
 use Rattle.std.specs.Ordering.{on}
 use Rattle.std.specs.Str.{bytes_eq}
 use Rattle.raven_data.specs.Data.{Data, items_of, entries_of}

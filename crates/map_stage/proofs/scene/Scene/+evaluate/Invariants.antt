@@ -1,4 +1,4 @@
-use Rattle.std.proofs.Common.{ℕ, ◌+◌, ◌*◌, max}
+use Rattle.std.proofs.Common.{◌+◌, ◌*◌, max}
 use Rattle.index_tree.specs.Trees.{height}
 use Rattle.map_stage.proofs.scene.Scene.+evaluate.Given as goal
 
