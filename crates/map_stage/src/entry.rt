@@ -86,12 +86,14 @@ pub fn outcome_of<T: Lookup>(
         name: &query.var,
         value: document_of(&doc.body),
     })?;
-    match scene.bind(query.clauses.as_slice(), asked)? {
+    let Some(goes) = scene.bind(query.clauses.as_slice(), asked)? else {
+        return Ok(Outcome::Failed);
+    };
+    if !goes {
+        return Ok(Outcome::Nothing);
+    }
+    match scene.entry(query.members.as_slice(), asked)? {
+        Some(entry) => Ok(Outcome::Entry(entry)),
         None => Ok(Outcome::Failed),
-        Some(false) => Ok(Outcome::Nothing),
-        Some(true) => match scene.entry(query.members.as_slice(), asked)? {
-            None => Ok(Outcome::Failed),
-            Some(entry) => Ok(Outcome::Entry(entry)),
-        },
     }
 }

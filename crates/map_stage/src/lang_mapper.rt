@@ -11,6 +11,7 @@ use raven_value::{Ids, Row};
 use std::alloc::Global;
 
 /// The map that a query means.
+#[derive(Clone, Copy, Debug)]
 pub struct LangMapper<'q> {
     pub query: &'q MapQuery,
 }
