@@ -1,0 +1,5 @@
+use Rattle.map_meaning.specs.Local.{meaning_local}
+use Rattle.map_meaning.proofs.laws.maps_are_local.Goals as goal
+
+pub returns : goal.returns
+returns c = meaning_local

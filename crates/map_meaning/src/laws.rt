@@ -1,0 +1,28 @@
+//! The laws of maps.
+
+ghost use Rattle.std.specs.Prelude.{◌≡◌, ◌↔◌, ℕ, ℤ, List, FitsSigned, true};
+ghost use Rattle.std.specs.Int.{w64};
+ghost use Rattle.std.specs.Result.{result_map_both};
+ghost use Rattle.jiff_fmt.specs.Temporal.{parse_date, parse_datetime};
+ghost use Rattle.raven_data.specs.Rows.{Row};
+ghost use Rattle.index_tree.specs.declared.map_query.MapQuery.{MapQuery};
+ghost use Rattle.map_meaning.specs.Asking.{AgreeAt, Lookup};
+ghost use Rattle.map_meaning.specs.Meaning.{meaning};
+ghost use Rattle.map_meaning.specs.Numbers.{is_within};
+
+/// What a map gives hangs on the document and on what its loads give, and on nothing else: where a second lookup has the same at all ids
+/// that were asked for under the first one, the map gives the same under it, and asks for the same ids.
+pub fn maps_are_local()
+    ensures { (query : MapQuery) (d : Row) (find other : Lookup) → AgreeAt (meaning query d find).loads find other →
+        meaning query d other ≡ meaning query d find }
+{}
+
+/// A text that is read as a civil date with a time is read as that date.
+pub fn dates_are_read_alike()
+    ensures { (s : List ℕ) → result_map_both (λ both. both.0) (λ e. e) (parse_datetime s) ≡ parse_date s }
+{}
+
+/// A number is taken as a result exactly where it has a place in 64 bits with a sign.
+pub fn numbers_are_of_64_bits()
+    ensures { (n : ℤ) → (is_within n ≡ true) ↔ FitsSigned w64 n }
+{}

@@ -1,0 +1,6 @@
+//! What the map of an index gives for a document, as definitions alone, and the laws of it, each the contract of a function without a body.
+#![tactic(auto)]
+
+mod laws;
+
+pub use laws::{dates_are_read_alike, maps_are_local, numbers_are_of_64_bits};

@@ -1,0 +1,3 @@
+pub mod HeldView
+pub mod Reached
+pub mod MappedView

@@ -1,0 +1,72 @@
+//! Values while a document is mapped.
+ghost use Rattle.std.specs.Prelude.{◌≡◌, IfOk};
+ghost use Rattle.raven_data.specs.Scalars.{scalar_of};
+ghost use Rattle.raven_value.specs.ScalarView.{scalar_view};
+ghost use Rattle.raven_value.specs.View.{data_of};
+ghost use Rattle.map_meaning.specs.Operators.{is_true};
+ghost use Rattle.map_stage.specs.HeldView.{held_of};
+
+use raven_base::NoMemory;
+use raven_value::{Members, Scalar, Text, Value, Values};
+use std::alloc::Global;
+use std::borrow::Cow;
+
+/// A value that lies in a document, or that was computed. Only texts are both, since no operator makes lists and objects.
+#[derive(Drop)]
+pub enum Held<'a> {
+    Null,
+    Flag(bool),
+    Num(i64),
+    Text(Cow<'a, Text>),
+    List(&'a Values),
+    Map(&'a Members),
+}
+
+impl<'a> Held<'a> {
+    /// The value, where it lies.
+    pub fn of(value: &'a Value) -> Held<'a>
+        ensures { held_of result ≡ data_of value.now }
+    {
+        match value {
+            Value::Null => Held::Null,
+            Value::Flag(flag) => Held::Flag(*flag),
+            Value::Num(number) => Held::Num(*number),
+            Value::Text(text) => Held::Text(Cow::Borrowed(text)),
+            Value::List(items) => Held::List(items),
+            Value::Map(members) => Held::Map(members),
+        }
+    }
+
+    /// The same value. Only a text that was computed takes memory.
+    pub fn copy(&self) -> Result<Held<'a>, NoMemory>
+        ensures { IfOk result (λ held. held_of held ≡ held_of self.now) }
+    {
+        Ok(match self {
+            Held::Null => Held::Null,
+            Held::Flag(flag) => Held::Flag(*flag),
+            Held::Num(number) => Held::Num(*number),
+            Held::Text(text) => Held::Text(text.clone()?),
+            Held::List(items) => Held::List(*items),
+            Held::Map(members) => Held::Map(*members),
+        })
+    }
+
+    /// Whether it is the flag true.
+    pub fn is_true(&self) -> bool
+        ensures { result ≡ is_true (held_of self.now) }
+    {
+        matches!(self, Held::Flag(true))
+    }
+
+    /// The scalar of the same meaning, and null for a list or an object.
+    pub fn scalar(&self, alloc: Global) -> Result<Scalar, NoMemory>
+        ensures { IfOk result (λ scalar. scalar_view scalar ≡ scalar_of (held_of self.now)) }
+    {
+        Ok(match self {
+            Held::Flag(flag) => Scalar::Flag(*flag),
+            Held::Num(number) => Scalar::Num(i128::from(*number)),
+            Held::Text(text) => Scalar::Text(Text::of(alloc, text.as_ref().as_str())?),
+            Held::Null | Held::List(_) | Held::Map(_) => Scalar::Null,
+        })
+    }
+}

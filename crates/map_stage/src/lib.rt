@@ -1,0 +1,21 @@
+//! The maps of indexes: what entry a document gives, and which documents were looked up for it.
+#![tactic(auto)]
+
+mod date;
+mod entry;
+mod evaluate;
+mod held;
+mod lang_mapper;
+mod load;
+mod lookup;
+mod mapper;
+mod number;
+mod operator;
+mod scene;
+
+pub use lang_mapper::LangMapper;
+pub use lookup::Lookup;
+pub use mapper::{Entry, Mapped, Mapper, Outcome};
+
+#[cfg(test)]
+mod tests;

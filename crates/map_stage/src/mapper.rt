@@ -1,0 +1,47 @@
+//! What maps give.
+ghost use Rattle.std.specs.Prelude.{◌≡◌, List, ℕ, IfOk};
+ghost use Rattle.raven_data.specs.Rows as is;
+ghost use Rattle.map_meaning.specs.Asking as asking;
+ghost use Rattle.map_meaning.specs.Meaning as meaning;
+ghost use Rattle.map_stage.specs.MappedView.{mapped_view};
+
+use crate::lookup::Lookup;
+use raven_base::{NoMemory, Sequence};
+use raven_value::{Ids, Row, Scalar, Text};
+use std::alloc::Global;
+
+/// The fields of an entry with their names, in the order of the map's members.
+pub type Entry = Sequence<(Text, Scalar)>;
+
+/// What a document comes to.
+#[derive(Debug, Drop)]
+pub enum Outcome {
+    /// Its entry.
+    Entry(Entry),
+    /// It has no entry.
+    Nothing,
+    /// Its entry cannot be computed.
+    Failed,
+}
+
+/// What a map gives for a document.
+#[derive(Debug, Drop)]
+pub struct Mapped {
+    pub outcome: Outcome,
+
+    /// The ids that were looked up, in order, as they were spelled; also those before a failure.
+    pub loads: Ids,
+}
+
+/// A map from documents to entries.
+pub trait Mapper {
+    /// What it gives for a row, over rows by their folded ids.
+    ghost meaning: { Self → is.Row → asking.Lookup → meaning.Mapped };
+
+    /// The result for a document. What is not a document is taken as null.
+    fn map<T: Lookup>(&self, alloc: Global, doc: &Row, rows: &T) -> Result<Mapped, NoMemory>
+        ensures { IfOk result (λ mapped. mapped_view mapped ≡ meaning self.now doc.now (T.rows rows.now)) };
+
+    /// It hangs on the document and on what the lookups give, and on nothing else.
+    ghost local: { (m : Self) (d : is.Row) (find other : asking.Lookup) → asking.AgreeAt (meaning m d find).loads find other → meaning m d other ≡ meaning m d find };
+}
