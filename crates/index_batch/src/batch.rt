@@ -3,8 +3,8 @@ ghost use Rattle.std.specs.Prelude.{◌≡◌, IfOk, cond};
 ghost use Rattle.raven_model.specs.Store.{last, last_of};
 ghost use Rattle.raven_model.specs.World.{batch};
 
-use index_version::{IndexVersion, share};
 use doc_store::{Store, last_etag};
+use index_version::{IndexVersion, share};
 use raven_base::NoMemory;
 use raven_value::Row;
 use std::alloc::Global;

@@ -41,9 +41,13 @@ fn same_clause(a: &Clause, b: &Clause) -> bool
 {
     match (a, b) {
         (Clause::Where(test), Clause::Where(a_test)) => same_expr(test, a_test),
-        (Clause::Let { var, value }, Clause::Let { var: a_var, value: a_value }) => {
-            *var == *a_var && same_expr(value, a_value)
-        },
+        (
+            Clause::Let { var, value },
+            Clause::Let {
+                var: a_var,
+                value: a_value,
+            },
+        ) => { *var == *a_var && same_expr(value, a_value) },
         _ => false,
     }
 }

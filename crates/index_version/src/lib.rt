@@ -8,6 +8,5 @@ mod table;
 mod version;
 
 pub use definition::{Definition, auto_definition, share};
-
 pub use table::{Table, is_document};
 pub use version::IndexVersion;

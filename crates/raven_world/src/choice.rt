@@ -9,9 +9,9 @@ ghost use Rattle.raven_model.specs.Optimiser.{beats, best, covers, has_path, is_
 ghost use Rattle.raven_model.specs.World.{reads};
 ghost use Rattle.raven_world.specs.ChoiceView.{choice_view};
 
-use index_version::{Definition, IndexVersion};
 use crate::slot::Slot;
 use doc_store::Store;
+use index_version::{Definition, IndexVersion};
 use raven_base::NoMemory;
 use raven_value::{Path, Paths, Text};
 use std::alloc::Global;

@@ -16,13 +16,13 @@ ghost use Rattle.raven_reply.specs.ReplyView.{reply_view};
 ghost use Rattle.raven_world.specs.Told.{AnswersQuery, change_view, machine_of, told};
 
 use crate::choice::{Choice, pick};
-use index_version::auto_definition;
 use crate::naming::{auto_name, index_id, is_served};
 use crate::slot::{Slot, copies, fresh_slot};
 use crate::world::{Answered, Change, World, WorldFault};
 use crate::write::refused_at;
 use doc_store::Store;
 use doc_txn::{Command, Commands, Expect, TxnFault, Writer, commit};
+use index_version::auto_definition;
 use raven_base::NoMemory;
 use raven_reply::Reply;
 use raven_value::{Members, Name, Rows, Text, Value, Values};

@@ -8,13 +8,13 @@ ghost use Rattle.index_version.specs.DefinitionView.{definition_view};
 ghost use Rattle.raven_world.specs.Opened.{bad_row};
 ghost use Rattle.raven_world.specs.Told.{machine_of};
 
-use index_version::{Definition, is_document};
 use crate::naming::read_auto_name;
 use crate::reading::definition_of;
 use crate::slot::{Slot, fresh_slot};
 use crate::world::World;
 use doc_store::{OpenFault, Store};
 use doc_txn::{BaseId, Limits};
+use index_version::{Definition, is_document};
 use raven_base::NoMemory;
 use raven_value::{Body, Id, Row, Rows, starts_folded};
 use std::alloc::Global;

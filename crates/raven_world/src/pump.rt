@@ -3,11 +3,11 @@ ghost use Rattle.std.specs.Prelude.{◌≡◌, IfOk, map};
 ghost use Rattle.raven_model.specs.Machine.{brought_on as spec_brought_on, pump, pumping};
 ghost use Rattle.raven_world.specs.Told.{change_view, machine_of};
 
-use index_batch::next;
 use crate::slot::Slot;
-use index_version::IndexVersion;
 use crate::world::{Change, World};
 use doc_store::Store;
+use index_batch::next;
+use index_version::IndexVersion;
 use raven_base::NoMemory;
 use raven_reply::{Pumping, Pumpings, Reply};
 use raven_value::Rows;
