@@ -13,7 +13,7 @@ use Rattle.index_tree.specs.declared.map_query.Clause.{Clause}
 use Rattle.index_tree.specs.declared.map_query.Clause.TheVariants as c
 use Rattle.index_grammar.specs.declared.spelled.PlacedMember.{PlacedMember}
 use Rattle.index_grammar.specs.Expressions.{Spells, Post, number, var, first}
-use Rattle.index_grammar.specs.Maps.{Origin, origin_of, SpellsOrigin, SpellsClause, filter, binding, SpellsClauses, no_clause, next_clause, last_name, placed_member, SpellsMember, named, path, SpellsMembers, last, last_comma, more, spelled_map, SpellsMap, map}
+use Rattle.index_grammar.specs.Maps.{Origin, origin_of, SpellsOrigin, SpellsClause, filter, binding, SpellsClauses, no_clause, next_clause, last_name, placed_member, SpellsMember, named, path, SpellsMembers, last, last_comma, more, SpellsEntry, entry, spelled_map, SpellsMap, map}
 use Rattle.index_grammar.specs.Maps as m
 use Rattle.index_grammar.specs.Limits.{Kind, most_members}
 use Rattle.index_grammar.specs.ExpressionReading as expr
@@ -183,9 +183,13 @@ all_members_keep = map_keeps (λ s b r h. by s b r h.0 h.1 h.2) (members_keep mo
 
 -- ---- the whole text
 
+entry_keeps : Keeps SpellsEntry read.entry
+unfolding read.entry
+entry_keeps = the_keeps word_select refl (λ x is. the_keeps word_new refl (λ y also. the_keeps t.OpenBrace refl (λ p opening. map_keeps (λ s ms r d. entry is also opening d) all_members_keep)))
+
 pub map_text_keeps : Keeps SpellsMap read.map_text
 unfolding read.map_text
-map_text_keeps = bind_keeps {X = SpellsOrigin} (λ o. read.clauses [] >>= λ cs. take tt (the word_select) >>= λ _. take tt (the word_new) >>= λ _. take tt (the t.OpenBrace) >>= λ _. read.members most_members [] >>= λ ms. take tt (the t.End) >>= λ _. pure (spelled_map o cs ms)) origin_keeps
-    (λ o. bind_keeps {X = SpellsClauses} (λ cs. take tt (the word_select) >>= λ _. take tt (the word_new) >>= λ _. take tt (the t.OpenBrace) >>= λ _. read.members most_members [] >>= λ ms. take tt (the t.End) >>= λ _. pure (spelled_map o cs ms)) all_clauses_keep
-    (λ cs. the_keeps word_select refl (λ x is. the_keeps word_new refl (λ y also. the_keeps t.OpenBrace refl (λ p opening. bind_keeps {X = SpellsMembers} (λ ms. take tt (the t.End) >>= λ _. pure (spelled_map o cs ms)) all_members_keep
-    (λ ms. the_keeps t.End refl (λ e end. pure_keeps (λ z s_members d_members s_clauses d_clauses s d. map d d_clauses is also opening d_members end))))))))
+map_text_keeps = bind_keeps {X = SpellsOrigin} (λ o. read.clauses [] >>= λ cs. read.entry >>= λ ms. take tt (the t.End) >>= λ _. pure (spelled_map o cs ms)) origin_keeps
+    (λ o. bind_keeps {X = SpellsClauses} (λ cs. read.entry >>= λ ms. take tt (the t.End) >>= λ _. pure (spelled_map o cs ms)) all_clauses_keep
+    (λ cs. bind_keeps {X = SpellsEntry} (λ ms. take tt (the t.End) >>= λ _. pure (spelled_map o cs ms)) entry_keeps
+    (λ ms. the_keeps t.End refl (λ e end. pure_keeps (λ z s_entry d_entry s_clauses d_clauses s d. map d d_clauses d_entry end)))))

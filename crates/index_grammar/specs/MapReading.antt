@@ -83,6 +83,8 @@ members (suc room) found = member >>= λ a. choose (behind_member (members room)
 
 -- ---- the whole text
 
+unfoldable pub entry : Reads (List PlacedMember)
+entry = take tt (the word_select) >>= λ _. take tt (the word_new) >>= λ _. take tt (the t.OpenBrace) >>= λ _. members most_members []
+
 unfoldable pub map_text : Reads SpelledMap
-map_text = origin >>= λ o. clauses [] >>= λ cs. take tt (the word_select) >>= λ _. take tt (the word_new) >>= λ _. take tt (the t.OpenBrace) >>= λ _.
-    members most_members [] >>= λ ms. take tt (the t.End) >>= λ _. pure (spelled_map o cs ms)
+map_text = origin >>= λ o. clauses [] >>= λ cs. entry >>= λ ms. take tt (the t.End) >>= λ _. pure (spelled_map o cs ms)
