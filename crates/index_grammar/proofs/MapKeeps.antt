@@ -11,9 +11,10 @@ use Rattle.index_tokens.specs.Words.{Tokens, Is, same_token, word_from, word_in,
 use Rattle.index_tree.specs.Trees.{Num, Var}
 use Rattle.index_tree.specs.declared.map_query.Clause.{Clause}
 use Rattle.index_tree.specs.declared.map_query.Clause.TheVariants as c
+use Rattle.index_grammar.specs.declared.spelled.Origin.{Origin}
 use Rattle.index_grammar.specs.declared.spelled.PlacedMember.{PlacedMember}
 use Rattle.index_grammar.specs.Expressions.{Spells, Post, number, var, first}
-use Rattle.index_grammar.specs.Maps.{Origin, origin_of, SpellsOrigin, SpellsClause, filter, binding, SpellsClauses, no_clause, next_clause, last_name, placed_member, SpellsMember, named, path, SpellsMembers, last, last_comma, more, SpellsEntry, entry, spelled_map, SpellsMap, map}
+use Rattle.index_grammar.specs.Maps.{origin_of, SpellsOrigin, SpellsClause, filter, binding, SpellsClauses, no_clause, next_clause, last_name, placed_member, SpellsMember, named, path, SpellsMembers, last, last_comma, more, SpellsEntry, entry, spelled_map, SpellsMap, map}
 use Rattle.index_grammar.specs.Maps as m
 use Rattle.index_grammar.specs.Limits.{Kind, most_members}
 use Rattle.index_grammar.specs.ExpressionReading as expr
@@ -32,11 +33,11 @@ origin_keeps = the_keeps word_from refl (λ f from_here. variable_keeps (λ v. t
 
 -- ---- clauses
 
-filter_keeps : (x : Placed) → Is word_where x → Keeps (λ m b r. SpellsClause (x ∷ m) b r) read.filter
+pub filter_keeps : (x : Placed) → Is word_where x → Keeps (λ m b r. SpellsClause (x ∷ m) b r) read.filter
 unfolding read.filter
 filter_keeps x is = bind_keeps (λ a. pure (c.Where a)) expression_keeps (λ a. pure_keeps (λ z s d. filter is d))
 
-binding_keeps : (l : Placed) → Is word_let l → Keeps (λ m b r. SpellsClause (l ∷ m) b r) read.binding
+pub binding_keeps : (l : Placed) → Is word_let l → Keeps (λ m b r. SpellsClause (l ∷ m) b r) read.binding
 unfolding read.binding
 binding_keeps l is = variable_keeps (λ v. take tt (the t.Assign) >>= λ _. expr.expression >>= λ a. pure (c.Let v a))
     (λ x v bound. the_keeps t.Assign refl (λ e also. bind_keeps (λ a. pure (c.Let v a)) expression_keeps (λ a. pure_keeps (λ z s d. binding is bound also d))))
@@ -111,7 +112,7 @@ member_token : (x : Placed) (o : Option (List ℕ)) → name x ≡ o → (k : �
 member_token x (Some n) is k s = skip_at SpellsMember (read.behind_name x n) x (behind_keeps x n is) k s
 member_token x None is k s = refuse_at {X = SpellsMember} tt member_any k _
 
-member_keeps : Keeps SpellsMember read.member
+pub member_keeps : Keeps SpellsMember read.member
 unfolding read.member
 member_keeps = choose_keeps SpellsMember read.member_by member_any (λ k. refuse_at {X = SpellsMember} tt member_any k []) (λ x. member_token x (name x) refl)
 

@@ -12,10 +12,11 @@ use Rattle.index_tokens.proofs.WordLemmas.{name_is, variable_is, is_name}
 use Rattle.index_tree.specs.Trees.{Tree, Var}
 use Rattle.index_tree.specs.declared.map_query.Clause.{Clause}
 use Rattle.index_tree.specs.declared.map_query.Clause.TheVariants as c
+use Rattle.index_grammar.specs.declared.spelled.Origin.{Origin}
 use Rattle.index_grammar.specs.declared.spelled.PlacedMember.{PlacedMember}
 use Rattle.index_grammar.specs.declared.spelled.SpelledMap.{SpelledMap}
 use Rattle.index_grammar.specs.Expressions.{Rule, Spells, Whole, Post, Primary, first, point, number, text, yes, no, null, var, parens, load}
-use Rattle.index_grammar.specs.Maps.{Origin, origin_of, SpellsOrigin, SpellsClause, filter, binding, SpellsClauses, no_clause, next_clause, last_name, placed_member, SpellsMember, named, path, SpellsMembers, last, last_comma, more, SpellsEntry, entry, spelled_map, SpellsMap, map}
+use Rattle.index_grammar.specs.Maps.{origin_of, SpellsOrigin, SpellsClause, filter, binding, SpellsClauses, no_clause, next_clause, last_name, placed_member, SpellsMember, named, path, SpellsMembers, last, last_comma, more, SpellsEntry, entry, spelled_map, SpellsMap, map}
 use Rattle.index_grammar.specs.Maps as m
 use Rattle.index_grammar.specs.Limits.{Kind, most_open, most_members, verdict, clause_verdict, clauses_verdict, member_verdict, members_verdict, entry_verdict, limit}
 use Rattle.index_grammar.specs.ExpressionReading as expr

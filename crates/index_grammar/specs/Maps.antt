@@ -6,15 +6,12 @@ use Rattle.index_tokens.specs.Words.{Tokens, Is, word_from, word_in, word_docs, 
 use Rattle.index_tree.specs.Trees.{Tree, Dot, Var}
 use Rattle.index_tree.specs.declared.map_query.Clause.{Clause}
 use Rattle.index_tree.specs.declared.map_query.Clause.TheVariants as c
+use Rattle.index_grammar.specs.declared.spelled.Origin.{Origin}
 use Rattle.index_grammar.specs.declared.spelled.PlacedMember.{PlacedMember}
 use Rattle.index_grammar.specs.declared.spelled.SpelledMap.{SpelledMap}
 use Rattle.index_grammar.specs.Expressions.{Spells, Whole, Post}
 
 -- ---- which documents
-
-pub record Origin : Type 0 where
-  pub var : List ℕ
-  pub collection : List ℕ
 
 abbrev pub origin_of : List ℕ → List ℕ → Origin
 origin_of v n = record { var = v; collection = n }
