@@ -1,5 +1,6 @@
 //! The reading of definitions.
 ghost use Rattle.std.specs.Prelude.{◌≡◌, IfOk, map, option_map, Option, Some, None, Result, Ok, Err};
+ghost use Rattle.index_lang.specs.declared.refusal.LangRefusal.TheVariants.{At};
 ghost use Rattle.index_lang.specs.Parse as spec;
 ghost use Rattle.index_lang.specs.Parse.{UnlessNoMemory, first_cause, unless, where_given};
 
@@ -7,24 +8,31 @@ use crate::definition::{DefBody, Definition};
 use crate::members::{duplicate, fields_agree, irreducible};
 use crate::reading::{ReadMap, ReadReduce, Trees};
 use crate::refusal::{LangKind, LangRefusal, Part};
+use crate::groups::unbound_in_reduce;
+use crate::names::unbound_name;
+use index_parser::{Refusal as MapStop, read_map};
+use index_tokens::tokenise;
 use index_tree::{FoldMembers, ReduceQuery};
 use raven_base::NoMemory;
 use raven_value::{Name, Text};
 use reduce_grammar::SpelledReduce;
+use reduce_parser::{Stop as ReduceStop, read_reduce};
 use std::alloc::Global;
 
 /// How many bytes a text of a definition has at most.
 pub const MAX_TEXT: usize = 65_536;
 
+fn refusal(part: Part, at: usize, kind: LangKind) -> LangRefusal
+    ensures { result ≡ At part at kind }
+{
+    LangRefusal::At { part, at, kind }
+}
+
 fn fits(part: Part, text: &str) -> Result<(), LangRefusal>
     ensures { result ≡ unless (spec.too_long part text.now) tt }
 {
     if text.len() > MAX_TEXT {
-        return Err(LangRefusal::At {
-            part,
-            at: MAX_TEXT,
-            kind: LangKind::TooLarge,
-        });
+        return Err(refusal(part, MAX_TEXT, LangKind::TooLarge));
     }
     Ok(())
 }
@@ -33,20 +41,59 @@ fn none_at(part: Part, kind: LangKind, place: Option<usize>) -> Result<(), LangR
     ensures { result ≡ unless (spec.refused_at part kind place) tt }
 {
     match place {
-        Some(at) => Err(LangRefusal::At { part, at, kind }),
+        Some(at) => Err(refusal(part, at, kind)),
         None => Ok(()),
     }
+}
+
+// The map that a text spells, and the first name in it that is not bound.
+fn read_map_text(alloc: Global, text: &str) -> Result<ReadMap, LangRefusal>
+    ensures { UnlessNoMemory result (spec.IsMapRead text.now) }
+{
+    let tokens = tokenise(alloc, text)?;
+    match read_map(alloc, &tokens) {
+        Ok(map) => {
+            let unbound = unbound_name(&map, &tokens);
+            Ok(ReadMap { map, unbound })
+        },
+        Err(MapStop::Unexpected { at }) => Err(refusal(Part::Map, at, LangKind::Unexpected)),
+        Err(MapStop::TooLarge { at }) => Err(refusal(Part::Map, at, LangKind::TooLarge)),
+        Err(MapStop::NoMemory) => Err(LangRefusal::NoMemory),
+    }
+}
+
+// The reduce that a text spells, and the first name in it that is not bound.
+fn read_reduce_text(alloc: Global, text: &str) -> Result<ReadReduce, LangRefusal>
+    ensures { UnlessNoMemory result (spec.IsReduceRead text.now) }
+{
+    let tokens = tokenise(alloc, text)?;
+    match read_reduce(alloc, &tokens) {
+        Ok(reduce) => {
+            let unbound = unbound_in_reduce(&reduce, &tokens);
+            Ok(ReadReduce { reduce, unbound })
+        },
+        Err(ReduceStop::Unexpected { at }) => Err(refusal(Part::Reduce, at, LangKind::Unexpected)),
+        Err(ReduceStop::TooLarge { at }) => Err(refusal(Part::Reduce, at, LangKind::TooLarge)),
+        Err(ReduceStop::NoMemory) => Err(LangRefusal::NoMemory),
+    }
+}
+
+fn read_both(alloc: Global, map: &str, reduce: Option<&str>) -> Result<Trees, LangRefusal>
+    ensures { UnlessNoMemory result (spec.AreRead map.now (option_map (λ t. t.now) reduce.entry)) }
+{
+    let map = read_map_text(alloc, map)?;
+    let reduce = match reduce {
+        Some(text) => Some(read_reduce_text(alloc, text)?),
+        None => None,
+    };
+    Ok(Trees { map, reduce })
 }
 
 fn check_reduce(map: &ReadMap, reduce: &ReadReduce) -> Result<(), LangRefusal>
     ensures { result ≡ unless (first_cause (spec.reduce_causes map.now reduce.now)) tt }
 {
     if !fields_agree(map.map.members.as_slice(), reduce.reduce.members.as_slice()) {
-        return Err(LangRefusal::At {
-            part: Part::Reduce,
-            at: 0,
-            kind: LangKind::FieldsDiffer,
-        });
+        return Err(refusal(Part::Reduce, 0, LangKind::FieldsDiffer));
     }
     none_at(Part::Reduce, LangKind::NotReducible, irreducible(&reduce.reduce))
 }
@@ -112,4 +159,23 @@ fn definition(
             reduce_text,
         },
     })
+}
+
+/// The definition that the texts of a map and of a reduce, if there is one, say; or the first cause for which they are none, in the order of
+/// [`LangKind`]'s table: both texts are read first, the map before the reduce, and then looked at for each cause in turn.
+pub fn parse(
+    alloc: Global,
+    name: Name,
+    map: &str,
+    reduce: Option<&str>,
+) -> Result<Definition, LangRefusal>
+    ensures { UnlessNoMemory result (spec.IsParsed name map.now (option_map (λ t. t.now) reduce.entry)) }
+{
+    fits(Part::Map, map)?;
+    if let Some(text) = reduce {
+        fits(Part::Reduce, text)?;
+    }
+    let trees = read_both(alloc, map, reduce)?;
+    check(&trees)?;
+    Ok(definition(alloc, name, map, reduce, trees)?)
 }
