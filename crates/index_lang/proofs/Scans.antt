@@ -102,13 +102,13 @@ module _ (m : SpelledMap) (b g : ℕ) where
   scans (plain x) = scans x
   scans (choice {s = s} {m = u} {n = v} {r = r} {p = p} {q = q} x is y also z) =
       in_turn (unbound (names m b) x) (or_else (unbound (names m b) y) (unbound (names m b) z)) (from s) (from u) (from r)
-        (scans x ∙ ap (or_else (unbound (names m b) x)) (pass p u t.Question is))
-        (in_turn (unbound (names m b) y) (unbound (names m b) z) (from u) (from v) (from r)
-          (scans y ∙ ap (or_else (unbound (names m b) y)) (pass q v t.Colon also)) (scans z))
+      (scans x ∙ ap (or_else (unbound (names m b) x)) (pass p u t.Question is))
+      (in_turn (unbound (names m b) y) (unbound (names m b) z) (from u) (from v) (from r)
+      (scans y ∙ ap (or_else (unbound (names m b) y)) (pass q v t.Colon also)) (scans z))
   scans (tighter x) = scans x
   scans (binary {s = s} {m = u} {r = r} {o = o} {op = op} x is at_level y) =
       in_turn (unbound (names m b) x) (unbound (names m b) y) (from s) (from u) (from r)
-        (scans x ∙ ap (or_else (unbound (names m b) x)) (pass_operator o u o.token op is)) (scans y)
+      (scans x ∙ ap (or_else (unbound (names m b) x)) (pass_operator o u o.token op is)) (scans y)
   scans (signed {s = s} {o = o} {op = op} is x) = pass_sign o s o.token op is ∙ scans x
   scans (post x) = scans x
   scans (first x) = scans x
@@ -161,12 +161,12 @@ module _ (m : SpelledMap) where
   clauses_scan no_clause later is = refl
   clauses_scan (next_clause {s = s} {m = u} {r = r} {cs = cs} {a = a} xs x) later is =
       in_turn (unbound_clauses (m.var ∷ []) xs) (unbound_clause (bound_by (m.var ∷ []) cs) x)
-        (scan m (scanned 0 0 0) s) (scan m (scanned (length cs - 1) (length cs) 0) u) (scan m (scanned (length (cs ++ a ∷ []) - 1) (length (cs ++ a ∷ [])) 0) r)
-        (clauses_scan xs (a ∷ later) split)
-        (clause_scans (length cs - 1) (length cs) x
-          ∙ ap (λ (names : List (List ℕ)). or_else (unbound_clause names x) (scan m (scanned (length cs) (length cs + 1) 0) r)) bound
-          ∙ ap (λ n. or_else (unbound_clause (bound_by (m.var ∷ []) cs) x) (scan m (scanned n (length cs + 1) 0) r)) (sym (less_one (length cs)))
-          ∙ ap (λ n. or_else (unbound_clause (bound_by (m.var ∷ []) cs) x) (scan m (scanned (n - 1) n 0) r)) (sym (length-append cs (a ∷ []))))
+      (scan m (scanned 0 0 0) s) (scan m (scanned (length cs - 1) (length cs) 0) u) (scan m (scanned (length (cs ++ a ∷ []) - 1) (length (cs ++ a ∷ [])) 0) r)
+      (clauses_scan xs (a ∷ later) split)
+      (clause_scans (length cs - 1) (length cs) x
+      ∙ ap (λ (names : List (List ℕ)). or_else (unbound_clause names x) (scan m (scanned (length cs) (length cs + 1) 0) r)) bound
+      ∙ ap (λ n. or_else (unbound_clause (bound_by (m.var ∷ []) cs) x) (scan m (scanned n (length cs + 1) 0) r)) (sym (less_one (length cs)))
+      ∙ ap (λ n. or_else (unbound_clause (bound_by (m.var ∷ []) cs) x) (scan m (scanned (n - 1) n 0) r)) (sym (length-append cs (a ∷ []))))
     where
       split : m.clauses ≡ cs ++ (a ∷ later)
       split = is ∙ append_assoc cs (a ∷ []) later
@@ -230,7 +230,7 @@ module _ (m : SpelledMap) (b g : ℕ) where
       member_scans x [] (no_equals k (q ∷ r) (t.Comma) is refl) ∙ ap (or_else (unbound_member (names m b) x)) (pass m b g k (q ∷ r) (t.Comma) is ∙ no_member q r also)
   members_scan (more {s = s} {m = u} {r = r} {k = k} x is xs) =
       in_turn (unbound_member (names m b) x) (unbound_members (names m b) xs) (at_member s) (at_member u) (from m b g r)
-        (member_scans x [] (no_equals k u (t.Comma) is refl) ∙ ap (or_else (unbound_member (names m b) x)) (pass m b g k u (t.Comma) is)) (members_scan xs)
+      (member_scans x [] (no_equals k u (t.Comma) is refl) ∙ ap (or_else (unbound_member (names m b) x)) (pass m b g k u (t.Comma) is)) (members_scan xs)
 
 -- ---- the whole text
 

@@ -18,3 +18,6 @@ pub use names::unbound_name;
 pub use parse::{MAX_TEXT, parse};
 pub use reading::{ReadMap, ReadReduce, Trees};
 pub use refusal::{LangKind, LangRefusal, Part};
+
+#[cfg(test)]
+mod tests;

@@ -5,11 +5,11 @@ ghost use Rattle.index_lang.specs.Parse as spec;
 ghost use Rattle.index_lang.specs.Parse.{UnlessNoMemory, first_cause, unless, where_given};
 
 use crate::definition::{DefBody, Definition};
+use crate::groups::unbound_in_reduce;
 use crate::members::{duplicate, fields_agree, irreducible};
+use crate::names::unbound_name;
 use crate::reading::{ReadMap, ReadReduce, Trees};
 use crate::refusal::{LangKind, LangRefusal, Part};
-use crate::groups::unbound_in_reduce;
-use crate::names::unbound_name;
 use index_parser::{Refusal as MapStop, read_map};
 use index_tokens::tokenise;
 use index_tree::{FoldMembers, ReduceQuery};
@@ -95,7 +95,11 @@ fn check_reduce(map: &ReadMap, reduce: &ReadReduce) -> Result<(), LangRefusal>
     if !fields_agree(map.map.members.as_slice(), reduce.reduce.members.as_slice()) {
         return Err(refusal(Part::Reduce, 0, LangKind::FieldsDiffer));
     }
-    none_at(Part::Reduce, LangKind::NotReducible, irreducible(&reduce.reduce))
+    none_at(
+        Part::Reduce,
+        LangKind::NotReducible,
+        irreducible(&reduce.reduce),
+    )
 }
 
 fn check(trees: &Trees) -> Result<(), LangRefusal>
@@ -106,9 +110,17 @@ fn check(trees: &Trees) -> Result<(), LangRefusal>
     if let Some(reduce) = &trees.reduce {
         none_at(Part::Reduce, LangKind::UnknownName, reduce.unbound)?;
     }
-    none_at(Part::Map, LangKind::DuplicateField, duplicate(map.map.members.as_slice()))?;
+    none_at(
+        Part::Map,
+        LangKind::DuplicateField,
+        duplicate(map.map.members.as_slice()),
+    )?;
     if let Some(reduce) = &trees.reduce {
-        none_at(Part::Reduce, LangKind::DuplicateField, duplicate(reduce.reduce.members.as_slice()))?;
+        none_at(
+            Part::Reduce,
+            LangKind::DuplicateField,
+            duplicate(reduce.reduce.members.as_slice()),
+        )?;
         check_reduce(map, reduce)?;
     }
     Ok(())
