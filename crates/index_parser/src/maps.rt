@@ -26,6 +26,7 @@ fn last_name(alloc: Global, value: &Expr) -> Result<Text, NoMemory>
 
 impl<'a> Parser<'a> {
     /// A map and the end.
+    #[tactic(auto, unfolding(index_grammar::specs::MapReading::map_text))]
     pub fn map_text(&mut self) -> Result<SpelledMap, Stop>
         ensures { Gives (spec.map_text self.old.count self.old.rest.now) result self.new.count self.new.rest.now }
     {
@@ -40,6 +41,7 @@ impl<'a> Parser<'a> {
         })
     }
 
+    #[tactic(auto, unfolding(index_grammar::specs::MapReading::origin))]
     fn origin(&mut self) -> Result<Origin, Stop>
         ensures { Gives (spec.origin self.old.count self.old.rest.now) result self.new.count self.new.rest.now }
     {
@@ -70,12 +72,14 @@ impl<'a> Parser<'a> {
         }
     }
 
+    #[tactic(auto, unfolding(index_grammar::specs::MapReading::filter))]
     fn filter(&mut self) -> Result<Clause, Stop>
         ensures { Gives (spec.filter self.old.count self.old.rest.now) result self.new.count self.new.rest.now }
     {
         Ok(Clause::Where(self.expression()?))
     }
 
+    #[tactic(auto, unfolding(index_grammar::specs::MapReading::binding))]
     fn binding(&mut self) -> Result<Clause, Stop>
         ensures { Gives (spec.binding self.old.count self.old.rest.now) result self.new.count self.new.rest.now }
     {
@@ -86,6 +90,7 @@ impl<'a> Parser<'a> {
     }
 
     // From `select` to the end.
+    #[tactic(auto, unfolding(index_grammar::specs::MapReading::entry))]
     fn entry(&mut self) -> Result<PlacedMembers, Stop>
         ensures { Gives (spec.entry self.old.count self.old.rest.now) result self.new.count self.new.rest.now }
     {
@@ -127,6 +132,7 @@ impl<'a> Parser<'a> {
         }
     }
 
+    #[tactic(auto, unfolding(index_grammar::specs::MapReading::member))]
     fn member(&mut self) -> Result<PlacedMember, Stop>
         ensures { Gives (spec.member self.old.count self.old.rest.now) result self.new.count self.new.rest.now }
     {
@@ -145,6 +151,7 @@ impl<'a> Parser<'a> {
     }
 
     // What stands behind the name of a member and `=`.
+    #[tactic(auto, unfolding(index_grammar::specs::MapReading::value))]
     fn value(&mut self, at: usize, name: Text) -> Result<PlacedMember, Stop>
         ensures { Gives (spec.value at name self.old.count self.old.rest.now) result self.new.count self.new.rest.now }
     {
@@ -156,6 +163,7 @@ impl<'a> Parser<'a> {
     }
 
     // What stands behind the variable of a path.
+    #[tactic(auto, unfolding(index_grammar::specs::MapReading::path))]
     fn path(&mut self, at: usize, var: Text) -> Result<PlacedMember, Stop>
         ensures { Gives (spec.path at var self.old.count self.old.rest.now) result self.new.count self.new.rest.now }
     {
