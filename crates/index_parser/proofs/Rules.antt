@@ -6,7 +6,7 @@ use Rattle.exact_parse.proofs.Loops.{loop_ends}
 use Rattle.index_tokens.specs.declared.token.Token.{Token}
 use Rattle.index_tokens.specs.declared.token.Token.TheVariants as t
 use Rattle.index_tokens.specs.declared.token.Placed.{Placed}
-use Rattle.index_tokens.specs.Words.{Tokens, word_where, word_let, name}
+use Rattle.index_tokens.specs.Words.{Tokens, same_token, the, word_where, word_let, name}
 use Rattle.index_tree.specs.declared.expression.BinaryOp.{BinaryOp}
 use Rattle.index_tree.specs.declared.map_query.Clause.{Clause}
 use Rattle.index_tree.specs.Trees.{Tree, Binary, Dot}
@@ -21,6 +21,7 @@ use Rattle.index_grammar.specs.MapReading.{clause_next}
 use Rattle.index_grammar.proofs.Taking.{at_start}
 use Rattle.index_grammar.proofs.ExpressionKeeps.{Behind, points_keep, climb_keeps, level_at, expression_keeps}
 use Rattle.index_grammar.proofs.MapKeeps.{BehindClauses, clauses_keep, filter_keeps, binding_keeps}
+use Rattle.index_parser.specs.Gives.{clause_if_any}
 use Rattle.index_parser.proofs.Turning.{loop_full, loop_counted, loop_passed}
 
 -- ---- names behind points
@@ -123,22 +124,67 @@ module _ (found : List Clause) (c : ℕ) (s : Tokens) where
       ∙ ap (λ d. cond d (More (read.binding >>= λ a. pure (found ++ a ∷ []))) (Ends (pure found))) f)
       ∙ again (read.binding c (tail s))
 
+abbrev pub clause_then : List Clause → Option Clause → Reads (List Clause)
+clause_then found (Some a) = read.clauses (found ++ a ∷ [])
+clause_then found None = pure found
+
+pub clauses_turn : (found : List Clause) (c : ℕ) (s : Tokens) → read.clauses found c s ≡ and_then (clause_if_any c s) (clause_then found)
+clauses_turn found c s = by (next_is word_where (head s)) refl (next_is word_let (head s)) refl
+  where
+    some : (o : Outcome Placed Kind Clause) → and_then o (λ a. read.clauses (found ++ a ∷ [])) ≡ and_then (and_then o (λ a. pure (Some a))) (clause_then found)
+    some (Read a c s) = refl
+    some (Refused k s) = refl
+
+    by : (d : Bool) → next_is word_where (head s) ≡ d → (f : Bool) → next_is word_let (head s) ≡ f →
+        read.clauses found c s ≡ and_then (cond d (skip >> (read.filter >>= λ a. pure (Some a))) (cond f (skip >> (read.binding >>= λ a. pure (Some a))) (pure None)) c s) (clause_then found)
+    by true e f h = clauses_where found c s e ∙ some (read.filter c (tail s))
+    by false e true h = clauses_let found c s e h ∙ some (read.binding c (tail s))
+    by false e false h = clauses_end found c s e h
+
 -- ---- members
 
-pub members_on : (k k' : ℕ) (found : List PlacedMember) (c : ℕ) (s : Tokens) → k ≡ suc k' →
-    read.members k found c s ≡ and_then (read.member c s) (λ a. choose (read.behind_member (read.members k') (found ++ a ∷ [])))
-unfolding read.members
-members_on k k' found c s e = ap (λ k. read.members k found c s) e
+-- what stands behind the comma of a member
+abbrev pub behind_comma : (List PlacedMember → Reads (List PlacedMember)) → List PlacedMember → Reads (List PlacedMember)
+behind_comma next found = choose (λ h. cond (next_is t.CloseBrace h) (skip >> pure found) (next found))
+
+behind_on : (next : List PlacedMember → Reads (List PlacedMember)) (found : List PlacedMember) (c : ℕ) (s : Tokens) → next_is t.CloseBrace (head s) ≡ false →
+    choose (read.behind_member next found) c s ≡ and_then (take tt (the t.Comma) c s) (λ _. behind_comma next found)
+behind_on next found c [] e = refl
+behind_on next found c (x ∷ s) e = ap (λ d. cond d (skip >> pure found) (cond (next_is t.Comma (Some x)) (skip >> behind_comma next found) (refuse tt)) c (x ∷ s)) e ∙ by (same_token t.Comma x.token)
+  where
+    by : (d : Bool) → cond d (skip >> behind_comma next found) (refuse tt) c (x ∷ s) ≡ and_then (take_as {K = Kind} tt (cond d (Some (tt {0})) None) c (x ∷ s)) (λ _. behind_comma next found)
+    by true = refl
+    by false = refl
+
+module _ (k k' : ℕ) (is : k ≡ suc k') (found : List PlacedMember) (c : ℕ) (s : Tokens) where
+  pub members_on : read.members k found c s ≡ and_then (read.member c s) (λ a. choose (read.behind_member (read.members k') (found ++ a ∷ [])))
+  unfolding read.members
+  members_on = ap (λ k. read.members k found c s) is
+
+  module _ (a : PlacedMember) (n : ℕ) (m : Tokens) (reads : read.member c s ≡ Read a n m) where
+    behind : read.members k found c s ≡ choose (read.behind_member (read.members k') (found ++ a ∷ [])) n m
+    behind = members_on ∙ ap (λ o. and_then o (λ a. choose (read.behind_member (read.members k') (found ++ a ∷ [])))) reads
+
+    pub members_close : next_is t.CloseBrace (head m) ≡ true → read.members k found c s ≡ Read (found ++ a ∷ []) n (tail m)
+    members_close e = behind ∙ ap (λ d. cond d (skip >> pure (found ++ a ∷ [])) (cond (next_is t.Comma (head m)) (skip >> behind_comma (read.members k') (found ++ a ∷ [])) (refuse tt)) n m) e
+
+    pub members_comma : next_is t.CloseBrace (head m) ≡ false → read.members k found c s ≡ and_then (take tt (the t.Comma) n m) (λ _. behind_comma (read.members k') (found ++ a ∷ []))
+    members_comma e = behind ∙ behind_on (read.members k') (found ++ a ∷ []) n m e
+
+    module _ (i : ℕ) (r : Tokens) (e : next_is t.CloseBrace (head m) ≡ false) (comma : ◌≡◌ {A = Outcome Placed Kind (Unit {0})} (take tt (the t.Comma) n m) (Read tt i r)) where
+      pub members_comma_close : next_is t.CloseBrace (head r) ≡ true → read.members k found c s ≡ Read (found ++ a ∷ []) i (tail r)
+      members_comma_close f = members_comma e ∙ ap (λ o. and_then o (λ _. behind_comma (read.members k') (found ++ a ∷ []))) comma
+          ∙ ap (λ d. cond d (skip >> pure (found ++ a ∷ [])) (read.members k' (found ++ a ∷ [])) i r) f
+
+      pub members_more : next_is t.CloseBrace (head r) ≡ false → read.members k found c s ≡ read.members k' (found ++ a ∷ []) i r
+      members_more f = members_comma e ∙ ap (λ o. and_then o (λ _. behind_comma (read.members k') (found ++ a ∷ []))) comma
+          ∙ ap (λ d. cond d (skip >> pure (found ++ a ∷ [])) (read.members k' (found ++ a ∷ [])) i r) f
 
 pub members_none : (k : ℕ) (found : List PlacedMember) (c : ℕ) (s : Tokens) → k ≡ 0 → read.members k found c s ≡ read.no_room_by (head s) c s
 unfolding read.members
 members_none k found c s e = ap (λ k. read.members k found c s) e
 
 -- ---- what is left gets shorter
-
-pub passed_shorter : (token : Token) (s : Tokens) → next_is token (head s) ≡ true → length (tail s) < length s
-passed_shorter token [] e = cc
-passed_shorter token (x ∷ s) e = omega arith
 
 pub operator_shorter : (n : ℕ) (s : Tokens) (op : BinaryOp) → operator_at n (head s) ≡ Some op → length (tail s) < length s
 operator_shorter n [] op e = cc
@@ -152,3 +198,17 @@ filter_shorter = read_shorter (λ m b r. SpellsClause (at_start word_where ∷ m
 
 pub binding_shorter : (c : ℕ) (s : Tokens) (a : Clause) (c' : ℕ) (s' : Tokens) → read.binding c s ≡ Read a c' s' → length s' ≤ length s
 binding_shorter = read_shorter (λ m b r. SpellsClause (at_start word_let ∷ m) b r) read.binding (binding_keeps (at_start word_let) refl)
+
+pub clause_shorter : (c : ℕ) (s : Tokens) (a : Clause) (c' : ℕ) (s' : Tokens) → clause_if_any c s ≡ Read (Some a) c' s' → length s' < length s
+clause_shorter c [] a c' s' e = let bad : ◌≡◌ {A = Outcome Placed Kind (Option Clause)} (Read None c []) (Read (Some a) c' s') = e in cc
+clause_shorter c (x ∷ s) a c' s' e = by (same_token word_where x.token) (same_token word_let x.token) e
+  where
+    some : (o : Outcome Placed Kind Clause) → ((b : Clause) (n : ℕ) (m : Tokens) → o ≡ Read b n m → length m ≤ length s) →
+        and_then o (λ b. pure (Some b)) ≡ Read (Some a) c' s' → length s' < length (x ∷ s)
+    some (Read b n m) shorter e = let same : m ≡ s' = cc in let h = shorter b n m refl in omega (arith, h, ap length same)
+    some (Refused k m) shorter e = let bad : ◌≡◌ {A = Outcome Placed Kind (Option Clause)} (Refused k m) (Read (Some a) c' s') = e in cc
+
+    by : (d f : Bool) → cond d (skip >> (read.filter >>= λ a. pure (Some a))) (cond f (skip >> (read.binding >>= λ a. pure (Some a))) (pure None)) c (x ∷ s) ≡ Read (Some a) c' s' → length s' < length (x ∷ s)
+    by true f e = some (read.filter c s) (filter_shorter c s) e
+    by false true e = some (read.binding c s) (binding_shorter c s) e
+    by false false e = let bad : ◌≡◌ {A = Outcome Placed Kind (Option Clause)} (Read None c (x ∷ s)) (Read (Some a) c' s') = e in cc

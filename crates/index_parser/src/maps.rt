@@ -1,8 +1,9 @@
 //! The rules of maps.
 ghost use Rattle.std.specs.Prelude.{◌≡◌, [], IfOk};
+ghost use Rattle.exact_parse.specs.Steps.{head};
 ghost use Rattle.index_grammar.specs.MapReading as spec;
 ghost use Rattle.index_grammar.specs.Maps.{last_name as spec_last_name};
-ghost use Rattle.index_parser.specs.Gives.{Gives};
+ghost use Rattle.index_parser.specs.Gives.{Gives, Stops, clause_if_any};
 
 use crate::parser::Parser;
 use crate::stop::Stop;
@@ -33,6 +34,7 @@ impl<'a> Parser<'a> {
         let origin = self.origin()?;
         let clauses = self.clauses()?;
         let members = self.entry()?;
+        self.mark(&Token::End)?;
         Ok(SpelledMap {
             var: origin.var,
             collection: origin.collection,
@@ -58,17 +60,24 @@ impl<'a> Parser<'a> {
         ensures { Gives (spec.clauses [] self.old.count self.old.rest.now) result self.new.count self.new.rest.now }
     {
         let mut found = Clauses::new(self.alloc);
-        loop {
-            let clause = if self.is_at_word("where") {
-                self.skip();
-                self.filter()?
-            } else if self.is_at_word("let") {
-                self.skip();
-                self.binding()?
-            } else {
-                return Ok(found);
-            };
+        while let Some(clause) = self.clause()? {
             found.push(clause)?;
+        }
+        Ok(found)
+    }
+
+    // The clause that comes next, if one does.
+    fn clause(&mut self) -> Result<Option<Clause>, Stop>
+        ensures { Gives (clause_if_any self.old.count self.old.rest.now) result self.new.count self.new.rest.now }
+    {
+        if self.is_at_word("where") {
+            self.skip();
+            Ok(Some(self.filter()?))
+        } else if self.is_at_word("let") {
+            self.skip();
+            Ok(Some(self.binding()?))
+        } else {
+            Ok(None)
         }
     }
 
@@ -89,7 +98,7 @@ impl<'a> Parser<'a> {
         Ok(Clause::Let { var, value })
     }
 
-    // From `select` to the end.
+    // From `select` on.
     #[tactic(auto, unfolding(index_grammar::specs::MapReading::entry))]
     fn entry(&mut self) -> Result<PlacedMembers, Stop>
         ensures { Gives (spec.entry self.old.count self.old.rest.now) result self.new.count self.new.rest.now }
@@ -97,9 +106,7 @@ impl<'a> Parser<'a> {
         self.word("select")?;
         self.word("new")?;
         self.mark(&Token::OpenBrace)?;
-        let members = self.members()?;
-        self.mark(&Token::End)?;
-        Ok(members)
+        self.members()
     }
 
     fn members(&mut self) -> Result<PlacedMembers, Stop>
@@ -122,7 +129,9 @@ impl<'a> Parser<'a> {
     }
 
     // Why no member more is read.
-    fn no_room(&self) -> Stop {
+    fn no_room(&self) -> Stop
+        ensures { Stops (spec.no_room_by (head self.now.rest.now) self.now.count self.now.rest.now) result self.now.rest.now }
+    {
         match self.rest.first() {
             Some(Placed {
                 token: Token::Word(_),
