@@ -1,16 +1,9 @@
 -- What one turn of a loop comes to.
-use Rattle.std.proofs.Common.{◌≡◌, ℕ, zero, suc, ◌+◌, ◌<◌, ◌≤◌, Bool, true, false, nat_lt, List, [], ◌∷◌, length, Option, Some, None, refl, sym, ◌∙◌, ap, subst, arith}
-use Rattle.std.proofs.lemmas.Bool.{ltb-true}
+use Rattle.std.proofs.Common.{◌≡◌, ℕ, ◌+◌, ◌<◌, ◌≤◌, Bool, true, false, nat_lt, List, Option, refl, ◌∙◌, ap, arith}
+use Rattle.std.proofs.lemmas.Bool.{ltb-true, lt-ltb}
 use Rattle.exact_parse.specs.Steps.{head, tail, Cause, TooLarge, Outcome, Read, Refused, Reader, and_then, ◌>>=◌, ◌>>◌, skip, within, Next, Ends, More, Counts, turn, loop}
 use Rattle.exact_parse.specs.Loops.{LoopKeeps}
 use Rattle.exact_parse.proofs.Loops.{loop_ends, loop_turn}
-
-below : (c most : ℕ) → c < most → nat_lt c most ≡ true
-below c most h = by (nat_lt c most) refl
-  where
-    by : (d : Bool) → nat_lt c most ≡ d → nat_lt c most ≡ true
-    by true e = e
-    by false e = absurd (?)
 
 not_below : (c most : ℕ) → most ≤ c → nat_lt c most ≡ false
 not_below c most h = by (nat_lt c most) refl
@@ -27,7 +20,7 @@ module _ {T K A B : Type 0} (k : K) (Z : A → List T → B → List T → Type 
   loop_full a c s j most p is h = turned a c s (Counts j most p) is ∙ ap (λ d. within j d (within k true (skip >> (p >>= loop k next))) (c + 1) s) (not_below c most h)
 
   pub loop_counted : (a : A) (c : ℕ) (s : List T) (j : K) (most : ℕ) (p : Reader T K A) → next a (head s) ≡ Counts j most p → c < most → loop k next a c s ≡ and_then (p (c + 1) (tail s)) (loop k next)
-  loop_counted a c s j most p is h = turned a c s (Counts j most p) is ∙ ap (λ d. within j d (within k true (skip >> (p >>= loop k next))) (c + 1) s) (below c most h)
+  loop_counted a c s j most p is h = turned a c s (Counts j most p) is ∙ ap (λ d. within j d (within k true (skip >> (p >>= loop k next))) (c + 1) s) (lt-ltb c most h)
 
   pub loop_passed : (a : A) (c : ℕ) (s : List T) (p : Reader T K A) → next a (head s) ≡ More p → loop k next a c s ≡ and_then (p c (tail s)) (loop k next)
   loop_passed a c s p is = turned a c s (More p) is

@@ -42,6 +42,7 @@ impl<'a> Parser<'a> {
     }
 
     #[cycle(expr)]
+    #[tactic(auto, unfolding(index_grammar::specs::ExpressionReading::whole))]
     fn whole(&mut self, room: usize) -> Result<Expr, Stop>
         requires { room ≤ 64 }
         ensures { Gives (spec.whole (deeper_of room) self.old.count self.old.rest.now) result self.new.count self.new.rest.now }
@@ -51,6 +52,7 @@ impl<'a> Parser<'a> {
     }
 
     #[cycle(expr)]
+    #[tactic(auto, unfolding(index_grammar::specs::ExpressionReading::conditional))]
     fn conditional(&mut self, room: usize, test: Expr) -> Result<Expr, Stop>
         requires { room ≤ 64 }
         ensures { Gives (spec.conditional (deeper_of room) test self.old.count self.old.rest.now) result self.new.count self.new.rest.now }
@@ -102,6 +104,7 @@ impl<'a> Parser<'a> {
     }
 
     #[cycle(expr)]
+    #[tactic(auto, unfolding(index_grammar::specs::ExpressionReading::unary))]
     fn unary(&mut self, room: usize) -> Result<Expr, Stop>
         requires { room ≤ 64 }
         ensures { Gives (spec.unary (deeper_of room) self.old.count self.old.rest.now) result self.new.count self.new.rest.now }
@@ -118,6 +121,7 @@ impl<'a> Parser<'a> {
     }
 
     #[cycle(expr)]
+    #[tactic(auto, unfolding(index_grammar::specs::ExpressionReading::post))]
     fn post(&mut self, room: usize) -> Result<Expr, Stop>
         requires { room ≤ 64 }
         ensures { Gives (spec.post (deeper_of room) self.old.count self.old.rest.now) result self.new.count self.new.rest.now }
@@ -127,6 +131,7 @@ impl<'a> Parser<'a> {
     }
 
     #[cycle(expr)]
+    #[tactic(auto, unfolding(index_grammar::specs::ExpressionReading::primary))]
     fn primary(&mut self, room: usize) -> Result<Expr, Stop>
         requires { room ≤ 64 }
         ensures { Gives (spec.primary (deeper_of room) self.old.count self.old.rest.now) result self.new.count self.new.rest.now }
@@ -180,6 +185,7 @@ impl<'a> Parser<'a> {
 
     // What stands behind the word `LoadDocument`.
     #[cycle(expr)]
+    #[tactic(auto, unfolding(index_grammar::specs::ExpressionReading::load))]
     fn load(&mut self, room: usize) -> Result<Expr, Stop>
         requires { room ≤ 64 }
         ensures { Gives (spec.load (deeper_of room) self.old.count self.old.rest.now) result self.new.count self.new.rest.now }

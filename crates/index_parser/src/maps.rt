@@ -1,8 +1,9 @@
 //! The rules of maps.
 ghost use Rattle.std.specs.Prelude.{◌≡◌, [], IfOk};
+ghost use Rattle.exact_parse.specs.Steps.{head};
 ghost use Rattle.index_grammar.specs.MapReading as spec;
 ghost use Rattle.index_grammar.specs.Maps.{last_name as spec_last_name};
-ghost use Rattle.index_parser.specs.Gives.{Gives};
+ghost use Rattle.index_parser.specs.Gives.{Gives, Stops, clause_if_any};
 
 use crate::parser::Parser;
 use crate::stop::Stop;
@@ -26,12 +27,14 @@ fn last_name(alloc: Global, value: &Expr) -> Result<Text, NoMemory>
 
 impl<'a> Parser<'a> {
     /// A map and the end.
+    #[tactic(auto, unfolding(index_grammar::specs::MapReading::map_text))]
     pub fn map_text(&mut self) -> Result<SpelledMap, Stop>
         ensures { Gives (spec.map_text self.old.count self.old.rest.now) result self.new.count self.new.rest.now }
     {
         let origin = self.origin()?;
         let clauses = self.clauses()?;
         let members = self.entry()?;
+        self.mark(&Token::End)?;
         Ok(SpelledMap {
             var: origin.var,
             collection: origin.collection,
@@ -40,6 +43,7 @@ impl<'a> Parser<'a> {
         })
     }
 
+    #[tactic(auto, unfolding(index_grammar::specs::MapReading::origin))]
     fn origin(&mut self) -> Result<Origin, Stop>
         ensures { Gives (spec.origin self.old.count self.old.rest.now) result self.new.count self.new.rest.now }
     {
@@ -56,26 +60,35 @@ impl<'a> Parser<'a> {
         ensures { Gives (spec.clauses [] self.old.count self.old.rest.now) result self.new.count self.new.rest.now }
     {
         let mut found = Clauses::new(self.alloc);
-        loop {
-            let clause = if self.is_at_word("where") {
-                self.skip();
-                self.filter()?
-            } else if self.is_at_word("let") {
-                self.skip();
-                self.binding()?
-            } else {
-                return Ok(found);
-            };
+        while let Some(clause) = self.clause()? {
             found.push(clause)?;
+        }
+        Ok(found)
+    }
+
+    // The clause that comes next, if one does.
+    fn clause(&mut self) -> Result<Option<Clause>, Stop>
+        ensures { Gives (clause_if_any self.old.count self.old.rest.now) result self.new.count self.new.rest.now }
+    {
+        if self.is_at_word("where") {
+            self.skip();
+            Ok(Some(self.filter()?))
+        } else if self.is_at_word("let") {
+            self.skip();
+            Ok(Some(self.binding()?))
+        } else {
+            Ok(None)
         }
     }
 
+    #[tactic(auto, unfolding(index_grammar::specs::MapReading::filter))]
     fn filter(&mut self) -> Result<Clause, Stop>
         ensures { Gives (spec.filter self.old.count self.old.rest.now) result self.new.count self.new.rest.now }
     {
         Ok(Clause::Where(self.expression()?))
     }
 
+    #[tactic(auto, unfolding(index_grammar::specs::MapReading::binding))]
     fn binding(&mut self) -> Result<Clause, Stop>
         ensures { Gives (spec.binding self.old.count self.old.rest.now) result self.new.count self.new.rest.now }
     {
@@ -85,16 +98,15 @@ impl<'a> Parser<'a> {
         Ok(Clause::Let { var, value })
     }
 
-    // From `select` to the end.
+    // From `select` on.
+    #[tactic(auto, unfolding(index_grammar::specs::MapReading::entry))]
     fn entry(&mut self) -> Result<PlacedMembers, Stop>
         ensures { Gives (spec.entry self.old.count self.old.rest.now) result self.new.count self.new.rest.now }
     {
         self.word("select")?;
         self.word("new")?;
         self.mark(&Token::OpenBrace)?;
-        let members = self.members()?;
-        self.mark(&Token::End)?;
-        Ok(members)
+        self.members()
     }
 
     fn members(&mut self) -> Result<PlacedMembers, Stop>
@@ -117,7 +129,9 @@ impl<'a> Parser<'a> {
     }
 
     // Why no member more is read.
-    fn no_room(&self) -> Stop {
+    fn no_room(&self) -> Stop
+        ensures { Stops (spec.no_room_by (head self.now.rest.now) self.now.count self.now.rest.now) result self.now.rest.now }
+    {
         match self.rest.first() {
             Some(Placed {
                 token: Token::Word(_),
@@ -127,6 +141,7 @@ impl<'a> Parser<'a> {
         }
     }
 
+    #[tactic(auto, unfolding(index_grammar::specs::MapReading::member))]
     fn member(&mut self) -> Result<PlacedMember, Stop>
         ensures { Gives (spec.member self.old.count self.old.rest.now) result self.new.count self.new.rest.now }
     {
@@ -145,6 +160,7 @@ impl<'a> Parser<'a> {
     }
 
     // What stands behind the name of a member and `=`.
+    #[tactic(auto, unfolding(index_grammar::specs::MapReading::value))]
     fn value(&mut self, at: usize, name: Text) -> Result<PlacedMember, Stop>
         ensures { Gives (spec.value at name self.old.count self.old.rest.now) result self.new.count self.new.rest.now }
     {
@@ -156,6 +172,7 @@ impl<'a> Parser<'a> {
     }
 
     // What stands behind the variable of a path.
+    #[tactic(auto, unfolding(index_grammar::specs::MapReading::path))]
     fn path(&mut self, at: usize, var: Text) -> Result<PlacedMember, Stop>
         ensures { Gives (spec.path at var self.old.count self.old.rest.now) result self.new.count self.new.rest.now }
     {

@@ -1,7 +1,7 @@
 //! The reading of a whole map.
-ghost use Rattle.std.specs.Prelude.{◌≢◌, Err, Result};
+ghost use Rattle.std.specs.Prelude.{◌≡◌, ◌≢◌, Err, Result};
 ghost use Rattle.index_grammar.specs.declared.spelled.SpelledMap.{SpelledMap};
-ghost use Rattle.index_parser.specs.Answers.{Is, Says};
+ghost use Rattle.index_parser.specs.Answers.{Is, Says, place_of};
 ghost use Rattle.index_parser.specs.declared.refusal.Refusal.{Refusal};
 
 use crate::parser::Parser;
@@ -12,7 +12,9 @@ use index_tokens::Placed;
 use std::alloc::Global;
 
 // Where the first of these tokens stands.
-fn place_of(tokens: &[Placed]) -> usize {
+fn place_of(tokens: &[Placed]) -> usize
+    ensures { result ≡ place_of tokens.now }
+{
     match tokens.first() {
         Some(next) => next.at,
         None => 0,
