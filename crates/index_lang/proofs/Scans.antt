@@ -15,9 +15,10 @@ use Rattle.index_grammar.specs.Operators.{operator_as, sign_as}
 use Rattle.index_grammar.specs.Expressions.{Rule, Spells, plain, choice, tighter, binary, signed, post, first, point, number, text, yes, no, null, var, parens, load}
 use Rattle.index_tree.specs.declared.map_query.Clause.{Clause}
 use Rattle.index_grammar.specs.declared.spelled.PlacedMember.{PlacedMember}
-use Rattle.index_grammar.specs.Maps.{Origin, origin, SpellsClause, filter, binding, SpellsClauses, no_clause, next_clause, SpellsMember, named, path, SpellsMembers, last, last_comma, more, SpellsMap, map, spelled_map, SpellsOrigin}
+use Rattle.index_grammar.specs.declared.spelled.Origin.{Origin}
+use Rattle.index_grammar.specs.Maps.{origin, SpellsClause, filter, binding, SpellsClauses, no_clause, next_clause, SpellsMember, named, path, SpellsMembers, last, last_comma, more, SpellsEntry, entry, SpellsMap, map, spelled_map, SpellsOrigin}
 use Rattle.index_grammar.specs.Expressions.{Post, Primary}
-use Rattle.index_lang.specs.Bound.{or_else, unbound, unbound_clause, unbound_clauses, unbound_member, unbound_members, unbound_in, bound_by, is_among}
+use Rattle.index_lang.specs.Bound.{or_else, unbound, unbound_clause, unbound_clauses, unbound_member, unbound_members, unbound_entry, unbound_in, bound_by, is_among}
 use Rattle.index_lang.specs.declared.names.Scanned.{Scanned}
 use Rattle.index_lang.specs.Scan.{scanned, is_named_by, named_part, is_bound, names, binds, at_reserved, at_word, at_token, follow, scan, scan_map}
 use Rattle.index_lang.specs.declared.names.Step.TheVariants.{Found, GoesOn}
@@ -254,9 +255,8 @@ module _ (o : Origin) (cs : List Clause) (ms : List PlacedMember) where
       take_all : (cs : List Clause) → bound_by (o.var ∷ []) (take (length cs) cs) ≡ bound_by (o.var ∷ []) cs
       take_all cs = ap (λ (some : List Clause). bound_by (o.var ∷ []) (take (length cs) some)) (sym (append-nil cs)) ∙ ap (bound_by (o.var ∷ [])) (take-append_seam cs [])
 
-  members_last : {r s : Tokens} {e : Placed} (x y p : Placed) → Is word_select x → Is word_new y → Is t.OpenBrace p → (xs : SpellsMembers s ms (e ∷ r)) → Is t.End e →
-      scan whole (scanned (count - 1) count 0) (x ∷ y ∷ p ∷ s) ≡ unbound_members (bound_by (o.var ∷ []) cs) xs
-  members_last {r = r} {s = s} {e = e} x y p is also brace xs end =
+  entry_scans : {r s : Tokens} {e : Placed} (d : SpellsEntry s ms (e ∷ r)) → Is t.End e → scan whole (scanned (count - 1) count 0) s ≡ unbound_entry (bound_by (o.var ∷ []) cs) d
+  entry_scans {r = r} {e = e} (entry {s = s} {x = x} {y = y} {p = p} is also brace xs) end =
       pass whole (count - 1) count x (y ∷ p ∷ s) (word_select) is
       ∙ pass whole count count y (p ∷ s) (word_new) also
       ∙ pass whole count count p s (t.OpenBrace) brace
@@ -266,7 +266,7 @@ module _ (o : Origin) (cs : List Clause) (ms : List PlacedMember) where
       ∙ ap (λ (bound : List (List ℕ)). unbound_members bound xs) all_bound
 
 pub map_scans : {s r : Tokens} {m : SpelledMap} (d : SpellsMap s m r) → scan_map m s ≡ unbound_in d
-map_scans (map {x = x} {y = y} {p = p} {o = o} {cs = cs} {ms = ms} from_where xs is also brace members end) =
+map_scans (map {o = o} {cs = cs} {ms = ms} from_where xs members end) =
     origin_scans (spelled_map o cs ms) from_where
     ∙ clauses_scan (spelled_map o cs ms) xs [] (sym (append-nil cs))
-    ∙ ap (or_else (unbound_clauses (o.var ∷ []) xs)) (members_last o cs ms x y p is also brace members end)
+    ∙ ap (or_else (unbound_clauses (o.var ∷ []) xs)) (entry_scans o cs ms members end)

@@ -11,7 +11,7 @@ use crate::names::unbound_name;
 use crate::reading::{ReadMap, ReadReduce, Trees};
 use crate::refusal::{LangKind, LangRefusal, Part};
 use index_parser::{Refusal as MapStop, read_map};
-use index_tokens::tokenise;
+use index_tokens::{Placed, tokenise};
 use index_tree::{FoldMembers, ReduceQuery};
 use raven_base::NoMemory;
 use raven_value::{Name, Text};
@@ -46,36 +46,48 @@ fn none_at(part: Part, kind: LangKind, place: Option<usize>) -> Result<(), LangR
     }
 }
 
-// The map that a text spells, and the first name in it that is not bound.
-fn read_map_text(alloc: Global, text: &str) -> Result<ReadMap, LangRefusal>
-    ensures { UnlessNoMemory result (spec.IsMapRead text.now) }
+// The map that tokens spell, and the first name in it that is not bound.
+fn map_of(alloc: Global, tokens: &[Placed]) -> Result<ReadMap, LangRefusal>
+    ensures { UnlessNoMemory result (spec.IsMapOf tokens.now) }
 {
-    let tokens = tokenise(alloc, text)?;
-    match read_map(alloc, &tokens) {
+    match read_map(alloc, tokens) {
         Ok(map) => {
-            let unbound = unbound_name(&map, &tokens);
+            let unbound = unbound_name(&map, tokens);
             Ok(ReadMap { map, unbound })
-        },
+        }
         Err(MapStop::Unexpected { at }) => Err(refusal(Part::Map, at, LangKind::Unexpected)),
         Err(MapStop::TooLarge { at }) => Err(refusal(Part::Map, at, LangKind::TooLarge)),
         Err(MapStop::NoMemory) => Err(LangRefusal::NoMemory),
     }
 }
 
-// The reduce that a text spells, and the first name in it that is not bound.
-fn read_reduce_text(alloc: Global, text: &str) -> Result<ReadReduce, LangRefusal>
-    ensures { UnlessNoMemory result (spec.IsReduceRead text.now) }
+fn read_map_text(alloc: Global, text: &str) -> Result<ReadMap, LangRefusal>
+    ensures { UnlessNoMemory result (spec.IsMapRead text.now) }
 {
     let tokens = tokenise(alloc, text)?;
-    match read_reduce(alloc, &tokens) {
+    map_of(alloc, &tokens)
+}
+
+// The reduce that tokens spell, and the first name in it that is not bound.
+fn reduce_read(alloc: Global, tokens: &[Placed]) -> Result<ReadReduce, LangRefusal>
+    ensures { UnlessNoMemory result (spec.IsReduceOf tokens.now) }
+{
+    match read_reduce(alloc, tokens) {
         Ok(reduce) => {
-            let unbound = unbound_in_reduce(&reduce, &tokens);
+            let unbound = unbound_in_reduce(&reduce, tokens);
             Ok(ReadReduce { reduce, unbound })
-        },
+        }
         Err(ReduceStop::Unexpected { at }) => Err(refusal(Part::Reduce, at, LangKind::Unexpected)),
         Err(ReduceStop::TooLarge { at }) => Err(refusal(Part::Reduce, at, LangKind::TooLarge)),
         Err(ReduceStop::NoMemory) => Err(LangRefusal::NoMemory),
     }
+}
+
+fn read_reduce_text(alloc: Global, text: &str) -> Result<ReadReduce, LangRefusal>
+    ensures { UnlessNoMemory result (spec.IsReduceRead text.now) }
+{
+    let tokens = tokenise(alloc, text)?;
+    reduce_read(alloc, &tokens)
 }
 
 fn read_both(alloc: Global, map: &str, reduce: Option<&str>) -> Result<Trees, LangRefusal>
@@ -173,6 +185,29 @@ fn definition(
     })
 }
 
+fn fits_both(map: &str, reduce: Option<&str>) -> Result<(), LangRefusal>
+    ensures { result ≡ unless (first_cause (spec.lengths map.now (option_map (λ t. t.now) reduce.entry))) tt }
+{
+    fits(Part::Map, map)?;
+    if let Some(text) = reduce {
+        fits(Part::Reduce, text)?;
+    }
+    Ok(())
+}
+
+fn judge(
+    alloc: Global,
+    name: Name,
+    map: &str,
+    reduce: Option<&str>,
+    trees: Trees,
+) -> Result<Definition, LangRefusal>
+    ensures { UnlessNoMemory result (λ answer. answer ≡ spec.judged name map.now (option_map (λ t. t.now) reduce.entry) trees) }
+{
+    check(&trees)?;
+    Ok(definition(alloc, name, map, reduce, trees)?)
+}
+
 /// The definition that the texts of a map and of a reduce, if there is one, say; or the first cause for which they are none, in the order of
 /// [`LangKind`]'s table: both texts are read first, the map before the reduce, and then looked at for each cause in turn.
 pub fn parse(
@@ -183,11 +218,7 @@ pub fn parse(
 ) -> Result<Definition, LangRefusal>
     ensures { UnlessNoMemory result (spec.IsParsed name map.now (option_map (λ t. t.now) reduce.entry)) }
 {
-    fits(Part::Map, map)?;
-    if let Some(text) = reduce {
-        fits(Part::Reduce, text)?;
-    }
+    fits_both(map, reduce)?;
     let trees = read_both(alloc, map, reduce)?;
-    check(&trees)?;
-    Ok(definition(alloc, name, map, reduce, trees)?)
+    judge(alloc, name, map, reduce, trees)
 }
