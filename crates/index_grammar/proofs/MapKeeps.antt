@@ -11,9 +11,10 @@ use Rattle.index_tokens.specs.Words.{Tokens, Is, same_token, word_from, word_in,
 use Rattle.index_tree.specs.Trees.{Num, Var}
 use Rattle.index_tree.specs.declared.map_query.Clause.{Clause}
 use Rattle.index_tree.specs.declared.map_query.Clause.TheVariants as c
+use Rattle.index_grammar.specs.declared.spelled.Origin.{Origin}
 use Rattle.index_grammar.specs.declared.spelled.PlacedMember.{PlacedMember}
 use Rattle.index_grammar.specs.Expressions.{Spells, Post, number, var, first}
-use Rattle.index_grammar.specs.Maps.{Origin, origin_of, SpellsOrigin, SpellsClause, filter, binding, SpellsClauses, no_clause, next_clause, last_name, placed_member, SpellsMember, named, path, SpellsMembers, last, last_comma, more, spelled_map, SpellsMap, map}
+use Rattle.index_grammar.specs.Maps.{origin_of, SpellsOrigin, SpellsClause, filter, binding, SpellsClauses, no_clause, next_clause, last_name, placed_member, SpellsMember, named, path, SpellsMembers, last, last_comma, more, SpellsEntry, entry, spelled_map, SpellsMap, map}
 use Rattle.index_grammar.specs.Maps as m
 use Rattle.index_grammar.specs.Limits.{Kind, most_members}
 use Rattle.index_grammar.specs.ExpressionReading as expr
@@ -32,11 +33,11 @@ origin_keeps = the_keeps word_from refl (λ f from_here. variable_keeps (λ v. t
 
 -- ---- clauses
 
-filter_keeps : (x : Placed) → Is word_where x → Keeps (λ m b r. SpellsClause (x ∷ m) b r) read.filter
+pub filter_keeps : (x : Placed) → Is word_where x → Keeps (λ m b r. SpellsClause (x ∷ m) b r) read.filter
 unfolding read.filter
 filter_keeps x is = bind_keeps (λ a. pure (c.Where a)) expression_keeps (λ a. pure_keeps (λ z s d. filter is d))
 
-binding_keeps : (l : Placed) → Is word_let l → Keeps (λ m b r. SpellsClause (l ∷ m) b r) read.binding
+pub binding_keeps : (l : Placed) → Is word_let l → Keeps (λ m b r. SpellsClause (l ∷ m) b r) read.binding
 unfolding read.binding
 binding_keeps l is = variable_keeps (λ v. take tt (the t.Assign) >>= λ _. expr.expression >>= λ a. pure (c.Let v a))
     (λ x v bound. the_keeps t.Assign refl (λ e also. bind_keeps (λ a. pure (c.Let v a)) expression_keeps (λ a. pure_keeps (λ z s d. binding is bound also d))))
@@ -111,7 +112,7 @@ member_token : (x : Placed) (o : Option (List ℕ)) → name x ≡ o → (k : �
 member_token x (Some n) is k s = skip_at SpellsMember (read.behind_name x n) x (behind_keeps x n is) k s
 member_token x None is k s = refuse_at {X = SpellsMember} tt member_any k _
 
-member_keeps : Keeps SpellsMember read.member
+pub member_keeps : Keeps SpellsMember read.member
 unfolding read.member
 member_keeps = choose_keeps SpellsMember read.member_by member_any (λ k. refuse_at {X = SpellsMember} tt member_any k []) (λ x. member_token x (name x) refl)
 
@@ -183,9 +184,13 @@ all_members_keep = map_keeps (λ s b r h. by s b r h.0 h.1 h.2) (members_keep mo
 
 -- ---- the whole text
 
+entry_keeps : Keeps SpellsEntry read.entry
+unfolding read.entry
+entry_keeps = the_keeps word_select refl (λ x is. the_keeps word_new refl (λ y also. the_keeps t.OpenBrace refl (λ p opening. map_keeps (λ s ms r d. entry is also opening d) all_members_keep)))
+
 pub map_text_keeps : Keeps SpellsMap read.map_text
 unfolding read.map_text
-map_text_keeps = bind_keeps {X = SpellsOrigin} (λ o. read.clauses [] >>= λ cs. take tt (the word_select) >>= λ _. take tt (the word_new) >>= λ _. take tt (the t.OpenBrace) >>= λ _. read.members most_members [] >>= λ ms. take tt (the t.End) >>= λ _. pure (spelled_map o cs ms)) origin_keeps
-    (λ o. bind_keeps {X = SpellsClauses} (λ cs. take tt (the word_select) >>= λ _. take tt (the word_new) >>= λ _. take tt (the t.OpenBrace) >>= λ _. read.members most_members [] >>= λ ms. take tt (the t.End) >>= λ _. pure (spelled_map o cs ms)) all_clauses_keep
-    (λ cs. the_keeps word_select refl (λ x is. the_keeps word_new refl (λ y also. the_keeps t.OpenBrace refl (λ p opening. bind_keeps {X = SpellsMembers} (λ ms. take tt (the t.End) >>= λ _. pure (spelled_map o cs ms)) all_members_keep
-    (λ ms. the_keeps t.End refl (λ e end. pure_keeps (λ z s_members d_members s_clauses d_clauses s d. map d d_clauses is also opening d_members end))))))))
+map_text_keeps = bind_keeps {X = SpellsOrigin} (λ o. read.clauses [] >>= λ cs. read.entry >>= λ ms. take tt (the t.End) >>= λ _. pure (spelled_map o cs ms)) origin_keeps
+    (λ o. bind_keeps {X = SpellsClauses} (λ cs. read.entry >>= λ ms. take tt (the t.End) >>= λ _. pure (spelled_map o cs ms)) all_clauses_keep
+    (λ cs. bind_keeps {X = SpellsEntry} (λ ms. take tt (the t.End) >>= λ _. pure (spelled_map o cs ms)) entry_keeps
+    (λ ms. the_keeps t.End refl (λ e end. pure_keeps (λ z s_entry d_entry s_clauses d_clauses s d. map d d_clauses d_entry end)))))

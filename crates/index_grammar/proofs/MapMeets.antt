@@ -12,12 +12,13 @@ use Rattle.index_tokens.proofs.WordLemmas.{name_is, variable_is, is_name}
 use Rattle.index_tree.specs.Trees.{Tree, Var}
 use Rattle.index_tree.specs.declared.map_query.Clause.{Clause}
 use Rattle.index_tree.specs.declared.map_query.Clause.TheVariants as c
+use Rattle.index_grammar.specs.declared.spelled.Origin.{Origin}
 use Rattle.index_grammar.specs.declared.spelled.PlacedMember.{PlacedMember}
 use Rattle.index_grammar.specs.declared.spelled.SpelledMap.{SpelledMap}
 use Rattle.index_grammar.specs.Expressions.{Rule, Spells, Whole, Post, Primary, first, point, number, text, yes, no, null, var, parens, load}
-use Rattle.index_grammar.specs.Maps.{Origin, origin_of, SpellsOrigin, SpellsClause, filter, binding, SpellsClauses, no_clause, next_clause, last_name, placed_member, SpellsMember, named, path, SpellsMembers, last, last_comma, more, spelled_map, SpellsMap, map}
+use Rattle.index_grammar.specs.Maps.{origin_of, SpellsOrigin, SpellsClause, filter, binding, SpellsClauses, no_clause, next_clause, last_name, placed_member, SpellsMember, named, path, SpellsMembers, last, last_comma, more, SpellsEntry, entry, spelled_map, SpellsMap, map}
 use Rattle.index_grammar.specs.Maps as m
-use Rattle.index_grammar.specs.Limits.{Kind, most_open, most_members, verdict, clause_verdict, clauses_verdict, member_verdict, members_verdict, limit}
+use Rattle.index_grammar.specs.Limits.{Kind, most_open, most_members, verdict, clause_verdict, clauses_verdict, member_verdict, members_verdict, entry_verdict, limit}
 use Rattle.index_grammar.specs.ExpressionReading as expr
 use Rattle.index_grammar.specs.ExpressionReading.{Reads, next_is, deeper_of}
 use Rattle.index_grammar.specs.MapReading as read
@@ -81,9 +82,12 @@ clauses_reach : {s r : Tokens} {cs : List Clause} (x : SpellsClauses s cs r) →
 clauses_reach no_clause low = refl
 clauses_reach (next_clause {s = s} {cs = cs} x y) low = clause_goes_on y low cs (clauses_verdict x) (read.clauses [] 0 s) (clauses_reach x (at_clause y))
 
-clauses_meets : {s r : Tokens} {w : Placed} {cs : List Clause} (x : SpellsClauses s cs (w ∷ r)) → Is word_select w → Meets (clauses_verdict x) cs (w ∷ r) (read.clauses [] 0 s)
+data BeginsWith (u : Token) : Tokens → Type 0 where
+  begins_with : {x : Placed} {s : Tokens} → Is u x → BeginsWith u (x ∷ s)
+
+clauses_meets : {s r : Tokens} {cs : List Clause} (x : SpellsClauses s cs r) → BeginsWith word_select r → Meets (clauses_verdict x) cs r (read.clauses [] 0 s)
 unfolding read.clauses
-clauses_meets {s = s} {r = r} {w = w} {cs = cs} x is = loop_stops tt BehindClauses read.clause_next clauses_keep (clauses_verdict x) cs (w ∷ r) (read.clauses [] 0 s) cs (clause_at cs w word_select is)
+clauses_meets {s = s} {cs = cs} x (begins_with {x = w} {s = r} is) = loop_stops tt BehindClauses read.clause_next clauses_keep (clauses_verdict x) cs (w ∷ r) (read.clauses [] 0 s) cs (clause_at cs w word_select is)
     (clauses_reach x (ends_expression word_select w (omega arith) is))
 
 -- ---- one member
@@ -231,30 +235,24 @@ members_meets (more {s = s} {m = m} {r = r} {k = w} {a = a} {ms = ms} x is y) ro
 
 -- ---- the whole text
 
-module _ (o : Origin) where
-  behind_clauses : List Clause → Reads SpelledMap
-  behind_clauses cs = take tt (the word_select) >>= λ _. take tt (the word_new) >>= λ _. take tt (the t.OpenBrace) >>= λ _. read.members most_members [] >>= λ ms. take tt (the t.End) >>= λ _. pure (spelled_map o cs ms)
+entry_meets : {s r : Tokens} {ms : List PlacedMember} (d : SpellsEntry s ms r) (n : ℕ) → Meets (entry_verdict d) ms r (read.entry n s)
+unfolding read.entry
+entry_meets (entry {s = s} {r = r} {x = x} {y = y} {p = p} {ms = ms} is also opening d) n =
+    subst (Meets (members_verdict d most_members) ms r)
+    (sym (the_reads word_select x (take tt (the word_new) >>= λ _. take tt (the t.OpenBrace) >>= λ _. read.members most_members []) refl is n (y ∷ p ∷ s)
+    ∙ the_reads word_new y (take tt (the t.OpenBrace) >>= λ _. read.members most_members []) refl also n (p ∷ s) ∙ the_reads t.OpenBrace p (read.members most_members []) refl opening n s))
+    (members_meets d most_members [] n)
 
-  behind_brace : List Clause → Reads SpelledMap
-  behind_brace cs = read.members most_members [] >>= λ ms. take tt (the t.End) >>= λ _. pure (spelled_map o cs ms)
-
-  brace_reads : (x y p : Placed) (cs : List Clause) (s : Tokens) → Is word_select x → Is word_new y → Is t.OpenBrace p → (n : ℕ) → behind_clauses cs n (x ∷ y ∷ p ∷ s) ≡ behind_brace cs n s
-  unfolding behind_clauses behind_brace
-  brace_reads x y p cs s is also opening n =
-      the_reads word_select x (take tt (the word_new) >>= λ _. take tt (the t.OpenBrace) >>= λ _. behind_brace cs) refl is n (y ∷ p ∷ s)
-      ∙ the_reads word_new y (take tt (the t.OpenBrace) >>= λ _. behind_brace cs) refl also n (p ∷ s) ∙ the_reads t.OpenBrace p (behind_brace cs) refl opening n s
-
-  brace_meets : {s r : Tokens} {ms : List PlacedMember} (e : Placed) (cs : List Clause) (d : SpellsMembers s ms (e ∷ r)) → Is t.End e → (n : ℕ) →
-      Meets (members_verdict d most_members) (spelled_map o cs ms) r (behind_brace cs n s)
-  unfolding behind_brace
-  brace_meets {s = s} {r = r} {ms = ms} e cs d end n = after_meets (members_verdict d most_members) ms (e ∷ r) (read.members most_members [] n s) (λ ms. take tt (the t.End) >>= λ _. pure (spelled_map o cs ms)) (spelled_map o cs ms) r
-      (members_meets d most_members [] n) (λ n. the_reads t.End e (pure (spelled_map o cs ms)) refl end n r)
+-- an entry begins with its word
+entry_begins : {s r : Tokens} {ms : List PlacedMember} → SpellsEntry s ms r → BeginsWith word_select s
+entry_begins (entry is also opening d) = begins_with is
 
 pub map_text_meets : (s r : Tokens) (a : SpelledMap) (x : SpellsMap s a r) → Meets (limit s a r x) a r (read.map_text 0 s)
-unfolding read.map_text behind_clauses
-map_text_meets s r a (map {m = m} {n = n} {x = x} {y = y} {p = p} {e = e} {o = o} {cs = cs} {ms = ms} d clauses is also opening members end) =
-    subst (Meets (and_fine (clauses_verdict clauses) (λ n. members_verdict members most_members)) (spelled_map o cs ms) r)
-    (sym (ap (λ i. and_then i (λ o. read.clauses [] >>= behind_clauses o)) (origin_reads d 0)))
-    (then_meets (clauses_verdict clauses) cs (x ∷ y ∷ p ∷ n) (read.clauses [] 0 m) (behind_clauses o) (λ n. members_verdict members most_members) (spelled_map o cs ms) r
-    (clauses_meets clauses is)
-    (λ k. subst (Meets (members_verdict members most_members) (spelled_map o cs ms) r) (sym (brace_reads o x y p cs n is also opening k)) (brace_meets o e cs members end k)))
+unfolding read.map_text
+map_text_meets s r a (map {m = m} {n = n} {e = e} {o = o} {cs = cs} {ms = ms} d clauses x end) =
+    subst (Meets (and_fine (clauses_verdict clauses) (λ n. entry_verdict x)) (spelled_map o cs ms) r)
+    (sym (ap (λ i. and_then i (λ o. read.clauses [] >>= λ cs. read.entry >>= λ ms. take tt (the t.End) >>= λ _. pure (spelled_map o cs ms))) (origin_reads d 0)))
+    (then_meets (clauses_verdict clauses) cs n (read.clauses [] 0 m) (λ cs. read.entry >>= λ ms. take tt (the t.End) >>= λ _. pure (spelled_map o cs ms)) (λ n. entry_verdict x) (spelled_map o cs ms) r
+    (clauses_meets clauses (entry_begins x))
+    (λ k. after_meets (entry_verdict x) ms (e ∷ r) (read.entry k n) (λ ms. take tt (the t.End) >>= λ _. pure (spelled_map o cs ms)) (spelled_map o cs ms) r (entry_meets x k)
+    (λ k. the_reads t.End e (pure (spelled_map o cs ms)) refl end k r)))

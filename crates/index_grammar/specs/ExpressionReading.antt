@@ -78,6 +78,9 @@ module _ (deeper : Deeper) where
   abbrev pub closing : Reads Tree
   closing = deeper.whole >>= λ a. take tt (the t.Close) >>= λ _. pure a
 
+  abbrev pub parentheses : Reads Tree
+  parentheses = within tt deeper.has_room (skip >> closing)
+
   abbrev pub reserved_primary : List ℕ → Reads Tree
   reserved_primary w =
       if bytes_eq w (codes "true") then skip >> pure (Flag true) else (
@@ -92,7 +95,7 @@ module _ (deeper : Deeper) where
   primary_as (t.Number n) = skip >> pure (Num n)
   primary_as (t.Quoted v) = skip >> pure (Quoted v)
   primary_as (t.Word w) = word_primary w
-  primary_as t.Open = within tt deeper.has_room (skip >> closing)
+  primary_as t.Open = parentheses
   primary_as _ = refuse tt
 
   abbrev pub primary_by : Option Placed → Reads Tree

@@ -7,10 +7,11 @@ use Rattle.index_tokens.specs.Words.{the, name, variable, word_from, word_in, wo
 use Rattle.index_tree.specs.Trees.{Var}
 use Rattle.index_tree.specs.declared.map_query.Clause.{Clause}
 use Rattle.index_tree.specs.declared.map_query.Clause.TheVariants as c
+use Rattle.index_grammar.specs.declared.spelled.Origin.{Origin}
 use Rattle.index_grammar.specs.declared.spelled.PlacedMember.{PlacedMember}
 use Rattle.index_grammar.specs.declared.spelled.SpelledMap.{SpelledMap}
 use Rattle.index_grammar.specs.Limits.{Kind, most_members}
-use Rattle.index_grammar.specs.Maps.{Origin, origin_of, last_name, placed_member, spelled_map}
+use Rattle.index_grammar.specs.Maps.{origin_of, last_name, placed_member, spelled_map}
 use Rattle.index_grammar.specs.ExpressionReading.{Reads, next_is, expression, points}
 
 unfoldable pub origin : Reads Origin
@@ -83,6 +84,8 @@ members (suc room) found = member >>= λ a. choose (behind_member (members room)
 
 -- ---- the whole text
 
+unfoldable pub entry : Reads (List PlacedMember)
+entry = take tt (the word_select) >>= λ _. take tt (the word_new) >>= λ _. take tt (the t.OpenBrace) >>= λ _. members most_members []
+
 unfoldable pub map_text : Reads SpelledMap
-map_text = origin >>= λ o. clauses [] >>= λ cs. take tt (the word_select) >>= λ _. take tt (the word_new) >>= λ _. take tt (the t.OpenBrace) >>= λ _.
-    members most_members [] >>= λ ms. take tt (the t.End) >>= λ _. pure (spelled_map o cs ms)
+map_text = origin >>= λ o. clauses [] >>= λ cs. entry >>= λ ms. take tt (the t.End) >>= λ _. pure (spelled_map o cs ms)

@@ -58,7 +58,7 @@ module _ (m : SpelledReduce) where
   parts_scan (first_part x) = part_scans x
   parts_scan (next_part {s = s} {m = u} {r = r} {k = k} xs is x) =
       in_turn (unbound_parts m.var xs) (unbound_part m.var x) (from false s) (from false u) (from false r)
-        (parts_scan xs ∙ ap (or_else (unbound_parts m.var xs)) (pass false k u (t.Comma) is)) (part_scans x)
+      (parts_scan xs ∙ ap (or_else (unbound_parts m.var xs)) (pass false k u (t.Comma) is)) (part_scans x)
 
   key_scans : {s r : Tokens} {key : SpelledKey} (d : SpellsKey s key r) → from false s ≡ or_else (unbound_key m.var d) (from false r)
   key_scans (alone {r = r} {x = x} {p = p} {y = y} {v = v} is point n) =
@@ -82,7 +82,6 @@ module _ (m : SpelledReduce) where
       ∙ ap (λ (o : Option (List ℕ)). follow m (names_group m o (x ∷ z ∷ n ∷ b ∷ r)) (λ st. scan m st (x ∷ z ∷ n ∷ b ∷ r))) (named_variable x.token g variable)
       ∙ passing (bytes_eq g m.var) x (z ∷ n ∷ b ∷ r)
       ∙ ap (or_else (cond (bytes_eq g m.var) (Some x.at) None)) (pass true z (n ∷ b ∷ r) (word_select) select ∙ pass true n (b ∷ r) (word_new) new ∙ pass true b r (t.OpenBrace) brace)
-
 
   -- ---- members
 
@@ -126,7 +125,7 @@ module _ (v g : List ℕ) (key : SpelledKey) (all : List PlacedFold) where
       ∙ ap (λ (o : Option (List ℕ)). follow whole (cond (bytes_eq own v || bytes_eq own g) (Found y.at) (own_again o own z)) (λ st. scan whole st (y ∷ a ∷ z ∷ q ∷ u ∷ c ∷ r))) (named_variable z.token w second)
       ∙ own_scans whole (bytes_eq own v || bytes_eq own g) (bytes_eq w own) y a z (q ∷ u ∷ c ∷ r)
       ∙ ap (or_else (cond (bytes_eq own v || bytes_eq own g) (Some y.at) (unless_is own w z)))
-          (pass whole true q (u ∷ c ∷ r) (t.Point) also ∙ any_name whole u (c ∷ r) n field ∙ pass whole true c r (t.Close) close)
+      (pass whole true q (u ∷ c ∷ r) (t.Point) also ∙ any_name whole u (c ∷ r) n field ∙ pass whole true c r (t.Close) close)
 
   fold_scans : {s r : Tokens} {a : PlacedFold} (d : SpellsFold g key.form s a r) → from whole true s ≡ or_else (unbound_fold v d) (from whole true r)
   fold_scans (named {s = s} {x = x} {e = e} {n = n} is assign d) = any_name whole x (e ∷ s) n is ∙ pass whole true e s (t.Assign) assign ∙ value_scans d
@@ -140,7 +139,7 @@ module _ (v g : List ℕ) (key : SpelledKey) (all : List PlacedFold) where
       fold_scans x ∙ ap (or_else (unbound_fold v x)) (pass whole true k (q ∷ r) (t.Comma) is ∙ pass whole true q r (t.CloseBrace) also)
   folds_scan (more {s = s} {m = u} {r = r} {k = k} x is xs) =
       in_turn (unbound_fold v x) (unbound_folds v xs) (from whole true s) (from whole true u) (from whole true r)
-        (fold_scans x ∙ ap (or_else (unbound_fold v x)) (pass whole true k u (t.Comma) is)) (folds_scan xs)
+      (fold_scans x ∙ ap (or_else (unbound_fold v x)) (pass whole true k u (t.Comma) is)) (folds_scan xs)
 
   source_scans : {s r : Tokens} (d : SpellsSource s v r) → scan_reduce whole s ≡ or_else (unbound_source d) (from whole false r)
   source_scans (source {r = r} {f = f} {x = x} {i = i} {d = d} {h = h} {y = y} {b = b} {w = w} from_word first is_in results is_group second by) =

@@ -114,7 +114,6 @@ read_or_refused text (Some other) None e is x y = absurd x
 read_or_refused text (Some other) (Some a) e is x y =
     not_both a e (reduce_read_once text (Ok a) (Err e) (subst (λ (t : List ℕ). IsReduceRead t (Ok a)) (ap (some_or other) is) x) y)
 
-
 pub read_once : (text : List ℕ) (reduce : Option (List ℕ)) (a b : Result Trees LangRefusal) → AreRead text reduce a → AreRead text reduce b → a ≡ b
 read_once text reduce (Ok a) (Ok b) x y =
     let m : a.map ≡ b.map = ap (ok_or a.map) (map_read_once text (Ok a.map) (Ok b.map) x.0 y.0) in
@@ -145,6 +144,6 @@ long_once None a b A B x y h = h x y
 pub parsed_once : (name text : List ℕ) (reduce : Option (List ℕ)) (a b : Result Definition LangRefusal) → IsParsed name text reduce a → IsParsed name text reduce b → a ≡ b
 parsed_once name text reduce a b x y =
     long_once (first_cause (lengths text reduce)) a b
-      ((trees : Result Trees LangRefusal) × AreRead text reduce trees × (a ≡ judged_if name text reduce trees))
-      ((trees : Result Trees LangRefusal) × AreRead text reduce trees × (b ≡ judged_if name text reduce trees))
-      x y (λ u v. u.2 ∙ ap (judged_if name text reduce) (read_once text reduce u.0 v.0 u.1 v.1) ∙ sym v.2)
+    ((trees : Result Trees LangRefusal) × AreRead text reduce trees × (a ≡ judged_if name text reduce trees))
+    ((trees : Result Trees LangRefusal) × AreRead text reduce trees × (b ≡ judged_if name text reduce trees))
+    x y (λ u v. u.2 ∙ ap (judged_if name text reduce) (read_once text reduce u.0 v.0 u.1 v.1) ∙ sym v.2)

@@ -15,9 +15,10 @@ use Rattle.index_grammar.specs.Operators.{operator_as, sign_as}
 use Rattle.index_grammar.specs.Expressions.{Rule, Spells, plain, choice, tighter, binary, signed, post, first, point, number, text, yes, no, null, var, parens, load}
 use Rattle.index_tree.specs.declared.map_query.Clause.{Clause}
 use Rattle.index_grammar.specs.declared.spelled.PlacedMember.{PlacedMember}
-use Rattle.index_grammar.specs.Maps.{Origin, origin, SpellsClause, filter, binding, SpellsClauses, no_clause, next_clause, SpellsMember, named, path, SpellsMembers, last, last_comma, more, SpellsMap, map, spelled_map, SpellsOrigin}
+use Rattle.index_grammar.specs.declared.spelled.Origin.{Origin}
+use Rattle.index_grammar.specs.Maps.{origin, SpellsClause, filter, binding, SpellsClauses, no_clause, next_clause, SpellsMember, named, path, SpellsMembers, last, last_comma, more, SpellsEntry, entry, SpellsMap, map, spelled_map, SpellsOrigin}
 use Rattle.index_grammar.specs.Expressions.{Post, Primary}
-use Rattle.index_lang.specs.Bound.{or_else, unbound, unbound_clause, unbound_clauses, unbound_member, unbound_members, unbound_in, bound_by, is_among}
+use Rattle.index_lang.specs.Bound.{or_else, unbound, unbound_clause, unbound_clauses, unbound_member, unbound_members, unbound_entry, unbound_in, bound_by, is_among}
 use Rattle.index_lang.specs.declared.names.Scanned.{Scanned}
 use Rattle.index_lang.specs.Scan.{scanned, is_named_by, named_part, is_bound, names, binds, at_reserved, at_word, at_token, follow, scan, scan_map}
 use Rattle.index_lang.specs.declared.names.Step.TheVariants.{Found, GoesOn}
@@ -102,13 +103,13 @@ module _ (m : SpelledMap) (b g : ℕ) where
   scans (plain x) = scans x
   scans (choice {s = s} {m = u} {n = v} {r = r} {p = p} {q = q} x is y also z) =
       in_turn (unbound (names m b) x) (or_else (unbound (names m b) y) (unbound (names m b) z)) (from s) (from u) (from r)
-        (scans x ∙ ap (or_else (unbound (names m b) x)) (pass p u t.Question is))
-        (in_turn (unbound (names m b) y) (unbound (names m b) z) (from u) (from v) (from r)
-          (scans y ∙ ap (or_else (unbound (names m b) y)) (pass q v t.Colon also)) (scans z))
+      (scans x ∙ ap (or_else (unbound (names m b) x)) (pass p u t.Question is))
+      (in_turn (unbound (names m b) y) (unbound (names m b) z) (from u) (from v) (from r)
+      (scans y ∙ ap (or_else (unbound (names m b) y)) (pass q v t.Colon also)) (scans z))
   scans (tighter x) = scans x
   scans (binary {s = s} {m = u} {r = r} {o = o} {op = op} x is at_level y) =
       in_turn (unbound (names m b) x) (unbound (names m b) y) (from s) (from u) (from r)
-        (scans x ∙ ap (or_else (unbound (names m b) x)) (pass_operator o u o.token op is)) (scans y)
+      (scans x ∙ ap (or_else (unbound (names m b) x)) (pass_operator o u o.token op is)) (scans y)
   scans (signed {s = s} {o = o} {op = op} is x) = pass_sign o s o.token op is ∙ scans x
   scans (post x) = scans x
   scans (first x) = scans x
@@ -161,12 +162,12 @@ module _ (m : SpelledMap) where
   clauses_scan no_clause later is = refl
   clauses_scan (next_clause {s = s} {m = u} {r = r} {cs = cs} {a = a} xs x) later is =
       in_turn (unbound_clauses (m.var ∷ []) xs) (unbound_clause (bound_by (m.var ∷ []) cs) x)
-        (scan m (scanned 0 0 0) s) (scan m (scanned (length cs - 1) (length cs) 0) u) (scan m (scanned (length (cs ++ a ∷ []) - 1) (length (cs ++ a ∷ [])) 0) r)
-        (clauses_scan xs (a ∷ later) split)
-        (clause_scans (length cs - 1) (length cs) x
-          ∙ ap (λ (names : List (List ℕ)). or_else (unbound_clause names x) (scan m (scanned (length cs) (length cs + 1) 0) r)) bound
-          ∙ ap (λ n. or_else (unbound_clause (bound_by (m.var ∷ []) cs) x) (scan m (scanned n (length cs + 1) 0) r)) (sym (less_one (length cs)))
-          ∙ ap (λ n. or_else (unbound_clause (bound_by (m.var ∷ []) cs) x) (scan m (scanned (n - 1) n 0) r)) (sym (length-append cs (a ∷ []))))
+      (scan m (scanned 0 0 0) s) (scan m (scanned (length cs - 1) (length cs) 0) u) (scan m (scanned (length (cs ++ a ∷ []) - 1) (length (cs ++ a ∷ [])) 0) r)
+      (clauses_scan xs (a ∷ later) split)
+      (clause_scans (length cs - 1) (length cs) x
+      ∙ ap (λ (names : List (List ℕ)). or_else (unbound_clause names x) (scan m (scanned (length cs) (length cs + 1) 0) r)) bound
+      ∙ ap (λ n. or_else (unbound_clause (bound_by (m.var ∷ []) cs) x) (scan m (scanned n (length cs + 1) 0) r)) (sym (less_one (length cs)))
+      ∙ ap (λ n. or_else (unbound_clause (bound_by (m.var ∷ []) cs) x) (scan m (scanned (n - 1) n 0) r)) (sym (length-append cs (a ∷ []))))
     where
       split : m.clauses ≡ cs ++ (a ∷ later)
       split = is ∙ append_assoc cs (a ∷ []) later
@@ -230,7 +231,7 @@ module _ (m : SpelledMap) (b g : ℕ) where
       member_scans x [] (no_equals k (q ∷ r) (t.Comma) is refl) ∙ ap (or_else (unbound_member (names m b) x)) (pass m b g k (q ∷ r) (t.Comma) is ∙ no_member q r also)
   members_scan (more {s = s} {m = u} {r = r} {k = k} x is xs) =
       in_turn (unbound_member (names m b) x) (unbound_members (names m b) xs) (at_member s) (at_member u) (from m b g r)
-        (member_scans x [] (no_equals k u (t.Comma) is refl) ∙ ap (or_else (unbound_member (names m b) x)) (pass m b g k u (t.Comma) is)) (members_scan xs)
+      (member_scans x [] (no_equals k u (t.Comma) is refl) ∙ ap (or_else (unbound_member (names m b) x)) (pass m b g k u (t.Comma) is)) (members_scan xs)
 
 -- ---- the whole text
 
@@ -254,9 +255,8 @@ module _ (o : Origin) (cs : List Clause) (ms : List PlacedMember) where
       take_all : (cs : List Clause) → bound_by (o.var ∷ []) (take (length cs) cs) ≡ bound_by (o.var ∷ []) cs
       take_all cs = ap (λ (some : List Clause). bound_by (o.var ∷ []) (take (length cs) some)) (sym (append-nil cs)) ∙ ap (bound_by (o.var ∷ [])) (take-append_seam cs [])
 
-  members_last : {r s : Tokens} {e : Placed} (x y p : Placed) → Is word_select x → Is word_new y → Is t.OpenBrace p → (xs : SpellsMembers s ms (e ∷ r)) → Is t.End e →
-      scan whole (scanned (count - 1) count 0) (x ∷ y ∷ p ∷ s) ≡ unbound_members (bound_by (o.var ∷ []) cs) xs
-  members_last {r = r} {s = s} {e = e} x y p is also brace xs end =
+  entry_scans : {r s : Tokens} {e : Placed} (d : SpellsEntry s ms (e ∷ r)) → Is t.End e → scan whole (scanned (count - 1) count 0) s ≡ unbound_entry (bound_by (o.var ∷ []) cs) d
+  entry_scans {r = r} {e = e} (entry {s = s} {x = x} {y = y} {p = p} is also brace xs) end =
       pass whole (count - 1) count x (y ∷ p ∷ s) (word_select) is
       ∙ pass whole count count y (p ∷ s) (word_new) also
       ∙ pass whole count count p s (t.OpenBrace) brace
@@ -266,7 +266,7 @@ module _ (o : Origin) (cs : List Clause) (ms : List PlacedMember) where
       ∙ ap (λ (bound : List (List ℕ)). unbound_members bound xs) all_bound
 
 pub map_scans : {s r : Tokens} {m : SpelledMap} (d : SpellsMap s m r) → scan_map m s ≡ unbound_in d
-map_scans (map {x = x} {y = y} {p = p} {o = o} {cs = cs} {ms = ms} from_where xs is also brace members end) =
+map_scans (map {o = o} {cs = cs} {ms = ms} from_where xs members end) =
     origin_scans (spelled_map o cs ms) from_where
     ∙ clauses_scan (spelled_map o cs ms) xs [] (sym (append-nil cs))
-    ∙ ap (or_else (unbound_clauses (o.var ∷ []) xs)) (members_last o cs ms x y p is also brace members end)
+    ∙ ap (or_else (unbound_clauses (o.var ∷ []) xs)) (entry_scans o cs ms members end)

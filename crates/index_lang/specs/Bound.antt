@@ -10,7 +10,7 @@ use Rattle.index_tree.specs.declared.map_query.Clause.TheVariants as c
 use Rattle.index_grammar.specs.declared.spelled.PlacedMember.{PlacedMember}
 use Rattle.index_grammar.specs.declared.spelled.SpelledMap.{SpelledMap}
 use Rattle.index_grammar.specs.Expressions.{Rule, Spells, plain, choice, tighter, binary, signed, post, first, point, number, text, yes, no, null, var, parens, load}
-use Rattle.index_grammar.specs.Maps.{SpellsClause, filter, binding, SpellsClauses, no_clause, next_clause, SpellsMember, named, path, SpellsMembers, last, last_comma, more, SpellsMap, map}
+use Rattle.index_grammar.specs.Maps.{SpellsClause, filter, binding, SpellsClauses, no_clause, next_clause, SpellsMember, named, path, SpellsMembers, last, last_comma, more, SpellsEntry, entry, SpellsMap, map}
 
 abbrev pub or_else : Option ℕ → Option ℕ → Option ℕ
 or_else (Some place) other = Some place
@@ -68,6 +68,8 @@ abbrev pub unbound_clauses : (bound : List (List ℕ)) {s r : Tokens} {cs : List
 unbound_clauses bound no_clause = None
 unbound_clauses bound (next_clause {cs = cs} xs x) = or_else (unbound_clauses bound xs) (unbound_clause (bound_by bound cs) x)
 
+abbrev pub unbound_entry : (bound : List (List ℕ)) {s r : Tokens} {ms : List PlacedMember} → SpellsEntry s ms r → Option ℕ
+unbound_entry bound (entry select new open_brace members) = unbound_members bound members
+
 abbrev pub unbound_in : {s r : Tokens} {a : SpelledMap} → SpellsMap s a r → Option ℕ
-unbound_in (map {o = o} {cs = cs} from_where xs select new open_brace members end) =
-    or_else (unbound_clauses (o.var ∷ []) xs) (unbound_members (bound_by (o.var ∷ []) cs) members)
+unbound_in (map {o = o} {cs = cs} from_where xs members end) = or_else (unbound_clauses (o.var ∷ []) xs) (unbound_entry (bound_by (o.var ∷ []) cs) members)

@@ -65,18 +65,25 @@ abbrev pub place_of : Tokens → ℕ
 place_of [] = 0
 place_of (x ∷ p) = x.at
 
--- the map that the text spells and the first name in it that is not bound; or the first token with which no map goes on, or that is past a limit
+-- the map that the tokens spell and the first name in it that is not bound; or the first token with which no map goes on, or that is past a limit
+abbrev pub IsMapOf : Tokens → Result ReadMap LangRefusal → Type 0
+IsMapOf ts (Ok r) = (x : SpellsText SpellsMap maps.limit ts r.map) × (r.unbound ≡ unbound_in x.spelling)
+IsMapOf ts (Err (At part.Map place kind.Unexpected)) = (p : Tokens) × UnexpectedAt SpellsMap maps.limit ts p × (place ≡ place_of p)
+IsMapOf ts (Err (At part.Map place kind.TooLarge)) = (p : Tokens) × TooLargeAt SpellsMap maps.limit tt ts p × (place ≡ place_of p)
+IsMapOf ts (Err _) = ⊥
+
+abbrev pub IsReduceOf : Tokens → Result ReadReduce LangRefusal → Type 0
+IsReduceOf ts (Ok r) = (x : SpellsText SpellsReduce reduces.limit ts r.reduce) × (r.unbound ≡ unbound_in_reduce x.spelling)
+IsReduceOf ts (Err (At part.Reduce place kind.Unexpected)) = (p : Tokens) × UnexpectedAt SpellsReduce reduces.limit ts p × (place ≡ place_of p)
+IsReduceOf ts (Err (At part.Reduce place kind.TooLarge)) = (p : Tokens) × TooLargeAt SpellsReduce reduces.limit tt ts p × (place ≡ place_of p)
+IsReduceOf ts (Err _) = ⊥
+
+-- of a text it is that of its tokens
 abbrev pub IsMapRead : List ℕ → Result ReadMap LangRefusal → Type 0
-IsMapRead text (Ok r) = (x : SpellsText SpellsMap maps.limit (tokens_of text) r.map) × (r.unbound ≡ unbound_in x.spelling)
-IsMapRead text (Err (At part.Map place kind.Unexpected)) = (p : Tokens) × UnexpectedAt SpellsMap maps.limit (tokens_of text) p × (place ≡ place_of p)
-IsMapRead text (Err (At part.Map place kind.TooLarge)) = (p : Tokens) × TooLargeAt SpellsMap maps.limit tt (tokens_of text) p × (place ≡ place_of p)
-IsMapRead text (Err _) = ⊥
+IsMapRead text r = IsMapOf (tokens_of text) r
 
 abbrev pub IsReduceRead : List ℕ → Result ReadReduce LangRefusal → Type 0
-IsReduceRead text (Ok r) = (x : SpellsText SpellsReduce reduces.limit (tokens_of text) r.reduce) × (r.unbound ≡ unbound_in_reduce x.spelling)
-IsReduceRead text (Err (At part.Reduce place kind.Unexpected)) = (p : Tokens) × UnexpectedAt SpellsReduce reduces.limit (tokens_of text) p × (place ≡ place_of p)
-IsReduceRead text (Err (At part.Reduce place kind.TooLarge)) = (p : Tokens) × TooLargeAt SpellsReduce reduces.limit tt (tokens_of text) p × (place ≡ place_of p)
-IsReduceRead text (Err _) = ⊥
+IsReduceRead text r = IsReduceOf (tokens_of text) r
 
 abbrev pub IsReduceReadIf : Option (List ℕ) → Option ReadReduce → Type 0
 IsReduceReadIf None None = Unit {0}

@@ -21,7 +21,10 @@ pub enum DefBody {
     },
 
     /// The values at paths of the documents of a collection.
-    Auto { collection: Text, fields: Paths },
+    Auto {
+        collection: Text,
+        fields: Paths,
+    },
 
     /// The values at paths, grouped by some of them, and sums of others.
     AutoReduce {

@@ -45,7 +45,13 @@ fn name_group(reduce: &SpelledReduce, behind: &[Placed]) -> GroupStep
     ensures { result ≡ spec.names_group reduce.now (spec.next_name behind.now) behind.now }
 {
     match behind {
-        [Placed { at, token: Token::Word(name) }, ..] => if *name == reduce.var {
+        [
+            Placed {
+                at,
+                token: Token::Word(name),
+            },
+            ..
+        ] => if *name == reduce.var {
             GroupStep::Found(*at)
         } else {
             go_on(true, 1)
@@ -99,7 +105,15 @@ fn at_fold(reduce: &SpelledReduce, behind: &[Placed]) -> GroupStep
     ensures { result ≡ spec.at_fold reduce.now behind.now }
 {
     match behind {
-        [Placed { at, token: Token::Word(own) }, _, again, ..] => {
+        [
+            Placed {
+                at,
+                token: Token::Word(own),
+            },
+            _,
+            again,
+            ..
+        ] => {
             if *own == reduce.var || *own == reduce.group {
                 GroupStep::Found(*at)
             } else {

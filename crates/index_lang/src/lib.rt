@@ -6,7 +6,7 @@ mod groups;
 mod laws;
 mod members;
 mod names;
-mod parse;
+mod parsing;
 mod reading;
 mod refusal;
 
@@ -15,6 +15,9 @@ pub use groups::unbound_in_reduce;
 pub use laws::texts_have_one_answer;
 pub use members::{Field, duplicate, fields_agree, irreducible};
 pub use names::unbound_name;
-pub use parse::MAX_TEXT;
+pub use parsing::{MAX_TEXT, parse};
 pub use reading::{ReadMap, ReadReduce, Trees};
 pub use refusal::{LangKind, LangRefusal, Part};
+
+#[cfg(test)]
+mod tests;

@@ -85,7 +85,17 @@ fn named_part(tokens: &[Placed]) -> usize
     ensures { result ≡ spec.named_part tokens.now }
 {
     match tokens {
-        [Placed { token: Token::Word(_), .. }, Placed { token: Token::Assign, .. }, ..] => 2,
+        [
+            Placed {
+                token: Token::Word(_),
+                ..
+            },
+            Placed {
+                token: Token::Assign,
+                ..
+            },
+            ..
+        ] => 2,
         _ => 0,
     }
 }
@@ -96,7 +106,13 @@ fn bind(map: &SpelledMap, begun: usize, behind: &[Placed]) -> Step
     ensures { result ≡ spec.binds map.now begun (spec.next_name map.now behind.now) behind.now }
 {
     match behind {
-        [Placed { at, token: Token::Word(name) }, ..] => if is_bound(map, begun, name) {
+        [
+            Placed {
+                at,
+                token: Token::Word(name),
+            },
+            ..
+        ] => if is_bound(map, begun, name) {
             Step::Found(*at)
         } else {
             Step::GoesOn(Scanned::of(begun, begun + 1, 1))
@@ -140,13 +156,21 @@ fn next_step(map: &SpelledMap, scanned: Scanned, token: &Placed, behind: &[Place
     requires { scanned.begun < 2 ^ 64 - 1 }
     ensures { result ≡ spec.step map.now scanned token.now behind.now }
 {
-    let Scanned { bound, begun, passed } = scanned;
+    let Scanned {
+        bound,
+        begun,
+        passed,
+    } = scanned;
     if passed > 0 {
         return Step::GoesOn(Scanned::of(bound, begun, passed - 1));
     }
     match &token.token {
         Token::Point => Step::GoesOn(Scanned::of(bound, begun, 1)),
-        Token::OpenBrace | Token::Comma => Step::GoesOn(Scanned::of(bound, begun, named_part(behind))),
+        Token::OpenBrace | Token::Comma => Step::GoesOn(Scanned::of(
+            bound,
+            begun,
+            named_part(behind),
+        )),
         Token::Word(word) => at_word(map, scanned, token, word, behind),
         Token::End => Step::Ends,
         _ => Step::GoesOn(scanned),

@@ -42,7 +42,6 @@ pub enum LangRefusal {
 
         /// The place of a byte, counted from 0.
         at: usize,
-
         kind: LangKind,
     },
 

@@ -1,5 +1,5 @@
 -- What is read is spelled so, where the reading stops something goes on, and neither hangs on a later token.
-use Rattle.std.proofs.Common.{◌≡◌, ℕ, zero, suc, List, [], ◌∷◌, ◌++◌, Bool, true, false, codes, Option, Some, None, refl, sym, ◌∙◌, subst, append_assoc}
+use Rattle.std.proofs.Common.{◌≡◌, ℕ, zero, suc, List, [], ◌∷◌, ◌++◌, Bool, true, false, cond, codes, Option, Some, None, refl, sym, ◌∙◌, subst, append_assoc}
 use Rattle.exact_parse.specs.Steps.{pure, choose}
 use Rattle.exact_parse.specs.Keeps.{Goes, Fits, Keeps, Then}
 use Rattle.exact_parse.specs.Loops.{LoopKeeps, NextKeeps}
@@ -17,7 +17,7 @@ use Rattle.index_tree.specs.declared.reduce_query.FoldValue.TheVariants as value
 use Rattle.reduce_grammar.specs.declared.spelled.KeyForm.{KeyForm}
 use Rattle.reduce_grammar.specs.declared.spelled.KeyForm.TheVariants as forms
 use Rattle.reduce_grammar.specs.declared.spelled.PlacedFold.{PlacedFold}
-use Rattle.reduce_grammar.specs.Limits.{Kind, most_members}
+use Rattle.reduce_grammar.specs.Limits.{most_members}
 use Rattle.reduce_grammar.specs.Reduces.{SpellsSource, SpellsPart, SpellsParts, SpellsKey, SpellsGroup, SpellsValue, SpellsFold, SpellsFolds, SpellsReduce, spelled_key, in_new, only, word_key, fold_of, placed_fold, spelled_reduce}
 use Rattle.reduce_grammar.specs.Reduces as grammar
 use Rattle.reduce_grammar.specs.ReduceReading.{Reads}
@@ -151,6 +151,45 @@ module _ (g : List ℕ) (x p : Placed) (x_is : Is (t.Word g) x) (p_is : Is t.Poi
     unfolding read.group_value
     group_value_keeps = choose_keeps InGroup (read.value_by form) group_value_short (λ c. refuse_at {X = InGroup} tt group_value_short c []) (λ k. value_token k (the word_key k) refl)
 
+-- ---- whether the members end
+
+-- a brace that is passed, or nothing
+data Brace : Tokens → Bool → Tokens → Type 0 where
+  closed : {r : Tokens} {q : Placed} → Is t.CloseBrace q → Brace (q ∷ r) true r
+  open_still : {r : Tokens} → Brace r false r
+
+brace_short : Goes Brace []
+brace_short = record { more = []; tree = false; spells = λ z. open_still }
+
+brace_token : (x : Placed) (o : Option (Unit {0})) → the t.CloseBrace x ≡ o → (c : ℕ) (s : Tokens) → Fits Brace (read.brace_as o) c (x ∷ s) (read.brace_as o c (x ∷ s))
+brace_token x (Some v) is c s = skip_at Brace (pure true) x (pure_keeps (λ z. closed (the_is t.CloseBrace x v is))) c s
+brace_token x None is c s = pure_at {X = Brace} (λ z. open_still) c _
+
+brace_keeps : Keeps Brace read.brace
+unfolding read.brace
+brace_keeps = choose_keeps Brace read.brace_by brace_short (λ c. pure_at {X = Brace} (λ z. open_still) c []) (λ x. brace_token x (the t.CloseBrace x) refl)
+
+-- what stands behind a member
+data Behinds : Tokens → Bool → Tokens → Type 0 where
+  last : {r : Tokens} {q : Placed} → Is t.CloseBrace q → Behinds (q ∷ r) true r
+  last_comma : {r : Tokens} {k q : Placed} → Is t.Comma k → Is t.CloseBrace q → Behinds (k ∷ q ∷ r) true r
+  more : {r : Tokens} {k : Placed} → Is t.Comma k → Behinds (k ∷ r) false r
+
+closed_last : {s r : Tokens} → Brace s true r → Behinds s true r
+closed_last (closed is) = last is
+
+open_more : {s m r : Tokens} {k : Placed} {b : Bool} → Is t.Comma k → Brace s false (k ∷ m) → Brace m b r → Behinds s b r
+open_more k_is open_still (closed is) = last_comma k_is is
+open_more k_is open_still open_still = more k_is
+
+unless_closed_keeps : (b : Bool) → Keeps (Then Brace Behinds b) (read.unless_closed b)
+unless_closed_keeps true = pure_keeps (λ z s d. closed_last d)
+unless_closed_keeps false = the_keeps t.Comma refl (λ k k_is. map_keeps (λ m b r d s e. open_more k_is e d) brace_keeps)
+
+ends_keep : Keeps Behinds read.ends
+unfolding read.ends
+ends_keep = bind_keeps read.unless_closed brace_keeps unless_closed_keeps
+
 -- ---- members
 
 module _ (g : List ℕ) (form : KeyForm) where
@@ -162,7 +201,7 @@ module _ (g : List ℕ) (form : KeyForm) where
   unfolding read.named
   named_keeps x n e x_is e_is = bind_keeps (λ a. pure (placed_fold x.at n a)) value_keeps (λ a. pure_keeps (λ z s d. grammar.named x_is e_is d))
 
-  bare_keeps : (x : Placed) → Is (t.Word g) x → in_new form ≡ true → Keeps (λ m b r. SpellsFold g form (x ∷ m) b r) (read.bare g form x.at)
+  bare_keeps : (x : Placed) → Is (t.Word g) x → in_new form ≡ true → Keeps (λ m b r. SpellsFold g form (x ∷ m) b r) (read.bare x.at)
   unfolding read.bare
   bare_keeps x x_is new = the_keeps t.Point refl (λ p p_is. the_keeps word_key refl (λ k k_is. the_keeps t.Point refl (λ q q_is. name_keeps (λ y n y_is.
       pure_keeps (λ z. grammar.bare x_is new p_is k_is q_is y_is)))))
@@ -174,30 +213,31 @@ module _ (g : List ℕ) (form : KeyForm) where
     behind_short : Goes BehindName []
     behind_short = skip_short BehindName (read.named g form x.at n) (mark t.Assign) (named_keeps x n (mark t.Assign) x_is refl)
 
-    bare_where_at : Is (t.Word g) x → (b : Bool) → in_new form ≡ b → (c : ℕ) (s : Tokens) → Fits BehindName (read.bare_where g form x b) c s (read.bare_where g form x b c s)
+    bare_where_at : Is (t.Word g) x → (b : Bool) → in_new form ≡ b → (c : ℕ) (s : Tokens) → Fits BehindName (read.bare_where x.at b) c s (read.bare_where x.at b c s)
     bare_where_at g_is true new c s = (bare_keeps x g_is new).fits c s
     bare_where_at g_is false new c s = refuse_at {X = BehindName} tt behind_short c s
 
-    bare_at : (o : Option (Unit {0})) → the (t.Word g) x ≡ o → (c : ℕ) (s : Tokens) → Fits BehindName (read.bare_as g form x o) c s (read.bare_as g form x o c s)
+    bare_at : (o : Option (Unit {0})) → the (t.Word g) x ≡ o → (c : ℕ) (s : Tokens) → Fits BehindName (read.bare_as g form x.at o) c s (read.bare_as g form x.at o c s)
     bare_at (Some v) is c s = bare_where_at (the_is (t.Word g) x v is) (in_new form) refl c s
     bare_at None is c s = refuse_at {X = BehindName} tt behind_short c s
 
-    named_token : (y : Placed) (o : Option (Unit {0})) → the t.Assign y ≡ o → (c : ℕ) (s : Tokens) → Fits BehindName (read.named_as g form x n o) c (y ∷ s) (read.named_as g form x n o c (y ∷ s))
+    named_token : (y : Placed) (o : Option (Unit {0})) → the t.Assign y ≡ o → (c : ℕ) (s : Tokens) → Fits BehindName (read.behind_as g form x n o) c (y ∷ s) (read.behind_as g form x n o c (y ∷ s))
     named_token y (Some v) is c s = skip_at BehindName (read.named g form x.at n) y (named_keeps x n y x_is (the_is t.Assign y v is)) c s
     named_token y None is c s = bare_at (the (t.Word g) x) refl c _
 
-    behind_keeps : Keeps BehindName (choose (read.named_by g form x n))
-    behind_keeps = choose_keeps BehindName (read.named_by g form x n) behind_short (λ c. bare_at (the (t.Word g) x) refl c []) (λ y. named_token y (the t.Assign y) refl)
+    behind_keeps : Keeps BehindName (read.behind g form x n)
+    unfolding read.behind
+    behind_keeps = choose_keeps BehindName (read.behind_by g form x n) behind_short (λ c. bare_at (the (t.Word g) x) refl c []) (λ y. named_token y (the t.Assign y) refl)
 
   -- from any name on, whatever member it begins
   name_goes : (x : Placed) (n : List ℕ) → name x ≡ Some n → Goes (SpellsFold g form) (x ∷ [])
   name_goes x n is = let short = behind_short x n is in record { more = short.more; tree = short.tree; spells = short.spells }
 
   member_short : Goes (SpellsFold g form) []
-  member_short = skip_short (SpellsFold g form) (choose (read.named_by g form some_word (codes "x"))) some_word (behind_keeps some_word (codes "x") refl)
+  member_short = skip_short (SpellsFold g form) (read.behind g form some_word (codes "x")) some_word (behind_keeps some_word (codes "x") refl)
 
   member_token : (x : Placed) (o : Option (List ℕ)) → name x ≡ o → (c : ℕ) (s : Tokens) → Fits (SpellsFold g form) (read.member_as g form x o) c (x ∷ s) (read.member_as g form x o c (x ∷ s))
-  member_token x (Some n) is c s = skip_at (SpellsFold g form) (choose (read.named_by g form x n)) x (behind_keeps x n is) c s
+  member_token x (Some n) is c s = skip_at (SpellsFold g form) (read.behind g form x n) x (behind_keeps x n is) c s
   member_token x None is c s = refuse_at {X = SpellsFold g form} tt member_short c _
 
   member_keeps : Keeps (SpellsFold g form) (read.member g form)
@@ -218,54 +258,30 @@ module _ (g : List ℕ) (form : KeyForm) where
     spells = λ z. (one.tree ∷ [], subst (λ m. SpellsFolds g form (w ++ m) (one.tree ∷ []) z) (sym (append_assoc one.more (mark t.CloseBrace ∷ []) z)) (grammar.last (one.spells (mark t.CloseBrace ∷ z)) refl), refl);
   }
 
-  no_room_at : (found : List PlacedFold) (x : Placed) (o : Option (List ℕ)) → name x ≡ o → (c : ℕ) (s : Tokens) →
-      Fits (Rest found) (read.no_room_as g form o) c (x ∷ s) (read.no_room_as g form o c (x ∷ s))
+  no_room_at : (found : List PlacedFold) (x : Placed) (o : Option (List ℕ)) → name x ≡ o → (c : ℕ) (s : Tokens) → Fits (Rest found) (read.no_room_as o) c (x ∷ s) (read.no_room_as o c (x ∷ s))
   no_room_at found x (Some n) is c s = too_large_at {X = Rest found} tt (last_goes found (x ∷ []) (name_goes x n is)) c s
   no_room_at found x None is c s = refuse_at {X = Rest found} tt (last_goes found [] member_short) c _
 
-  module _ (next : List PlacedFold → Reads (List PlacedFold)) (found : List PlacedFold) (a : PlacedFold) (goes_on : Keeps (Rest (found ++ a ∷ [])) (next (found ++ a ∷ []))) where
-    abbrev BehindMember : Tokens → List PlacedFold → Tokens → Type 0
-    BehindMember = Then (SpellsFold g form) (Rest found) a
+  no_room_keeps : (found : List PlacedFold) → Keeps (Rest found) read.no_room
+  unfolding read.no_room
+  no_room_keeps found = choose_keeps (Rest found) read.no_room_by (last_goes found [] member_short) (λ c. refuse_at {X = Rest found} tt (last_goes found [] member_short) c []) (λ x. no_room_at found x (name x) refl)
 
-    abbrev BehindComma : Placed → Tokens → List PlacedFold → Tokens → Type 0
-    BehindComma k m b r = BehindMember (k ∷ m) b r
+  module _ (found : List PlacedFold) (a : PlacedFold) where
+    one_last : {s m r : Tokens} → SpellsFold g form s a m → Behinds m true r → Rest found s (found ++ a ∷ []) r
+    one_last d (last is) = (a ∷ [], grammar.last d is, refl)
+    one_last d (last_comma is also) = (a ∷ [], grammar.last_comma d is also, refl)
 
-    brace_keeps : (q : Placed) → Is t.CloseBrace q → Keeps (λ m b r. BehindMember (q ∷ m) b r) (pure {K = Kind} (found ++ a ∷ []))
-    brace_keeps q q_is = pure_keeps (λ z s d. (a ∷ [], grammar.last d q_is, refl))
+    one_more : {s m n r : Tokens} {all : List PlacedFold} → SpellsFold g form s a m → Behinds m false n → Rest (found ++ a ∷ []) n all r → Rest found s all r
+    one_more d (more is) h = (a ∷ h.0, grammar.more d is h.1, h.2 ∙ append_assoc found (a ∷ []) h.0)
 
-    comma_brace_keeps : (k q : Placed) → Is t.Comma k → Is t.CloseBrace q → Keeps (λ m b r. BehindComma k (q ∷ m) b r) (pure {K = Kind} (found ++ a ∷ []))
-    comma_brace_keeps k q k_is q_is = pure_keeps (λ z s d. (a ∷ [], grammar.last_comma d k_is q_is, refl))
-
-    next_keeps : (k : Placed) → Is t.Comma k → Keeps (BehindComma k) (next (found ++ a ∷ []))
-    next_keeps k k_is = map_keeps (λ m b r h s d. (a ∷ h.0, grammar.more d k_is h.1, h.2 ∙ append_assoc found (a ∷ []) h.0)) goes_on
-
-    comma_token : (k : Placed) → Is t.Comma k → (q : Placed) (o : Option (Unit {0})) → the t.CloseBrace q ≡ o → (c : ℕ) (s : Tokens) →
-        Fits (BehindComma k) (read.after_comma_as g form next (found ++ a ∷ []) o) c (q ∷ s) (read.after_comma_as g form next (found ++ a ∷ []) o c (q ∷ s))
-    comma_token k k_is q (Some v) is c s = skip_at (BehindComma k) (pure (found ++ a ∷ [])) q (comma_brace_keeps k q k_is (the_is t.CloseBrace q v is)) c s
-    comma_token k k_is q None is c s = (next_keeps k k_is).fits c _
-
-    comma_keeps : (k : Placed) → Is t.Comma k → Keeps (BehindComma k) (choose (read.after_comma_by g form next (found ++ a ∷ [])))
-    comma_keeps k k_is = choose_keeps (BehindComma k) (read.after_comma_by g form next (found ++ a ∷ [])) (next_keeps k k_is).short (λ c. (next_keeps k k_is).fits c [])
-        (λ q. comma_token k k_is q (the t.CloseBrace q) refl)
-
-    brace_short : Goes BehindMember []
-    brace_short = skip_short BehindMember (pure {K = Kind} (found ++ a ∷ [])) (mark t.CloseBrace) (brace_keeps (mark t.CloseBrace) refl)
-
-    after_token : (x : Placed) (y : Token) → x.token ≡ y → (c : ℕ) (s : Tokens) →
-        Fits BehindMember (read.after_as g form next (found ++ a ∷ []) y) c (x ∷ s) (read.after_as g form next (found ++ a ∷ []) y c (x ∷ s))
-    after_token x t.CloseBrace is c s = skip_at BehindMember (pure (found ++ a ∷ [])) x (brace_keeps x is) c s
-    after_token x t.Comma is c s = skip_at BehindMember (choose (read.after_comma_by g form next (found ++ a ∷ []))) x (comma_keeps x is) c s
-    after_token x _ is c s = refuse_at {X = BehindMember} tt brace_short c _
-
-    after_keeps : Keeps BehindMember (choose (read.after_by g form next (found ++ a ∷ [])))
-    after_keeps = choose_keeps BehindMember (read.after_by g form next (found ++ a ∷ [])) brace_short (λ c. refuse_at {X = BehindMember} tt brace_short c []) (λ x. after_token x x.token refl)
+    behind_member : (next : Reads (List PlacedFold)) → Keeps (Rest (found ++ a ∷ [])) next → (b : Bool) → Keeps (Then Behinds (Then (SpellsFold g form) (Rest found) a) b) (cond b (pure (found ++ a ∷ [])) next)
+    behind_member next goes_on true = pure_keeps (λ z s e s1 d. one_last d e)
+    behind_member next goes_on false = map_keeps (λ m all r h s e s1 d. one_more d e h) goes_on
 
   folds_keep : (room : ℕ) (found : List PlacedFold) → Keeps (Rest found) (read.folds g form room found)
   unfolding read.folds
-  folds_keep zero found = choose_keeps (Rest found) (read.no_room_by g form) (last_goes found [] member_short) (λ c. refuse_at {X = Rest found} tt (last_goes found [] member_short) c [])
-      (λ x. no_room_at found x (name x) refl)
-  folds_keep (suc room) found = bind_keeps (λ a. choose (read.after_by g form (read.folds g form room) (found ++ a ∷ []))) member_keeps
-      (λ a. after_keeps (read.folds g form room) found a (folds_keep room (found ++ a ∷ [])))
+  folds_keep zero found = no_room_keeps found
+  folds_keep (suc room) found = bind_keeps _ member_keeps (λ a. bind_keeps _ ends_keep (behind_member found a (read.folds g form room (found ++ a ∷ [])) (folds_keep room (found ++ a ∷ []))))
 
 -- ---- the whole text
 

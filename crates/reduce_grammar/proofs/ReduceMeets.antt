@@ -1,6 +1,6 @@
 -- What is spelled is read, or refused at the first member past the limit.
-use Rattle.std.proofs.Common.{◌≡◌, ℕ, zero, suc, List, [], ◌∷◌, ◌++◌, true, Some, refl, sym, ◌∙◌, ap, subst, append_assoc}
-use Rattle.exact_parse.specs.Steps.{head, Read, and_then, ◌>>=◌, pure, choose, take, More}
+use Rattle.std.proofs.Common.{◌≡◌, ℕ, zero, suc, List, [], ◌∷◌, ◌++◌, Bool, true, false, cond, Some, refl, sym, ◌∙◌, ap, subst, append_assoc}
+use Rattle.exact_parse.specs.Steps.{head, Read, and_then, ◌>>=◌, pure, take, More}
 use Rattle.exact_parse.specs.Limits.{Verdict, Fine, opens}
 use Rattle.exact_parse.specs.Exact.{Meets}
 use Rattle.exact_parse.proofs.Loops.{loop_ends, loop_more}
@@ -90,7 +90,7 @@ module _ (g : List ℕ) (form : KeyForm) where
   value_reads (fold {f = f} {kind = kind} x p f_is o y a z q u e) stops c = rw (x, word_same g, p, not_the word_key fold_as refl f kind f_is, f_is, o, y, a, z, q, u, e) refl
 
   member_reads : {s r : Tokens} {a : PlacedFold} → SpellsFold g form s a r → Stops r → (c : ℕ) → read.member g form c s ≡ Read a c r
-  unfolding read.member read.named read.bare
+  unfolding read.member read.behind read.named read.bare
   member_reads (named {x = x} {n = n} x_is e_is d) stops c = rw (x_is, e_is) (ap (λ o. and_then o (λ a. pure (placed_fold x.at n a))) (value_reads d stops c))
   member_reads (bare x new p k q y) stops c = rw (x, p, word_same g, new, k, q, y) refl
 
@@ -112,31 +112,38 @@ module _ (g : List ℕ) (form : KeyForm) where
   -- a first member past the limit is refused there
   open_at : {s : Tokens} (room : ℕ) → WordAt s → (v : ℕ → Verdict Placed Kind) (all : List PlacedFold) (r : Tokens) (found : List PlacedFold) (c : ℕ) →
       ((k : ℕ) → Meets (v k) all r (read.folds g form (suc k) found c s)) → Meets (opens tt room s v) all r (read.folds g form room found c s)
-  unfolding read.folds
-  open_at zero (word_at {x = x} {s = s} is) v all r found c y = ap (λ o. read.no_room_as g form o c (x ∷ s)) is
+  unfolding read.folds read.no_room
+  open_at zero (word_at {x = x} {s = s} is) v all r found c y = ap (λ o. read.no_room_as o c (x ∷ s)) is
   open_at (suc k) w v all r found c y = y k
 
   -- a word is no brace
-  word_goes_on : {s : Tokens} (next : List PlacedFold → Reads (List PlacedFold)) (found : List PlacedFold) → WordAt s → read.after_comma_by g form next found (head s) ≡ next found
-  word_goes_on next found (word_at {x = x} {n = n} is) = ap (read.after_comma_as g form next found) (not_the t.CloseBrace name_as refl x n is)
+  word_goes_on : {s : Tokens} → WordAt s → read.brace_by (head s) ≡ pure false
+  word_goes_on (word_at {x = x} {n = n} is) = ap read.brace_as (not_the t.CloseBrace name_as refl x n is)
+
+  -- what is done behind a member
+  abbrev behind_member : ℕ → List PlacedFold → PlacedFold → Bool → Reads (List PlacedFold)
+  behind_member room found a b = cond b (pure (found ++ a ∷ [])) (read.folds g form room (found ++ a ∷ []))
+
+  behind_one : {s m n : Tokens} {a : PlacedFold} (x : SpellsFold g form s a m) → Stops m → (b : Bool) (room : ℕ) (found : List PlacedFold) (c : ℕ) → read.ends c m ≡ Read b c n →
+      read.folds g form (suc room) found c s ≡ behind_member room found a b c n
+  unfolding read.folds
+  behind_one {a = a} x stops b room found c is =
+      ap (λ o. and_then o (λ a. read.ends >>= behind_member room found a)) (member_reads x stops c) ∙ ap (λ o. and_then o (behind_member room found a)) is
 
   last_meets : {s r : Tokens} {q : Placed} {a : PlacedFold} (x : SpellsFold g form s a (q ∷ r)) → Is t.CloseBrace q → (room : ℕ) (found : List PlacedFold) (c : ℕ) →
       read.folds g form (suc room) found c s ≡ Read (found ++ a ∷ []) c r
-  unfolding read.folds
-  last_meets {r = r} {q = q} x is room found c = ap (λ o. and_then o (λ a. choose (read.after_by g form (read.folds g form room) (found ++ a ∷ [])))) (member_reads x (brace_stops q r is) c) ∙ rw is refl
+  unfolding read.ends read.brace
+  last_meets {r = r} {q = q} x is room found c = behind_one x (brace_stops q r is) true room found c (rw is refl)
 
   last_comma_meets : {s r : Tokens} {k q : Placed} {a : PlacedFold} (x : SpellsFold g form s a (k ∷ q ∷ r)) → Is t.Comma k → Is t.CloseBrace q → (room : ℕ) (found : List PlacedFold) (c : ℕ) →
       read.folds g form (suc room) found c s ≡ Read (found ++ a ∷ []) c r
-  unfolding read.folds
-  last_comma_meets {r = r} {k = k} {q = q} x is also room found c =
-      ap (λ o. and_then o (λ a. choose (read.after_by g form (read.folds g form room) (found ++ a ∷ [])))) (member_reads x (comma_stops k (q ∷ r) is) c) ∙ rw (is, also) refl
+  unfolding read.ends read.brace
+  last_comma_meets {r = r} {k = k} {q = q} x is also room found c = behind_one x (comma_stops k (q ∷ r) is) true room found c (rw (is, also) refl)
 
   more_comes : {s m : Tokens} {k : Placed} {a : PlacedFold} (x : SpellsFold g form s a (k ∷ m)) → Is t.Comma k → WordAt m → (room : ℕ) (found : List PlacedFold) (c : ℕ) →
       read.folds g form (suc room) found c s ≡ read.folds g form room (found ++ a ∷ []) c m
-  unfolding read.folds
-  more_comes {m = m} {k = k} {a = a} x is word room found c =
-      ap (λ o. and_then o (λ a. choose (read.after_by g form (read.folds g form room) (found ++ a ∷ [])))) (member_reads x (comma_stops k m is) c)
-      ∙ rw is (ap (λ p. p c m) (word_goes_on (read.folds g form room) (found ++ a ∷ []) word))
+  unfolding read.ends read.brace
+  more_comes {m = m} {k = k} x is word room found c = behind_one x (comma_stops k m is) false room found c (rw is (ap (λ p. p c m) (word_goes_on word)))
 
   folds_meet : {s r : Tokens} {all : List PlacedFold} (d : SpellsFolds g form s all r) (room : ℕ) (found : List PlacedFold) (c : ℕ) →
       Meets (folds_verdict d room c) (found ++ all) r (read.folds g form room found c s)

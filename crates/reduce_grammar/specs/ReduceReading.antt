@@ -1,7 +1,6 @@
 -- The reading of reduces.
-use Rattle.std.specs.Prelude.{ℕ, zero, suc, List, [], ◌∷◌, ◌++◌, Bool, true, false, Option, Some, None}
+use Rattle.std.specs.Prelude.{ℕ, zero, suc, List, [], ◌∷◌, ◌++◌, Bool, true, false, if◌then◌else◌, Option, Some, None}
 use Rattle.exact_parse.specs.Steps.{Reader, ◌>>=◌, ◌>>◌, pure, refuse, too_large, choose, skip, take, Next, Ends, More, loop}
-use Rattle.index_tokens.specs.declared.token.Token.{Token}
 use Rattle.index_tokens.specs.declared.token.Token.TheVariants as t
 use Rattle.index_tokens.specs.declared.token.Placed.{Placed}
 use Rattle.index_tokens.specs.Words.{the, name, variable, word_from, word_in, word_results, word_group, word_by, word_into, word_select, word_new}
@@ -115,38 +114,74 @@ value_by form None = refuse tt
 unfoldable pub group_value : KeyForm → Reads FoldValue
 group_value form = choose (value_by form)
 
+unfoldable pub value : List ℕ → KeyForm → Reads FoldValue
+value g form = take tt (the (t.Word g)) >>= λ _. take tt (the t.Point) >>= λ _. group_value form
+
+-- ---- members
+
+-- what stands behind a group at the front of a member
+unfoldable pub bare : ℕ → Reads PlacedFold
+bare place = take tt (the t.Point) >>= λ _. take tt (the word_key) >>= λ _. take tt (the t.Point) >>= λ _. take tt name >>= λ n. pure (placed_fold place n (values.Key n))
+
+abbrev pub bare_where : ℕ → Bool → Reads PlacedFold
+bare_where place true = bare place
+bare_where place false = refuse tt
+
+-- whether a brace comes next, which is passed then
+abbrev pub brace_as : Option (Unit {0}) → Reads Bool
+brace_as (Some v) = skip >> pure true
+brace_as None = pure false
+
+abbrev pub brace_by : Option Placed → Reads Bool
+brace_by (Some x) = brace_as (the t.CloseBrace x)
+brace_by None = pure false
+
+unfoldable pub brace : Reads Bool
+brace = choose brace_by
+
+abbrev pub unless_closed : Bool → Reads Bool
+unless_closed true = pure true
+unless_closed false = take tt (the t.Comma) >>= λ _. brace
+
+-- what stands behind a member: whether it is the last
+unfoldable pub ends : Reads Bool
+ends = brace >>= unless_closed
+
+abbrev pub no_room_as : Option (List ℕ) → Reads (List PlacedFold)
+no_room_as (Some n) = too_large tt
+no_room_as None = refuse tt
+
+abbrev pub no_room_by : Option Placed → Reads (List PlacedFold)
+no_room_by (Some x) = no_room_as (name x)
+no_room_by None = refuse tt
+
+-- where there is no room for a member
+unfoldable pub no_room : Reads (List PlacedFold)
+no_room = choose no_room_by
+
 module _ (g : List ℕ) (form : KeyForm) where
-  unfoldable pub value : Reads FoldValue
-  value = take tt (the (t.Word g)) >>= λ _. take tt (the t.Point) >>= λ _. group_value form
-
-  -- ---- members
-
   -- what stands behind the name and `=`
   unfoldable pub named : ℕ → List ℕ → Reads PlacedFold
-  named place n = value >>= λ a. pure (placed_fold place n a)
+  named place n = value g form >>= λ a. pure (placed_fold place n a)
 
-  -- what stands behind a group at the front of a member
-  unfoldable pub bare : ℕ → Reads PlacedFold
-  bare place = take tt (the t.Point) >>= λ _. take tt (the word_key) >>= λ _. take tt (the t.Point) >>= λ _. take tt name >>= λ n. pure (placed_fold place n (values.Key n))
+  abbrev pub bare_as : ℕ → Option (Unit {0}) → Reads PlacedFold
+  bare_as place (Some v) = bare_where place (in_new form)
+  bare_as place None = refuse tt
 
-  abbrev pub bare_where : Placed → Bool → Reads PlacedFold
-  bare_where x true = bare x.at
-  bare_where x false = refuse tt
+  abbrev pub behind_as : Placed → List ℕ → Option (Unit {0}) → Reads PlacedFold
+  behind_as x n (Some v) = skip >> named x.at n
+  behind_as x n None = bare_as x.at (the (t.Word g) x)
 
-  abbrev pub bare_as : Placed → Option (Unit {0}) → Reads PlacedFold
-  bare_as x (Some v) = bare_where x (in_new form)
-  bare_as x None = refuse tt
+  abbrev pub behind_by : Placed → List ℕ → Option Placed → Reads PlacedFold
+  behind_by x n (Some y) = behind_as x n (the t.Assign y)
+  behind_by x n None = bare_as x.at (the (t.Word g) x)
 
-  abbrev pub named_as : Placed → List ℕ → Option (Unit {0}) → Reads PlacedFold
-  named_as x n (Some v) = skip >> named x.at n
-  named_as x n None = bare_as x (the (t.Word g) x)
-
-  abbrev pub named_by : Placed → List ℕ → Option Placed → Reads PlacedFold
-  named_by x n (Some y) = named_as x n (the t.Assign y)
-  named_by x n None = bare_as x (the (t.Word g) x)
+  -- what stands behind the first token
+  unfoldable pub behind : Placed → List ℕ → Reads PlacedFold
+  behind x n = choose (behind_by x n)
 
   abbrev pub member_as : Placed → Option (List ℕ) → Reads PlacedFold
-  member_as x (Some n) = skip >> choose (named_by x n)
+  member_as x (Some n) = skip >> behind x n
   member_as x None = refuse tt
 
   abbrev pub member_by : Option Placed → Reads PlacedFold
@@ -156,35 +191,10 @@ module _ (g : List ℕ) (form : KeyForm) where
   unfoldable pub member : Reads PlacedFold
   member = choose member_by
 
-  abbrev pub no_room_as : Option (List ℕ) → Reads (List PlacedFold)
-  no_room_as (Some n) = too_large tt
-  no_room_as None = refuse tt
-
-  abbrev pub no_room_by : Option Placed → Reads (List PlacedFold)
-  no_room_by (Some x) = no_room_as (name x)
-  no_room_by None = refuse tt
-
-  abbrev pub after_comma_as : (List PlacedFold → Reads (List PlacedFold)) → List PlacedFold → Option (Unit {0}) → Reads (List PlacedFold)
-  after_comma_as next found (Some v) = skip >> pure found
-  after_comma_as next found None = next found
-
-  abbrev pub after_comma_by : (List PlacedFold → Reads (List PlacedFold)) → List PlacedFold → Option Placed → Reads (List PlacedFold)
-  after_comma_by next found (Some x) = after_comma_as next found (the t.CloseBrace x)
-  after_comma_by next found None = next found
-
-  abbrev pub after_as : (List PlacedFold → Reads (List PlacedFold)) → List PlacedFold → Token → Reads (List PlacedFold)
-  after_as next found t.CloseBrace = skip >> pure found
-  after_as next found t.Comma = skip >> choose (after_comma_by next found)
-  after_as next found _ = refuse tt
-
-  abbrev pub after_by : (List PlacedFold → Reads (List PlacedFold)) → List PlacedFold → Option Placed → Reads (List PlacedFold)
-  after_by next found (Some x) = after_as next found x.token
-  after_by next found None = refuse tt
-
   -- goes on behind those found, with room for so many more
   unfoldable pub folds : ℕ → List PlacedFold → Reads (List PlacedFold)
-  folds zero found = choose no_room_by
-  folds (suc room) found = member >>= λ a. choose (after_by (folds room) (found ++ a ∷ []))
+  folds zero found = no_room
+  folds (suc room) found = member >>= λ a. ends >>= λ last. if last then pure (found ++ a ∷ []) else folds room (found ++ a ∷ [])
 
 -- ---- the whole text
 
