@@ -11,3 +11,6 @@ mod tokens;
 
 pub use reading::read_map;
 pub use refusal::Refusal;
+
+#[cfg(test)]
+mod tests;

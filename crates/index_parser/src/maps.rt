@@ -133,10 +133,12 @@ impl<'a> Parser<'a> {
         ensures { Stops (spec.no_room_by (head self.now.rest.now) self.now.count self.now.rest.now) result self.now.rest.now }
     {
         match self.rest.first() {
-            Some(Placed {
-                token: Token::Word(_),
-                ..
-            }) => Stop::TooLarge,
+            Some(
+                Placed {
+                    token: Token::Word(_),
+                    ..
+                },
+            ) => Stop::TooLarge,
             _ => Stop::Unexpected,
         }
     }

@@ -101,13 +101,15 @@ impl<'a> Parser<'a> {
         ensures { Gives (take tt spec_name self.old.count self.old.rest.now) result self.new.count self.new.rest.now }
     {
         match self.rest.split_first() {
-            Some((
-                Placed {
-                    token: Token::Word(word),
-                    ..
-                },
-                rest,
-            )) => {
+            Some(
+                (
+                    Placed {
+                        token: Token::Word(word),
+                        ..
+                    },
+                    rest,
+                ),
+            ) => {
                 let name = word.clone()?;
                 self.rest = rest;
                 Ok(name)
@@ -121,13 +123,15 @@ impl<'a> Parser<'a> {
         ensures { Gives (take tt spec_variable self.old.count self.old.rest.now) result self.new.count self.new.rest.now }
     {
         match self.rest.split_first() {
-            Some((
-                Placed {
-                    token: Token::Word(word),
-                    ..
-                },
-                rest,
-            )) if !is_reserved(word.as_str()) => {
+            Some(
+                (
+                    Placed {
+                        token: Token::Word(word),
+                        ..
+                    },
+                    rest,
+                ),
+            ) if !is_reserved(word.as_str()) => {
                 let name = word.clone()?;
                 self.rest = rest;
                 Ok(name)
@@ -141,13 +145,15 @@ impl<'a> Parser<'a> {
         ensures { Gives (take tt spec_quoted self.old.count self.old.rest.now) result self.new.count self.new.rest.now }
     {
         match self.rest.split_first() {
-            Some((
-                Placed {
-                    token: Token::Quoted(text),
-                    ..
-                },
-                rest,
-            )) => {
+            Some(
+                (
+                    Placed {
+                        token: Token::Quoted(text),
+                        ..
+                    },
+                    rest,
+                ),
+            ) => {
                 let value = text.clone()?;
                 self.rest = rest;
                 Ok(value)
