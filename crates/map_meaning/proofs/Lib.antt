@@ -1,3 +1,4 @@
 mod Examples
 pub mod NumberLemmas
 pub mod DateLemmas
+pub mod Reading

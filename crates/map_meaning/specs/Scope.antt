@@ -1,6 +1,9 @@
 -- What a map reads, and the fields of its entries.
-use Rattle.std.specs.Prelude.{ℕ, List, [], ◌∷◌, ◌++◌, not, filter, map, flat_map}
+use Rattle.std.specs.Prelude.{ℕ, List, [], ◌∷◌, ◌++◌, not, filter, map, flat_map, Option, Some, None, if◌then◌else◌}
+use Rattle.std.specs.List.{list_any}
 use Rattle.std.specs.Str.{bytes_eq}
+use Rattle.raven_data.specs.Rows.{Row}
+use Rattle.map_meaning.specs.Asking.{Lookup}
 use Rattle.index_tree.specs.Trees.{Tree, If, Binary, Unary, Dot, Load, Num, Quoted, Flag, Null, Var}
 use Rattle.index_tree.specs.declared.map_query.Clause.{Clause}
 use Rattle.index_tree.specs.declared.map_query.Clause.TheVariants as clause
@@ -45,3 +48,12 @@ loaded_of query = others query.collection (each_once (all_named query))
 
 abbrev pub scope_of : MapQuery → List (List ℕ)
 scope_of query = query.collection ∷ loaded_of query
+
+-- the row, where its collection is one of these
+abbrev pub kept_in : List (List ℕ) → Option Row → Option Row
+kept_in scope None = None
+kept_in scope (Some r) = if list_any (bytes_eq r.collection) scope then Some r else None
+
+-- the lookup without the rows of other collections
+abbrev pub within : List (List ℕ) → Lookup → Lookup
+within scope find = λ id. kept_in scope (find id)

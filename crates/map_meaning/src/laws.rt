@@ -8,6 +8,7 @@ ghost use Rattle.raven_data.specs.Rows.{Row};
 ghost use Rattle.index_tree.specs.declared.map_query.MapQuery.{MapQuery};
 ghost use Rattle.map_meaning.specs.Asking.{AgreeAt, Lookup};
 ghost use Rattle.map_meaning.specs.Meaning.{meaning};
+ghost use Rattle.map_meaning.specs.Scope.{scope_of, within};
 ghost use Rattle.map_meaning.specs.Numbers.{is_within};
 
 /// What a map gives hangs on the document and on what its loads give, and on nothing else: where a second lookup has the same at all ids
@@ -15,6 +16,11 @@ ghost use Rattle.map_meaning.specs.Numbers.{is_within};
 pub fn maps_are_local()
     ensures { (query : MapQuery) (d : Row) (find other : Lookup) → AgreeAt (meaning query d find).loads find other →
         meaning query d other ≡ meaning query d find }
+{}
+
+/// A map reads rows of its scope alone: where all others are taken out of the lookup, it gives the same, and asks for the same ids.
+pub fn maps_read_their_scope()
+    ensures { (query : MapQuery) (d : Row) (find : Lookup) → meaning query d (within (scope_of query) find) ≡ meaning query d find }
 {}
 
 /// A text that is read as a civil date with a time is read as that date.

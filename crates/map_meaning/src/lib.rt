@@ -3,4 +3,6 @@
 
 mod laws;
 
-pub use laws::{dates_are_read_alike, maps_are_local, numbers_are_of_64_bits};
+pub use laws::{
+    dates_are_read_alike, maps_are_local, maps_read_their_scope, numbers_are_of_64_bits,
+};
