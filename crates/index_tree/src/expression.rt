@@ -90,7 +90,7 @@ impl Model for Expr {
 
     ghost use Rattle.index_tree.specs.View.{tree_of};
 
-    ghost view = { λ a. tree_of a.kind };
+    ghost view = { λ a. tree_of a.kind.value };
 
     ghost use Rattle.index_tree.specs.Trees.{height};
 
