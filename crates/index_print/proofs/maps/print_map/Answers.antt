@@ -1,0 +1,12 @@
+use Rattle.std.proofs.Common.{◌≡◌, ◌++◌, ap, ◌∙◌, flat_map, map, codes}
+use Rattle.index_print.specs.Print.{clause, listed, member, origin}
+use Rattle.index_print.proofs.Written.{five}
+use Rattle.index_print.proofs.maps.print_map.Goals as goal
+
+pub returns : goal.returns
+returns c =
+    let query = c.args.query.now in
+    c.of_string.ensures ∙ five _ _ _ _ _ _ _ _ _ _ _ c.in_ok-add_origin.ensures c.in_ok-add_clauses.ensures c.in_ok-add.ensures c.in_ok-add_members.ensures c.in_ok-add-2.ensures
+    ∙ ap (λ z. z ++ (origin c.as_str.result.now c.as_str-2.result.now ++ (flat_map clause query.clauses ++ (codes " select new { " ++ (listed (map member query.members) ++ codes " }"))))) c.new-out.ensures.bytes
+    ∙ ap (λ z. origin z c.as_str-2.result.now ++ (flat_map clause query.clauses ++ (codes " select new { " ++ (listed (map member query.members) ++ codes " }")))) c.as_str.ensures
+    ∙ ap (λ z. origin query.var z ++ (flat_map clause query.clauses ++ (codes " select new { " ++ (listed (map member query.members) ++ codes " }")))) c.as_str-2.ensures

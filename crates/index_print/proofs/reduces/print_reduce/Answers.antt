@@ -1,0 +1,13 @@
+use Rattle.std.proofs.Common.{◌≡◌, ◌++◌, ap, ◌∙◌, map, codes}
+use Rattle.index_print.specs.Print.{grouping, listed, fold_member}
+use Rattle.index_print.proofs.Written.{six}
+use Rattle.index_print.proofs.reduces.print_reduce.Goals as goal
+
+pub returns : goal.returns
+returns c =
+    let query = c.args.query.now in
+    c.of_string.ensures ∙ six _ _ _ _ _ _ _ _ _ _ _ _ _ c.in_ok-add_grouping.ensures c.in_ok-add.ensures c.in_ok-add-2.ensures c.in_ok-add-3.ensures c.in_ok-add_members.ensures c.in_ok-add-4.ensures
+    ∙ ap (λ z. z ++ (grouping c.as_str.result.now query.key ++ (codes " into " ++ (c.as_str-2.result.now ++ (codes " select new { " ++ (listed (map (fold_member c.as_str-3.result.now query.key) query.members) ++ codes " }")))))) c.new-out.ensures.bytes
+    ∙ ap (λ z. grouping z query.key ++ (codes " into " ++ (c.as_str-2.result.now ++ (codes " select new { " ++ (listed (map (fold_member c.as_str-3.result.now query.key) query.members) ++ codes " }"))))) c.as_str.ensures
+    ∙ ap (λ z. grouping query.var query.key ++ (codes " into " ++ (z ++ (codes " select new { " ++ (listed (map (fold_member c.as_str-3.result.now query.key) query.members) ++ codes " }"))))) c.as_str-2.ensures
+    ∙ ap (λ z. grouping query.var query.key ++ (codes " into " ++ (query.group ++ (codes " select new { " ++ (listed (map (fold_member z query.key) query.members) ++ codes " }"))))) c.as_str-3.ensures
