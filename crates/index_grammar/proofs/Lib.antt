@@ -1,0 +1,6 @@
+pub mod Taking
+pub mod ExpressionKeeps
+pub mod Following
+pub mod ExpressionMeets
+pub mod MapKeeps
+pub mod MapMeets

@@ -1,0 +1,196 @@
+-- The reading of maps keeps to the grammar.
+use Rattle.std.proofs.Common.{◌≡◌, ℕ, zero, suc, pos, Bool, true, false, List, [], ◌∷◌, ◌++◌, Option, Some, None, refl, ◌∙◌, cond, codes, append_assoc}
+use Rattle.std.specs.Str.{bytes_eq}
+use Rattle.exact_parse.specs.Steps.{◌>>=◌, pure, choose, take, Ends, More}
+use Rattle.exact_parse.specs.Keeps.{Goes, Fits, Keeps, Then}
+use Rattle.exact_parse.specs.Loops.{LoopKeeps, NextKeeps}
+use Rattle.exact_parse.proofs.Keeping.{pure_at, pure_keeps, refuse_at, too_large_at, choose_keeps, skip_at, skip_short, bind_keeps, map_keeps, fresh_keeps}
+use Rattle.exact_parse.proofs.Loops.{loop_keeps}
+use Rattle.index_tokens.specs.declared.token.Token.{Token}
+use Rattle.index_tokens.specs.declared.token.Token.TheVariants as t
+use Rattle.index_tokens.specs.declared.token.Placed.{Placed}
+use Rattle.index_tokens.specs.Words.{Tokens, Is, word_from, word_in, word_docs, word_where, word_let, word_select, word_new, the, name, variable}
+use Rattle.index_tokens.proofs.WordLemmas.{taken_is}
+use Rattle.index_tree.specs.Trees.{Num, Var}
+use Rattle.index_tree.specs.declared.map_query.Clause.{Clause}
+use Rattle.index_tree.specs.declared.map_query.Clause.TheVariants as c
+use Rattle.index_grammar.specs.declared.spelled.PlacedMember.{PlacedMember}
+use Rattle.index_grammar.specs.Expressions.{Spells, Post, number, var, first}
+use Rattle.index_grammar.specs.Maps.{Origin, origin_of, SpellsOrigin, SpellsClause, filter, binding, SpellsClauses, no_clause, next_clause, last_name, placed_member, SpellsMember, named, path, SpellsMembers, last, last_comma, more, spelled_map, SpellsMap, map}
+use Rattle.index_grammar.specs.Maps as m
+use Rattle.index_grammar.specs.Limits.{Kind, most_members}
+use Rattle.index_grammar.specs.ExpressionReading as expr
+use Rattle.index_grammar.specs.ExpressionReading.{Reads}
+use Rattle.index_grammar.specs.MapReading as read
+use Rattle.index_grammar.proofs.Taking.{at_start, the_keeps, name_keeps, variable_keeps, word_is}
+use Rattle.index_grammar.proofs.ExpressionKeeps.{alone, zero_token, expression_keeps, Behind, points_keep}
+
+-- ---- which documents
+
+origin_keeps : Keeps SpellsOrigin read.origin
+unfolding read.origin
+origin_keeps = the_keeps word_from refl (λ f from_here. variable_keeps (λ v. take tt (the word_in) >>= λ _. take tt (the word_docs) >>= λ _. take tt (the t.Point) >>= λ _. take tt name >>= λ n. pure (origin_of v n))
+    (λ x v bound. the_keeps word_in refl (λ i inside. the_keeps word_docs refl (λ d docs. the_keeps t.Point refl (λ p is. name_keeps (λ n. pure (origin_of v n))
+    (λ y n called. pure_keeps (λ z. m.origin from_here bound inside docs is called)))))))
+
+-- ---- clauses
+
+filter_keeps : (x : Placed) → Is word_where x → Keeps (λ m b r. SpellsClause (x ∷ m) b r) read.filter
+unfolding read.filter
+filter_keeps x is = bind_keeps (λ a. pure (c.Where a)) expression_keeps (λ a. pure_keeps (λ z s d. filter is d))
+
+binding_keeps : (l : Placed) → Is word_let l → Keeps (λ m b r. SpellsClause (l ∷ m) b r) read.binding
+unfolding read.binding
+binding_keeps l is = variable_keeps (λ v. take tt (the t.Assign) >>= λ _. expr.expression >>= λ a. pure (c.Let v a))
+    (λ x v bound. the_keeps t.Assign refl (λ e also. bind_keeps (λ a. pure (c.Let v a)) expression_keeps (λ a. pure_keeps (λ z s d. binding is bound also d))))
+
+-- what goes on behind clauses that are spelled
+abbrev pub BehindClauses : List Clause → Tokens → List Clause → Tokens → Type 0
+BehindClauses = Then SpellsClauses SpellsClauses
+
+clause_keeps : (found : List Clause) (x : Placed) (p : Reads Clause) → Keeps (λ m b r. SpellsClause (x ∷ m) b r) p → NextKeeps BehindClauses found x (More (p >>= λ a. pure (found ++ a ∷ [])))
+clause_keeps found x p keeps = bind_keeps (λ a. pure (found ++ a ∷ [])) keeps (λ a. pure_keeps (λ z m y d r h s0 w. h s0 (next_clause w y)))
+
+pub clauses_keep : LoopKeeps BehindClauses read.clause_next
+clauses_keep = record {
+  short = λ a. record { more = []; tree = a; spells = λ z s d. d };
+  none = λ a n. pure_at {X = BehindClauses a} (λ z s d. d) n [];
+  some = λ a x. by a x x.token refl;
+}
+  where
+    stays : (a : List Clause) (x : Placed) → NextKeeps {K = Kind} BehindClauses a x (Ends (pure a))
+    stays a x n s = pure_at {X = BehindClauses a} (λ z s d. d) n _
+
+    second : (a : List Clause) (x : Placed) (w : List ℕ) → Is (t.Word w) x → (d : Bool) → bytes_eq w (codes "let") ≡ d →
+        NextKeeps BehindClauses a x (cond d (More (read.binding >>= λ b. pure (a ++ b ∷ []))) (Ends (pure a)))
+    second a x w is true e = clause_keeps a x read.binding (binding_keeps x (word_is w (codes "let") x is e))
+    second a x w is false e = stays a x
+
+    either : (a : List Clause) (x : Placed) (w : List ℕ) → Is (t.Word w) x → (d : Bool) → bytes_eq w (codes "where") ≡ d →
+        NextKeeps BehindClauses a x (cond d (More (read.filter >>= λ b. pure (a ++ b ∷ []))) (cond (bytes_eq w (codes "let")) (More (read.binding >>= λ b. pure (a ++ b ∷ []))) (Ends (pure a))))
+    either a x w is true e = clause_keeps a x read.filter (filter_keeps x (word_is w (codes "where") x is e))
+    either a x w is false e = second a x w is (bytes_eq w (codes "let")) refl
+
+    by : (a : List Clause) (x : Placed) (u : Token) → Is u x → NextKeeps BehindClauses a x (read.clause_as a u)
+    by a x (t.Word w) is = either a x w is (bytes_eq w (codes "where")) refl
+    by a x _ is = stays a x
+
+all_clauses_keep : Keeps SpellsClauses (read.clauses [])
+unfolding read.clauses
+all_clauses_keep = map_keeps (λ m b r h. h m no_clause) (loop_keeps tt BehindClauses read.clause_next clauses_keep [])
+
+-- ---- one member
+
+zero_member : {x : Placed} {n : List ℕ} → name x ≡ Some n → (z : Tokens) → SpellsMember (x ∷ at_start t.Assign ∷ zero_token ∷ z) (placed_member x.at n (Num (pos 0))) z
+zero_member is z = named is refl (alone (number refl))
+
+value_keeps : (x e : Placed) (n : List ℕ) → name x ≡ Some n → Is t.Assign e → Keeps (λ m b r. SpellsMember (x ∷ e ∷ m) b r) (read.value x.at n)
+unfolding read.value
+value_keeps x e n is also = bind_keeps (λ a. pure (placed_member x.at n a)) expression_keeps (λ a. pure_keeps (λ z s d. named is also d))
+
+path_keeps : (x : Placed) (v : List ℕ) → variable x ≡ Some v → Keeps (λ m b r. SpellsMember (x ∷ m) b r) (read.path x.at v)
+unfolding read.path expr.points
+path_keeps x v is = bind_keeps {X = λ m a r. Spells Post (x ∷ m) a r} (λ a. pure (placed_member x.at (last_name a) a))
+    (map_keeps (λ m a r h. h (x ∷ m) (first (var is))) (fresh_keeps (loop_keeps tt (Behind Post) expr.point_next points_keep (Var v)))) (λ a. pure_keeps (λ z s d. path is d))
+
+member_short : (x : Placed) (n : List ℕ) → name x ≡ Some n → Goes (λ m b r. SpellsMember (x ∷ m) b r) []
+member_short x n is = record { more = at_start t.Assign ∷ zero_token ∷ []; tree = placed_member x.at n (Num (pos 0)); spells = λ z. zero_member is z }
+
+path_fits : (x : Placed) (n : List ℕ) → name x ≡ Some n → (o : Option (List ℕ)) → variable x ≡ o → (k : ℕ) (s : Tokens) → Fits (λ m b r. SpellsMember (x ∷ m) b r) (read.path_as x o) k s (read.path_as x o k s)
+path_fits x n is (Some v) e k s = (path_keeps x v e).fits k s
+path_fits x n is None e k s = refuse_at {X = λ m b r. SpellsMember (x ∷ m) b r} tt (member_short x n is) k s
+
+value_token : (x : Placed) (n : List ℕ) → name x ≡ Some n → (y : Placed) (o : Option (Unit {0})) → the t.Assign y ≡ o → (k : ℕ) (s : Tokens) →
+    Fits (λ m b r. SpellsMember (x ∷ m) b r) (read.value_as x n o) k (y ∷ s) (read.value_as x n o k (y ∷ s))
+value_token x n is y (Some v) e k s = skip_at (λ m b r. SpellsMember (x ∷ m) b r) (read.value x.at n) y (value_keeps x y n is (taken_is t.Assign y v e)) k s
+value_token x n is y None e k s = path_fits x n is (variable x) refl k _
+
+member_any : Goes SpellsMember []
+member_any = record {
+  more = at_start word_new ∷ at_start t.Assign ∷ zero_token ∷ [];
+  tree = placed_member 0 (codes "new") (Num (pos 0));
+  spells = λ z. zero_member {x = at_start word_new} refl z;
+}
+
+member_token : (x : Placed) (o : Option (List ℕ)) → name x ≡ o → (k : ℕ) (s : Tokens) → Fits SpellsMember (read.member_as x o) k (x ∷ s) (read.member_as x o k (x ∷ s))
+member_token x (Some n) is k s = skip_at SpellsMember (choose (read.value_by x n)) x
+    (choose_keeps (λ m b r. SpellsMember (x ∷ m) b r) (read.value_by x n) (member_short x n is) (λ k. path_fits x n is (variable x) refl k []) (λ y. value_token x n is y (the t.Assign y) refl)) k s
+member_token x None is k s = refuse_at {X = SpellsMember} tt member_any k _
+
+member_keeps : Keeps SpellsMember read.member
+unfolding read.member
+member_keeps = choose_keeps SpellsMember read.member_by member_any (λ k. refuse_at {X = SpellsMember} tt member_any k []) (λ x. member_token x (name x) refl)
+
+-- ---- the members
+
+-- behind those found, up to the brace
+abbrev pub BehindMembers : List PlacedMember → Tokens → List PlacedMember → Tokens → Type 0
+BehindMembers found s all r = (ms : List PlacedMember) × SpellsMembers s ms r × (all ≡ found ++ ms)
+
+any_members : (found : List PlacedMember) → Goes (BehindMembers found) []
+any_members found = record {
+  more = at_start word_new ∷ at_start t.Assign ∷ zero_token ∷ at_start t.CloseBrace ∷ [];
+  tree = found ++ placed_member 0 (codes "new") (Num (pos 0)) ∷ [];
+  spells = λ z. (placed_member 0 (codes "new") (Num (pos 0)) ∷ [], last (zero_member {x = at_start word_new} refl (at_start t.CloseBrace ∷ z)) refl, refl);
+}
+
+no_room_at : (found : List PlacedMember) (x : Placed) (o : Option (List ℕ)) → name x ≡ o → (k : ℕ) (s : Tokens) →
+    Fits (BehindMembers found) (read.no_room_as o) k (x ∷ s) (read.no_room_as o k (x ∷ s))
+no_room_at found x (Some n) is k s = too_large_at {X = BehindMembers found} tt (record {
+  more = at_start t.Assign ∷ zero_token ∷ at_start t.CloseBrace ∷ [];
+  tree = found ++ placed_member x.at n (Num (pos 0)) ∷ [];
+  spells = λ z. (placed_member x.at n (Num (pos 0)) ∷ [], last (zero_member is (at_start t.CloseBrace ∷ z)) refl, refl);
+}) k s
+no_room_at found x None is k s = refuse_at {X = BehindMembers found} tt (any_members found) k _
+
+module _ (next : List PlacedMember → Reads (List PlacedMember)) (found : List PlacedMember) (a : PlacedMember) (goes_on : Keeps (BehindMembers (found ++ a ∷ [])) (next (found ++ a ∷ []))) where
+  brace_keeps : (q : Placed) → Is t.CloseBrace q → Keeps {K = Kind} (λ m b r. Then SpellsMember (BehindMembers found) a (q ∷ m) b r) (pure (found ++ a ∷ []))
+  brace_keeps q is = pure_keeps (λ z s d. (a ∷ [], last d is, refl))
+
+  comma_brace_keeps : (k q : Placed) → Is t.Comma k → Is t.CloseBrace q → Keeps {K = Kind} (λ m b r. Then SpellsMember (BehindMembers found) a (k ∷ q ∷ m) b r) (pure (found ++ a ∷ []))
+  comma_brace_keeps k q comma is = pure_keeps (λ z s d. (a ∷ [], last_comma d comma is, refl))
+
+  next_keeps : (k : Placed) → Is t.Comma k → Keeps (λ m b r. Then SpellsMember (BehindMembers found) a (k ∷ m) b r) (next (found ++ a ∷ []))
+  next_keeps k comma = map_keeps (λ m b r h s d. (a ∷ h.0, more d comma h.1, h.2 ∙ append_assoc found (a ∷ []) h.0)) goes_on
+
+  comma_token : (k : Placed) → Is t.Comma k → (x : Placed) (o : Option (Unit {0})) → the t.CloseBrace x ≡ o → (n : ℕ) (s : Tokens) →
+      Fits (λ m b r. Then SpellsMember (BehindMembers found) a (k ∷ m) b r) (read.after_comma_as next (found ++ a ∷ []) o) n (x ∷ s) (read.after_comma_as next (found ++ a ∷ []) o n (x ∷ s))
+  comma_token k comma x (Some v) e n s = skip_at (λ m b r. Then SpellsMember (BehindMembers found) a (k ∷ m) b r) (pure (found ++ a ∷ [])) x (comma_brace_keeps k x comma (taken_is t.CloseBrace x v e)) n s
+  comma_token k comma x None e n s = (next_keeps k comma).fits n _
+
+  comma_keeps : (k : Placed) → Is t.Comma k → Keeps (λ m b r. Then SpellsMember (BehindMembers found) a (k ∷ m) b r) (choose (read.after_comma_by next (found ++ a ∷ [])))
+  comma_keeps k comma = choose_keeps (λ m b r. Then SpellsMember (BehindMembers found) a (k ∷ m) b r) (read.after_comma_by next (found ++ a ∷ [])) (next_keeps k comma).short
+      (λ n. (next_keeps k comma).fits n []) (λ x. comma_token k comma x (the t.CloseBrace x) refl)
+
+  brace_short : Goes (Then SpellsMember (BehindMembers found) a) []
+  brace_short = skip_short (Then SpellsMember (BehindMembers found) a) (pure (found ++ a ∷ [])) (at_start t.CloseBrace) (brace_keeps (at_start t.CloseBrace) refl)
+
+  after_token : (x : Placed) (u : Token) → Is u x → (n : ℕ) (s : Tokens) →
+      Fits (Then SpellsMember (BehindMembers found) a) (read.after_as next (found ++ a ∷ []) u) n (x ∷ s) (read.after_as next (found ++ a ∷ []) u n (x ∷ s))
+  after_token x t.CloseBrace is n s = skip_at (Then SpellsMember (BehindMembers found) a) (pure (found ++ a ∷ [])) x (brace_keeps x is) n s
+  after_token x t.Comma is n s = skip_at (Then SpellsMember (BehindMembers found) a) (choose (read.after_comma_by next (found ++ a ∷ []))) x (comma_keeps x is) n s
+  after_token x _ is n s = refuse_at {X = Then SpellsMember (BehindMembers found) a} tt brace_short n _
+
+  after_keeps : Keeps (Then SpellsMember (BehindMembers found) a) (choose (read.after_by next (found ++ a ∷ [])))
+  after_keeps = choose_keeps (Then SpellsMember (BehindMembers found) a) (read.after_by next (found ++ a ∷ [])) brace_short
+      (λ n. refuse_at {X = Then SpellsMember (BehindMembers found) a} tt brace_short n []) (λ x. after_token x x.token refl)
+
+members_keep : (room : ℕ) (found : List PlacedMember) → Keeps (BehindMembers found) (read.members room found)
+unfolding read.members
+members_keep zero found = choose_keeps (BehindMembers found) read.no_room_by (any_members found) (λ n. refuse_at {X = BehindMembers found} tt (any_members found) n []) (λ x. no_room_at found x (name x) refl)
+members_keep (suc room) found = bind_keeps (λ a. choose (read.after_by (read.members room) (found ++ a ∷ []))) member_keeps (λ a. after_keeps (read.members room) found a (members_keep room (found ++ a ∷ [])))
+
+all_members_keep : Keeps SpellsMembers (read.members most_members [])
+all_members_keep = map_keeps (λ s b r h. by s b r h.0 h.1 h.2) (members_keep most_members [])
+  where
+    by : (s : Tokens) (b : List PlacedMember) (r : Tokens) (ms : List PlacedMember) → SpellsMembers s ms r → b ≡ ms → SpellsMembers s b r
+    by s b r ms d e = rw e d
+
+-- ---- the whole text
+
+pub map_text_keeps : Keeps SpellsMap read.map_text
+unfolding read.map_text
+map_text_keeps = bind_keeps {X = SpellsOrigin} (λ o. read.clauses [] >>= λ cs. take tt (the word_select) >>= λ _. take tt (the word_new) >>= λ _. take tt (the t.OpenBrace) >>= λ _. read.members most_members [] >>= λ ms. take tt (the t.End) >>= λ _. pure (spelled_map o cs ms)) origin_keeps
+    (λ o. bind_keeps {X = SpellsClauses} (λ cs. take tt (the word_select) >>= λ _. take tt (the word_new) >>= λ _. take tt (the t.OpenBrace) >>= λ _. read.members most_members [] >>= λ ms. take tt (the t.End) >>= λ _. pure (spelled_map o cs ms)) all_clauses_keep
+    (λ cs. the_keeps word_select refl (λ x is. the_keeps word_new refl (λ y also. the_keeps t.OpenBrace refl (λ p opening. bind_keeps {X = SpellsMembers} (λ ms. take tt (the t.End) >>= λ _. pure (spelled_map o cs ms)) all_members_keep
+    (λ ms. the_keeps t.End refl (λ e end. pure_keeps (λ z s_members d_members s_clauses d_clauses s d. map d d_clauses is also opening d_members end))))))))
