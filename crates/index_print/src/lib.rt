@@ -2,10 +2,14 @@
 #![tactic(auto)]
 
 mod expressions;
+mod laws;
 mod maps;
 mod quoting;
 mod reduces;
 
 pub use expressions::print_expression;
+pub use laws::{
+    printed_expressions_are_spelled, printed_maps_are_read_back, printed_maps_are_spelled,
+};
 pub use maps::print_map;
 pub use reduces::print_reduce;

@@ -1,0 +1,30 @@
+//! The laws of printing, each the contract of a function without a body.
+
+ghost use Rattle.std.specs.Prelude.{◌≡◌, ◌++◌, ℕ, List, []};
+ghost use Rattle.index_grammar.specs.Expressions.{Spells, Whole};
+ghost use Rattle.index_grammar.specs.MapReading.{map_text};
+ghost use Rattle.index_grammar.specs.Maps.{SpellsMap};
+ghost use Rattle.index_grammar.specs.View.{query_of};
+ghost use Rattle.index_grammar.specs.declared.spelled.SpelledMap.{SpelledMap};
+ghost use Rattle.index_print.specs.Print.{printed, printed_map};
+ghost use Rattle.index_print.specs.ReadBack.{ReadsBack};
+ghost use Rattle.index_print.specs.Spellable.{IsSpellable, IsSpellableMap, IsApart};
+ghost use Rattle.index_tokens.specs.Tokens.{tokens_from, tokens_of};
+ghost use Rattle.index_tree.specs.Trees.{Tree};
+ghost use Rattle.index_tree.specs.declared.map_query.MapQuery.{MapQuery};
+
+/// The tokens of a printed expression spell that expression, whatever is behind it that begins with no byte of a name.
+pub fn printed_expressions_are_spelled()
+    ensures { (x : Tree) → IsSpellable x → (place : ℕ) (s : List ℕ) → IsApart s →
+        (behind : ℕ) × Spells Whole (tokens_from place 0 (printed x ++ s)) x (tokens_from behind 0 s) }
+{}
+
+/// The tokens of a printed map spell that map.
+pub fn printed_maps_are_spelled()
+    ensures { (query : MapQuery) → IsSpellableMap query → (spelled : SpelledMap) × SpellsMap (tokens_of (printed_map query)) spelled [] × (query_of spelled ≡ query) }
+{}
+
+/// A printed map is read as that map, unless it is past a limit.
+pub fn printed_maps_are_read_back()
+    ensures { (query : MapQuery) → IsSpellableMap query → ReadsBack query (map_text 0 (tokens_of (printed_map query))) }
+{}
