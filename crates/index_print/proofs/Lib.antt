@@ -6,3 +6,5 @@ pub mod Digits
 pub mod Fronts
 pub mod ExpressionSpells
 pub mod MapSpells
+pub mod TokensSound
+pub mod TreesSpellable

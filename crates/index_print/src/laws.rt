@@ -10,6 +10,7 @@ ghost use Rattle.index_print.specs.Print.{printed, printed_map};
 ghost use Rattle.index_print.specs.ReadBack.{ReadsBack};
 ghost use Rattle.index_print.specs.Spellable.{IsSpellable, IsSpellableMap, IsApart};
 ghost use Rattle.index_tokens.specs.Tokens.{tokens_from, tokens_of};
+ghost use Rattle.index_tokens.specs.Words.{Tokens};
 ghost use Rattle.index_tree.specs.Trees.{Tree};
 ghost use Rattle.index_tree.specs.declared.map_query.MapQuery.{MapQuery};
 
@@ -27,4 +28,14 @@ pub fn printed_maps_are_spelled()
 /// A printed map is read as that map, unless it is past a limit.
 pub fn printed_maps_are_read_back()
     ensures { (query : MapQuery) → IsSpellableMap query → ReadsBack query (map_text 0 (tokens_of (printed_map query))) }
+{}
+
+/// What the tokens of a text spell can be printed.
+pub fn spelled_expressions_are_spellable()
+    ensures { (bytes : List ℕ) (x : Tree) (r : Tokens) → Spells Whole (tokens_of bytes) x r → IsSpellable x }
+{}
+
+/// Each map that the tokens of a text spell can be printed.
+pub fn spelled_maps_are_spellable()
+    ensures { (bytes : List ℕ) (spelled : SpelledMap) (r : Tokens) → SpellsMap (tokens_of bytes) spelled r → IsSpellableMap (query_of spelled) }
 {}
