@@ -1,0 +1,3 @@
+pub mod Reduces
+pub mod Limits
+pub mod ReduceReading

@@ -1,0 +1,50 @@
+//! What tokens spell: a reduce, and where its parts stand.
+use index_tree::{FoldMember, Texts};
+use raven_base::Sequence;
+use raven_value::Text;
+
+/// How a key is written.
+#[derive(Debug, Drop)]
+pub enum KeyForm {
+    /// One part by itself.
+    Alone(Text),
+    /// Parts in `new { }`.
+    New(Texts),
+}
+
+/// A key, and where it stands.
+#[derive(Debug, Drop)]
+pub struct SpelledKey {
+    /// Where the first byte of its first token stands, counted from 0.
+    pub at: usize,
+    pub form: KeyForm,
+}
+
+/// A member, and where it stands.
+#[derive(Debug, Drop)]
+pub struct PlacedFold {
+    /// Where the first byte of its first token stands, counted from 0.
+    pub at: usize,
+    pub member: FoldMember,
+}
+
+/// Members in order.
+pub type PlacedFolds = Sequence<PlacedFold>;
+
+/// A reduce as it is spelled.
+#[derive(Debug, Drop)]
+pub struct SpelledReduce {
+    /// The name of an entry.
+    pub var: Text,
+
+    /// The name of a group.
+    pub group: Text,
+
+    /// Where the first byte of the key's first token stands, counted from 0.
+    pub key_at: usize,
+
+    /// The names of the key's parts.
+    pub key: Texts,
+
+    pub members: PlacedFolds,
+}
