@@ -167,3 +167,17 @@ colon_next = between_gaps 58 t.Colon (refl, refl, λ e. omega arith, refl) refl 
 
 pub assign_next : (place : ℕ) (s : List ℕ) → Next t.Assign place (32 ∷ 61 ∷ 32 ∷ s) s
 assign_next = between_gaps 61 t.Assign (refl, refl, λ e. omega arith, refl) refl refl
+
+-- a word and the gap behind it
+pub word_gap : (w : List ℕ) → IsName w → (place : ℕ) (s : List ℕ) → Next (t.Word w) place (w ++ 32 ∷ s) s
+word_gap w name place s = before_gap place _ s (t.Word w) (word_next w name place (32 ∷ s) refl)
+
+pub gap_word_gap : (w : List ℕ) → IsName w → (place : ℕ) (s : List ℕ) → Next (t.Word w) place (32 ∷ (w ++ 32 ∷ s)) s
+gap_word_gap w name place s = behind_gap place _ s (t.Word w) (word_gap w name (place + 1) s)
+
+pub brace_gap : (place : ℕ) (s : List ℕ) → Next t.OpenBrace place (123 ∷ 32 ∷ s) s
+brace_gap place s = before_gap place _ s t.OpenBrace (mark_next 123 t.OpenBrace (refl, refl, λ e. omega arith, refl) refl place (32 ∷ s) refl)
+
+-- with the gap before it
+pub close_brace_next : (place : ℕ) (s : List ℕ) → Next t.CloseBrace place (32 ∷ 125 ∷ s) s
+close_brace_next place s = behind_gap place _ s t.CloseBrace (mark_next 125 t.CloseBrace (refl, refl, λ e. omega arith, refl) refl (place + 1) s (any_alone 125 (λ c. refl) s))

@@ -8,3 +8,4 @@ pub mod ExpressionSpells
 pub mod MapSpells
 pub mod TokensSound
 pub mod TreesSpellable
+pub mod ReduceSpells

@@ -26,22 +26,8 @@ use Rattle.index_tokens.specs.declared.token.Placed.{Placed}
 use Rattle.index_print.specs.ReadBack.{ReadsBack}
 use Rattle.index_print.specs.Print.{printed, listed, clause, member, origin, printed_map}
 use Rattle.index_print.specs.Spellable.{IsName, IsVariable, IsSpellableClause, IsSpellableMember, Each, IsSome, IsSpellableMap, IsApart}
-use Rattle.index_print.proofs.Fronts.{Next, behind_gap, before_gap, word_next, mark_next, point_next, comma_next, assign_next}
+use Rattle.index_print.proofs.Fronts.{Next, word_next, word_gap, gap_word_gap, point_next, comma_next, assign_next, brace_gap, close_brace_next}
 use Rattle.index_print.proofs.ExpressionSpells.{After, up_to, from_on, expression_spelled}
-
--- a word and the gap behind it
-word_gap : (w : List ℕ) → IsName w → (place : ℕ) (s : List ℕ) → Next (t.Word w) place (w ++ 32 ∷ s) s
-word_gap w name place s = before_gap place _ s (t.Word w) (word_next w name place (32 ∷ s) refl)
-
--- with gaps on both sides
-gap_word_gap : (w : List ℕ) → IsName w → (place : ℕ) (s : List ℕ) → Next (t.Word w) place (32 ∷ (w ++ 32 ∷ s)) s
-gap_word_gap w name place s = behind_gap place _ s (t.Word w) (word_gap w name (place + 1) s)
-
-brace_gap : (place : ℕ) (s : List ℕ) → Next t.OpenBrace place (123 ∷ 32 ∷ s) s
-brace_gap place s = before_gap place _ s t.OpenBrace (mark_next 123 t.OpenBrace (refl, refl, λ e. omega arith, refl) refl place (32 ∷ s) refl)
-
-gap_brace_alone : (place : ℕ) → Next t.CloseBrace place (32 ∷ 125 ∷ []) []
-gap_brace_alone place = behind_gap place _ [] t.CloseBrace (mark_next 125 t.CloseBrace (refl, refl, λ e. omega arith, refl) refl (place + 1) [] tt)
 
 -- ---- which documents
 
@@ -152,7 +138,7 @@ members_spelled : (m : MapMember) (ms : List MapMember) → Each IsSpellableMemb
     → After (SpelledMembers (m ∷ ms)) place (listed (map member (m ∷ ms)) ++ (32 ∷ 125 ∷ [])) []
 members_spelled m [] h place =
     let one = member_spelled m h.0 place (32 ∷ 125 ∷ []) refl in
-    let brace = gap_brace_alone one.behind in
+    let brace = close_brace_next one.behind [] in
     let spelled = up_to (SpelledMember m) t.CloseBrace place (member m ++ (32 ∷ 125 ∷ [])) (32 ∷ 125 ∷ []) [] one brace in
     record {
       behind = brace.behind;

@@ -6,6 +6,10 @@ use Rattle.index_tree.specs.declared.map_query.Clause.{Clause}
 use Rattle.index_tree.specs.declared.map_query.Clause.TheVariants as c
 use Rattle.index_tree.specs.declared.map_query.MapMember.{MapMember}
 use Rattle.index_tree.specs.declared.map_query.MapQuery.{MapQuery}
+use Rattle.index_tree.specs.declared.reduce_query.FoldMember.{FoldMember}
+use Rattle.index_tree.specs.declared.reduce_query.FoldValue.{FoldValue}
+use Rattle.index_tree.specs.declared.reduce_query.FoldValue.TheVariants as f
+use Rattle.index_tree.specs.declared.reduce_query.ReduceQuery.{ReduceQuery}
 use Rattle.index_tree.specs.Trees.{Tree, If, Binary, Unary, Dot, Load, Num, Quoted, Flag, Null, Var}
 use Rattle.index_print.specs.Print.{escape_letter}
 
@@ -61,6 +65,23 @@ IsSome (x ∷ xs) = Unit {0}
 abbrev pub IsSpellableMap : MapQuery → Type 0
 IsSpellableMap query =
     IsVariable query.var × IsName query.collection × Each IsSpellableClause query.clauses × IsSome query.members × Each IsSpellableMember query.members
+
+-- the only part of the key, or one of several names
+abbrev pub IsKeyPart : List (List ℕ) → List ℕ → Type 0
+IsKeyPart (only ∷ []) name = name ≡ only
+IsKeyPart names name = IsName name
+
+abbrev pub IsSpellableValue : List (List ℕ) → FoldValue → Type 0
+IsSpellableValue names (f.Key name) = IsKeyPart names name
+IsSpellableValue names (f.Fold kind var field) = IsVariable var × IsName field
+
+abbrev pub IsSpellableFold : List (List ℕ) → FoldMember → Type 0
+IsSpellableFold names m = IsName m.name × IsSpellableValue names m.value
+
+-- It has a key and a member, and each name in it is one.
+abbrev pub IsSpellableReduce : ReduceQuery → Type 0
+IsSpellableReduce query =
+    IsVariable query.var × IsVariable query.group × IsSome query.key × Each IsName query.key × IsSome query.members × Each (IsSpellableFold query.key) query.members
 
 -- ---- what may stand behind
 

@@ -6,13 +6,17 @@ ghost use Rattle.index_grammar.specs.MapReading.{map_text};
 ghost use Rattle.index_grammar.specs.Maps.{SpellsMap};
 ghost use Rattle.index_grammar.specs.View.{query_of};
 ghost use Rattle.index_grammar.specs.declared.spelled.SpelledMap.{SpelledMap};
-ghost use Rattle.index_print.specs.Print.{printed, printed_map};
-ghost use Rattle.index_print.specs.ReadBack.{ReadsBack};
-ghost use Rattle.index_print.specs.Spellable.{IsSpellable, IsSpellableMap, IsApart};
+ghost use Rattle.index_print.specs.Print.{printed, printed_map, printed_reduce};
+ghost use Rattle.index_print.specs.ReadBack.{ReadsBack, ReadsBackReduce, reduce_of};
+ghost use Rattle.index_print.specs.Spellable.{IsSpellable, IsSpellableMap, IsSpellableReduce, IsApart};
 ghost use Rattle.index_tokens.specs.Tokens.{tokens_from, tokens_of};
 ghost use Rattle.index_tokens.specs.Words.{Tokens};
 ghost use Rattle.index_tree.specs.Trees.{Tree};
 ghost use Rattle.index_tree.specs.declared.map_query.MapQuery.{MapQuery};
+ghost use Rattle.index_tree.specs.declared.reduce_query.ReduceQuery.{ReduceQuery};
+ghost use Rattle.reduce_grammar.specs.ReduceReading.{reduce_text};
+ghost use Rattle.reduce_grammar.specs.Reduces.{SpellsReduce};
+ghost use Rattle.reduce_grammar.specs.declared.spelled.SpelledReduce.{SpelledReduce};
 
 /// The tokens of a printed expression spell that expression, whatever is behind it that begins with no byte of a name.
 pub fn printed_expressions_are_spelled()
@@ -38,4 +42,14 @@ pub fn spelled_expressions_are_spellable()
 /// Each map that the tokens of a text spell can be printed.
 pub fn spelled_maps_are_spellable()
     ensures { (bytes : List ℕ) (spelled : SpelledMap) (r : Tokens) → SpellsMap (tokens_of bytes) spelled r → IsSpellableMap (query_of spelled) }
+{}
+
+/// The tokens of a printed reduce spell that reduce.
+pub fn printed_reduces_are_spelled()
+    ensures { (query : ReduceQuery) → IsSpellableReduce query → (spelled : SpelledReduce) × SpellsReduce (tokens_of (printed_reduce query)) spelled [] × (reduce_of spelled ≡ query) }
+{}
+
+/// A printed reduce is read as that reduce, unless it is past a limit.
+pub fn printed_reduces_are_read_back()
+    ensures { (query : ReduceQuery) → IsSpellableReduce query → ReadsBackReduce query (reduce_text 0 (tokens_of (printed_reduce query))) }
 {}
