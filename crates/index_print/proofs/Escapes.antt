@@ -1,8 +1,8 @@
 -- Escapes of whole characters.
-use Rattle.std.proofs.Common.{◌≡◌, ◌≢◌, ℕ, suc, ◌<◌, ◌≤◌, List, [], ◌∷◌, ◌++◌, length, get_or, flat_map, encode_utf8, inl, inr, refl, sym, ap, ap₂, ◌∙◌, arith, append_assoc, append-nil, ne_eqb, Some, None}
+use Rattle.std.proofs.Common.{◌≡◌, ◌≢◌, ℕ, suc, ◌<◌, ◌≤◌, List, [], ◌∷◌, ◌++◌, length, get_or, flat_map, encode_utf8, inl, inr, refl, sym, ap₂, arith, append-nil, ne_eqb}
 use Rattle.std.proofs.lemmas.Bool.{cases_lt}
 use Rattle.std.proofs.lemmas.Str.{encode_ascii, inside_one}
-use Rattle.index_print.specs.Print.{escape_letter, behind_backslash, escaped}
+use Rattle.index_print.specs.Print.{escaped}
 
 stands : (b : ℕ) → b ≢ 34 → b ≢ 92 → b ≢ 10 → b ≢ 13 → b ≢ 9 → escaped b ≡ b ∷ []
 stands b quote slash feed return tab = rw (ne_eqb b 34 quote) (rw (ne_eqb b 92 slash) (rw (ne_eqb b 10 feed) (rw (ne_eqb b 13 return) (rw (ne_eqb b 9 tab) refl))))

@@ -1,6 +1,5 @@
 -- The tokens of a printed expression spell it.
-use Rattle.std.proofs.Common.{◌≡◌, ◌≢◌, ◌<◌, ◌≤◌, ℕ, zero, suc, pos, negsuc, List, [], ◌∷◌, ◌++◌, length, refl, sym, subst, ap, ◌∙◌, append_assoc, arith, codes, Some, None, Bool, true, false, ne_eqb, flat_map}
-use Rattle.std.proofs.lemmas.Grind.{common_steps}
+use Rattle.std.proofs.Common.{◌≡◌, ◌≢◌, ◌<◌, ℕ, zero, suc, pos, negsuc, List, [], ◌∷◌, ◌++◌, length, refl, sym, subst, ap, ◌∙◌, append_assoc, arith, codes, None, Bool, true, false, ne_eqb}
 use Rattle.std.proofs.lemmas.Bool.{and_parts}
 use Rattle.std.specs.Fmt.{decimal}
 use Rattle.std.specs.List.{list_all}
@@ -19,7 +18,7 @@ use Rattle.index_grammar.specs.Expressions.{Rule, Whole, Level, Post, Primary, S
 use Rattle.index_print.specs.Print.{sign, mark, is_compound, in_parentheses_if, printed, operand, quoted}
 use Rattle.index_print.specs.Spellable.{IsSpellable, IsVariable, IsApart}
 use Rattle.index_print.proofs.Digits.{digits}
-use Rattle.index_print.proofs.Fronts.{Next, IsAlone, IsMark, word_next, number_next, quoted_next, open_next, close_next, point_next, dash_next, bang_next, comma_next, question_next, colon_next, between_gaps, double_between_gaps}
+use Rattle.index_print.proofs.Fronts.{Next, IsAlone, word_next, number_next, quoted_next, open_next, close_next, point_next, dash_next, bang_next, comma_next, question_next, colon_next, between_gaps, double_between_gaps}
 
 -- The tokens of the first bytes up to those of the second, at some places, are these.
 pub record After (X : Tokens → Tokens → Type 0) (place : ℕ) (s r : List ℕ) : Type 0 where

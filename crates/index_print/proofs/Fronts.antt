@@ -1,5 +1,5 @@
 -- The first token of printed bytes, and what is behind it.
-use Rattle.std.proofs.Common.{◌≡◌, ◌≢◌, ◌<◌, ◌≤◌, ◌+◌, ◌-◌, ℕ, suc, zero, List, [], ◌∷◌, ◌++◌, length, take, drop, arith, refl, sym, subst, ap, ap₂, ◌∙◌, add-one, append_assoc, Option, Some, None, Bool, true, false, ne_eqb, flat_map, pos}
+use Rattle.std.proofs.Common.{◌≡◌, ◌≢◌, ◌<◌, ◌≤◌, ◌+◌, ℕ, List, [], ◌∷◌, ◌++◌, length, take, drop, arith, refl, sym, subst, ap, ap₂, ◌∙◌, add-one, append_assoc, Option, Some, None, Bool, true, false, flat_map, pos}
 use Rattle.std.proofs.Math.Seq.{take-append_seam, drop-append_seam, drop-append-add}
 use Rattle.std.proofs.lemmas.Bool.{and_parts}
 use Rattle.std.proofs.lemmas.Grind.{common_steps}
@@ -8,7 +8,6 @@ use Rattle.std.specs.Fmt.{decimal}
 use Rattle.std.specs.List.{list_all}
 use Rattle.index_tokens.specs.declared.token.Token.{Token}
 use Rattle.index_tokens.specs.declared.token.Token.TheVariants as t
-use Rattle.index_tokens.specs.declared.token.Placed.{Placed}
 use Rattle.index_tokens.specs.Spelling.{is_blank, is_letter, is_digit, is_name_byte, number_of, max_number, single, double}
 use Rattle.index_tokens.specs.Tokens.{placed, or_shorter, or_all, first_token, tokens_from}
 use Rattle.index_tokens.specs.Passes.{run, text_from, word_front, number_front, quoted_front, mark_at, mark_front}

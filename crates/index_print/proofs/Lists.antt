@@ -1,5 +1,5 @@
 -- Lists with commas, part by part.
-use Rattle.std.proofs.Common.{List, ℕ, [], ◌∷◌, ◌++◌, Bool, true, false, flat_map, codes}
+use Rattle.std.proofs.Common.{List, ℕ, ◌++◌, Bool, true, false, flat_map, codes}
 use Rattle.index_print.specs.Print.{listed}
 
 -- the parts that are left, behind others or as the first

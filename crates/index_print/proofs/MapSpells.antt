@@ -1,6 +1,5 @@
 -- The tokens of a printed map spell it.
-use Rattle.std.proofs.Common.{◌≡◌, ℕ, ◌+◌, List, [], ◌∷◌, ◌++◌, arith, refl, sym, subst, ap, ◌∙◌, append_assoc, append-nil, codes, Some, map, flat_map}
-use Rattle.index_tokens.specs.declared.token.Token.{Token}
+use Rattle.std.proofs.Common.{◌≡◌, ℕ, List, [], ◌∷◌, ◌++◌, refl, sym, subst, ap, ◌∙◌, append_assoc, append-nil, codes, map, flat_map}
 use Rattle.index_tokens.specs.declared.token.Token.TheVariants as t
 use Rattle.index_tokens.specs.Tokens.{placed, tokens_from, tokens_of}
 use Rattle.index_tokens.specs.Words.{Tokens}
@@ -12,7 +11,6 @@ use Rattle.index_tree.specs.declared.map_query.MapQuery.{MapQuery}
 use Rattle.index_tree.specs.Trees.{Tree}
 use Rattle.index_grammar.specs.declared.spelled.PlacedMember.{PlacedMember}
 use Rattle.index_grammar.specs.declared.spelled.SpelledMap.{SpelledMap}
-use Rattle.index_grammar.specs.Expressions.{Whole, Spells}
 use Rattle.index_grammar.specs.Maps.{SpellsOrigin, origin_of, SpellsClause, filter, binding, SpellsClauses, no_clause, next_clause, placed_member, SpellsMember, named, SpellsMembers, last, more, spelled_map, SpellsMap}
 use Rattle.index_grammar.specs.Maps as grammar
 use Rattle.index_grammar.specs.View.{query_of}
@@ -26,7 +24,7 @@ use Rattle.index_tokens.specs.declared.token.Placed.{Placed}
 use Rattle.index_print.specs.ReadBack.{ReadsBack}
 use Rattle.index_print.specs.Print.{printed, listed, clause, member, origin, printed_map}
 use Rattle.index_print.specs.Spellable.{IsName, IsVariable, IsSpellableClause, IsSpellableMember, Each, IsSome, IsSpellableMap, IsApart}
-use Rattle.index_print.proofs.Fronts.{Next, word_next, word_gap, gap_word_gap, point_next, comma_next, assign_next, brace_gap, close_brace_next}
+use Rattle.index_print.proofs.Fronts.{word_next, word_gap, gap_word_gap, point_next, comma_next, assign_next, brace_gap, close_brace_next}
 use Rattle.index_print.proofs.ExpressionSpells.{After, up_to, from_on, expression_spelled}
 
 -- ---- which documents

@@ -1,8 +1,8 @@
 -- A printed text is read as its value.
-use Rattle.std.proofs.Common.{◌≡◌, ◌≢◌, ◌<◌, ◌+◌, ℕ, suc, List, [], ◌∷◌, ◌++◌, length, arith, refl, sym, ap, ap₂, ◌∙◌, append_assoc, append-nil, Option, Some, None, Bool, true, false, inl, inr, ne_eqb, flat_map}
+use Rattle.std.proofs.Common.{◌≡◌, ◌≢◌, ◌<◌, ◌+◌, ℕ, List, [], ◌∷◌, ◌++◌, length, arith, refl, sym, ap, ap₂, ◌∙◌, append_assoc, append-nil, Option, Some, None, true, false, inl, inr, ne_eqb, flat_map}
 use Rattle.std.proofs.lemmas.Bool.{cases_eq, and_parts}
 use Rattle.std.proofs.lemmas.List.{length-append}
-use Rattle.std.specs.Prelude.{◌==◌, ◌||◌, is_some, option_and_then}
+use Rattle.std.specs.Prelude.{◌||◌, is_some, option_and_then}
 use Rattle.std.specs.List.{list_all}
 use Rattle.index_tokens.specs.Spelling.{meant_by, is_raw}
 use Rattle.index_tokens.specs.Passes.{text_from}

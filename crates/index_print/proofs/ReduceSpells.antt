@@ -1,5 +1,5 @@
 -- The tokens of a printed reduce spell it.
-use Rattle.std.proofs.Common.{◌≡◌, ℕ, ◌+◌, List, [], ◌∷◌, ◌++◌, arith, refl, sym, subst, ap, ap₂, ◌∙◌, append_assoc, append-nil, codes, Some, map, flat_map}
+use Rattle.std.proofs.Common.{◌≡◌, ℕ, List, [], ◌∷◌, ◌++◌, arith, refl, sym, subst, ap, ap₂, ◌∙◌, append_assoc, append-nil, codes, Some, map, flat_map}
 use Rattle.exact_parse.specs.Exact.{Meets}
 use Rattle.exact_parse.specs.Limits.{Verdict, Fine, Over}
 use Rattle.exact_parse.specs.Steps.{Outcome}
@@ -25,10 +25,9 @@ use Rattle.reduce_grammar.specs.Reduces.{SpellsSource, source, SpellsPart, Spell
 use Rattle.reduce_grammar.specs.Reduces as grammar
 use Rattle.reduce_grammar.proofs.ReduceMeets.{reduce_meets}
 use Rattle.index_print.specs.Print.{part, key, listed, fold_name, fold_value, fold_member, grouping, printed_reduce}
-use Rattle.index_print.specs.Print as print
 use Rattle.index_print.specs.ReadBack.{reduce_of, ReadsBackReduce}
 use Rattle.index_print.specs.Spellable.{IsName, IsVariable, IsKeyPart, IsSpellableValue, IsSpellableFold, IsSpellableReduce, Each, IsSome, IsApart}
-use Rattle.index_print.proofs.Fronts.{Next, behind_gap, word_next, word_gap, gap_word_gap, open_next, close_next, point_next, comma_next, assign_next, brace_gap, close_brace_next, double_between_gaps}
+use Rattle.index_print.proofs.Fronts.{Next, word_next, word_gap, gap_word_gap, open_next, close_next, point_next, comma_next, assign_next, brace_gap, close_brace_next, double_between_gaps}
 use Rattle.index_print.proofs.ExpressionSpells.{After, up_to}
 
 -- the token, and then these

@@ -1,5 +1,5 @@
 -- Each token of a text is one that a printed text may hold.
-use Rattle.std.proofs.Common.{◌≡◌, ◌<◌, ◌≤◌, ℕ, pos, List, [], ◌∷◌, take, arith, refl, sym, subst, ap, ap₂, ◌∙◌, Option, Some, None, Bool, true, false}
+use Rattle.std.proofs.Common.{◌≡◌, ◌≤◌, ℕ, pos, List, [], ◌∷◌, take, arith, refl, subst, ap, ap₂, ◌∙◌, Option, Some, None, Bool, true, false}
 use Rattle.std.proofs.lemmas.Grind.{common_steps}
 use Rattle.std.specs.Prelude.{◌==◌, ◌&&◌, ◌||◌, is_some, if◌then◌else◌, nat_lt, option_and_then, option_map}
 use Rattle.std.specs.List.{list_all}

@@ -4,14 +4,13 @@ use Rattle.index_tokens.specs.declared.token.Token.{Token}
 use Rattle.index_tokens.specs.declared.token.Token.TheVariants as t
 use Rattle.index_tokens.specs.declared.token.Placed.{Placed}
 use Rattle.index_tokens.specs.Tokens.{tokens_of}
-use Rattle.index_tokens.specs.Words.{Tokens, Is, word_true, word_false, word_null, word_load, name, variable_as, variable, quoted}
+use Rattle.index_tokens.specs.Words.{Tokens, Is, word_true, word_false, word_null, word_load, name, variable_as, variable}
 use Rattle.index_tokens.proofs.WordLemmas.{name_is, variable_is, quoted_is}
 use Rattle.index_tree.specs.declared.map_query.Clause.{Clause}
-use Rattle.index_tree.specs.declared.map_query.Clause.TheVariants as c
-use Rattle.index_tree.specs.Trees.{Tree, If, Binary, Unary, Dot, Load, Num, Quoted, Flag, Null, Var}
+use Rattle.index_tree.specs.Trees.{Tree}
 use Rattle.index_grammar.specs.declared.spelled.PlacedMember.{PlacedMember}
 use Rattle.index_grammar.specs.declared.spelled.SpelledMap.{SpelledMap}
-use Rattle.index_grammar.specs.Expressions.{Rule, Whole, Level, Post, Primary, Spells, plain, choice, tighter, binary, signed, post, first, point, number, text, yes, no, null, var, parens, load}
+use Rattle.index_grammar.specs.Expressions.{Rule, Whole, Post, Primary, Spells, plain, choice, tighter, binary, signed, post, first, point, number, text, yes, no, null, var, parens, load}
 use Rattle.index_grammar.specs.Maps.{Origin, SpellsOrigin, origin, SpellsClause, filter, binding, SpellsClauses, no_clause, next_clause, last_name, SpellsMember, named, path, SpellsMembers, last, last_comma, more, SpellsMap}
 use Rattle.index_grammar.specs.Maps as grammar
 use Rattle.index_grammar.specs.View.{query_of}

@@ -1,4 +1,4 @@
-use Rattle.std.proofs.Common.{◌≡◌, ◌++◌, ap, sym, ◌∙◌, string_bytes, codes}
+use Rattle.std.proofs.Common.{◌++◌, ap, sym, ◌∙◌, string_bytes, codes}
 use Rattle.std.proofs.lemmas.Result.{on_ok_weaker}
 use Rattle.index_tree.specs.View.{tree_of}
 use Rattle.index_print.specs.Print.{quoted, printed}

@@ -1,4 +1,4 @@
-use Rattle.std.proofs.Common.{◌≡◌, ◌++◌, ap, ◌∙◌, flat_map, map, codes}
+use Rattle.std.proofs.Common.{◌++◌, ap, ◌∙◌, flat_map, map, codes}
 use Rattle.index_print.specs.Print.{clause, listed, member, origin}
 use Rattle.index_print.proofs.Written.{five}
 use Rattle.index_print.proofs.maps.print_map.Goals as goal

@@ -1,4 +1,4 @@
-use Rattle.std.proofs.Common.{◌≡◌, ap, sym, ◌∙◌, string_bytes, ◌++◌, arith}
+use Rattle.std.proofs.Common.{ap, sym, ◌∙◌, string_bytes, ◌++◌, arith}
 use Rattle.index_print.proofs.Escapes.{unescaped}
 use Rattle.index_print.proofs.quoting.add_escaped.Goals as goal
 

@@ -1,4 +1,4 @@
-use Rattle.std.proofs.Common.{◌≡◌, ◌++◌, ap, ◌∙◌, map, codes}
+use Rattle.std.proofs.Common.{◌++◌, ap, ◌∙◌, map, codes}
 use Rattle.index_print.specs.Print.{grouping, listed, fold_member}
 use Rattle.index_print.proofs.Written.{six}
 use Rattle.index_print.proofs.reduces.print_reduce.Goals as goal
