@@ -50,7 +50,7 @@ source_spelled var s h place =
     let g = word_gap var h.0 e.behind (codes "by " ++ s) in
     let i = word_gap (codes "by") (refl, refl) g.behind s in
     let tokens = then (t.Word (codes "from")) place _ _ a _ (then (t.Word var) a.behind _ _ b _ (then (t.Word (codes "in")) b.behind _ _ c _ (then (t.Word (codes "results")) c.behind _ _ d _ (
-        then (t.Word (codes "group")) d.behind _ _ e _ (then (t.Word var) e.behind _ _ g _ i.is))))) in
+    then (t.Word (codes "group")) d.behind _ _ e _ (then (t.Word var) e.behind _ _ g _ i.is))))) in
     record {
       behind = i.behind;
       spells = subst (λ z. SpellsSource z var (tokens_from i.behind 0 s)) (sym tokens)
@@ -136,12 +136,15 @@ several_spelled var n names h each place s =
     let all = parts_spelled var names (n ∷ []) start h each.1 one.behind behind refl (first_part one.spells) in
     let close = close_brace_next all.behind s in
     let inner : SpellsParts (tokens_from brace.behind 0 (list ++ behind)) (n ∷ names) (placed close.start t.CloseBrace ∷ tokens_from close.behind 0 s) =
-        subst (λ z. SpellsParts (tokens_from brace.behind 0 z) (n ∷ names) (placed close.start t.CloseBrace ∷ tokens_from close.behind 0 s)) (sym (append_assoc (part var n) (others var names) behind))
-        (subst (SpellsParts start (n ∷ names)) close.is all.spells) in
+    subst (λ z. SpellsParts (tokens_from brace.behind 0 z) (n ∷ names) (placed close.start t.CloseBrace ∷ tokens_from close.behind 0 s)) (sym (append_assoc (part var n) (others var names) behind))
+    (subst (SpellsParts start (n ∷ names)) close.is all.spells) in
     record {
       behind = close.behind;
-      spells = (word.start, subst (λ z. SpellsKey (tokens_from place 0 z) (spelled_key word.start (forms.New (n ∷ names))) (tokens_from close.behind 0 s)) (key_text list s)
-          (subst (λ z. SpellsKey z (spelled_key word.start (forms.New (n ∷ names))) (tokens_from close.behind 0 s)) (sym (then (t.Word (codes "new")) place _ _ word _ brace.is)) (in_braces refl refl inner refl)));
+      spells = (
+        word.start,
+        subst (λ z. SpellsKey (tokens_from place 0 z) (spelled_key word.start (forms.New (n ∷ names))) (tokens_from close.behind 0 s)) (key_text list s)
+            (subst (λ z. SpellsKey z (spelled_key word.start (forms.New (n ∷ names))) (tokens_from close.behind 0 s)) (sym (then (t.Word (codes "new")) place _ _ word _ brace.is)) (in_braces refl refl inner refl)),
+      );
     }
 
 key_spelled : (var : List ℕ) (names : List (List ℕ)) → IsVariable var → IsSome names → Each IsName names → (place : ℕ) (s : List ℕ) → IsApart s → After (SpelledKeyOf (form_of names)) place (key var names ++ s) s
@@ -150,8 +153,11 @@ key_spelled var (only ∷ []) h some each place s apart =
     let p = part_tokens var only h.0 each.0 place s apart in
     record {
       behind = p.behind;
-      spells = (p.first_start, subst (λ z. SpellsKey z (spelled_key p.first_start (forms.Alone only)) (tokens_from p.behind 0 s)) (sym p.is)
-          (alone (is_variable (placed p.first_start (t.Word var)) var refl h.1) refl refl));
+      spells = (
+        p.first_start,
+        subst (λ z. SpellsKey z (spelled_key p.first_start (forms.Alone only)) (tokens_from p.behind 0 s)) (sym p.is)
+            (alone (is_variable (placed p.first_start (t.Word var)) var refl h.1) refl refl),
+      );
     }
 key_spelled var (a ∷ b ∷ names) h some each place s apart = several_spelled var a (b ∷ names) h each place s
 
@@ -189,10 +195,10 @@ fold_spelled g names kind var field h v n place s apart =
     let e = part_tokens var field v.0 n arrow.behind (41 ∷ s) refl in
     let close = close_next e.behind s in
     let tail : tokens_from arrow.behind 0 last_part
-            ≡ placed e.first_start (t.Word var) ∷ placed e.point_start t.Point ∷ placed e.last_start (t.Word field) ∷ placed close.start t.Close ∷ tokens_from close.behind 0 s =
-        e.is ∙ ap (λ z. placed e.first_start (t.Word var) ∷ placed e.point_start t.Point ∷ placed e.last_start (t.Word field) ∷ z) close.is in
+    ≡ placed e.first_start (t.Word var) ∷ placed e.point_start t.Point ∷ placed e.last_start (t.Word field) ∷ placed close.start t.Close ∷ tokens_from close.behind 0 s =
+    e.is ∙ ap (λ z. placed e.first_start (t.Word var) ∷ placed e.point_start t.Point ∷ placed e.last_start (t.Word field) ∷ z) close.is in
     let tokens = then (t.Word g) place _ _ a _ (then t.Point a.behind _ _ p _ (then (t.Word (fold_name kind)) p.behind _ _ w _ (then t.Open w.behind _ _ o _ (
-        then (t.Word var) o.behind _ _ x _ (then t.Arrow x.behind _ _ arrow _ tail))))) in
+    then (t.Word var) o.behind _ _ x _ (then t.Arrow x.behind _ _ arrow _ tail))))) in
     record {
       behind = close.behind;
       spells = subst (λ z. SpellsValue g (form_of names) (tokens_from place 0 z) (f.Fold kind var field) (tokens_from close.behind 0 s)) (fold_text g (fold_name kind) var field s)
@@ -317,13 +323,14 @@ reduce_by query m ms is var g some names members =
     let brace = brace_gap new_word.behind fields in
     let inner = members_spelled query.group query.key g some m ms members brace.behind in
     let tokens = then (t.Word (codes "into")) keys.behind _ _ into _ (then (t.Word query.group) into.behind _ _ named_group _ (then (t.Word (codes "select")) named_group.behind _ _ select _ (
-        then (t.Word (codes "new")) select.behind _ _ new_word _ brace.is))) in
+    then (t.Word (codes "new")) select.behind _ _ new_word _ brace.is))) in
     let opening : SpellsGroup (tokens_from keys.behind 0 tail) query.group (tokens_from brace.behind 0 fields) =
-        subst (λ z. SpellsGroup z query.group (tokens_from brace.behind 0 fields)) (sym tokens) (group refl (is_variable (placed named_group.start (t.Word query.group)) query.group refl g.1) refl refl refl) in
-    let whole = reduce entries.spells keys.spells.1 opening inner.spells.1 refl in
-    (spelled_reduce query.var (spelled_key keys.spells.0 (form_of query.key)) query.group inner.spells.0,
-    subst (λ z. SpellsReduce (tokens_of z) (spelled_reduce query.var (spelled_key keys.spells.0 (form_of query.key)) query.group inner.spells.0) []) (source_text query.var (key query.var query.key) tail) whole,
-    ap₂ (with_parts query) (same_parts query.key) (inner.spells.2 ∙ sym is))
+    subst (λ z. SpellsGroup z query.group (tokens_from brace.behind 0 fields)) (sym tokens) (group refl (is_variable (placed named_group.start (t.Word query.group)) query.group refl g.1) refl refl refl) in
+    let whole = reduce entries.spells keys.spells.1 opening inner.spells.1 refl in (
+      spelled_reduce query.var (spelled_key keys.spells.0 (form_of query.key)) query.group inner.spells.0,
+      subst (λ z. SpellsReduce (tokens_of z) (spelled_reduce query.var (spelled_key keys.spells.0 (form_of query.key)) query.group inner.spells.0) []) (source_text query.var (key query.var query.key) tail) whole,
+      ap₂ (with_parts query) (same_parts query.key) (inner.spells.2 ∙ sym is),
+    )
 
 some_by : (query : ReduceQuery) (ms : List FoldMember) → query.members ≡ ms → IsVariable query.var → IsVariable query.group → IsSome query.key → Each IsName query.key → IsSome ms
     → Each (IsSpellableFold query.key) ms

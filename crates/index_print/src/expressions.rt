@@ -104,7 +104,8 @@ fn add_operand(alloc: Global, out: &mut String, expr: &Expr) -> Result<(), NoMem
     }
 }
 
-/// The canonical spelling of an expression, as a `where` or a member's value has it.
+/// The canonical spelling of an expression, as a `where` or a member's value has it: an operand stands in parentheses where it is a
+/// conditional or has an operator of its own.
 pub fn print_expression(alloc: Global, expr: &Expr) -> Result<Text, NoMemory>
     ensures { IfOk result (λ text. text ≡ printed expr.now) }
 {

@@ -1,4 +1,4 @@
-//! The canonical spelling of maps and reduces.
+//! The canonical spelling of maps and reduces: one text for each tree, which is read back as that tree.
 #![tactic(auto)]
 
 mod expressions;

@@ -67,7 +67,8 @@ fn add_members(alloc: Global, out: &mut String, members: &MapMembers) -> Result<
     Ok(())
 }
 
-/// The canonical spelling of a map: its one text among all that spell it.
+/// The canonical spelling of a map: one text among all that spell it. A tree that no text spells, as one with a name that is none, a number
+/// below 0 or no member, is printed by the same rules, and what is printed is then no text of it.
 pub fn print_map(alloc: Global, query: &MapQuery) -> Result<Text, NoMemory>
     ensures { IfOk result (λ text. text ≡ printed_map query.now) }
 {

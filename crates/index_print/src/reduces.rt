@@ -131,7 +131,8 @@ fn add_members(
     Ok(())
 }
 
-/// The canonical spelling of a reduce: its one text among all that spell it.
+/// The canonical spelling of a reduce: one text among all that spell it. A tree that no text spells, as one with a name that is none or no
+/// part of the key, is printed by the same rules, and what is printed is then no text of it.
 pub fn print_reduce(alloc: Global, query: &ReduceQuery) -> Result<Text, NoMemory>
     ensures { IfOk result (λ text. text ≡ printed_reduce query.now) }
 {
