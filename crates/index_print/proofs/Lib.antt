@@ -9,3 +9,4 @@ pub mod MapSpells
 pub mod TokensSound
 pub mod TreesSpellable
 pub mod ReduceSpells
+pub mod ReducesSpellable

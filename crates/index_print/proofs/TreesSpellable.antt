@@ -17,10 +17,10 @@ use Rattle.index_grammar.specs.View.{query_of}
 use Rattle.index_print.specs.Spellable.{IsName, IsVariable, IsSpellable, IsSpellableClause, IsSpellableMember, Each, IsSome, IsSpellableMap}
 use Rattle.index_print.proofs.TokensSound.{IsSound, AllSound, all_sound}
 
-name_sound : (x : Placed) (n : List ℕ) → name x ≡ Some n → IsSound x.token → IsName n
+pub name_sound : (x : Placed) (n : List ℕ) → name x ≡ Some n → IsSound x.token → IsName n
 name_sound x n is h = subst IsSound (name_is x n is) h
 
-variable_sound : (x : Placed) (n : List ℕ) → variable x ≡ Some n → IsSound x.token → IsVariable n
+pub variable_sound : (x : Placed) (n : List ℕ) → variable x ≡ Some n → IsSound x.token → IsVariable n
 variable_sound x n is h = let parts = variable_is x n is in (subst IsSound parts.0 h, parts.1)
 
 spellable : {rule : Rule} {s r : Tokens} {a : Tree} → Spells rule s a r → AllSound s → IsSpellable a × AllSound r

@@ -71,6 +71,11 @@ abbrev pub IsKeyPart : List (List ℕ) → List ℕ → Type 0
 IsKeyPart (only ∷ []) name = name ≡ only
 IsKeyPart names name = IsName name
 
+-- Where the key has one part, a member of the key names that.
+abbrev pub NamesPart : List (List ℕ) → FoldValue → Type 0
+NamesPart (only ∷ []) (f.Key name) = name ≡ only
+NamesPart names value = Unit {0}
+
 abbrev pub IsSpellableValue : List (List ℕ) → FoldValue → Type 0
 IsSpellableValue names (f.Key name) = IsKeyPart names name
 IsSpellableValue names (f.Fold kind var field) = IsVariable var × IsName field

@@ -8,7 +8,7 @@ ghost use Rattle.index_grammar.specs.View.{query_of};
 ghost use Rattle.index_grammar.specs.declared.spelled.SpelledMap.{SpelledMap};
 ghost use Rattle.index_print.specs.Print.{printed, printed_map, printed_reduce};
 ghost use Rattle.index_print.specs.ReadBack.{ReadsBack, ReadsBackReduce, reduce_of};
-ghost use Rattle.index_print.specs.Spellable.{IsSpellable, IsSpellableMap, IsSpellableReduce, IsApart};
+ghost use Rattle.index_print.specs.Spellable.{Each, NamesPart, IsSpellable, IsSpellableMap, IsSpellableReduce, IsApart};
 ghost use Rattle.index_tokens.specs.Tokens.{tokens_from, tokens_of};
 ghost use Rattle.index_tokens.specs.Words.{Tokens};
 ghost use Rattle.index_tree.specs.Trees.{Tree};
@@ -52,4 +52,10 @@ pub fn printed_reduces_are_spelled()
 /// A printed reduce is read as that reduce, unless it is past a limit.
 pub fn printed_reduces_are_read_back()
     ensures { (query : ReduceQuery) → IsSpellableReduce query → ReadsBackReduce query (reduce_text 0 (tokens_of (printed_reduce query))) }
+{}
+
+/// Each reduce that the tokens of a text spell can be printed, if no member of a key of one part names another than that one.
+pub fn spelled_reduces_are_spellable()
+    ensures { (bytes : List ℕ) (spelled : SpelledReduce) (r : Tokens) → SpellsReduce (tokens_of bytes) spelled r →
+        Each (λ m. NamesPart spelled.key m.value) (reduce_of spelled).members → IsSpellableReduce (reduce_of spelled) }
 {}

@@ -1,6 +1,10 @@
 //! Maps.
 ghost use Rattle.std.specs.Prelude.{◌≡◌, ◌++◌, IfOk, OnOk, flat_map, map, string_bytes};
+ghost use Rattle.index_grammar.specs.MapReading.{map_text};
 ghost use Rattle.index_print.specs.Print.{clause, listed, member, origin, printed_map};
+ghost use Rattle.index_print.specs.ReadBack.{ReadsBack};
+ghost use Rattle.index_print.specs.Spellable.{IsSpellableMap};
+ghost use Rattle.index_tokens.specs.Tokens.{tokens_of};
 
 use crate::expressions::add_expression;
 use crate::quoting::add;
@@ -70,7 +74,9 @@ fn add_members(alloc: Global, out: &mut String, members: &MapMembers) -> Result<
 /// The canonical spelling of a map: one text among all that spell it. A tree that no text spells, as one with a name that is none, a number
 /// below 0 or no member, is printed by the same rules, and what is printed is then no text of it.
 pub fn print_map(alloc: Global, query: &MapQuery) -> Result<Text, NoMemory>
-    ensures { IfOk result (λ text. text ≡ printed_map query.now) }
+    ensures text { IfOk result (λ text. text ≡ printed_map query.now) }
+    // It is read as the same map, unless it is past a limit.
+    ensures reads_back { IfOk result (λ text. IsSpellableMap query.now → ReadsBack query.now (map_text 0 (tokens_of text))) }
 {
     let mut out = String::new(alloc);
     add_origin(&mut out, query.var.as_str(), query.collection.as_str())?;

@@ -1,6 +1,10 @@
 //! Reduces.
 ghost use Rattle.std.specs.Prelude.{◌≡◌, ◌++◌, IfOk, OnOk, map, string_bytes};
 ghost use Rattle.index_print.specs.Print.{fold, fold_member, fold_name as spec_fold_name, fold_value, grouping, key, key_part, listed, part, printed_reduce};
+ghost use Rattle.index_print.specs.ReadBack.{ReadsBackReduce};
+ghost use Rattle.index_print.specs.Spellable.{IsSpellableReduce};
+ghost use Rattle.index_tokens.specs.Tokens.{tokens_of};
+ghost use Rattle.reduce_grammar.specs.ReduceReading.{reduce_text};
 
 use crate::quoting::add;
 use index_tree::{FoldKind, FoldMember, FoldMembers, FoldValue, ReduceQuery, Texts};
@@ -134,7 +138,9 @@ fn add_members(
 /// The canonical spelling of a reduce: one text among all that spell it. A tree that no text spells, as one with a name that is none or no
 /// part of the key, is printed by the same rules, and what is printed is then no text of it.
 pub fn print_reduce(alloc: Global, query: &ReduceQuery) -> Result<Text, NoMemory>
-    ensures { IfOk result (λ text. text ≡ printed_reduce query.now) }
+    ensures text { IfOk result (λ text. text ≡ printed_reduce query.now) }
+    // It is read as the same reduce, unless it is past a limit.
+    ensures reads_back { IfOk result (λ text. IsSpellableReduce query.now → ReadsBackReduce query.now (reduce_text 0 (tokens_of text))) }
 {
     let mut out = String::new(alloc);
     add_grouping(&mut out, query.var.as_str(), &query.key)?;
