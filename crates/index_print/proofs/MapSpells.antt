@@ -23,7 +23,7 @@ use Rattle.exact_parse.specs.Steps.{Outcome}
 use Rattle.index_tokens.specs.declared.token.Placed.{Placed}
 use Rattle.index_print.specs.ReadBack.{ReadsBack}
 use Rattle.index_print.specs.Print.{printed, listed, clause, member, origin, printed_map}
-use Rattle.index_print.specs.Spellable.{IsName, IsVariable, IsSpellableClause, IsSpellableMember, Each, IsSome, IsSpellableMap, IsApart}
+use Rattle.index_print.specs.Spellable.{IsName, IsVariable, IsSpellableClause, IsSpellableMember, Each, HasSome, IsSpellableMap, IsApart}
 use Rattle.index_print.proofs.Fronts.{word_next, word_gap, gap_word_gap, point_next, comma_next, assign_next, brace_gap, close_brace_next}
 use Rattle.index_print.proofs.ExpressionSpells.{After, up_to, from_on, expression_spelled}
 
@@ -184,7 +184,7 @@ map_by query m ms is var collection clauses members =
       ap (with_members query) (inner.spells.2 ∙ sym is),
     )
 
-some_by : (query : MapQuery) (ms : List MapMember) → query.members ≡ ms → IsVariable query.var → IsName query.collection → Each IsSpellableClause query.clauses → IsSome ms
+some_by : (query : MapQuery) (ms : List MapMember) → query.members ≡ ms → IsVariable query.var → IsName query.collection → Each IsSpellableClause query.clauses → HasSome ms
     → Each IsSpellableMember ms → SpelledQuery query (tokens_of (origin query.var query.collection ++ (flat_map clause query.clauses ++ (codes " select new { " ++ (listed (map member ms) ++ codes " }")))))
 some_by query [] is var collection clauses some members = absurd some
 some_by query (m ∷ ms) is var collection clauses some members = map_by query m ms is var collection clauses members

@@ -26,7 +26,7 @@ use Rattle.reduce_grammar.specs.Reduces as grammar
 use Rattle.reduce_grammar.proofs.ReduceMeets.{reduce_meets}
 use Rattle.index_print.specs.Print.{part, key, listed, fold_name, fold_value, fold_member, grouping, printed_reduce}
 use Rattle.index_print.specs.ReadBack.{reduce_of, ReadsBackReduce}
-use Rattle.index_print.specs.Spellable.{IsName, IsVariable, IsKeyPart, IsSpellableValue, IsSpellableFold, IsSpellableReduce, Each, IsSome, IsApart}
+use Rattle.index_print.specs.Spellable.{IsName, IsVariable, IsKeyPart, IsSpellableValue, IsSpellableFold, IsSpellableReduce, Each, HasSome, IsApart}
 use Rattle.index_print.proofs.Fronts.{Next, word_next, word_gap, gap_word_gap, open_next, close_next, point_next, comma_next, assign_next, brace_gap, close_brace_next, double_between_gaps}
 use Rattle.index_print.proofs.ExpressionSpells.{After, up_to}
 
@@ -147,7 +147,7 @@ several_spelled var n names h each place s =
       );
     }
 
-key_spelled : (var : List ℕ) (names : List (List ℕ)) → IsVariable var → IsSome names → Each IsName names → (place : ℕ) (s : List ℕ) → IsApart s → After (SpelledKeyOf (form_of names)) place (key var names ++ s) s
+key_spelled : (var : List ℕ) (names : List (List ℕ)) → IsVariable var → HasSome names → Each IsName names → (place : ℕ) (s : List ℕ) → IsApart s → After (SpelledKeyOf (form_of names)) place (key var names ++ s) s
 key_spelled var [] h some each place s apart = absurd some
 key_spelled var (only ∷ []) h some each place s apart =
     let p = part_tokens var only h.0 each.0 place s apart in
@@ -239,18 +239,18 @@ one_of_spelled g name first second names h n place s apart =
           (subst (λ z. SpellsValue g (forms.New (first ∷ second ∷ names)) z (f.Key name) (tokens_from e.behind 0 s)) (sym tokens) (grammar.key_part refl refl refl refl refl refl));
     }
 
-key_part_spelled : (g name : List ℕ) (names : List (List ℕ)) → IsVariable g → IsSome names → IsKeyPart names name → PrintsValue g names (f.Key name)
+key_part_spelled : (g name : List ℕ) (names : List (List ℕ)) → IsVariable g → HasSome names → IsKeyPart names name → PrintsValue g names (f.Key name)
 key_part_spelled g name [] h some is = absurd some
 key_part_spelled g name (only ∷ []) h some is = subst (λ z. PrintsValue g (only ∷ []) (f.Key z)) (sym is) (whole_spelled g only h)
 key_part_spelled g name (a ∷ b ∷ names) h some is = one_of_spelled g name a b names h is
 
-value_spelled : (g : List ℕ) (names : List (List ℕ)) (a : FoldValue) → IsVariable g → IsSome names → IsSpellableValue names a → PrintsValue g names a
+value_spelled : (g : List ℕ) (names : List (List ℕ)) (a : FoldValue) → IsVariable g → HasSome names → IsSpellableValue names a → PrintsValue g names a
 value_spelled g names (f.Key name) h some is = key_part_spelled g name names h some is
 value_spelled g names (f.Fold kind var field) h some is = fold_spelled g names kind var field h is.0 is.1
 
 -- ---- members
 
-module _ (g : List ℕ) (names : List (List ℕ)) (h : IsVariable g) (some : IsSome names) where
+module _ (g : List ℕ) (names : List (List ℕ)) (h : IsVariable g) (some : HasSome names) where
   abbrev SpelledFold : FoldMember → Tokens → Tokens → Type 0
   SpelledFold m s r = (p : PlacedFold) × SpellsFold g (form_of names) s p r × (p.member ≡ m)
 
@@ -307,7 +307,7 @@ SpelledQuery query ts = (spelled : SpelledReduce) × SpellsReduce ts spelled [] 
 abbrev with_parts : ReduceQuery → List (List ℕ) → List FoldMember → ReduceQuery
 with_parts query names ms = record { var = query.var; group = query.group; key = names; members = ms }
 
-reduce_by : (query : ReduceQuery) (m : FoldMember) (ms : List FoldMember) → query.members ≡ m ∷ ms → IsVariable query.var → IsVariable query.group → IsSome query.key → Each IsName query.key
+reduce_by : (query : ReduceQuery) (m : FoldMember) (ms : List FoldMember) → query.members ≡ m ∷ ms → IsVariable query.var → IsVariable query.group → HasSome query.key → Each IsName query.key
     → Each (IsSpellableFold query.key) (m ∷ ms)
     → SpelledQuery query (tokens_of (grouping query.var query.key ++ (codes " into " ++ (query.group ++ (codes " select new { " ++ (listed (map (fold_member query.group query.key) (m ∷ ms)) ++ codes " }"))))))
 reduce_by query m ms is var g some names members =
@@ -332,7 +332,7 @@ reduce_by query m ms is var g some names members =
       ap₂ (with_parts query) (same_parts query.key) (inner.spells.2 ∙ sym is),
     )
 
-some_by : (query : ReduceQuery) (ms : List FoldMember) → query.members ≡ ms → IsVariable query.var → IsVariable query.group → IsSome query.key → Each IsName query.key → IsSome ms
+some_by : (query : ReduceQuery) (ms : List FoldMember) → query.members ≡ ms → IsVariable query.var → IsVariable query.group → HasSome query.key → Each IsName query.key → HasSome ms
     → Each (IsSpellableFold query.key) ms
     → SpelledQuery query (tokens_of (grouping query.var query.key ++ (codes " into " ++ (query.group ++ (codes " select new { " ++ (listed (map (fold_member query.group query.key) ms) ++ codes " }"))))))
 some_by query [] is var g some names any members = absurd any

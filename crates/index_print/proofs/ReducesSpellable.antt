@@ -12,7 +12,7 @@ use Rattle.reduce_grammar.specs.declared.spelled.SpelledKey.{SpelledKey}
 use Rattle.reduce_grammar.specs.declared.spelled.SpelledReduce.{SpelledReduce}
 use Rattle.reduce_grammar.specs.Reduces.{SpellsSource, source, SpellsPart, part, SpellsParts, first_part, next_part, SpellsKey, alone, in_braces, only, only_part, parts_of, SpellsGroup, group, SpellsValue, whole_key, key_part, fold, SpellsFold, named, bare, SpellsFolds, last, last_comma, more, SpellsReduce, reduce}
 use Rattle.index_print.specs.ReadBack.{reduce_of}
-use Rattle.index_print.specs.Spellable.{IsName, IsVariable, IsKeyPart, NamesPart, IsSpellableValue, IsSpellableFold, IsSpellableReduce, Each, IsSome}
+use Rattle.index_print.specs.Spellable.{IsName, IsVariable, IsKeyPart, NamesPart, IsSpellableValue, IsSpellableFold, IsSpellableReduce, Each, HasSome}
 use Rattle.index_print.proofs.TokensSound.{AllSound, all_sound}
 use Rattle.index_print.proofs.TreesSpellable.{name_sound, variable_sound}
 
@@ -25,7 +25,7 @@ part_spellable : {s r : Tokens} {n : List ℕ} → SpellsPart s n r → AllSound
 part_spellable (part {y = y} {n = n} v p is) h = (name_sound y n is h.1.1.0, h.1.1.1)
 
 abbrev AreNames : List (List ℕ) → Type 0
-AreNames names = IsSome names × Each IsName names
+AreNames names = HasSome names × Each IsName names
 
 one_more : (names : List (List ℕ)) (n : List ℕ) → Each IsName names → IsName n → AreNames (names ++ n ∷ [])
 one_more [] n each is = (tt, (is, tt))
@@ -79,7 +79,7 @@ abbrev EachNamesPart : KeyForm → List PlacedFold → Type 0
 EachNamesPart form all = Each (λ m. NamesPart (parts_of form) m.value) (members_of all)
 
 abbrev AreSpellable : KeyForm → List PlacedFold → Type 0
-AreSpellable form all = IsSome (members_of all) × Each (IsSpellableFold (parts_of form)) (members_of all)
+AreSpellable form all = HasSome (members_of all) × Each (IsSpellableFold (parts_of form)) (members_of all)
 
 folds_spellable : {g : List ℕ} {form : KeyForm} {s r : Tokens} {all : List PlacedFold} → SpellsFolds g form s all r → AllSound s → EachNamesPart form all → AreSpellable form all × AllSound r
 folds_spellable (last x is) h names = let p = fold_spellable x h names.0 in ((tt, (p.0, tt)), p.1.1)

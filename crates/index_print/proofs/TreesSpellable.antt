@@ -14,7 +14,7 @@ use Rattle.index_grammar.specs.Expressions.{Rule, Whole, Post, Primary, Spells, 
 use Rattle.index_grammar.specs.Maps.{Origin, SpellsOrigin, origin, SpellsClause, filter, binding, SpellsClauses, no_clause, next_clause, last_name, SpellsMember, named, path, SpellsMembers, last, last_comma, more, SpellsMap}
 use Rattle.index_grammar.specs.Maps as grammar
 use Rattle.index_grammar.specs.View.{query_of}
-use Rattle.index_print.specs.Spellable.{IsName, IsVariable, IsSpellable, IsSpellableClause, IsSpellableMember, Each, IsSome, IsSpellableMap}
+use Rattle.index_print.specs.Spellable.{IsName, IsVariable, IsSpellable, IsSpellableClause, IsSpellableMember, Each, HasSome, IsSpellableMap}
 use Rattle.index_print.proofs.TokensSound.{IsSound, AllSound, all_sound}
 
 pub name_sound : (x : Placed) (n : List ℕ) → name x ≡ Some n → IsSound x.token → IsName n
@@ -85,7 +85,7 @@ member_spellable (named {x = x} {n = n} is also y) h = let p = spellable y h.1.1
 member_spellable (path is x) h = let p = spellable x h in ((path_name x is p.0, p.0), p.1)
 
 abbrev AreSpellable : List PlacedMember → Type 0
-AreSpellable ms = IsSome (map (λ p. p.member) ms) × Each IsSpellableMember (map (λ p. p.member) ms)
+AreSpellable ms = HasSome (map (λ p. p.member) ms) × Each IsSpellableMember (map (λ p. p.member) ms)
 
 members_spellable : {s r : Tokens} {ms : List PlacedMember} → SpellsMembers s ms r → AllSound s → AreSpellable ms × AllSound r
 members_spellable (last x is) h = let p = member_spellable x h in ((tt, (p.0, tt)), p.1.1)

@@ -57,14 +57,14 @@ abbrev pub Each : {A : Type 0} → (A → Type 0) → List A → Type 0
 Each P [] = Unit {0}
 Each P (x ∷ xs) = P x × Each P xs
 
-abbrev pub IsSome : {A : Type 0} → List A → Type 0
-IsSome [] = ⊥
-IsSome (x ∷ xs) = Unit {0}
+abbrev pub HasSome : {A : Type 0} → List A → Type 0
+HasSome [] = ⊥
+HasSome (x ∷ xs) = Unit {0}
 
 -- It has a member, and each name in it is one.
 abbrev pub IsSpellableMap : MapQuery → Type 0
 IsSpellableMap query =
-    IsVariable query.var × IsName query.collection × Each IsSpellableClause query.clauses × IsSome query.members × Each IsSpellableMember query.members
+    IsVariable query.var × IsName query.collection × Each IsSpellableClause query.clauses × HasSome query.members × Each IsSpellableMember query.members
 
 -- the only part of the key, or one of several names
 abbrev pub IsKeyPart : List (List ℕ) → List ℕ → Type 0
@@ -86,7 +86,7 @@ IsSpellableFold names m = IsName m.name × IsSpellableValue names m.value
 -- It has a key and a member, and each name in it is one.
 abbrev pub IsSpellableReduce : ReduceQuery → Type 0
 IsSpellableReduce query =
-    IsVariable query.var × IsVariable query.group × IsSome query.key × Each IsName query.key × IsSome query.members × Each (IsSpellableFold query.key) query.members
+    IsVariable query.var × IsVariable query.group × HasSome query.key × Each IsName query.key × HasSome query.members × Each (IsSpellableFold query.key) query.members
 
 -- ---- what may stand behind
 
