@@ -1,0 +1,12 @@
+pub mod Escapes
+pub mod Written
+pub mod Lists
+pub mod Quotes
+pub mod Digits
+pub mod Fronts
+pub mod ExpressionSpells
+pub mod MapSpells
+pub mod TokensSound
+pub mod TreesSpellable
+pub mod ReduceSpells
+pub mod ReducesSpellable

@@ -1,0 +1,115 @@
+//! Expressions.
+ghost use Rattle.std.specs.Prelude.{◌≡◌, ◌++◌, IfOk, OnOk, string_bytes};
+ghost use Rattle.index_print.specs.Print.{sign as spec_sign, mark as spec_mark, is_compound as spec_is_compound, operand, printed};
+
+use crate::quoting::{add, add_quoted};
+use index_tree::{BinaryOp, Expr, ExprKind, UnaryOp};
+use raven_base::NoMemory;
+use raven_value::Text;
+use std::alloc::Global;
+
+fn sign(op: BinaryOp) -> &'static str
+    ensures { result.now ≡ spec_sign op }
+{
+    match op {
+        BinaryOp::Or => "||",
+        BinaryOp::And => "&&",
+        BinaryOp::Equal => "==",
+        BinaryOp::NotEqual => "!=",
+        BinaryOp::Below => "<",
+        BinaryOp::AtMost => "<=",
+        BinaryOp::Above => ">",
+        BinaryOp::AtLeast => ">=",
+        BinaryOp::Plus => "+",
+        BinaryOp::Minus => "-",
+        BinaryOp::Times => "*",
+        BinaryOp::Over => "/",
+        BinaryOp::Rest => "%",
+    }
+}
+
+fn mark(op: UnaryOp) -> &'static str
+    ensures { result.now ≡ spec_mark op }
+{
+    match op {
+        UnaryOp::Bang => "!",
+        UnaryOp::Minus => "-",
+    }
+}
+
+fn is_compound(expr: &Expr) -> bool
+    ensures { result ≡ spec_is_compound expr.now }
+{
+    match expr.kind() {
+        ExprKind::If(..) | ExprKind::Binary(..) | ExprKind::Unary(..) => true,
+        _ => false,
+    }
+}
+
+/// Adds the canonical spelling of an expression at the end.
+#[cycle(expression)]
+pub fn add_expression(alloc: Global, out: &mut String, expr: &Expr) -> Result<(), NoMemory>
+    ensures { OnOk result (string_bytes out.new ≡ string_bytes out.old ++ printed expr.now) }
+{
+    match expr.kind() {
+        ExprKind::If(test, value, other) => {
+            add_operand(alloc, out, test)?;
+            add(out, " ? ")?;
+            add_operand(alloc, out, value)?;
+            add(out, " : ")?;
+            add_operand(alloc, out, other)
+        }
+        ExprKind::Binary(op, left, right) => {
+            add_operand(alloc, out, left)?;
+            add(out, " ")?;
+            add(out, sign(*op))?;
+            add(out, " ")?;
+            add_operand(alloc, out, right)
+        }
+        ExprKind::Unary(op, value) => {
+            add(out, mark(*op))?;
+            add_operand(alloc, out, value)
+        }
+        ExprKind::Dot(value, name) => {
+            add_operand(alloc, out, value)?;
+            add(out, ".")?;
+            add(out, name.as_str())
+        }
+        ExprKind::Load(id, collection) => {
+            add(out, "LoadDocument(")?;
+            add_expression(alloc, out, id)?;
+            add(out, ", ")?;
+            add_quoted(out, collection.as_str())?;
+            add(out, ")")
+        }
+        ExprKind::Num(number) => add(out, number.to_string(alloc)?.as_str()),
+        ExprKind::Text(text) => add_quoted(out, text.as_str()),
+        ExprKind::Flag(true) => add(out, "true"),
+        ExprKind::Flag(false) => add(out, "false"),
+        ExprKind::Null => add(out, "null"),
+        ExprKind::Var(name) => add(out, name.as_str()),
+    }
+}
+
+#[cycle(expression)]
+fn add_operand(alloc: Global, out: &mut String, expr: &Expr) -> Result<(), NoMemory>
+    ensures { OnOk result (string_bytes out.new ≡ string_bytes out.old ++ operand expr.now) }
+{
+    if is_compound(expr) {
+        add(out, "(")?;
+        add_expression(alloc, out, expr)?;
+        add(out, ")")
+    } else {
+        add_expression(alloc, out, expr)
+    }
+}
+
+/// The canonical spelling of an expression, as a `where` or a member's value has it: an operand stands in parentheses where it is a
+/// conditional or has an operator of its own.
+pub fn print_expression(alloc: Global, expr: &Expr) -> Result<Text, NoMemory>
+    ensures { IfOk result (λ text. text ≡ printed expr.now) }
+{
+    let mut out = String::new(alloc);
+    add_expression(alloc, &mut out, expr)?;
+    Ok(Text::of_string(out))
+}
