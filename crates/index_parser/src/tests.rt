@@ -144,10 +144,7 @@ fn expressions(rt: HostRuntime) -> Result<(), Fail> {
         ("1 + 2 * 3", "(+ 1 (* 2 3))"),
         ("a / b % c * d", "(* (% (/ a b) c) d)"),
         ("1 < 2 + 3", "(< 1 (+ 2 3))"),
-        (
-            "1 < 2 <= 3 > 4 >= 5",
-            "(>= (> (<= (< 1 2) 3) 4) 5)",
-        ),
+        ("1 < 2 <= 3 > 4 >= 5", "(>= (> (<= (< 1 2) 3) 4) 5)"),
         ("a == b < c != d", "(!= (== a (< b c)) d)"),
         ("a || b && c == d", "(|| a (&& b (== c d)))"),
         ("a && b || c", "(|| (&& a b) c)"),
@@ -163,14 +160,8 @@ fn expressions(rt: HostRuntime) -> Result<(), Fail> {
         ("o.from.select", "(. (. o from) select)"),
         ("(a + b).c", "(. (+ a b) c)"),
         ("1.x", "(. 1 x)"),
-        (
-            "LoadDocument(o.A, \"C\").N",
-            "(. (load (. o A) 'C') N)",
-        ),
-        (
-            "LoadDocument(a ? b : c, \"\")",
-            "(load (? a b c) '')",
-        ),
+        ("LoadDocument(o.A, \"C\").N", "(. (load (. o A) 'C') N)"),
+        ("LoadDocument(a ? b : c, \"\")", "(load (? a b c) '')"),
     ];
     for (value, tree) in cases {
         let wanted = format!(in rt.alloc(); "o C; X@30={tree}")?;
@@ -217,18 +208,9 @@ fn maps(rt: HostRuntime) -> Result<(), Fail> {
             "o C; where (. o A); let c=(. o B); where c; c@60=c",
         ),
         ("from o in docs.C select new { o, }", "o C; o@30=o"),
-        (
-            "from o in docs.C select new { from = 1 }",
-            "o C; from@30=1",
-        ),
-        (
-            "from o in docs.C select new { from }",
-            "Unexpected 35",
-        ),
-        (
-            "from o in docs.from select new { o }",
-            "o from; o@33=o",
-        ),
+        ("from o in docs.C select new { from = 1 }", "o C; from@30=1"),
+        ("from o in docs.C select new { from }", "Unexpected 35"),
+        ("from o in docs.from select new { o }", "o from; o@33=o"),
         ("from from in docs.C select new { o }", "Unexpected 5"),
         ("from o in docs select new { o }", "Unexpected 15"),
         ("from o in docs.C", "Unexpected 16"),
@@ -236,15 +218,9 @@ fn maps(rt: HostRuntime) -> Result<(), Fail> {
         ("from o in docs.C select new { o", "Unexpected 31"),
         ("from o in docs.C select new { o } x", "Unexpected 34"),
         ("from o in docs.C select new { o,, }", "Unexpected 32"),
-        (
-            "from o in docs.C select new { o.A = 1 }",
-            "Unexpected 34",
-        ),
+        ("from o in docs.C select new { o.A = 1 }", "Unexpected 34"),
         ("from o in docs.C select new { 1 }", "Unexpected 30"),
-        (
-            "from o in docs.C where select new { o }",
-            "Unexpected 23",
-        ),
+        ("from o in docs.C where select new { o }", "Unexpected 23"),
         (
             "from o in docs.C let where = 1 select new { o }",
             "Unexpected 21",
