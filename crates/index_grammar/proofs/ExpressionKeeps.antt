@@ -2,7 +2,7 @@
 use Rattle.std.proofs.Common.{◌≡◌, ℕ, zero, suc, pos, Bool, true, false, nat_eq, List, [], ◌∷◌, Option, Some, None, refl, cond, codes}
 use Rattle.std.proofs.lemmas.Bool.{eqb-true}
 use Rattle.std.specs.Str.{bytes_eq}
-use Rattle.exact_parse.specs.Steps.{◌>>=◌, pure, refuse, take, skip}
+use Rattle.exact_parse.specs.Steps.{◌>>=◌, pure, refuse, take, skip, within, Counts, Ends}
 use Rattle.exact_parse.specs.Keeps.{Goes, Fits, Keeps, Then}
 use Rattle.exact_parse.specs.Loops.{LoopKeeps, NextKeeps}
 use Rattle.exact_parse.proofs.Keeping.{pure_at, pure_keeps, refuse_at, refuse_keeps, choose_keeps, skip_at, skip_short, within_at, bind_keeps, map_keeps, fresh_keeps}
@@ -11,17 +11,17 @@ use Rattle.index_tokens.specs.declared.token.Token.{Token}
 use Rattle.index_tokens.specs.declared.token.Token.TheVariants as t
 use Rattle.index_tokens.specs.declared.token.Placed.{Placed}
 use Rattle.index_tokens.specs.Spelling.{is_reserved}
-use Rattle.index_tokens.specs.Words.{Tokens, Is, word_load, the, quoted}
-use Rattle.index_tokens.proofs.WordLemmas.{taken_is, is_variable}
+use Rattle.index_tokens.specs.Words.{Tokens, Is, same_token, word_load, the, quoted, name}
+use Rattle.index_tokens.proofs.WordLemmas.{is_variable}
 use Rattle.index_tree.specs.declared.expression.BinaryOp.{BinaryOp}
 use Rattle.index_tree.specs.declared.expression.UnaryOp.{UnaryOp}
 use Rattle.index_tree.specs.Trees.{Tree, If, Binary, Unary, Dot, Load, Num, Quoted, Flag, Null, Var}
 use Rattle.index_grammar.specs.Operators.{operator, sign, level_of}
 use Rattle.index_grammar.specs.Expressions.{Rule, Whole, Level, Post, Primary, Spells, plain, choice, tighter, binary, signed, post, first, point, number, text, yes, no, null, var, parens, load}
-use Rattle.index_grammar.specs.Limits.{most_open}
+use Rattle.index_grammar.specs.Limits.{Kind, most_open, most_operators}
 use Rattle.index_grammar.specs.ExpressionReading as read
 use Rattle.index_grammar.specs.ExpressionReading.{Reads, Deeper, deeper_of}
-use Rattle.index_grammar.proofs.Taking.{at_start, the_keeps, name_keeps, quoted_keeps, either_at, word_is}
+use Rattle.index_grammar.proofs.Taking.{at_start, same_at, the_keeps, name_keeps, quoted_keeps, either_at, word_is}
 
 -- ---- the shortest spelling of each rule
 
@@ -51,11 +51,11 @@ stays : {rule : Rule} (a : Tree) → Goes (Behind rule a) []
 stays a = record { more = []; tree = a; spells = λ z s d. d }
 
 pub points_keep : LoopKeeps (Behind Post) read.point_next
-points_keep = record { short = stays; none = λ a n. pure_at {X = Behind Post a} (λ z s d. d) n []; some = λ a x. by a x (the t.Point x) refl }
+points_keep = record { short = stays; none = λ a n. pure_at {X = Behind Post a} (λ z s d. d) n []; some = λ a x. by a x (same_token t.Point x.token) refl }
   where
-    by : (a : Tree) (x : Placed) (o : Option (Unit {0})) → the t.Point x ≡ o → NextKeeps (Behind Post) a x (read.point_as a o)
-    by a x (Some v) e = name_keeps (λ n. pure (Dot a n)) (λ y n is. pure_keeps (λ z d r h s0 w. h s0 (point w (taken_is t.Point x v e) is)))
-    by a x None e = λ n s. pure_at {X = Behind Post a} (λ z s d. d) n _
+    by : (a : Tree) (x : Placed) (d : Bool) → same_token t.Point x.token ≡ d → NextKeeps {K = Kind} (Behind Post) a x (cond d (Counts tt most_operators (take tt name >>= λ n. pure (Dot a n))) (Ends (pure a)))
+    by a x true e = name_keeps (λ n. pure (Dot a n)) (λ y n is. pure_keeps (λ z d r h s0 w. h s0 (point w (same_at t.Point x e) is)))
+    by a x false e = λ n s. pure_at {X = Behind Post a} (λ z s d. d) n _
 
 pub climb_keeps : (n : ℕ) (operand : Reads Tree) → Keeps (Spells (Level n)) operand → LoopKeeps (Behind (Level (suc n))) (read.operator_next operand (suc n))
 climb_keeps n operand operand_keeps = record {
@@ -81,32 +81,24 @@ pub record Inside (deeper : Deeper) : Type 0 where
   pub unary : Keeps (Spells (Level zero)) deeper.unary
 
 module _ (deeper : Deeper) (inside : Inside deeper) where
-  parens_keep : (p : Placed) → Is t.Open p → Keeps (λ m b r. Spells Primary (p ∷ m) b r) (deeper.whole >>= λ a. take tt (the t.Close) >>= λ _. pure a)
-  parens_keep p is = bind_keeps (λ a. take tt (the t.Close) >>= λ _. pure a) inside.whole (λ a. the_keeps t.Close refl (λ q also. pure_keeps (λ z s d. parens is d also)))
+  closing_keeps : (p : Placed) → Is t.Open p → Keeps (λ m b r. Spells Primary (p ∷ m) b r) (read.closing deeper)
+  closing_keeps p is = bind_keeps (λ a. take tt (the t.Close) >>= λ _. pure a) inside.whole (λ a. the_keeps t.Close refl (λ q also. pure_keeps (λ z s d. parens is d also)))
 
-  -- `LoadDocument`, behind its parenthesis
-  loading : Reads Tree
-  loading = deeper.whole >>= λ a. take tt (the t.Comma) >>= λ _. take tt quoted >>= λ v. take tt (the t.Close) >>= λ _. pure (Load a v)
-
-  loading_keeps : (x p : Placed) → Is word_load x → Is t.Open p → Keeps (λ m b r. Spells Primary (x ∷ p ∷ m) b r) loading
-  unfolding loading
+  loading_keeps : (x p : Placed) → Is word_load x → Is t.Open p → Keeps (λ m b r. Spells Primary (x ∷ p ∷ m) b r) (read.loading deeper)
   loading_keeps x p word is = bind_keeps (λ a. take tt (the t.Comma) >>= λ _. take tt quoted >>= λ v. take tt (the t.Close) >>= λ _. pure (Load a v)) inside.whole
       (λ a. the_keeps t.Comma refl (λ k comma. quoted_keeps (λ v. take tt (the t.Close) >>= λ _. pure (Load a v))
       (λ y v quote. the_keeps t.Close refl (λ q also. pure_keeps (λ z s d. load word is d comma quote also)))))
 
   load_short : (x : Placed) → Is word_load x → Goes (λ m b r. Spells Primary (x ∷ m) b r) []
-  load_short x word = skip_short (λ m b r. Spells Primary (x ∷ m) b r) loading (at_start t.Open) (loading_keeps x (at_start t.Open) word refl)
-
-  load_token : (x : Placed) → Is word_load x → (p : Placed) (o : Option (Unit {0})) → the t.Open p ≡ o → (n : ℕ) (s : Tokens) →
-      Fits (λ m b r. Spells Primary (x ∷ m) b r) (read.load_as deeper o) n (p ∷ s) (read.load_as deeper o n (p ∷ s))
-  unfolding loading
-  load_token x word p (Some v) e n s = within_at (λ m b r. Spells Primary (x ∷ m) b r) loading p (loading_keeps x p word (taken_is t.Open p v e)) tt deeper.has_room n s
-  load_token x word p None e n s = refuse_at {X = λ m b r. Spells Primary (x ∷ m) b r} tt (load_short x word) n _
+  load_short x word = skip_short (λ m b r. Spells Primary (x ∷ m) b r) (read.loading deeper) (at_start t.Open) (loading_keeps x (at_start t.Open) word refl)
 
   load_keeps : (x : Placed) → Is word_load x → Keeps (λ m b r. Spells Primary (x ∷ m) b r) (read.load deeper)
   unfolding read.load
-  load_keeps x word = choose_keeps (λ m b r. Spells Primary (x ∷ m) b r) (read.load_by deeper) (load_short x word) (λ n. refuse_at {X = λ m b r. Spells Primary (x ∷ m) b r} tt (load_short x word) n [])
-      (λ p. load_token x word p (the t.Open p) refl)
+  load_keeps x word = choose_keeps (λ m b r. Spells Primary (x ∷ m) b r) (λ h. cond (read.next_is t.Open h) (within tt deeper.has_room (skip >>= λ _. read.loading deeper)) (refuse tt)) (load_short x word)
+      (λ n. refuse_at {X = λ m b r. Spells Primary (x ∷ m) b r} tt (load_short x word) n [])
+      (λ p n s. either_at (λ m b r. Spells Primary (x ∷ m) b r) (within tt deeper.has_room (skip >>= λ _. read.loading deeper)) (refuse tt) n (p ∷ s) (same_token t.Open p.token)
+      (λ e. within_at (λ m b r. Spells Primary (x ∷ m) b r) (read.loading deeper) p (loading_keeps x p word (same_at t.Open p e)) tt deeper.has_room n s)
+      (λ _. refuse_at {X = λ m b r. Spells Primary (x ∷ m) b r} tt (load_short x word) n _))
 
   -- one of the reserved words that are primaries
   reserved_token : (x : Placed) (w : List ℕ) → Is (t.Word w) x → (n : ℕ) (s : Tokens) → Fits (Spells Primary) (read.reserved_primary deeper w) n (x ∷ s) (read.reserved_primary deeper w n (x ∷ s))
@@ -122,7 +114,7 @@ module _ (deeper : Deeper) (inside : Inside deeper) where
   primary_token x (t.Quoted v) is n s = skip_at (Spells Primary) (pure (Quoted v)) x (pure_keeps (λ z. text is)) n s
   primary_token x (t.Word w) is n s = either_at (Spells Primary) (read.reserved_primary deeper w) (skip >>= λ _. pure (Var w)) n (x ∷ s) (is_reserved w)
       (λ _. reserved_token x w is n s) (λ e. skip_at (Spells Primary) (pure (Var w)) x (pure_keeps (λ z. var (is_variable x w is e))) n s)
-  primary_token x t.Open is n s = within_at (Spells Primary) (deeper.whole >>= λ a. take tt (the t.Close) >>= λ _. pure a) x (parens_keep x is) tt deeper.has_room n s
+  primary_token x t.Open is n s = within_at (Spells Primary) (read.closing deeper) x (closing_keeps x is) tt deeper.has_room n s
   primary_token x _ is n s = refuse_at {X = Spells Primary} tt primary_short n _
 
   primary_keeps : Keeps (Spells Primary) (read.primary deeper)
@@ -143,7 +135,7 @@ module _ (deeper : Deeper) (inside : Inside deeper) where
 
   unary_keeps : Keeps (Spells (Level zero)) (read.unary deeper)
   unfolding read.unary
-  unary_keeps = choose_keeps (Spells (Level zero)) (read.unary_by deeper) posted.short (λ n. posted.fits n []) (λ x. unary_token x (sign x) refl)
+  unary_keeps = choose_keeps (Spells (Level zero)) (λ h. read.unary_as deeper (read.sign_at h)) posted.short (λ n. posted.fits n []) (λ x. unary_token x (sign x) refl)
 
   level_keeps : (n : ℕ) → Keeps (Spells (Level n)) (read.level deeper n)
   unfolding read.level read.climb
@@ -156,24 +148,17 @@ module _ (deeper : Deeper) (inside : Inside deeper) where
   abbrev Rest : Tree → Tokens → Tree → Tokens → Type 0
   Rest = Then (Spells (Level 6)) (Spells Whole)
 
-  branches : Tree → Reads Tree
-  branches a = deeper.whole >>= λ b. take tt (the t.Colon) >>= λ _. deeper.whole >>= λ c. pure (If a b c)
-
-  branches_keep : (a : Tree) (p : Placed) → Is t.Question p → Keeps (λ m b r. Rest a (p ∷ m) b r) (branches a)
-  unfolding branches
+  branches_keep : (a : Tree) (p : Placed) → Is t.Question p → Keeps (λ m b r. Rest a (p ∷ m) b r) (read.branches deeper a)
   branches_keep a p is = bind_keeps (λ b. take tt (the t.Colon) >>= λ _. deeper.whole >>= λ c. pure (If a b c)) inside.whole
       (λ b. the_keeps t.Colon refl (λ q also. bind_keeps (λ c. pure (If a b c)) inside.whole (λ c. pure_keeps (λ z s dc s1 db s0 da. choice da is db also dc))))
 
-  conditional_token : (a : Tree) (x : Placed) (o : Option (Unit {0})) → the t.Question x ≡ o → (n : ℕ) (s : Tokens) →
-      Fits (Rest a) (read.conditional_as deeper a o) n (x ∷ s) (read.conditional_as deeper a o n (x ∷ s))
-  unfolding branches
-  conditional_token a x (Some v) e n s = within_at (Rest a) (branches a) x (branches_keep a x (taken_is t.Question x v e)) tt deeper.has_room n s
-  conditional_token a x None e n s = pure_at {X = Rest a} (λ z s d. plain d) n _
-
   conditional_keeps : (a : Tree) → Keeps (Rest a) (read.conditional deeper a)
   unfolding read.conditional
-  conditional_keeps a = choose_keeps (Rest a) (read.conditional_by deeper a) (record { more = []; tree = a; spells = λ z s d. plain d })
-      (λ n. pure_at {X = Rest a} (λ z s d. plain d) n []) (λ x. conditional_token a x (the t.Question x) refl)
+  conditional_keeps a = choose_keeps (Rest a) (λ h. cond (read.next_is t.Question h) (within tt deeper.has_room (skip >>= λ _. read.branches deeper a)) (pure a))
+      (record { more = []; tree = a; spells = λ z s d. plain d }) (λ n. pure_at {X = Rest a} (λ z s d. plain d) n [])
+      (λ x n s. either_at (Rest a) (within tt deeper.has_room (skip >>= λ _. read.branches deeper a)) (pure a) n (x ∷ s) (same_token t.Question x.token)
+      (λ e. within_at (Rest a) (read.branches deeper a) x (branches_keep a x (same_at t.Question x e)) tt deeper.has_room n s)
+      (λ _. pure_at {X = Rest a} (λ z s d. plain d) n _))
 
   whole_keeps : Keeps (Spells Whole) (read.whole deeper)
   unfolding read.whole

@@ -1,6 +1,6 @@
 -- What is spelled as an expression is read, unless it is past a limit, and then refused there.
 use Rattle.std.proofs.Common.{◌≡◌, ℕ, zero, suc, ◌<◌, true, false, List, [], ◌∷◌, Some, None, refl, sym, ◌∙◌, ap, subst, arith, cond}
-use Rattle.exact_parse.specs.Steps.{head, Read, ◌>>=◌, ◌>>◌, pure, skip, take}
+use Rattle.exact_parse.specs.Steps.{head, Read, ◌>>=◌, ◌>>◌, pure, refuse, skip, within, take, Counts, Ends}
 use Rattle.exact_parse.specs.Limits.{Fine, and_fine, opens}
 use Rattle.exact_parse.specs.Exact.{Meets}
 use Rattle.exact_parse.proofs.Meeting.{then_meets, after_meets, ComesTo, loop_begins, loop_goes_on_counted, loop_stops}
@@ -8,7 +8,7 @@ use Rattle.index_tokens.specs.declared.token.Token.{Token}
 use Rattle.index_tokens.specs.declared.token.Token.TheVariants as t
 use Rattle.index_tokens.specs.declared.token.Placed.{Placed}
 use Rattle.index_tokens.specs.Words.{Tokens, Is, word_true, word_false, word_null, word_load, the, name, variable, quoted}
-use Rattle.index_tokens.proofs.WordLemmas.{is_taken, variable_is}
+use Rattle.index_tokens.proofs.WordLemmas.{variable_is}
 use Rattle.index_tree.specs.declared.expression.BinaryOp.{BinaryOp}
 use Rattle.index_tree.specs.declared.expression.UnaryOp.{UnaryOp}
 use Rattle.index_tree.specs.Trees.{Tree, If, Binary, Unary, Dot, Load, Num, Quoted, Flag, Null, Var}
@@ -17,7 +17,7 @@ use Rattle.index_grammar.specs.Expressions.{Rule, Whole, Level, Post, Primary, S
 use Rattle.index_grammar.specs.Limits.{most_open, most_operators, verdict}
 use Rattle.index_grammar.specs.ExpressionReading as read
 use Rattle.index_grammar.specs.ExpressionReading.{Reads, Deeper, deeper_of}
-use Rattle.index_grammar.proofs.Taking.{the_reads, name_reads, quoted_reads}
+use Rattle.index_grammar.proofs.Taking.{test_at, the_reads, name_reads, quoted_reads}
 use Rattle.index_grammar.proofs.Following.{looseness_as, looseness, ends_expression, points_end, no_operator, operator_is, operator_loose, no_question}
 use Rattle.index_grammar.proofs.ExpressionKeeps.{Behind, points_keep, climb_keeps, level_at}
 
@@ -64,7 +64,7 @@ module _ (room : ℕ) where
   unfolding read.points
   point_reach {s = s} {r = r} {p = p} {x = x} {a = a} {v = v} y is also n h =
       loop_goes_on_counted tt (Behind Post) read.point_next points_keep (verdict y room n) a p (x ∷ r) (read.post deeper n s) tt most_operators (take tt name >>= λ v. pure (Dot a v)) (λ n. Fine n) (Dot a v) r
-      h (ap (read.point_as a) (is_taken t.Point p refl is)) (λ n. name_reads x v (λ v. pure (Dot a v)) also n r)
+      h (ap (λ d. cond d (Counts tt most_operators (take tt name >>= λ v. pure (Dot a v))) (Ends (pure a))) (test_at t.Point t.Point true p refl is)) (λ n. name_reads x v (λ v. pure (Dot a v)) also n r)
 
   first_reach : {s r : Tokens} {a : Tree} (x : Spells Primary s a r) (n : ℕ) → Reach Primary x n s a r → Reach Post (first x) n s a r
   unfolding read.post
@@ -86,9 +86,9 @@ module _ (room : ℕ) where
   unfolding read.whole read.conditional
   plain_reach {s = s} {r = r} {a = a} x n h low = after_meets (verdict x room n) a r (read.level deeper 6 n s) (read.conditional deeper) a r (level_read 6 x n h (omega (arith, low))) (λ n. ends r low n)
     where
-      ends : (r : Tokens) → 7 < looseness (head r) → (n : ℕ) → read.conditional_by deeper a (head r) n r ≡ Read a n r
+      ends : (r : Tokens) → 7 < looseness (head r) → (n : ℕ) → cond (read.next_is t.Question (head r)) (within tt deeper.has_room (skip >> read.branches deeper a)) (pure a) n r ≡ Read a n r
       ends [] low n = refl
-      ends (x ∷ r) low n = ap (λ d. read.conditional_as deeper a (cond d (Some tt) None) n (x ∷ r)) (no_question x.token low)
+      ends (x ∷ r) low n = ap (λ d. cond d (within tt deeper.has_room (skip >> read.branches deeper a)) (pure a) n (x ∷ r)) (no_question x.token low)
 
 -- ---- parts that open, by the room that is left
 
@@ -118,9 +118,9 @@ load_reach : {s r : Tokens} {k y q : Placed} {a : Tree} {v : List ℕ} (w p : Pl
 unfolding read.primary read.load deeper_of
 load_reach {s = s} {r = r} {k = k} {y = y} {q = q} {a = a} {v = v} w p word is x comma quote also h room n =
     subst (λ u. Meets (verdict (load {x = w} {p = p} word is x comma quote also) room n) (Load a v) r (read.primary_as (deeper_of room) u n (w ∷ p ∷ s))) (sym word)
-    (subst (λ o. Meets (verdict (load {x = w} {p = p} word is x comma quote also) room n) (Load a v) r (read.load_as (deeper_of room) o n (p ∷ s))) (sym (is_taken t.Open p refl is)) (by room))
+    (subst (λ d. Meets (verdict (load {x = w} {p = p} word is x comma quote also) room n) (Load a v) r (cond d (within tt (deeper_of room).has_room (skip >> read.loading (deeper_of room))) (refuse tt) n (p ∷ s))) (sym (test_at t.Open t.Open true p refl is)) (by room))
   where
-    by : (room : ℕ) → Meets (opens tt room (p ∷ s) (λ room. verdict x room n)) (Load a v) r (read.load_as (deeper_of room) (Some tt) n (p ∷ s))
+    by : (room : ℕ) → Meets (opens tt room (p ∷ s) (λ room. verdict x room n)) (Load a v) r (within tt (deeper_of room).has_room (skip >> read.loading (deeper_of room)) n (p ∷ s))
     by zero = refl
     by (suc room) = after_meets (verdict x room n) a (k ∷ y ∷ q ∷ r) (read.whole (deeper_of room) n s) (λ a. take tt (the t.Comma) >>= λ _. take tt quoted >>= λ v. take tt (the t.Close) >>= λ _. pure (Load a v)) (Load a v) r
         (h room n (ends_expression t.Comma k (omega arith) comma))
@@ -135,10 +135,10 @@ choice_reach {s = s} {m = m} {l = l} {r = r} {p = p} {q = q} {a = a} {b = b} {f 
     then_meets (verdict x room n) a (p ∷ m) (read.level (deeper_of room) 6 n s) (read.conditional (deeper_of room))
     (λ n. opens tt room (p ∷ m) (λ room. and_fine (verdict y room n) (λ n. verdict z room n))) (If a b f) r
     (level_read room 6 x n (hx room n) (let e : looseness (Some p) ≡ 7 = ap looseness_as is in omega (arith, e)))
-    (λ n. subst (λ o. Meets (opens tt room (p ∷ m) (λ room. and_fine (verdict y room n) (λ n. verdict z room n))) (If a b f) r (read.conditional_as (deeper_of room) a o n (p ∷ m)))
-    (sym (is_taken t.Question p refl is)) (by room n))
+    (λ n. subst (λ d. Meets (opens tt room (p ∷ m) (λ room. and_fine (verdict y room n) (λ n. verdict z room n))) (If a b f) r (cond d (within tt (deeper_of room).has_room (skip >> read.branches (deeper_of room) a)) (pure a) n (p ∷ m)))
+    (sym (test_at t.Question t.Question true p refl is)) (by room n))
   where
-    by : (room n : ℕ) → Meets (opens tt room (p ∷ m) (λ room. and_fine (verdict y room n) (λ n. verdict z room n))) (If a b f) r (read.conditional_as (deeper_of room) a (Some tt) n (p ∷ m))
+    by : (room n : ℕ) → Meets (opens tt room (p ∷ m) (λ room. and_fine (verdict y room n) (λ n. verdict z room n))) (If a b f) r (within tt (deeper_of room).has_room (skip >> read.branches (deeper_of room) a) n (p ∷ m))
     by zero n = refl
     by (suc room) n = then_meets (verdict y room n) b (q ∷ l) (read.whole (deeper_of room) n m) (λ b. take tt (the t.Colon) >>= λ _. read.whole (deeper_of room) >>= λ c. pure (If a b c)) (λ n. verdict z room n) (If a b f) r
         (hy room n (ends_expression t.Colon q (omega arith) also))
@@ -148,8 +148,8 @@ choice_reach {s = s} {m = m} {l = l} {r = r} {p = p} {q = q} {a = a} {b = b} {f 
 -- ---- what an operand begins with is no operator
 
 abbrev Begins : Rule → Tokens → Type 0
-Begins Post s = (deeper : Deeper) → read.unary_by deeper (head s) ≡ read.post deeper
-Begins Primary s = (deeper : Deeper) → read.unary_by deeper (head s) ≡ read.post deeper
+Begins Post s = (deeper : Deeper) → read.unary_as deeper (read.sign_at (head s)) ≡ read.post deeper
+Begins Primary s = (deeper : Deeper) → read.unary_as deeper (read.sign_at (head s)) ≡ read.post deeper
 Begins _ s = Unit {0}
 
 no_sign : (u : Token) (x : Placed) → sign_as u ≡ None → Is u x → (deeper : Deeper) → read.unary_as deeper (sign x) ≡ read.post deeper

@@ -1,15 +1,16 @@
 -- Which tokens go on with an expression.
 use Rattle.std.proofs.Common.{◌≡◌, ℕ, suc, ◌<◌, Bool, true, false, nat_eq, [], ◌∷◌, Option, Some, None, refl, sym, ◌∙◌, ap, subst, arith, cond}
 use Rattle.std.proofs.lemmas.Bool.{eqb-true, eq-eqb}
-use Rattle.exact_parse.specs.Steps.{head, pure, Ends}
+use Rattle.exact_parse.specs.Steps.{head, ◌>>=◌, pure, take, Counts, Ends}
 use Rattle.index_tokens.specs.declared.token.Token.{Token}
 use Rattle.index_tokens.specs.declared.token.Token.TheVariants as t
 use Rattle.index_tokens.specs.declared.token.Placed.{Placed}
-use Rattle.index_tokens.specs.Words.{Tokens, Is, same_token}
+use Rattle.index_tokens.specs.Words.{Tokens, Is, same_token, name}
 use Rattle.index_tree.specs.declared.expression.BinaryOp.{BinaryOp}
-use Rattle.index_tree.specs.Trees.{Tree}
+use Rattle.index_tree.specs.Trees.{Tree, Dot}
 use Rattle.index_grammar.specs.Operators.{operator_as, operator, level_of}
-use Rattle.index_grammar.specs.ExpressionReading.{at_level, operator_at, point_as, point_next}
+use Rattle.index_grammar.specs.Limits.{most_operators}
+use Rattle.index_grammar.specs.ExpressionReading.{at_level, operator_at, point_next}
 
 abbrev pub other_looseness : Token → ℕ
 other_looseness t.Point = 0
@@ -41,7 +42,7 @@ no_point _ h = refl
 
 pub points_end : (a : Tree) (r : Tokens) → 0 < looseness (head r) → point_next a (head r) ≡ Ends (pure a)
 points_end a [] h = refl
-points_end a (x ∷ r) h = ap (λ d. point_as a (cond d (Some tt) None)) (no_point x.token h)
+points_end a (x ∷ r) h = ap (λ d. cond d (Counts tt most_operators (take tt name >>= λ n. pure (Dot a n))) (Ends (pure a))) (no_point x.token h)
 
 -- ---- operators
 

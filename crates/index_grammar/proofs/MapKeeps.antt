@@ -1,28 +1,26 @@
 -- The reading of maps keeps to the grammar.
 use Rattle.std.proofs.Common.{◌≡◌, ℕ, zero, suc, pos, Bool, true, false, List, [], ◌∷◌, ◌++◌, Option, Some, None, refl, ◌∙◌, cond, codes, append_assoc}
-use Rattle.std.specs.Str.{bytes_eq}
-use Rattle.exact_parse.specs.Steps.{◌>>=◌, pure, choose, take, Ends, More}
+use Rattle.exact_parse.specs.Steps.{◌>>=◌, pure, refuse, choose, skip, take, Ends, More}
 use Rattle.exact_parse.specs.Keeps.{Goes, Fits, Keeps, Then}
 use Rattle.exact_parse.specs.Loops.{LoopKeeps, NextKeeps}
 use Rattle.exact_parse.proofs.Keeping.{pure_at, pure_keeps, refuse_at, too_large_at, choose_keeps, skip_at, skip_short, bind_keeps, map_keeps, fresh_keeps}
 use Rattle.exact_parse.proofs.Loops.{loop_keeps}
-use Rattle.index_tokens.specs.declared.token.Token.{Token}
 use Rattle.index_tokens.specs.declared.token.Token.TheVariants as t
 use Rattle.index_tokens.specs.declared.token.Placed.{Placed}
-use Rattle.index_tokens.specs.Words.{Tokens, Is, word_from, word_in, word_docs, word_where, word_let, word_select, word_new, the, name, variable}
-use Rattle.index_tokens.proofs.WordLemmas.{taken_is}
+use Rattle.index_tokens.specs.Words.{Tokens, Is, same_token, word_from, word_in, word_docs, word_where, word_let, word_select, word_new, the, name, variable}
 use Rattle.index_tree.specs.Trees.{Num, Var}
 use Rattle.index_tree.specs.declared.map_query.Clause.{Clause}
 use Rattle.index_tree.specs.declared.map_query.Clause.TheVariants as c
+use Rattle.index_grammar.specs.declared.spelled.Origin.{Origin}
 use Rattle.index_grammar.specs.declared.spelled.PlacedMember.{PlacedMember}
 use Rattle.index_grammar.specs.Expressions.{Spells, Post, number, var, first}
-use Rattle.index_grammar.specs.Maps.{Origin, origin_of, SpellsOrigin, SpellsClause, filter, binding, SpellsClauses, no_clause, next_clause, last_name, placed_member, SpellsMember, named, path, SpellsMembers, last, last_comma, more, spelled_map, SpellsMap, map}
+use Rattle.index_grammar.specs.Maps.{origin_of, SpellsOrigin, SpellsClause, filter, binding, SpellsClauses, no_clause, next_clause, last_name, placed_member, SpellsMember, named, path, SpellsMembers, last, last_comma, more, SpellsEntry, entry, spelled_map, SpellsMap, map}
 use Rattle.index_grammar.specs.Maps as m
 use Rattle.index_grammar.specs.Limits.{Kind, most_members}
 use Rattle.index_grammar.specs.ExpressionReading as expr
-use Rattle.index_grammar.specs.ExpressionReading.{Reads}
+use Rattle.index_grammar.specs.ExpressionReading.{Reads, next_is}
 use Rattle.index_grammar.specs.MapReading as read
-use Rattle.index_grammar.proofs.Taking.{at_start, the_keeps, name_keeps, variable_keeps, word_is}
+use Rattle.index_grammar.proofs.Taking.{at_start, same_at, the_keeps, name_keeps, variable_keeps, either_at}
 use Rattle.index_grammar.proofs.ExpressionKeeps.{alone, zero_token, expression_keeps, Behind, points_keep}
 
 -- ---- which documents
@@ -35,11 +33,11 @@ origin_keeps = the_keeps word_from refl (λ f from_here. variable_keeps (λ v. t
 
 -- ---- clauses
 
-filter_keeps : (x : Placed) → Is word_where x → Keeps (λ m b r. SpellsClause (x ∷ m) b r) read.filter
+pub filter_keeps : (x : Placed) → Is word_where x → Keeps (λ m b r. SpellsClause (x ∷ m) b r) read.filter
 unfolding read.filter
 filter_keeps x is = bind_keeps (λ a. pure (c.Where a)) expression_keeps (λ a. pure_keeps (λ z s d. filter is d))
 
-binding_keeps : (l : Placed) → Is word_let l → Keeps (λ m b r. SpellsClause (l ∷ m) b r) read.binding
+pub binding_keeps : (l : Placed) → Is word_let l → Keeps (λ m b r. SpellsClause (l ∷ m) b r) read.binding
 unfolding read.binding
 binding_keeps l is = variable_keeps (λ v. take tt (the t.Assign) >>= λ _. expr.expression >>= λ a. pure (c.Let v a))
     (λ x v bound. the_keeps t.Assign refl (λ e also. bind_keeps (λ a. pure (c.Let v a)) expression_keeps (λ a. pure_keeps (λ z s d. binding is bound also d))))
@@ -55,25 +53,21 @@ pub clauses_keep : LoopKeeps BehindClauses read.clause_next
 clauses_keep = record {
   short = λ a. record { more = []; tree = a; spells = λ z s d. d };
   none = λ a n. pure_at {X = BehindClauses a} (λ z s d. d) n [];
-  some = λ a x. by a x x.token refl;
+  some = λ a x. by a x (same_token word_where x.token) refl;
 }
   where
     stays : (a : List Clause) (x : Placed) → NextKeeps {K = Kind} BehindClauses a x (Ends (pure a))
     stays a x n s = pure_at {X = BehindClauses a} (λ z s d. d) n _
 
-    second : (a : List Clause) (x : Placed) (w : List ℕ) → Is (t.Word w) x → (d : Bool) → bytes_eq w (codes "let") ≡ d →
+    second : (a : List Clause) (x : Placed) (d : Bool) → same_token word_let x.token ≡ d →
         NextKeeps BehindClauses a x (cond d (More (read.binding >>= λ b. pure (a ++ b ∷ []))) (Ends (pure a)))
-    second a x w is true e = clause_keeps a x read.binding (binding_keeps x (word_is w (codes "let") x is e))
-    second a x w is false e = stays a x
+    second a x true e = clause_keeps a x read.binding (binding_keeps x (same_at word_let x e))
+    second a x false e = stays a x
 
-    either : (a : List Clause) (x : Placed) (w : List ℕ) → Is (t.Word w) x → (d : Bool) → bytes_eq w (codes "where") ≡ d →
-        NextKeeps BehindClauses a x (cond d (More (read.filter >>= λ b. pure (a ++ b ∷ []))) (cond (bytes_eq w (codes "let")) (More (read.binding >>= λ b. pure (a ++ b ∷ []))) (Ends (pure a))))
-    either a x w is true e = clause_keeps a x read.filter (filter_keeps x (word_is w (codes "where") x is e))
-    either a x w is false e = second a x w is (bytes_eq w (codes "let")) refl
-
-    by : (a : List Clause) (x : Placed) (u : Token) → Is u x → NextKeeps BehindClauses a x (read.clause_as a u)
-    by a x (t.Word w) is = either a x w is (bytes_eq w (codes "where")) refl
-    by a x _ is = stays a x
+    by : (a : List Clause) (x : Placed) (d : Bool) → same_token word_where x.token ≡ d →
+        NextKeeps BehindClauses a x (cond d (More (read.filter >>= λ b. pure (a ++ b ∷ []))) (cond (same_token word_let x.token) (More (read.binding >>= λ b. pure (a ++ b ∷ []))) (Ends (pure a))))
+    by a x true e = clause_keeps a x read.filter (filter_keeps x (same_at word_where x e))
+    by a x false e = second a x (same_token word_let x.token) refl
 
 all_clauses_keep : Keeps SpellsClauses (read.clauses [])
 unfolding read.clauses
@@ -100,10 +94,12 @@ path_fits : (x : Placed) (n : List ℕ) → name x ≡ Some n → (o : Option (L
 path_fits x n is (Some v) e k s = (path_keeps x v e).fits k s
 path_fits x n is None e k s = refuse_at {X = λ m b r. SpellsMember (x ∷ m) b r} tt (member_short x n is) k s
 
-value_token : (x : Placed) (n : List ℕ) → name x ≡ Some n → (y : Placed) (o : Option (Unit {0})) → the t.Assign y ≡ o → (k : ℕ) (s : Tokens) →
-    Fits (λ m b r. SpellsMember (x ∷ m) b r) (read.value_as x n o) k (y ∷ s) (read.value_as x n o k (y ∷ s))
-value_token x n is y (Some v) e k s = skip_at (λ m b r. SpellsMember (x ∷ m) b r) (read.value x.at n) y (value_keeps x y n is (taken_is t.Assign y v e)) k s
-value_token x n is y None e k s = path_fits x n is (variable x) refl k _
+behind_keeps : (x : Placed) (n : List ℕ) → name x ≡ Some n → Keeps (λ m b r. SpellsMember (x ∷ m) b r) (read.behind_name x n)
+behind_keeps x n is = choose_keeps (λ m b r. SpellsMember (x ∷ m) b r) (λ h. cond (next_is t.Assign h) (skip >>= λ _. read.value x.at n) (read.path_as x (variable x))) (member_short x n is)
+    (λ k. path_fits x n is (variable x) refl k [])
+    (λ y k s. either_at (λ m b r. SpellsMember (x ∷ m) b r) (skip >>= λ _. read.value x.at n) (read.path_as x (variable x)) k (y ∷ s) (same_token t.Assign y.token)
+    (λ e. skip_at (λ m b r. SpellsMember (x ∷ m) b r) (read.value x.at n) y (value_keeps x y n is (same_at t.Assign y e)) k s)
+    (λ _. path_fits x n is (variable x) refl k _))
 
 member_any : Goes SpellsMember []
 member_any = record {
@@ -113,11 +109,10 @@ member_any = record {
 }
 
 member_token : (x : Placed) (o : Option (List ℕ)) → name x ≡ o → (k : ℕ) (s : Tokens) → Fits SpellsMember (read.member_as x o) k (x ∷ s) (read.member_as x o k (x ∷ s))
-member_token x (Some n) is k s = skip_at SpellsMember (choose (read.value_by x n)) x
-    (choose_keeps (λ m b r. SpellsMember (x ∷ m) b r) (read.value_by x n) (member_short x n is) (λ k. path_fits x n is (variable x) refl k []) (λ y. value_token x n is y (the t.Assign y) refl)) k s
+member_token x (Some n) is k s = skip_at SpellsMember (read.behind_name x n) x (behind_keeps x n is) k s
 member_token x None is k s = refuse_at {X = SpellsMember} tt member_any k _
 
-member_keeps : Keeps SpellsMember read.member
+pub member_keeps : Keeps SpellsMember read.member
 unfolding read.member
 member_keeps = choose_keeps SpellsMember read.member_by member_any (λ k. refuse_at {X = SpellsMember} tt member_any k []) (λ x. member_token x (name x) refl)
 
@@ -153,32 +148,33 @@ module _ (next : List PlacedMember → Reads (List PlacedMember)) (found : List 
   next_keeps : (k : Placed) → Is t.Comma k → Keeps (λ m b r. Then SpellsMember (BehindMembers found) a (k ∷ m) b r) (next (found ++ a ∷ []))
   next_keeps k comma = map_keeps (λ m b r h s d. (a ∷ h.0, more d comma h.1, h.2 ∙ append_assoc found (a ∷ []) h.0)) goes_on
 
-  comma_token : (k : Placed) → Is t.Comma k → (x : Placed) (o : Option (Unit {0})) → the t.CloseBrace x ≡ o → (n : ℕ) (s : Tokens) →
-      Fits (λ m b r. Then SpellsMember (BehindMembers found) a (k ∷ m) b r) (read.after_comma_as next (found ++ a ∷ []) o) n (x ∷ s) (read.after_comma_as next (found ++ a ∷ []) o n (x ∷ s))
-  comma_token k comma x (Some v) e n s = skip_at (λ m b r. Then SpellsMember (BehindMembers found) a (k ∷ m) b r) (pure (found ++ a ∷ [])) x (comma_brace_keeps k x comma (taken_is t.CloseBrace x v e)) n s
-  comma_token k comma x None e n s = (next_keeps k comma).fits n _
+  behind_comma : Option Placed → Reads (List PlacedMember)
+  behind_comma h = cond (next_is t.CloseBrace h) (skip >>= λ _. pure (found ++ a ∷ [])) (next (found ++ a ∷ []))
 
-  comma_keeps : (k : Placed) → Is t.Comma k → Keeps (λ m b r. Then SpellsMember (BehindMembers found) a (k ∷ m) b r) (choose (read.after_comma_by next (found ++ a ∷ [])))
-  comma_keeps k comma = choose_keeps (λ m b r. Then SpellsMember (BehindMembers found) a (k ∷ m) b r) (read.after_comma_by next (found ++ a ∷ [])) (next_keeps k comma).short
-      (λ n. (next_keeps k comma).fits n []) (λ x. comma_token k comma x (the t.CloseBrace x) refl)
+  comma_keeps : (k : Placed) → Is t.Comma k → Keeps (λ m b r. Then SpellsMember (BehindMembers found) a (k ∷ m) b r) (choose behind_comma)
+  unfolding behind_comma
+  comma_keeps k comma = choose_keeps (λ m b r. Then SpellsMember (BehindMembers found) a (k ∷ m) b r) behind_comma (next_keeps k comma).short (λ n. (next_keeps k comma).fits n [])
+      (λ x n s. either_at (λ m b r. Then SpellsMember (BehindMembers found) a (k ∷ m) b r) (skip >>= λ _. pure (found ++ a ∷ [])) (next (found ++ a ∷ [])) n (x ∷ s) (same_token t.CloseBrace x.token)
+      (λ e. skip_at (λ m b r. Then SpellsMember (BehindMembers found) a (k ∷ m) b r) (pure (found ++ a ∷ [])) x (comma_brace_keeps k x comma (same_at t.CloseBrace x e)) n s)
+      (λ _. (next_keeps k comma).fits n _))
 
   brace_short : Goes (Then SpellsMember (BehindMembers found) a) []
   brace_short = skip_short (Then SpellsMember (BehindMembers found) a) (pure (found ++ a ∷ [])) (at_start t.CloseBrace) (brace_keeps (at_start t.CloseBrace) refl)
 
-  after_token : (x : Placed) (u : Token) → Is u x → (n : ℕ) (s : Tokens) →
-      Fits (Then SpellsMember (BehindMembers found) a) (read.after_as next (found ++ a ∷ []) u) n (x ∷ s) (read.after_as next (found ++ a ∷ []) u n (x ∷ s))
-  after_token x t.CloseBrace is n s = skip_at (Then SpellsMember (BehindMembers found) a) (pure (found ++ a ∷ [])) x (brace_keeps x is) n s
-  after_token x t.Comma is n s = skip_at (Then SpellsMember (BehindMembers found) a) (choose (read.after_comma_by next (found ++ a ∷ []))) x (comma_keeps x is) n s
-  after_token x _ is n s = refuse_at {X = Then SpellsMember (BehindMembers found) a} tt brace_short n _
-
-  after_keeps : Keeps (Then SpellsMember (BehindMembers found) a) (choose (read.after_by next (found ++ a ∷ [])))
-  after_keeps = choose_keeps (Then SpellsMember (BehindMembers found) a) (read.after_by next (found ++ a ∷ [])) brace_short
-      (λ n. refuse_at {X = Then SpellsMember (BehindMembers found) a} tt brace_short n []) (λ x. after_token x x.token refl)
+  behind_member_keeps : Keeps (Then SpellsMember (BehindMembers found) a) (choose (read.behind_member next (found ++ a ∷ [])))
+  unfolding behind_comma
+  behind_member_keeps = choose_keeps (Then SpellsMember (BehindMembers found) a) (read.behind_member next (found ++ a ∷ [])) brace_short
+      (λ n. refuse_at {X = Then SpellsMember (BehindMembers found) a} tt brace_short n [])
+      (λ x n s. either_at (Then SpellsMember (BehindMembers found) a) (skip >>= λ _. pure (found ++ a ∷ [])) (cond (next_is t.Comma (Some x)) (skip >>= λ _. choose behind_comma) (refuse tt)) n (x ∷ s) (same_token t.CloseBrace x.token)
+      (λ e. skip_at (Then SpellsMember (BehindMembers found) a) (pure (found ++ a ∷ [])) x (brace_keeps x (same_at t.CloseBrace x e)) n s)
+      (λ _. either_at (Then SpellsMember (BehindMembers found) a) (skip >>= λ _. choose behind_comma) (refuse tt) n (x ∷ s) (same_token t.Comma x.token)
+      (λ e. skip_at (Then SpellsMember (BehindMembers found) a) (choose behind_comma) x (comma_keeps x (same_at t.Comma x e)) n s)
+      (λ _. refuse_at {X = Then SpellsMember (BehindMembers found) a} tt brace_short n _)))
 
 members_keep : (room : ℕ) (found : List PlacedMember) → Keeps (BehindMembers found) (read.members room found)
 unfolding read.members
 members_keep zero found = choose_keeps (BehindMembers found) read.no_room_by (any_members found) (λ n. refuse_at {X = BehindMembers found} tt (any_members found) n []) (λ x. no_room_at found x (name x) refl)
-members_keep (suc room) found = bind_keeps (λ a. choose (read.after_by (read.members room) (found ++ a ∷ []))) member_keeps (λ a. after_keeps (read.members room) found a (members_keep room (found ++ a ∷ [])))
+members_keep (suc room) found = bind_keeps (λ a. choose (read.behind_member (read.members room) (found ++ a ∷ []))) member_keeps (λ a. behind_member_keeps (read.members room) found a (members_keep room (found ++ a ∷ [])))
 
 all_members_keep : Keeps SpellsMembers (read.members most_members [])
 all_members_keep = map_keeps (λ s b r h. by s b r h.0 h.1 h.2) (members_keep most_members [])
@@ -188,9 +184,13 @@ all_members_keep = map_keeps (λ s b r h. by s b r h.0 h.1 h.2) (members_keep mo
 
 -- ---- the whole text
 
+entry_keeps : Keeps SpellsEntry read.entry
+unfolding read.entry
+entry_keeps = the_keeps word_select refl (λ x is. the_keeps word_new refl (λ y also. the_keeps t.OpenBrace refl (λ p opening. map_keeps (λ s ms r d. entry is also opening d) all_members_keep)))
+
 pub map_text_keeps : Keeps SpellsMap read.map_text
 unfolding read.map_text
-map_text_keeps = bind_keeps {X = SpellsOrigin} (λ o. read.clauses [] >>= λ cs. take tt (the word_select) >>= λ _. take tt (the word_new) >>= λ _. take tt (the t.OpenBrace) >>= λ _. read.members most_members [] >>= λ ms. take tt (the t.End) >>= λ _. pure (spelled_map o cs ms)) origin_keeps
-    (λ o. bind_keeps {X = SpellsClauses} (λ cs. take tt (the word_select) >>= λ _. take tt (the word_new) >>= λ _. take tt (the t.OpenBrace) >>= λ _. read.members most_members [] >>= λ ms. take tt (the t.End) >>= λ _. pure (spelled_map o cs ms)) all_clauses_keep
-    (λ cs. the_keeps word_select refl (λ x is. the_keeps word_new refl (λ y also. the_keeps t.OpenBrace refl (λ p opening. bind_keeps {X = SpellsMembers} (λ ms. take tt (the t.End) >>= λ _. pure (spelled_map o cs ms)) all_members_keep
-    (λ ms. the_keeps t.End refl (λ e end. pure_keeps (λ z s_members d_members s_clauses d_clauses s d. map d d_clauses is also opening d_members end))))))))
+map_text_keeps = bind_keeps {X = SpellsOrigin} (λ o. read.clauses [] >>= λ cs. read.entry >>= λ ms. take tt (the t.End) >>= λ _. pure (spelled_map o cs ms)) origin_keeps
+    (λ o. bind_keeps {X = SpellsClauses} (λ cs. read.entry >>= λ ms. take tt (the t.End) >>= λ _. pure (spelled_map o cs ms)) all_clauses_keep
+    (λ cs. bind_keeps {X = SpellsEntry} (λ ms. take tt (the t.End) >>= λ _. pure (spelled_map o cs ms)) entry_keeps
+    (λ ms. the_keeps t.End refl (λ e end. pure_keeps (λ z s_entry d_entry s_clauses d_clauses s d. map d d_clauses d_entry end)))))

@@ -1,6 +1,6 @@
 -- What is spelled as a map is read, unless it is past a limit, and then refused there.
-use Rattle.std.proofs.Common.{◌≡◌, ℕ, zero, suc, ◌<◌, List, [], ◌∷◌, ◌++◌, Some, None, refl, sym, ◌∙◌, ap, subst, arith, append_assoc}
-use Rattle.exact_parse.specs.Steps.{head, Outcome, Read, and_then, ◌>>=◌, pure, take, choose}
+use Rattle.std.proofs.Common.{◌≡◌, ℕ, zero, suc, ◌<◌, List, [], ◌∷◌, ◌++◌, Some, None, refl, sym, ◌∙◌, ap, subst, arith, append_assoc, true, false, cond, Option}
+use Rattle.exact_parse.specs.Steps.{head, Outcome, Read, and_then, ◌>>=◌, pure, skip, take, choose}
 use Rattle.exact_parse.specs.Limits.{Verdict, and_fine, opens}
 use Rattle.exact_parse.specs.Exact.{Meets}
 use Rattle.exact_parse.proofs.Meeting.{then_meets, after_meets, ComesTo, loop_goes_on, loop_stops}
@@ -8,20 +8,21 @@ use Rattle.index_tokens.specs.declared.token.Token.{Token}
 use Rattle.index_tokens.specs.declared.token.Token.TheVariants as t
 use Rattle.index_tokens.specs.declared.token.Placed.{Placed}
 use Rattle.index_tokens.specs.Words.{Tokens, Is, word_true, word_false, word_null, word_load, variable_as, word_from, word_in, word_docs, word_where, word_let, word_select, word_new, the, name, variable}
-use Rattle.index_tokens.proofs.WordLemmas.{is_taken, not_taken, name_is, variable_is, is_name}
+use Rattle.index_tokens.proofs.WordLemmas.{name_is, variable_is, is_name}
 use Rattle.index_tree.specs.Trees.{Tree, Var}
 use Rattle.index_tree.specs.declared.map_query.Clause.{Clause}
 use Rattle.index_tree.specs.declared.map_query.Clause.TheVariants as c
+use Rattle.index_grammar.specs.declared.spelled.Origin.{Origin}
 use Rattle.index_grammar.specs.declared.spelled.PlacedMember.{PlacedMember}
 use Rattle.index_grammar.specs.declared.spelled.SpelledMap.{SpelledMap}
 use Rattle.index_grammar.specs.Expressions.{Rule, Spells, Whole, Post, Primary, first, point, number, text, yes, no, null, var, parens, load}
-use Rattle.index_grammar.specs.Maps.{Origin, origin_of, SpellsOrigin, SpellsClause, filter, binding, SpellsClauses, no_clause, next_clause, last_name, placed_member, SpellsMember, named, path, SpellsMembers, last, last_comma, more, spelled_map, SpellsMap, map}
+use Rattle.index_grammar.specs.Maps.{origin_of, SpellsOrigin, SpellsClause, filter, binding, SpellsClauses, no_clause, next_clause, last_name, placed_member, SpellsMember, named, path, SpellsMembers, last, last_comma, more, SpellsEntry, entry, spelled_map, SpellsMap, map}
 use Rattle.index_grammar.specs.Maps as m
-use Rattle.index_grammar.specs.Limits.{Kind, most_open, most_members, verdict, clause_verdict, clauses_verdict, member_verdict, members_verdict, limit}
+use Rattle.index_grammar.specs.Limits.{Kind, most_open, most_members, verdict, clause_verdict, clauses_verdict, member_verdict, members_verdict, entry_verdict, limit}
 use Rattle.index_grammar.specs.ExpressionReading as expr
-use Rattle.index_grammar.specs.ExpressionReading.{Reads, deeper_of}
+use Rattle.index_grammar.specs.ExpressionReading.{Reads, next_is, deeper_of}
 use Rattle.index_grammar.specs.MapReading as read
-use Rattle.index_grammar.proofs.Taking.{the_reads, name_reads, variable_reads}
+use Rattle.index_grammar.proofs.Taking.{at_start, test_at, the_reads, name_reads, variable_reads}
 use Rattle.index_grammar.proofs.Following.{looseness, ends_expression}
 use Rattle.index_grammar.proofs.ExpressionMeets.{var_reach, expression_meets, post_meets}
 use Rattle.index_grammar.proofs.MapKeeps.{BehindClauses, clauses_keep}
@@ -56,17 +57,20 @@ binding_meets {s = s} {r = r} {v = v} {a = a} x e bound also y low n =
 abbrev AtClause : Tokens → Type 0
 AtClause s = 7 < looseness (head s)
 
+clause_at : (found : List Clause) (x : Placed) (u : Token) → Is u x → read.clause_next found (Some x) ≡ read.clause_next found (Some (at_start u))
+clause_at found x u is = ap (λ u. read.clause_next found (Some (at_start u))) is
+
 -- what the loop does at the first token of a clause, and what it reads then
 clause_goes_on : {s r : Tokens} {a : Clause} (x : SpellsClause s a r) → AtClause r → (found : List Clause) (v : Verdict Placed Kind) (o : Outcome Placed Kind (List Clause)) →
     ComesTo (read.clauses) v found s o → ComesTo (read.clauses) (and_fine v (λ n. clause_verdict x)) (found ++ a ∷ []) r o
 unfolding read.clauses
 clause_goes_on (filter {s = s} {r = r} {x = x} {a = a} is y) low found v o h =
     loop_goes_on tt BehindClauses read.clause_next clauses_keep v found x s o (read.filter >>= λ a. pure (found ++ a ∷ [])) (λ n. verdict y most_open 0) (found ++ c.Where a ∷ []) r h
-    (ap (read.clause_as found) is)
+    (clause_at found x word_where is)
     (λ n. after_meets (verdict y most_open 0) (c.Where a) r (read.filter n s) (λ a. pure (found ++ a ∷ [])) (found ++ c.Where a ∷ []) r (filter_meets y low n) (λ n. refl))
 clause_goes_on (binding {s = s} {r = r} {l = l} {x = x} {e = e} {v = w} {a = a} is bound also y) low found v o h =
     loop_goes_on tt BehindClauses read.clause_next clauses_keep v found l (x ∷ e ∷ s) o (read.binding >>= λ a. pure (found ++ a ∷ [])) (λ n. verdict y most_open 0) (found ++ c.Let w a ∷ []) r h
-    (ap (read.clause_as found) is)
+    (clause_at found l word_let is)
     (λ n. after_meets (verdict y most_open 0) (c.Let w a) r (read.binding n (x ∷ e ∷ s)) (λ a. pure (found ++ a ∷ [])) (found ++ c.Let w a ∷ []) r (binding_meets x e bound also y low n) (λ n. refl))
 
 -- a clause begins with a word
@@ -78,9 +82,12 @@ clauses_reach : {s r : Tokens} {cs : List Clause} (x : SpellsClauses s cs r) →
 clauses_reach no_clause low = refl
 clauses_reach (next_clause {s = s} {cs = cs} x y) low = clause_goes_on y low cs (clauses_verdict x) (read.clauses [] 0 s) (clauses_reach x (at_clause y))
 
-clauses_meets : {s r : Tokens} {w : Placed} {cs : List Clause} (x : SpellsClauses s cs (w ∷ r)) → Is word_select w → Meets (clauses_verdict x) cs (w ∷ r) (read.clauses [] 0 s)
+data BeginsWith (u : Token) : Tokens → Type 0 where
+  begins_with : {x : Placed} {s : Tokens} → Is u x → BeginsWith u (x ∷ s)
+
+clauses_meets : {s r : Tokens} {cs : List Clause} (x : SpellsClauses s cs r) → BeginsWith word_select r → Meets (clauses_verdict x) cs r (read.clauses [] 0 s)
 unfolding read.clauses
-clauses_meets {s = s} {r = r} {w = w} {cs = cs} x is = loop_stops tt BehindClauses read.clause_next clauses_keep (clauses_verdict x) cs (w ∷ r) (read.clauses [] 0 s) cs (ap (read.clause_as cs) is)
+clauses_meets {s = s} {cs = cs} x (begins_with {x = w} {s = r} is) = loop_stops tt BehindClauses read.clause_next clauses_keep (clauses_verdict x) cs (w ∷ r) (read.clauses [] 0 s) cs (clause_at cs w word_select is)
     (clauses_reach x (ends_expression word_select w (omega arith) is))
 
 -- ---- one member
@@ -126,10 +133,10 @@ path_begins (load {s = s} {r = r} {x = x} {p = p} word is y comma quote also) = 
 path_begins _ = tt
 
 -- so it is no member with a name of its own
-no_assign : (x : Placed) (v : List ℕ) (m r : Tokens) → PathGoesOn m r → AtEnd r → read.value_by x v (head m) ≡ read.path_as x (variable x)
-no_assign x v m r (at_point {p = p} is) end = ap (read.value_as x v) (not_taken t.Assign t.Point p refl is)
-no_assign x v m r at_end (at_comma {k = k} is) = ap (read.value_as x v) (not_taken t.Assign t.Comma k refl is)
-no_assign x v m r at_end (at_brace {q = q} is) = ap (read.value_as x v) (not_taken t.Assign t.CloseBrace q refl is)
+no_assign : (m r : Tokens) → PathGoesOn m r → AtEnd r → next_is t.Assign (head m) ≡ false
+no_assign m r (at_point {p = p} is) end = test_at t.Assign t.Point false p refl is
+no_assign m r at_end (at_comma {k = k} is) = test_at t.Assign t.Comma false k refl is
+no_assign m r at_end (at_brace {q = q} is) = test_at t.Assign t.CloseBrace false q refl is
 
 value_meets : {s r : Tokens} {a : Tree} (place : ℕ) (v : List ℕ) (y : Spells Whole s a r) → AtEnd r → (n : ℕ) → Meets (verdict y most_open 0) (placed_member place v a) r (read.value place v n s)
 unfolding read.value
@@ -141,7 +148,7 @@ named_meets : {s r : Tokens} {a : Tree} {v : List ℕ} (x e : Placed) → name x
 unfolding read.member
 named_meets {s = s} {r = r} {a = a} {v = v} x e is also y end n =
     subst (λ o. Meets (verdict y most_open 0) (placed_member x.at v a) r (read.member_as x o n (x ∷ e ∷ s))) (sym is)
-    (subst (λ o. Meets (verdict y most_open 0) (placed_member x.at v a) r (read.value_as x v o n (e ∷ s))) (sym (is_taken t.Assign e refl also)) (value_meets x.at v y end n))
+    (subst (λ d. Meets (verdict y most_open 0) (placed_member x.at v a) r (cond d (skip >>= λ _. read.value x.at v) (read.path_as x (variable x)) n (e ∷ s))) (sym (test_at t.Assign t.Assign true e refl also)) (value_meets x.at v y end n))
 
 -- the names behind a variable, and it
 post_of : (x : Placed) (v : List ℕ) (s : Tokens) → variable x ≡ Some v → expr.post (deeper_of most_open) 0 (x ∷ s) ≡ expr.points (Var v) 0 s
@@ -159,8 +166,9 @@ path_meets : {s r : Tokens} {a : Tree} {v : List ℕ} (x : Placed) → variable 
 unfolding read.member
 path_meets {s = s} {r = r} {a = a} {v = v} x bound y end n =
     subst (λ o. Meets (verdict y most_open 0) (placed_member x.at (last_name a) a) r (read.member_as x o n (x ∷ s))) (sym (is_name x v (variable_is x v bound).0))
-    (subst (λ p. Meets (verdict y most_open 0) (placed_member x.at (last_name a) a) r (p n s)) (sym (no_assign x v s r (path_begins y x v s refl bound) end ∙ ap (read.path_as x) bound))
-    (path_rest x bound y end n))
+    (subst (λ d. Meets (verdict y most_open 0) (placed_member x.at (last_name a) a) r (cond d (skip >>= λ _. read.value x.at v) (read.path_as x (variable x)) n s)) (sym (no_assign s r (path_begins y x v s refl bound) end))
+    (subst (λ o. Meets (verdict y most_open 0) (placed_member x.at (last_name a) a) r (read.path_as x o n s)) (sym bound)
+    (path_rest x bound y end n)))
 
 member_meets : {s r : Tokens} {a : PlacedMember} (d : SpellsMember s a r) → AtEnd r → (n : ℕ) → Meets (member_verdict d) a r (read.member n s)
 member_meets (named {x = x} {e = e} is also y) end n = named_meets x e is also y end n
@@ -187,61 +195,64 @@ unfolding read.members
 opened zero s (word_at {x = x} {s = q} is) v all r found y n = ap (λ o. read.no_room_as o n (x ∷ q)) is
 opened (suc k) s w v all r found y n = y k n
 
-comma_word : (next : List PlacedMember → Reads (List PlacedMember)) (found : List PlacedMember) (s : Tokens) → WordAt s → read.after_comma_by next found (head s) ≡ next found
-comma_word next found s (word_at {x = x} {v = v} is) = ap (read.after_comma_as next found) (not_taken t.CloseBrace (t.Word v) x refl (name_is x v is))
+no_brace : (s : Tokens) → WordAt s → next_is t.CloseBrace (head s) ≡ false
+no_brace s (word_at {x = x} {v = v} is) = test_at t.CloseBrace (t.Word v) false x refl (name_is x v is)
 
 module _ (next : List PlacedMember → Reads (List PlacedMember)) (found : List PlacedMember) where
   -- behind a member
-  at_brace_reads : (q : Placed) (r : Tokens) → Is t.CloseBrace q → (n : ℕ) → choose (read.after_by next found) n (q ∷ r) ≡ Read found n r
-  at_brace_reads q r is n = ap (λ u. read.after_as next found u n (q ∷ r)) is
+  at_brace_reads : (q : Placed) (r : Tokens) → Is t.CloseBrace q → (n : ℕ) → choose (read.behind_member next found) n (q ∷ r) ≡ Read found n r
+  at_brace_reads q r is n = ap (λ u. read.behind_member next found (Some (at_start u)) n (q ∷ r)) is
 
-  at_comma_reads : (k : Placed) (s : Tokens) → Is t.Comma k → (n : ℕ) → choose (read.after_by next found) n (k ∷ s) ≡ read.after_comma_by next found (head s) n s
-  at_comma_reads k s is n = ap (λ u. read.after_as next found u n (k ∷ s)) is
+  behind_comma : Option Placed → Reads (List PlacedMember)
+  behind_comma h = cond (next_is t.CloseBrace h) (skip >>= λ _. pure found) (next found)
 
-  at_comma_brace_reads : (k q : Placed) (r : Tokens) → Is t.Comma k → Is t.CloseBrace q → (n : ℕ) → choose (read.after_by next found) n (k ∷ q ∷ r) ≡ Read found n r
-  at_comma_brace_reads k q r is also n = at_comma_reads k (q ∷ r) is n ∙ ap (λ o. read.after_comma_as next found o n (q ∷ r)) (is_taken t.CloseBrace q refl also)
+  at_comma_reads : (k : Placed) (s : Tokens) → Is t.Comma k → (n : ℕ) → choose (read.behind_member next found) n (k ∷ s) ≡ behind_comma (head s) n s
+  unfolding behind_comma
+  at_comma_reads k s is n = ap (λ u. read.behind_member next found (Some (at_start u)) n (k ∷ s)) is
+
+  at_comma_brace_reads : (k q : Placed) (r : Tokens) → Is t.Comma k → Is t.CloseBrace q → (n : ℕ) → choose (read.behind_member next found) n (k ∷ q ∷ r) ≡ Read found n r
+  unfolding behind_comma
+  at_comma_brace_reads k q r is also n = at_comma_reads k (q ∷ r) is n ∙ ap (λ u. behind_comma (Some (at_start u)) n (q ∷ r)) also
+
+  at_comma_word_reads : (k : Placed) (s : Tokens) → Is t.Comma k → WordAt s → (n : ℕ) → choose (read.behind_member next found) n (k ∷ s) ≡ next found n s
+  unfolding behind_comma
+  at_comma_word_reads k s is w n = at_comma_reads k s is n ∙ ap (λ d. cond d (skip >>= λ _. pure found) (next found) n s) (no_brace s w)
 
 members_meets : {s r : Tokens} {ms : List PlacedMember} (d : SpellsMembers s ms r) (room : ℕ) (found : List PlacedMember) (n : ℕ) → Meets (members_verdict d room) (found ++ ms) r (read.members room found n s)
 unfolding read.members
 members_meets (last {s = s} {r = r} {q = q} {a = a} x is) room found n = opened room s (member_word x) (λ k. member_verdict x) (found ++ a ∷ []) r found
-    (λ k n. after_meets (member_verdict x) a (q ∷ r) (read.member n s) (λ a. choose (read.after_by (read.members k) (found ++ a ∷ []))) (found ++ a ∷ []) r
+    (λ k n. after_meets (member_verdict x) a (q ∷ r) (read.member n s) (λ a. choose (read.behind_member (read.members k) (found ++ a ∷ []))) (found ++ a ∷ []) r
     (member_meets x (at_brace is) n) (λ n. at_brace_reads (read.members k) (found ++ a ∷ []) q r is n)) n
 members_meets (last_comma {s = s} {r = r} {k = w} {q = q} {a = a} x is also) room found n = opened room s (member_word x) (λ k. member_verdict x) (found ++ a ∷ []) r found
-    (λ k n. after_meets (member_verdict x) a (w ∷ q ∷ r) (read.member n s) (λ a. choose (read.after_by (read.members k) (found ++ a ∷ []))) (found ++ a ∷ []) r
+    (λ k n. after_meets (member_verdict x) a (w ∷ q ∷ r) (read.member n s) (λ a. choose (read.behind_member (read.members k) (found ++ a ∷ []))) (found ++ a ∷ []) r
     (member_meets x (at_comma is) n) (λ n. at_comma_brace_reads (read.members k) (found ++ a ∷ []) w q r is also n)) n
 members_meets (more {s = s} {m = m} {r = r} {k = w} {a = a} {ms = ms} x is y) room found n = opened room s (member_word x) (λ k. and_fine (member_verdict x) (λ n. members_verdict y k)) (found ++ a ∷ ms) r found
-    (λ k n. then_meets (member_verdict x) a (w ∷ m) (read.member n s) (λ a. choose (read.after_by (read.members k) (found ++ a ∷ []))) (λ n. members_verdict y k) (found ++ a ∷ ms) r
+    (λ k n. then_meets (member_verdict x) a (w ∷ m) (read.member n s) (λ a. choose (read.behind_member (read.members k) (found ++ a ∷ []))) (λ n. members_verdict y k) (found ++ a ∷ ms) r
     (member_meets x (at_comma is) n)
-    (λ n. subst (λ all. Meets (members_verdict y k) all r (choose (read.after_by (read.members k) (found ++ a ∷ [])) n (w ∷ m))) (append_assoc found (a ∷ []) ms)
-    (subst (Meets (members_verdict y k) ((found ++ a ∷ []) ++ ms) r) (sym (at_comma_reads (read.members k) (found ++ a ∷ []) w m is n ∙ ap (λ p. p n m) (comma_word (read.members k) (found ++ a ∷ []) m (members_word y))))
+    (λ n. subst (λ all. Meets (members_verdict y k) all r (choose (read.behind_member (read.members k) (found ++ a ∷ [])) n (w ∷ m))) (append_assoc found (a ∷ []) ms)
+    (subst (Meets (members_verdict y k) ((found ++ a ∷ []) ++ ms) r) (sym (at_comma_word_reads (read.members k) (found ++ a ∷ []) w m is (members_word y) n))
     (members_meets y k (found ++ a ∷ []) n)))) n
 
 -- ---- the whole text
 
-module _ (o : Origin) where
-  behind_clauses : List Clause → Reads SpelledMap
-  behind_clauses cs = take tt (the word_select) >>= λ _. take tt (the word_new) >>= λ _. take tt (the t.OpenBrace) >>= λ _. read.members most_members [] >>= λ ms. take tt (the t.End) >>= λ _. pure (spelled_map o cs ms)
+entry_meets : {s r : Tokens} {ms : List PlacedMember} (d : SpellsEntry s ms r) (n : ℕ) → Meets (entry_verdict d) ms r (read.entry n s)
+unfolding read.entry
+entry_meets (entry {s = s} {r = r} {x = x} {y = y} {p = p} {ms = ms} is also opening d) n =
+    subst (Meets (members_verdict d most_members) ms r)
+    (sym (the_reads word_select x (take tt (the word_new) >>= λ _. take tt (the t.OpenBrace) >>= λ _. read.members most_members []) refl is n (y ∷ p ∷ s)
+    ∙ the_reads word_new y (take tt (the t.OpenBrace) >>= λ _. read.members most_members []) refl also n (p ∷ s) ∙ the_reads t.OpenBrace p (read.members most_members []) refl opening n s))
+    (members_meets d most_members [] n)
 
-  behind_brace : List Clause → Reads SpelledMap
-  behind_brace cs = read.members most_members [] >>= λ ms. take tt (the t.End) >>= λ _. pure (spelled_map o cs ms)
-
-  brace_reads : (x y p : Placed) (cs : List Clause) (s : Tokens) → Is word_select x → Is word_new y → Is t.OpenBrace p → (n : ℕ) → behind_clauses cs n (x ∷ y ∷ p ∷ s) ≡ behind_brace cs n s
-  unfolding behind_clauses behind_brace
-  brace_reads x y p cs s is also opening n =
-      the_reads word_select x (take tt (the word_new) >>= λ _. take tt (the t.OpenBrace) >>= λ _. behind_brace cs) refl is n (y ∷ p ∷ s)
-      ∙ the_reads word_new y (take tt (the t.OpenBrace) >>= λ _. behind_brace cs) refl also n (p ∷ s) ∙ the_reads t.OpenBrace p (behind_brace cs) refl opening n s
-
-  brace_meets : {s r : Tokens} {ms : List PlacedMember} (e : Placed) (cs : List Clause) (d : SpellsMembers s ms (e ∷ r)) → Is t.End e → (n : ℕ) →
-      Meets (members_verdict d most_members) (spelled_map o cs ms) r (behind_brace cs n s)
-  unfolding behind_brace
-  brace_meets {s = s} {r = r} {ms = ms} e cs d end n = after_meets (members_verdict d most_members) ms (e ∷ r) (read.members most_members [] n s) (λ ms. take tt (the t.End) >>= λ _. pure (spelled_map o cs ms)) (spelled_map o cs ms) r
-      (members_meets d most_members [] n) (λ n. the_reads t.End e (pure (spelled_map o cs ms)) refl end n r)
+-- an entry begins with its word
+entry_begins : {s r : Tokens} {ms : List PlacedMember} → SpellsEntry s ms r → BeginsWith word_select s
+entry_begins (entry is also opening d) = begins_with is
 
 pub map_text_meets : (s r : Tokens) (a : SpelledMap) (x : SpellsMap s a r) → Meets (limit s a r x) a r (read.map_text 0 s)
-unfolding read.map_text behind_clauses
-map_text_meets s r a (map {m = m} {n = n} {x = x} {y = y} {p = p} {e = e} {o = o} {cs = cs} {ms = ms} d clauses is also opening members end) =
-    subst (Meets (and_fine (clauses_verdict clauses) (λ n. members_verdict members most_members)) (spelled_map o cs ms) r)
-    (sym (ap (λ i. and_then i (λ o. read.clauses [] >>= behind_clauses o)) (origin_reads d 0)))
-    (then_meets (clauses_verdict clauses) cs (x ∷ y ∷ p ∷ n) (read.clauses [] 0 m) (behind_clauses o) (λ n. members_verdict members most_members) (spelled_map o cs ms) r
-    (clauses_meets clauses is)
-    (λ k. subst (Meets (members_verdict members most_members) (spelled_map o cs ms) r) (sym (brace_reads o x y p cs n is also opening k)) (brace_meets o e cs members end k)))
+unfolding read.map_text
+map_text_meets s r a (map {m = m} {n = n} {e = e} {o = o} {cs = cs} {ms = ms} d clauses x end) =
+    subst (Meets (and_fine (clauses_verdict clauses) (λ n. entry_verdict x)) (spelled_map o cs ms) r)
+    (sym (ap (λ i. and_then i (λ o. read.clauses [] >>= λ cs. read.entry >>= λ ms. take tt (the t.End) >>= λ _. pure (spelled_map o cs ms))) (origin_reads d 0)))
+    (then_meets (clauses_verdict clauses) cs n (read.clauses [] 0 m) (λ cs. read.entry >>= λ ms. take tt (the t.End) >>= λ _. pure (spelled_map o cs ms)) (λ n. entry_verdict x) (spelled_map o cs ms) r
+    (clauses_meets clauses (entry_begins x))
+    (λ k. after_meets (entry_verdict x) ms (e ∷ r) (read.entry k n) (λ ms. take tt (the t.End) >>= λ _. pure (spelled_map o cs ms)) (spelled_map o cs ms) r (entry_meets x k)
+    (λ k. the_reads t.End e (pure (spelled_map o cs ms)) refl end k r)))

@@ -1,5 +1,5 @@
 -- What takes one token keeps to a relation, and reads that token.
-use Rattle.std.proofs.Common.{◌≡◌, ℕ, List, [], ◌∷◌, Bool, true, false, cond, Some, refl, ◌∙◌, ap, codes}
+use Rattle.std.proofs.Common.{◌≡◌, ℕ, List, [], ◌∷◌, Bool, true, false, cond, Some, None, refl, ◌∙◌, ap, codes}
 use Rattle.std.proofs.lemmas.Slice.Eq.{bytes_eq-Decides}
 use Rattle.std.specs.Str.{bytes_eq}
 use Rattle.exact_parse.specs.Steps.{and_then, ◌>>=◌, take}
@@ -31,6 +31,14 @@ variable_keeps {Z = Z} q h = take_keeps tt variable Z q (at_start (t.Word (codes
 pub quoted_keeps : {B : Type 0} {Z : Tokens → B → Tokens → Type 0} (q : List ℕ → Reads B) →
     ((x : Placed) (v : List ℕ) → quoted x ≡ Some v → Keeps (λ m b r. Z (x ∷ m) b r) (q v)) → Keeps Z (take tt quoted >>= q)
 quoted_keeps {Z = Z} q h = take_keeps tt quoted Z q (at_start (t.Quoted [])) [] refl h
+
+-- a token that passes the test for this one is this one
+pub same_at : (token : Token) (x : Placed) → same_token token x.token ≡ true → Is token x
+same_at token x e = taken_is token x tt (ap (λ d. cond d (Some tt) None) e)
+
+-- and the test is known of a token that is known
+pub test_at : (token other : Token) (d : Bool) (x : Placed) → same_token token other ≡ d → Is other x → same_token token x.token ≡ d
+test_at token other d x e is = ap (same_token token) is ∙ e
 
 -- one of two readings, by a test
 pub either_at : {A : Type 0} (X : Tokens → A → Tokens → Type 0) (p q : Reads A) (n : ℕ) (s : Tokens) (d : Bool) →

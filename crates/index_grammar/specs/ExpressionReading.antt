@@ -6,7 +6,7 @@ use Rattle.index_tokens.specs.declared.token.Token.{Token}
 use Rattle.index_tokens.specs.declared.token.Token.TheVariants as t
 use Rattle.index_tokens.specs.declared.token.Placed.{Placed}
 use Rattle.index_tokens.specs.Spelling.{is_reserved}
-use Rattle.index_tokens.specs.Words.{the, name, quoted}
+use Rattle.index_tokens.specs.Words.{same_token, the, name, quoted}
 use Rattle.index_tree.specs.declared.expression.BinaryOp.{BinaryOp}
 use Rattle.index_tree.specs.declared.expression.UnaryOp.{UnaryOp}
 use Rattle.index_tree.specs.Trees.{Tree, If, Binary, Unary, Dot, Load, Num, Quoted, Flag, Null, Var}
@@ -23,15 +23,15 @@ pub record Deeper : Type 0 where
   pub whole : Reads Tree
   pub unary : Reads Tree
 
+-- whether the next token is this one
+abbrev pub next_is : Token → Option Placed → Bool
+next_is token (Some x) = same_token token x.token
+next_is token None = false
+
 -- ---- names behind points
 
-abbrev pub point_as : Tree → Option (Unit {0}) → Next Placed Kind Tree Tree
-point_as a (Some v) = Counts tt most_operators (take tt name >>= λ n. pure (Dot a n))
-point_as a None = Ends (pure a)
-
 abbrev pub point_next : Tree → Option Placed → Next Placed Kind Tree Tree
-point_next a (Some x) = point_as a (the t.Point x)
-point_next a None = Ends (pure a)
+point_next a h = if next_is t.Point h then Counts tt most_operators (take tt name >>= λ n. pure (Dot a n)) else Ends (pure a)
 
 unfoldable pub points : Tree → Reads Tree
 points = loop tt point_next
@@ -58,20 +58,28 @@ operator_next operand n a h = operator_then operand a (operator_at n h)
 unfoldable pub climb : Reads Tree → ℕ → Tree → Reads Tree
 climb operand n = loop tt (operator_next operand n)
 
+-- the operator before an operand that comes next
+abbrev pub sign_at : Option Placed → Option UnaryOp
+sign_at (Some x) = sign x
+sign_at None = None
+
 -- ---- the rules
 
 module _ (deeper : Deeper) where
+  -- behind the parenthesis of `LoadDocument`
+  abbrev pub loading : Reads Tree
+  loading = deeper.whole >>= λ a. take tt (the t.Comma) >>= λ _. take tt quoted >>= λ v. take tt (the t.Close) >>= λ _. pure (Load a v)
+
   -- `LoadDocument`, behind its word
-  abbrev pub load_as : Option (Unit {0}) → Reads Tree
-  load_as (Some v) = within tt deeper.has_room (skip >> (deeper.whole >>= λ a. take tt (the t.Comma) >>= λ _. take tt quoted >>= λ v. take tt (the t.Close) >>= λ _. pure (Load a v)))
-  load_as None = refuse tt
-
-  abbrev pub load_by : Option Placed → Reads Tree
-  load_by (Some x) = load_as (the t.Open x)
-  load_by None = refuse tt
-
   unfoldable pub load : Reads Tree
-  load = choose load_by
+  load = choose (λ h. if next_is t.Open h then within tt deeper.has_room (skip >> loading) else refuse tt)
+
+  -- behind a parenthesis
+  abbrev pub closing : Reads Tree
+  closing = deeper.whole >>= λ a. take tt (the t.Close) >>= λ _. pure a
+
+  abbrev pub parentheses : Reads Tree
+  parentheses = within tt deeper.has_room (skip >> closing)
 
   abbrev pub reserved_primary : List ℕ → Reads Tree
   reserved_primary w =
@@ -87,7 +95,7 @@ module _ (deeper : Deeper) where
   primary_as (t.Number n) = skip >> pure (Num n)
   primary_as (t.Quoted v) = skip >> pure (Quoted v)
   primary_as (t.Word w) = word_primary w
-  primary_as t.Open = within tt deeper.has_room (skip >> (deeper.whole >>= λ a. take tt (the t.Close) >>= λ _. pure a))
+  primary_as t.Open = parentheses
   primary_as _ = refuse tt
 
   abbrev pub primary_by : Option Placed → Reads Tree
@@ -104,27 +112,19 @@ module _ (deeper : Deeper) where
   unary_as (Some op) = within tt deeper.has_room (skip >> (deeper.unary >>= λ a. pure (Unary op a)))
   unary_as None = post
 
-  abbrev pub unary_by : Option Placed → Reads Tree
-  unary_by (Some x) = unary_as (sign x)
-  unary_by None = post
-
   unfoldable pub unary : Reads Tree
-  unary = choose unary_by
+  unary = choose (λ h. unary_as (sign_at h))
 
   unfoldable pub level : ℕ → Reads Tree
   level zero = unary
   level (suc n) = level n >>= climb (level n) (suc n)
 
-  abbrev pub conditional_as : Tree → Option (Unit {0}) → Reads Tree
-  conditional_as a (Some v) = within tt deeper.has_room (skip >> (deeper.whole >>= λ b. take tt (the t.Colon) >>= λ _. deeper.whole >>= λ c. pure (If a b c)))
-  conditional_as a None = pure a
-
-  abbrev pub conditional_by : Tree → Option Placed → Reads Tree
-  conditional_by a (Some x) = conditional_as a (the t.Question x)
-  conditional_by a None = pure a
+  -- behind a question mark
+  abbrev pub branches : Tree → Reads Tree
+  branches a = deeper.whole >>= λ b. take tt (the t.Colon) >>= λ _. deeper.whole >>= λ c. pure (If a b c)
 
   unfoldable pub conditional : Tree → Reads Tree
-  conditional a = choose (conditional_by a)
+  conditional a = choose (λ h. if next_is t.Question h then within tt deeper.has_room (skip >> branches a) else pure a)
 
   unfoldable pub whole : Reads Tree
   whole = level 6 >>= conditional

@@ -8,7 +8,7 @@ use Rattle.index_tree.specs.declared.map_query.Clause.{Clause}
 use Rattle.index_grammar.specs.declared.spelled.PlacedMember.{PlacedMember}
 use Rattle.index_grammar.specs.declared.spelled.SpelledMap.{SpelledMap}
 use Rattle.index_grammar.specs.Expressions.{Rule, Spells, plain, choice, tighter, binary, signed, post, first, point, number, text, yes, no, null, var, parens, load}
-use Rattle.index_grammar.specs.Maps.{SpellsClause, filter, binding, SpellsClauses, no_clause, next_clause, SpellsMember, named, path, SpellsMembers, last, last_comma, more, SpellsMap, map}
+use Rattle.index_grammar.specs.Maps.{SpellsClause, filter, binding, SpellsClauses, no_clause, next_clause, SpellsMember, named, path, SpellsMembers, last, last_comma, more, SpellsEntry, entry, SpellsMap, map}
 
 -- of refusals for either cause there is but one kind
 abbrev pub Kind : Type 0
@@ -65,5 +65,8 @@ members_verdict (last {s = s} x is) room = opens tt room s (λ room. member_verd
 members_verdict (last_comma {s = s} x is also) room = opens tt room s (λ room. member_verdict x)
 members_verdict (more {s = s} x is y) room = opens tt room s (λ room. and_fine (member_verdict x) (λ n. members_verdict y room))
 
+abbrev pub entry_verdict : {s r : Tokens} {ms : List PlacedMember} → SpellsEntry s ms r → Verdict Placed Kind
+entry_verdict (entry is also opening x) = members_verdict x most_members
+
 abbrev pub limit : (s : Tokens) (a : SpelledMap) (r : Tokens) → SpellsMap s a r → Verdict Placed Kind
-limit s a r (map o cs is also open_brace ms end) = and_fine (clauses_verdict cs) (λ n. members_verdict ms most_members)
+limit s a r (map o cs x end) = and_fine (clauses_verdict cs) (λ n. entry_verdict x)

@@ -1,19 +1,18 @@
 -- The reading of maps.
-use Rattle.std.specs.Prelude.{ℕ, zero, suc, List, [], ◌∷◌, ◌++◌, if◌then◌else◌, codes, Option, Some, None}
-use Rattle.std.specs.Str.{bytes_eq}
+use Rattle.std.specs.Prelude.{ℕ, zero, suc, List, [], ◌∷◌, ◌++◌, if◌then◌else◌, Option, Some, None}
 use Rattle.exact_parse.specs.Steps.{◌>>=◌, ◌>>◌, pure, refuse, too_large, choose, skip, fresh, take, Next, Ends, More, loop}
-use Rattle.index_tokens.specs.declared.token.Token.{Token}
 use Rattle.index_tokens.specs.declared.token.Token.TheVariants as t
 use Rattle.index_tokens.specs.declared.token.Placed.{Placed}
-use Rattle.index_tokens.specs.Words.{the, name, variable, word_from, word_in, word_docs, word_select, word_new}
+use Rattle.index_tokens.specs.Words.{the, name, variable, word_from, word_in, word_docs, word_where, word_let, word_select, word_new}
 use Rattle.index_tree.specs.Trees.{Var}
 use Rattle.index_tree.specs.declared.map_query.Clause.{Clause}
 use Rattle.index_tree.specs.declared.map_query.Clause.TheVariants as c
+use Rattle.index_grammar.specs.declared.spelled.Origin.{Origin}
 use Rattle.index_grammar.specs.declared.spelled.PlacedMember.{PlacedMember}
 use Rattle.index_grammar.specs.declared.spelled.SpelledMap.{SpelledMap}
 use Rattle.index_grammar.specs.Limits.{Kind, most_members}
-use Rattle.index_grammar.specs.Maps.{Origin, origin_of, last_name, placed_member, spelled_map}
-use Rattle.index_grammar.specs.ExpressionReading.{Reads, expression, points}
+use Rattle.index_grammar.specs.Maps.{origin_of, last_name, placed_member, spelled_map}
+use Rattle.index_grammar.specs.ExpressionReading.{Reads, next_is, expression, points}
 
 unfoldable pub origin : Reads Origin
 origin = take tt (the word_from) >>= λ _. take tt variable >>= λ v. take tt (the word_in) >>= λ _. take tt (the word_docs) >>= λ _. take tt (the t.Point) >>= λ _. take tt name >>= λ n. pure (origin_of v n)
@@ -26,18 +25,10 @@ filter = expression >>= λ a. pure (c.Where a)
 unfoldable pub binding : Reads Clause
 binding = take tt variable >>= λ v. take tt (the t.Assign) >>= λ _. expression >>= λ a. pure (c.Let v a)
 
-abbrev pub clause_word : List Clause → List ℕ → Next Placed Kind (List Clause) (List Clause)
-clause_word found w =
-    if bytes_eq w (codes "where") then More (filter >>= λ a. pure (found ++ a ∷ [])) else (
-    if bytes_eq w (codes "let") then More (binding >>= λ a. pure (found ++ a ∷ [])) else Ends (pure found))
-
-abbrev pub clause_as : List Clause → Token → Next Placed Kind (List Clause) (List Clause)
-clause_as found (t.Word w) = clause_word found w
-clause_as found _ = Ends (pure found)
-
 abbrev pub clause_next : List Clause → Option Placed → Next Placed Kind (List Clause) (List Clause)
-clause_next found (Some x) = clause_as found x.token
-clause_next found None = Ends (pure found)
+clause_next found h =
+    if next_is word_where h then More (filter >>= λ a. pure (found ++ a ∷ [])) else (
+    if next_is word_let h then More (binding >>= λ a. pure (found ++ a ∷ [])) else Ends (pure found))
 
 -- goes on behind those found
 unfoldable pub clauses : List Clause → Reads (List Clause)
@@ -57,16 +48,12 @@ abbrev pub path_as : Placed → Option (List ℕ) → Reads PlacedMember
 path_as x (Some v) = path x.at v
 path_as x None = refuse tt
 
-abbrev pub value_as : Placed → List ℕ → Option (Unit {0}) → Reads PlacedMember
-value_as x n (Some v) = skip >> value x.at n
-value_as x n None = path_as x (variable x)
-
-abbrev pub value_by : Placed → List ℕ → Option Placed → Reads PlacedMember
-value_by x n (Some y) = value_as x n (the t.Assign y)
-value_by x n None = path_as x (variable x)
+-- behind the first token
+abbrev pub behind_name : Placed → List ℕ → Reads PlacedMember
+behind_name x n = choose (λ h. if next_is t.Assign h then (skip >> value x.at n) else path_as x (variable x))
 
 abbrev pub member_as : Placed → Option (List ℕ) → Reads PlacedMember
-member_as x (Some n) = skip >> choose (value_by x n)
+member_as x (Some n) = skip >> behind_name x n
 member_as x None = refuse tt
 
 abbrev pub member_by : Option Placed → Reads PlacedMember
@@ -84,30 +71,21 @@ abbrev pub no_room_by : Option Placed → Reads (List PlacedMember)
 no_room_by (Some x) = no_room_as (name x)
 no_room_by None = refuse tt
 
-abbrev pub after_comma_as : (List PlacedMember → Reads (List PlacedMember)) → List PlacedMember → Option (Unit {0}) → Reads (List PlacedMember)
-after_comma_as next found (Some v) = skip >> pure found
-after_comma_as next found None = next found
-
-abbrev pub after_comma_by : (List PlacedMember → Reads (List PlacedMember)) → List PlacedMember → Option Placed → Reads (List PlacedMember)
-after_comma_by next found (Some x) = after_comma_as next found (the t.CloseBrace x)
-after_comma_by next found None = next found
-
-abbrev pub after_as : (List PlacedMember → Reads (List PlacedMember)) → List PlacedMember → Token → Reads (List PlacedMember)
-after_as next found t.CloseBrace = skip >> pure found
-after_as next found t.Comma = skip >> choose (after_comma_by next found)
-after_as next found _ = refuse tt
-
-abbrev pub after_by : (List PlacedMember → Reads (List PlacedMember)) → List PlacedMember → Option Placed → Reads (List PlacedMember)
-after_by next found (Some x) = after_as next found x.token
-after_by next found None = refuse tt
+-- goes on behind a member: with its brace, or a comma, behind which the brace may stand
+abbrev pub behind_member : (List PlacedMember → Reads (List PlacedMember)) → List PlacedMember → Option Placed → Reads (List PlacedMember)
+behind_member next found h =
+    if next_is t.CloseBrace h then (skip >> pure found) else (
+    if next_is t.Comma h then (skip >> choose (λ h. if next_is t.CloseBrace h then (skip >> pure found) else next found)) else refuse tt)
 
 -- goes on behind those found, with room for so many more
 unfoldable pub members : ℕ → List PlacedMember → Reads (List PlacedMember)
 members zero found = choose no_room_by
-members (suc room) found = member >>= λ a. choose (after_by (members room) (found ++ a ∷ []))
+members (suc room) found = member >>= λ a. choose (behind_member (members room) (found ++ a ∷ []))
 
 -- ---- the whole text
 
+unfoldable pub entry : Reads (List PlacedMember)
+entry = take tt (the word_select) >>= λ _. take tt (the word_new) >>= λ _. take tt (the t.OpenBrace) >>= λ _. members most_members []
+
 unfoldable pub map_text : Reads SpelledMap
-map_text = origin >>= λ o. clauses [] >>= λ cs. take tt (the word_select) >>= λ _. take tt (the word_new) >>= λ _. take tt (the t.OpenBrace) >>= λ _.
-    members most_members [] >>= λ ms. take tt (the t.End) >>= λ _. pure (spelled_map o cs ms)
+map_text = origin >>= λ o. clauses [] >>= λ cs. entry >>= λ ms. take tt (the t.End) >>= λ _. pure (spelled_map o cs ms)

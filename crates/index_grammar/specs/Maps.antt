@@ -6,15 +6,12 @@ use Rattle.index_tokens.specs.Words.{Tokens, Is, word_from, word_in, word_docs, 
 use Rattle.index_tree.specs.Trees.{Tree, Dot, Var}
 use Rattle.index_tree.specs.declared.map_query.Clause.{Clause}
 use Rattle.index_tree.specs.declared.map_query.Clause.TheVariants as c
+use Rattle.index_grammar.specs.declared.spelled.Origin.{Origin}
 use Rattle.index_grammar.specs.declared.spelled.PlacedMember.{PlacedMember}
 use Rattle.index_grammar.specs.declared.spelled.SpelledMap.{SpelledMap}
 use Rattle.index_grammar.specs.Expressions.{Spells, Whole, Post}
 
 -- ---- which documents
-
-pub record Origin : Type 0 where
-  pub var : List ℕ
-  pub collection : List ℕ
 
 abbrev pub origin_of : List ℕ → List ℕ → Origin
 origin_of v n = record { var = v; collection = n }
@@ -63,11 +60,14 @@ pub data SpellsMembers : Tokens → List PlacedMember → Tokens → Type 0 wher
 
 -- ---- the whole text
 
+-- entry = "select" "new" "{" members
+pub data SpellsEntry : Tokens → List PlacedMember → Tokens → Type 0 where
+  entry : {s r : Tokens} {x y p : Placed} {ms : List PlacedMember} → Is word_select x → Is word_new y → Is t.OpenBrace p → SpellsMembers s ms r → SpellsEntry (x ∷ y ∷ p ∷ s) ms r
+
 abbrev pub spelled_map : Origin → List Clause → List PlacedMember → SpelledMap
 spelled_map from_where cs ms = record { var = from_where.var; collection = from_where.collection; clauses = cs; members = ms }
 
--- map = origin clauses "select" "new" "{" members, and the end of the text, behind which nothing counts
+-- map = origin clauses entry, and the end of the text, behind which nothing counts
 pub data SpellsMap : Tokens → SpelledMap → Tokens → Type 0 where
-  map : {s m n r : Tokens} {x y p e : Placed} {o : Origin} {cs : List Clause} {ms : List PlacedMember} →
-      SpellsOrigin s o m → SpellsClauses m cs (x ∷ y ∷ p ∷ n) → Is word_select x → Is word_new y → Is t.OpenBrace p → SpellsMembers n ms (e ∷ r) → Is t.End e →
-      SpellsMap s (spelled_map o cs ms) r
+  map : {s m n r : Tokens} {e : Placed} {o : Origin} {cs : List Clause} {ms : List PlacedMember} →
+      SpellsOrigin s o m → SpellsClauses m cs n → SpellsEntry n ms (e ∷ r) → Is t.End e → SpellsMap s (spelled_map o cs ms) r

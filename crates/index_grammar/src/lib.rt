@@ -5,4 +5,4 @@ mod laws;
 mod spelled;
 
 pub use laws::maps_are_read_exactly;
-pub use spelled::{PlacedMember, PlacedMembers, SpelledMap};
+pub use spelled::{Origin, PlacedMember, PlacedMembers, SpelledMap};

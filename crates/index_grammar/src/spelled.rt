@@ -7,6 +7,16 @@ use raven_base::{NoMemory, Sequence};
 use raven_value::Text;
 use std::alloc::Global;
 
+/// Which documents a map is of.
+#[derive(Debug, Drop)]
+pub struct Origin {
+    /// The name of the document.
+    pub var: Text,
+
+    /// The collection of the documents.
+    pub collection: Text,
+}
+
 /// A member, and where it stands.
 #[derive(Debug, Drop)]
 pub struct PlacedMember {
