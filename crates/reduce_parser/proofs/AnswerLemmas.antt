@@ -1,7 +1,6 @@
 -- What the outcome of the reading says.
-use Rattle.std.proofs.Common.{◌≡◌, ◌≢◌, ℕ, List, Result, Ok, Err, refl, sym, ◌∙◌, ap, inl, inr}
+use Rattle.std.proofs.Common.{◌≡◌, ◌≢◌, Result, Ok, Err, refl, sym, ◌∙◌, ap, inl, inr}
 use Rattle.exact_parse.specs.Steps.{Unexpected, TooLarge, Outcome, Read, Refused}
-use Rattle.exact_parse.specs.Exact.{SpellsText, UnexpectedAt, TooLargeAt}
 use Rattle.exact_parse.proofs.Exact.{read_text, text_read, unexpected_at, unexpected_only, too_large_at, too_large_only}
 use Rattle.index_tokens.specs.declared.token.Placed.{Placed}
 use Rattle.index_tokens.specs.Words.{Tokens}

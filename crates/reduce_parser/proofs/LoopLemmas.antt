@@ -1,6 +1,6 @@
 -- One turn of a loop.
-use Rattle.std.proofs.Common.{◌≡◌, ℕ, zero, suc, ◌+◌, ◌-◌, ◌<◌, List, [], ◌∷◌, ◌++◌, Bool, true, false, cond, Option, Some, None, is_some, refl, sym, ◌∙◌, ap, arith}
-use Rattle.exact_parse.specs.Steps.{head, tail, Unexpected, Outcome, Read, Refused, and_then, ◌>>=◌, pure}
+use Rattle.std.proofs.Common.{◌≡◌, ℕ, suc, List, [], ◌∷◌, ◌++◌, true, false, cond, Option, Some, None, is_some, refl, sym, ◌∙◌, ap}
+use Rattle.exact_parse.specs.Steps.{tail, Unexpected, Outcome, Read, Refused, and_then, ◌>>=◌, pure}
 use Rattle.exact_parse.proofs.Loops.{loop_ends, loop_more}
 use Rattle.index_tokens.specs.declared.token.Token.TheVariants as t
 use Rattle.index_tokens.specs.declared.token.Placed.{Placed}

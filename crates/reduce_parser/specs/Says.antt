@@ -1,7 +1,6 @@
 -- What an answer says of the tokens.
 use Rattle.std.specs.Prelude.{◌≡◌, ℕ, [], ◌∷◌, Result, Ok, Err, ◌⊎◌}
 use Rattle.exact_parse.specs.Exact.{SpellsText, UnexpectedAt, TooLargeAt}
-use Rattle.index_tokens.specs.declared.token.Placed.{Placed}
 use Rattle.index_tokens.specs.Words.{Tokens}
 use Rattle.reduce_grammar.specs.declared.spelled.SpelledReduce.{SpelledReduce}
 use Rattle.reduce_grammar.specs.Limits.{limit}

@@ -9,3 +9,6 @@ mod words;
 
 pub use parser::read_reduce;
 pub use stop::Stop;
+
+#[cfg(test)]
+mod tests;

@@ -1,4 +1,3 @@
-use Rattle.std.proofs.Common.{◌≡◌}
 use Rattle.reduce_parser.proofs.AnswerLemmas.{read_says, read_only, stop_says, stop_only}
 use Rattle.reduce_parser.proofs.parser.read_reduce.Goals as goal
 

@@ -1,4 +1,4 @@
-use Rattle.std.proofs.Common.{◌≡◌, sym}
+use Rattle.std.proofs.Common.{sym}
 use Rattle.reduce_parser.proofs.LoopLemmas.{key_is_alone, key_is_none}
 use Rattle.reduce_parser.proofs.parser.Parser.key.Goals as goal
 

@@ -1,4 +1,4 @@
-use Rattle.std.proofs.Common.{rules, arith, ◌≡◌, ◌+◌, ◌-◌, refl, ◌∙◌}
+use Rattle.std.proofs.Common.{rules, arith, ◌+◌, ◌-◌, refl, ◌∙◌}
 use Rattle.std.proofs.lemmas.Grind.{common_steps}
 use Rattle.reduce_parser.proofs.LoopLemmas.{folds_on, folds_end}
 use Rattle.reduce_parser.proofs.parser.Parser.members.Goals as goal

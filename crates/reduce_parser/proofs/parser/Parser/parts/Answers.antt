@@ -1,4 +1,4 @@
-use Rattle.std.proofs.Common.{rules, arith, ◌≡◌, refl, sym, ◌∙◌, ap}
+use Rattle.std.proofs.Common.{rules, arith, refl, sym, ◌∙◌, ap}
 use Rattle.std.proofs.lemmas.Grind.{common_steps}
 use Rattle.exact_parse.specs.Steps.{Read}
 use Rattle.reduce_parser.proofs.LoopLemmas.{parts_on, parts_end}
