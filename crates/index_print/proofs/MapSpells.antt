@@ -11,7 +11,7 @@ use Rattle.index_tree.specs.declared.map_query.MapQuery.{MapQuery}
 use Rattle.index_tree.specs.Trees.{Tree}
 use Rattle.index_grammar.specs.declared.spelled.PlacedMember.{PlacedMember}
 use Rattle.index_grammar.specs.declared.spelled.SpelledMap.{SpelledMap}
-use Rattle.index_grammar.specs.Maps.{SpellsOrigin, origin_of, SpellsClause, filter, binding, SpellsClauses, no_clause, next_clause, placed_member, SpellsMember, named, SpellsMembers, last, more, spelled_map, SpellsMap}
+use Rattle.index_grammar.specs.Maps.{SpellsOrigin, origin_of, SpellsClause, filter, binding, SpellsClauses, no_clause, next_clause, placed_member, SpellsMember, named, SpellsMembers, last, more, SpellsEntry, spelled_map, SpellsMap}
 use Rattle.index_grammar.specs.Maps as grammar
 use Rattle.index_grammar.specs.View.{query_of}
 use Rattle.index_grammar.specs.Limits.{Kind, limit}
@@ -178,9 +178,10 @@ map_by query m ms is var collection clauses members =
     let inner = members_spelled m ms members brace.behind in
     let opening : tokens_from cs.behind 0 tail ≡ placed select.start (t.Word (codes "select")) ∷ placed new_word.start (t.Word (codes "new")) ∷ placed brace.start t.OpenBrace ∷ tokens_from brace.behind 0 fields =
     select.is ∙ ap (λ z. placed select.start (t.Word (codes "select")) ∷ z) (new_word.is ∙ ap (λ z. placed new_word.start (t.Word (codes "new")) ∷ z) brace.is) in
-    let behind = subst (SpellsClauses (tokens_from o.behind 0 rest) query.clauses) opening cs.spells in (
+    let entry : SpellsEntry (tokens_from cs.behind 0 tail) inner.spells.0 (tokens_from inner.behind 0 []) =
+    subst (λ z. SpellsEntry z inner.spells.0 (tokens_from inner.behind 0 [])) (sym opening) (grammar.entry refl refl refl inner.spells.1) in (
       spelled_map (origin_of query.var query.collection) query.clauses inner.spells.0,
-      grammar.map o.spells behind refl refl refl inner.spells.1 refl,
+      grammar.map o.spells cs.spells entry refl,
       ap (with_members query) (inner.spells.2 ∙ sym is),
     )
 

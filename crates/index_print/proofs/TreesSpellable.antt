@@ -8,10 +8,11 @@ use Rattle.index_tokens.specs.Words.{Tokens, Is, word_true, word_false, word_nul
 use Rattle.index_tokens.proofs.WordLemmas.{name_is, variable_is, quoted_is}
 use Rattle.index_tree.specs.declared.map_query.Clause.{Clause}
 use Rattle.index_tree.specs.Trees.{Tree}
+use Rattle.index_grammar.specs.declared.spelled.Origin.{Origin}
 use Rattle.index_grammar.specs.declared.spelled.PlacedMember.{PlacedMember}
 use Rattle.index_grammar.specs.declared.spelled.SpelledMap.{SpelledMap}
 use Rattle.index_grammar.specs.Expressions.{Rule, Whole, Post, Primary, Spells, plain, choice, tighter, binary, signed, post, first, point, number, text, yes, no, null, var, parens, load}
-use Rattle.index_grammar.specs.Maps.{Origin, SpellsOrigin, origin, SpellsClause, filter, binding, SpellsClauses, no_clause, next_clause, last_name, SpellsMember, named, path, SpellsMembers, last, last_comma, more, SpellsMap}
+use Rattle.index_grammar.specs.Maps.{SpellsOrigin, origin, SpellsClause, filter, binding, SpellsClauses, no_clause, next_clause, last_name, SpellsMember, named, path, SpellsMembers, last, last_comma, more, SpellsEntry, entry, SpellsMap}
 use Rattle.index_grammar.specs.Maps as grammar
 use Rattle.index_grammar.specs.View.{query_of}
 use Rattle.index_print.specs.Spellable.{IsName, IsVariable, IsSpellable, IsSpellableClause, IsSpellableMember, Each, HasSome, IsSpellableMap}
@@ -92,11 +93,14 @@ members_spellable (last x is) h = let p = member_spellable x h in ((tt, (p.0, tt
 members_spellable (last_comma x is also) h = let p = member_spellable x h in ((tt, (p.0, tt)), p.1.1.1)
 members_spellable (more x is y) h = let p = member_spellable x h in let q = members_spellable y p.1.1 in ((tt, (p.0, q.0.1)), q.1)
 
+entry_spellable : {s r : Tokens} {ms : List PlacedMember} → SpellsEntry s ms r → AllSound s → AreSpellable ms × AllSound r
+entry_spellable (entry is also opening x) h = members_spellable x h.1.1.1
+
 map_by : {s r : Tokens} {a : SpelledMap} → SpellsMap s a r → AllSound s → IsSpellableMap (query_of a)
-map_by (grammar.map o cs is also opening ms end) h =
+map_by (grammar.map o cs x end) h =
     let p = origin_spellable o h in
     let q = clauses_spellable cs p.2 in
-    let u = members_spellable ms q.1.1.1.1 in
+    let u = entry_spellable x q.1 in
     (p.0, p.1, q.0, u.0.0, u.0.1)
 
 pub map_spellable : (bytes : List ℕ) (a : SpelledMap) (r : Tokens) → SpellsMap (tokens_of bytes) a r → IsSpellableMap (query_of a)
