@@ -25,11 +25,4 @@ pub enum DefBody {
         collection: Text,
         fields: Paths,
     },
-
-    /// The values at paths, grouped by some of them, and sums of others.
-    AutoReduce {
-        collection: Text,
-        groups: Paths,
-        sums: Paths,
-    },
 }

@@ -9,6 +9,7 @@ mod names;
 mod parsing;
 mod reading;
 mod refusal;
+mod shape;
 
 pub use definition::{DefBody, Definition};
 pub use groups::unbound_in_reduce;
@@ -17,6 +18,7 @@ pub use members::{Field, duplicate, fields_agree, irreducible};
 pub use names::unbound_name;
 pub use parsing::{MAX_TEXT, parse};
 pub use reading::{ReadMap, ReadReduce, Trees};
+pub use shape::{same, scope};
 pub use refusal::{LangKind, LangRefusal, Part};
 
 #[cfg(test)]
