@@ -1,13 +1,15 @@
 -- Names that are added where they are not yet are those that are not there, each once.
-use Rattle.std.proofs.Common.{◌≡◌, ℕ, Bool, true, false, cond, not, ◌||◌, List, [], ◌∷◌, ◌++◌, filter, refl, sym, subst, ◌∙◌, ap}
+use Rattle.std.proofs.Common.{◌≡◌, ℕ, Bool, true, false, cond, not, ◌||◌, List, [], ◌∷◌, ◌++◌, filter, map, refl, sym, ◌∙◌, ap}
 use Rattle.std.proofs.lemmas.List.{append_assoc, append-nil}
 use Rattle.std.proofs.lemmas.Bool.Decides.{same_from_decides}
 use Rattle.std.specs.Bool.{Decides}
 use Rattle.std.proofs.lemmas.Slice.Eq.{bytes_eq-Decides}
-use Rattle.std.specs.List.{list_any}
 use Rattle.std.specs.Str.{bytes_eq}
 use Rattle.index_tree.specs.declared.map_query.MapQuery.{MapQuery}
 use Rattle.map_meaning.specs.Scope.{others, each_once, all_named, scope_of}
+use Rattle.raven_value.specs.View.{pair_of}
+use Rattle.raven_value.specs.declared.text.Text.{Text}
+use Rattle.raven_value.specs.declared.value.Value.{Value}
 use Rattle.index_lang.specs.Bound.{is_among}
 use Rattle.index_lang.specs.Adding.{with_new}
 
@@ -102,3 +104,7 @@ reads query = added (query.collection ∷ []) (all_named query) ∙ ap (λ rest.
 
 pub reads_by : (query : MapQuery) (first names all : List (List ℕ)) → all ≡ with_new first names → first ≡ query.collection ∷ [] → names ≡ all_named query → all ≡ scope_of query
 reads_by query first names all is one named = is ∙ ap (λ (first : List (List ℕ)). with_new first names) one ∙ ap (with_new (query.collection ∷ [])) named ∙ reads query
+
+pub first_names : (ms : List (Text × Value)) → map (λ m. m.0) (map pair_of ms) ≡ map (λ m. m.0) ms
+first_names [] = refl
+first_names (m ∷ ms) = ap (λ (names : List (List ℕ)). m.0 ∷ names) (first_names ms)

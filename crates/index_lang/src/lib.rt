@@ -18,8 +18,8 @@ pub use members::{Field, duplicate, fields_agree, irreducible};
 pub use names::unbound_name;
 pub use parsing::{MAX_TEXT, parse};
 pub use reading::{ReadMap, ReadReduce, Trees};
-pub use shape::{same, scope};
 pub use refusal::{LangKind, LangRefusal, Part};
+pub use shape::{fields, same, scope};
 
 #[cfg(test)]
 mod tests;

@@ -1,14 +1,16 @@
 //! What is told of a definition: whether another one is the same, and what it reads.
-ghost use Rattle.std.specs.Prelude.{◌≡◌, ◌↔◌, ◌++◌, ◌∷◌, [], IsTrue, IfOk, OnOk, flat_map};
+ghost use Rattle.std.specs.Prelude.{◌≡◌, ◌↔◌, ◌++◌, ◌∷◌, [], IsTrue, IfOk, OnOk, flat_map, map};
 ghost use Rattle.map_meaning.specs.Scope as meaning;
 ghost use Rattle.index_lang.specs.Adding as adding;
 ghost use Rattle.index_lang.specs.Shape as spec;
 
 use crate::definition::{DefBody, Definition};
 use crate::members::is_among;
-use index_tree::{Clause, Expr, ExprKind, MapMember, MapQuery, ReduceQuery, Texts, same_map, same_reduce};
+use index_tree::{
+    Clause, Expr, ExprKind, MapMember, MapQuery, ReduceQuery, Texts, same_map, same_reduce,
+};
 use raven_base::NoMemory;
-use raven_value::{Path, Scope, Text};
+use raven_value::{Members, Scope, Text, Value};
 use std::alloc::Global;
 
 fn same_reduces(a: &Option<ReduceQuery>, b: &Option<ReduceQuery>) -> bool
@@ -21,75 +23,16 @@ fn same_reduces(a: &Option<ReduceQuery>, b: &Option<ReduceQuery>) -> bool
     }
 }
 
-fn same_text(a: &Text, b: &Text) -> bool
-    ensures { IsTrue result ↔ (a.now ≡ b.now) }
-{
-    *a == *b
-}
-
-fn same_texts(a: &[Text], b: &[Text]) -> bool
-    ensures { IsTrue result ↔ (a.now ≡ b.now) }
-{
-    let mut left = a;
-    let mut right = b;
-    while let [text, more @ ..] = left {
-        let [other, others @ ..] = right else {
-            return false;
-        };
-        if !same_text(text, other) {
-            return false;
-        }
-        left = more;
-        right = others;
-    }
-    right.is_empty()
-}
-
-fn same_path(a: &Path, b: &Path) -> bool
-    ensures { IsTrue result ↔ (a.now ≡ b.now) }
-{
-    same_texts(a.as_slice(), b.as_slice())
-}
-
-fn same_paths(a: &[Path], b: &[Path]) -> bool
-    ensures { IsTrue result ↔ (a.now ≡ b.now) }
-{
-    let mut left = a;
-    let mut right = b;
-    while let [path, more @ ..] = left {
-        let [other, others @ ..] = right else {
-            return false;
-        };
-        if !same_path(path, other) {
-            return false;
-        }
-        left = more;
-        right = others;
-    }
-    right.is_empty()
-}
-
 fn same_bodies(a: &DefBody, b: &DefBody) -> bool
     ensures { IsTrue result ↔ spec.Same a.now b.now }
 {
-    match (a, b) {
-        (
-            DefBody::Static { map, reduce, .. },
-            DefBody::Static {
-                map: other,
-                reduce: other_reduce,
-                ..
-            },
-        ) => same_map(map, other) && same_reduces(reduce, other_reduce),
-        (
-            DefBody::Auto { collection, fields },
-            DefBody::Auto {
-                collection: other,
-                fields: others,
-            },
-        ) => same_text(collection, other) && same_paths(fields.as_slice(), others.as_slice()),
-        _ => false,
-    }
+    let DefBody::Static { map, reduce, .. } = a;
+    let DefBody::Static {
+        map: other,
+        reduce: other_reduce,
+        ..
+    } = b;
+    same_map(map, other) && same_reduces(reduce, other_reduce)
 }
 
 /// Whether two definitions are the same, whatever their names, their texts and the name that a reduce gives a group.
@@ -193,8 +136,53 @@ fn scope_alone(alloc: Global, collection: &Text) -> Result<Scope, NoMemory>
 pub fn scope(alloc: Global, definition: &Definition) -> Result<Scope, NoMemory>
     ensures { IfOk result (λ scope. scope ≡ spec.scope definition.now.body) }
 {
-    match &definition.body {
-        DefBody::Static { map, .. } => scope_of(alloc, map),
-        DefBody::Auto { collection, .. } => scope_alone(alloc, collection),
+    let DefBody::Static { map, .. } = &definition.body;
+    scope_of(alloc, map)
+}
+
+fn map_names(alloc: Global, members: &[MapMember]) -> Result<Texts, NoMemory>
+    ensures { IfOk result (λ names. names ≡ map (λ m. m.name) members.now) }
+{
+    let mut names = Texts::new(alloc);
+    for member in members {
+        names.push(member.name.clone()?)?;
     }
+    Ok(names)
+}
+
+fn put_all(alloc: Global, names: &[Text]) -> Result<Members, NoMemory>
+    ensures { IfOk result (λ members. members ≡ spec.put_all names.now []) }
+{
+    let mut members = Members::new(alloc);
+    for name in names {
+        members.put(name.clone()?, Value::Null)?;
+    }
+    Ok(members)
+}
+
+fn names_of(alloc: Global, members: &[(Text, Value)]) -> Result<Texts, NoMemory>
+    ensures { IfOk result (λ names. names ≡ map (λ m. m.0) members.now) }
+{
+    let mut names = Texts::new(alloc);
+    for member in members {
+        names.push(member.0.clone()?)?;
+    }
+    Ok(names)
+}
+
+fn in_order(alloc: Global, names: &[Text]) -> Result<Texts, NoMemory>
+    ensures { IfOk result (λ sorted. sorted ≡ spec.in_order names.now) }
+{
+    let members = put_all(alloc, names)?;
+    let sorted = names_of(alloc, members.as_slice())?;
+    Ok(sorted)
+}
+
+/// The names of the fields of a definition's entries, in the order of their bytes, each once.
+pub fn fields(alloc: Global, definition: &Definition) -> Result<Texts, NoMemory>
+    ensures { IfOk result (λ fields. fields ≡ spec.fields definition.now.body) }
+{
+    let DefBody::Static { map, .. } = &definition.body;
+    let names = map_names(alloc, map.members.as_slice())?;
+    in_order(alloc, names.as_slice())
 }

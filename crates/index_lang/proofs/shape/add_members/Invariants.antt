@@ -1,4 +1,4 @@
-use Rattle.std.proofs.Common.{◌≡◌, ◌++◌, take, drop, flat_map}
+use Rattle.std.proofs.Common.{◌≡◌, ◌++◌, drop, flat_map}
 use Rattle.map_meaning.specs.Scope as meaning
 use Rattle.index_lang.proofs.shape.add_members.Given as goal
 

@@ -1,4 +1,4 @@
-use Rattle.std.proofs.Common.{◌≡◌, ◌++◌, take, drop, flat_map}
+use Rattle.std.proofs.Common.{◌≡◌, drop}
 use Rattle.index_lang.specs.Adding.{with_new}
 use Rattle.index_lang.proofs.shape.add_new.Given as goal
 
