@@ -1,5 +1,5 @@
 -- One pass over the tokens of a reduce finds the first variable that is not bound.
-use Rattle.std.proofs.Common.{◌≡◌, ℕ, zero, suc, Bool, true, false, cond, ◌||◌, List, [], ◌∷◌, Option, Some, None, refl, sym, ◌∙◌, ap}
+use Rattle.std.proofs.Common.{◌≡◌, ℕ, Bool, true, false, cond, ◌||◌, List, ◌∷◌, Option, Some, None, refl, ◌∙◌, ap}
 use Rattle.std.specs.Str.{bytes_eq}
 use Rattle.index_tokens.specs.declared.token.Token.{Token}
 use Rattle.index_tokens.specs.declared.token.Token.TheVariants as t
@@ -11,11 +11,11 @@ use Rattle.index_tree.specs.declared.reduce_query.FoldValue.{FoldValue}
 use Rattle.reduce_grammar.specs.declared.spelled.SpelledKey.{SpelledKey}
 use Rattle.reduce_grammar.specs.declared.spelled.PlacedFold.{PlacedFold}
 use Rattle.reduce_grammar.specs.declared.spelled.SpelledReduce.{SpelledReduce}
-use Rattle.reduce_grammar.specs.Reduces.{SpellsSource, source, SpellsPart, part, SpellsParts, first_part, next_part, SpellsKey, alone, in_braces, SpellsGroup, group, word_key, fold_as, fold_of, SpellsValue, whole_key, key_part, fold, SpellsFold, named, bare, SpellsFolds, last, last_comma, more, spelled_reduce, SpellsReduce, reduce}
+use Rattle.reduce_grammar.specs.Reduces.{SpellsSource, source, SpellsPart, part, SpellsParts, first_part, next_part, SpellsKey, alone, in_braces, SpellsGroup, group, word_key, fold_as, SpellsValue, whole_key, key_part, fold, SpellsFold, named, bare, SpellsFolds, last, last_comma, more, spelled_reduce, SpellsReduce, reduce}
 use Rattle.index_lang.specs.declared.groups.GroupStep.TheVariants.{Found, GoesOn}
 use Rattle.index_lang.specs.Bound.{or_else}
 use Rattle.index_lang.specs.BoundGroups.{unless_is, unbound_source, unbound_part, unbound_parts, unbound_key, unbound_group, unbound_value, unbound_fold, unbound_folds, unbound_in_reduce}
-use Rattle.index_lang.specs.ScanGroups.{scanned, names_group, at_reserved, at_variable, at_word, own_again, own_name, at_fold, at_member, by_part, follow, scan, scan_reduce}
+use Rattle.index_lang.specs.ScanGroups.{scanned, names_group, at_reserved, at_variable, at_word, own_again, own_name, by_part, follow, scan, scan_reduce}
 use Rattle.index_lang.proofs.Scans.{in_turn, named_variable, some_same, or_else_none}
 
 module _ (m : SpelledReduce) where

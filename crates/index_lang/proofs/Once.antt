@@ -1,5 +1,5 @@
 -- Texts have one answer.
-use Rattle.std.proofs.Common.{◌≡◌, ℕ, List, Option, Some, None, Result, Ok, Err, ◌⊎◌, inl, inr, refl, sym, subst, ◌∙◌, ap}
+use Rattle.std.proofs.Common.{◌≡◌, ℕ, List, Option, Some, None, Result, Ok, Err, inl, inr, refl, sym, subst, ◌∙◌, ap}
 use Rattle.exact_parse.specs.Answers.{Answer, Spelled, IsUnexpected, IsTooLarge, IsAnswer}
 use Rattle.exact_parse.proofs.Exact.{one_answer}
 use Rattle.index_tokens.specs.declared.token.Placed.{Placed}

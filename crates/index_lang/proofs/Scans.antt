@@ -1,12 +1,12 @@
 -- One pass over the tokens of a map finds the first variable that is not bound.
-use Rattle.std.proofs.Common.{◌≡◌, ℕ, zero, suc, ◌+◌, ◌-◌, Bool, true, false, cond, if◌then◌else◌, List, [], ◌∷◌, ◌++◌, length, take, Option, Some, None, is_some, refl, sym, ◌∙◌, ap, arith}
+use Rattle.std.proofs.Common.{◌≡◌, ℕ, ◌+◌, ◌-◌, Bool, true, false, cond, if◌then◌else◌, List, [], ◌∷◌, ◌++◌, length, take, Option, Some, None, is_some, refl, sym, ◌∙◌, ap, arith}
 use Rattle.std.proofs.Math.Seq.{take-append_seam}
 use Rattle.std.proofs.lemmas.List.{length-append, append-nil, append_assoc}
 use Rattle.index_tokens.specs.declared.token.Token.{Token}
 use Rattle.index_tokens.specs.declared.token.Token.TheVariants as t
 use Rattle.index_tokens.specs.declared.token.Placed.{Placed}
 use Rattle.index_tokens.specs.Spelling.{is_reserved}
-use Rattle.index_tokens.specs.Words.{Tokens, Is, same_token, word_true, word_false, word_null, word_load, word_let, word_where, word_select, word_new, name, name_as, variable, variable_as, quoted_as}
+use Rattle.index_tokens.specs.Words.{Tokens, Is, same_token, word_true, word_false, word_null, word_load, word_let, word_where, word_select, word_new, name_as, variable, variable_as, quoted_as}
 use Rattle.index_tree.specs.Trees.{Tree}
 use Rattle.index_tree.specs.declared.expression.BinaryOp.{BinaryOp}
 use Rattle.index_tree.specs.declared.expression.UnaryOp.{UnaryOp}
@@ -17,7 +17,7 @@ use Rattle.index_tree.specs.declared.map_query.Clause.{Clause}
 use Rattle.index_grammar.specs.declared.spelled.PlacedMember.{PlacedMember}
 use Rattle.index_grammar.specs.declared.spelled.Origin.{Origin}
 use Rattle.index_grammar.specs.Maps.{origin, SpellsClause, filter, binding, SpellsClauses, no_clause, next_clause, SpellsMember, named, path, SpellsMembers, last, last_comma, more, SpellsEntry, entry, SpellsMap, map, spelled_map, SpellsOrigin}
-use Rattle.index_grammar.specs.Expressions.{Post, Primary}
+use Rattle.index_grammar.specs.Expressions.{Post}
 use Rattle.index_lang.specs.Bound.{or_else, unbound, unbound_clause, unbound_clauses, unbound_member, unbound_members, unbound_entry, unbound_in, bound_by, is_among}
 use Rattle.index_lang.specs.declared.names.Scanned.{Scanned}
 use Rattle.index_lang.specs.Scan.{scanned, is_named_by, named_part, is_bound, names, binds, at_reserved, at_word, at_token, follow, scan, scan_map}

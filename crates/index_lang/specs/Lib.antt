@@ -4,3 +4,5 @@ pub mod Fields
 pub mod BoundGroups
 pub mod ScanGroups
 pub mod Parse
+pub mod Shape
+pub mod Adding

@@ -3,9 +3,7 @@ use Rattle.std.specs.Prelude.{◌≡◌, ℕ, ◌⊎◌, nat_lt, if◌then◌els
 use Rattle.exact_parse.specs.Exact.{SpellsText, UnexpectedAt, TooLargeAt}
 use Rattle.index_tokens.specs.Tokens.{tokens_of}
 use Rattle.index_tokens.specs.Words.{Tokens}
-use Rattle.index_tree.specs.declared.map_query.MapQuery.{MapQuery}
 use Rattle.index_tree.specs.declared.reduce_query.ReduceQuery.{ReduceQuery}
-use Rattle.index_grammar.specs.declared.spelled.SpelledMap.{SpelledMap}
 use Rattle.index_grammar.specs.Maps.{SpellsMap}
 use Rattle.index_grammar.specs.Limits as maps
 use Rattle.index_grammar.specs.View.{query_of}

@@ -1,12 +1,11 @@
 -- One pass over the tokens of a map, for the first variable that is not bound.
-use Rattle.std.specs.Prelude.{ℕ, zero, suc, ◌+◌, Bool, true, false, ◌&&◌, if◌then◌else◌, List, [], ◌∷◌, Option, Some, None, is_some, take, codes}
+use Rattle.std.specs.Prelude.{ℕ, zero, suc, ◌+◌, Bool, false, if◌then◌else◌, List, [], ◌∷◌, Option, Some, None, is_some, take, codes}
 use Rattle.std.specs.Str.{bytes_eq}
 use Rattle.index_tokens.specs.declared.token.Token.{Token}
 use Rattle.index_tokens.specs.declared.token.Token.TheVariants as t
 use Rattle.index_tokens.specs.declared.token.Placed.{Placed}
 use Rattle.index_tokens.specs.Spelling.{is_reserved}
-use Rattle.index_tokens.specs.Words.{Tokens, the, name, name_as}
-use Rattle.index_tree.specs.declared.map_query.Clause.{Clause}
+use Rattle.index_tokens.specs.Words.{Tokens, the, name}
 use Rattle.index_grammar.specs.declared.spelled.SpelledMap.{SpelledMap}
 use Rattle.index_lang.specs.Bound.{is_among, bound_by}
 use Rattle.index_lang.specs.declared.names.Scanned.{Scanned}

@@ -1,6 +1,6 @@
 //! Definitions of indexes.
 use index_tree::{MapQuery, ReduceQuery};
-use raven_value::{Name, Paths, Text};
+use raven_value::{Name, Text};
 
 /// An index under a name.
 #[derive(Drop)]
@@ -9,7 +9,7 @@ pub struct Definition {
     pub body: DefBody,
 }
 
-/// What an index keeps.
+/// What an index keeps. Automatic definitions, which have no text, stand in `index_version` still.
 #[derive(Drop)]
 pub enum DefBody {
     /// What a map gives, and how it is reduced, if it is. The texts are those that were read.
@@ -18,18 +18,5 @@ pub enum DefBody {
         reduce: Option<ReduceQuery>,
         map_text: Text,
         reduce_text: Option<Text>,
-    },
-
-    /// The values at paths of the documents of a collection.
-    Auto {
-        collection: Text,
-        fields: Paths,
-    },
-
-    /// The values at paths, grouped by some of them, and sums of others.
-    AutoReduce {
-        collection: Text,
-        groups: Paths,
-        sums: Paths,
     },
 }

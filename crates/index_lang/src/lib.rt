@@ -9,6 +9,7 @@ mod names;
 mod parsing;
 mod reading;
 mod refusal;
+mod shape;
 
 pub use definition::{DefBody, Definition};
 pub use groups::unbound_in_reduce;
@@ -18,6 +19,7 @@ pub use names::unbound_name;
 pub use parsing::{MAX_TEXT, parse};
 pub use reading::{ReadMap, ReadReduce, Trees};
 pub use refusal::{LangKind, LangRefusal, Part};
+pub use shape::{fields, same, scope};
 
 #[cfg(test)]
 mod tests;

@@ -96,7 +96,7 @@ pub fn fields_agree(members: &[PlacedMember], folds: &[PlacedFold]) -> bool
     has_all(members, folds) && has_all(folds, members)
 }
 
-fn is_among(key: &[Text], part: &Text) -> bool
+pub fn is_among(key: &[Text], part: &Text) -> bool
     ensures { result ≡ spec_is_among key.now part.now }
 {
     for other in key {

@@ -237,7 +237,7 @@ fn texts_are_read_or_refused_where_the_rules_say(rt: HostRuntime) -> Result<(), 
 fn a_long_text_is_too_large(rt: HostRuntime) -> Result<(), Fail> {
     let alloc = rt.alloc();
     let mut text = String::from_str(alloc, "from u in docs.Users select new { u.Name }")?;
-    while text.len() < MAX_TEXT {
+    for _ in text.len()..MAX_TEXT {
         text.push_str(" ")?;
     }
     assert_eq!(rt; told(alloc, text.as_str(), None)?.as_str(), "read");

@@ -1,4 +1,4 @@
-use Rattle.std.proofs.Common.{◌≡◌, take, drop}
+use Rattle.std.proofs.Common.{◌≡◌, drop}
 use Rattle.index_lang.specs.Fields as spec
 use Rattle.index_lang.proofs.members.has_name.Given as goal
 

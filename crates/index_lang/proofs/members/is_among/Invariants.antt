@@ -1,4 +1,4 @@
-use Rattle.std.proofs.Common.{◌≡◌, take, drop}
+use Rattle.std.proofs.Common.{◌≡◌, drop}
 use Rattle.index_lang.specs.Bound.{is_among as spec_is_among}
 use Rattle.index_lang.proofs.members.is_among.Given as goal
 
