@@ -309,25 +309,6 @@ fn is_sent<T: Send>(_value: &T) -> bool {
     true
 }
 
-#[test]
-fn a_file_keeps_its_rows(rt: HostRuntime) -> Result<(), Fail> {
-    let alloc = rt.alloc();
-    let _ = fs::remove_dir_all(&rt, "doc_keeper_rows");
-    fs::create_dir(&rt, "doc_keeper_rows")?;
-    let path = "doc_keeper_rows/a.db";
-    let mut keeper = SqlKeeper::in_file(&rt, path)?;
-    assert!(rt; is_sent(&keeper));
-    put(alloc, &mut keeper, 1, "a")?;
-    put(alloc, &mut keeper, 2, "b")?;
-    assert!(rt; SqlKeeper::in_file(&rt, path).is_err());
-    drop(keeper);
-    let mut again = SqlKeeper::in_file(&rt, path)?;
-    assert_eq!(rt; page(alloc, &mut again, None, 9)?.as_str(), "ab");
-    drop(again);
-    fs::remove_dir_all(&rt, "doc_keeper_rows")?;
-    Ok(())
-}
-
 // These have no clause, so that a test carries nothing of what the database is.
 fn run<S: Alter>(conn: &mut Connection<S>, sql: &str) -> Result<(), Fail> {
     conn.execute_batch(sql)?;
@@ -347,6 +328,26 @@ fn is_left(rt: &HostRuntime, path: &str) -> Result<bool, Fail> {
     let refused = SqlKeeper::in_file(rt, path).is_err();
     let after = fs::read(rt, path)?;
     Ok(refused && before.as_slice() == after.as_slice())
+}
+
+#[test]
+fn a_file_keeps_its_rows_and_has_no_other_table(rt: HostRuntime) -> Result<(), Fail> {
+    let alloc = rt.alloc();
+    let _ = fs::remove_dir_all(&rt, "doc_keeper_rows");
+    fs::create_dir(&rt, "doc_keeper_rows")?;
+    let path = "doc_keeper_rows/a.db";
+    let mut keeper = SqlKeeper::in_file(&rt, path)?;
+    assert!(rt; is_sent(&keeper));
+    keeper.commit(&two(alloc, "a", "b", EMPTY)?)?;
+    assert!(rt; SqlKeeper::in_file(&rt, path).is_err());
+    drop(keeper);
+    let mut again = SqlKeeper::in_file(&rt, path)?;
+    assert_eq!(rt; page(alloc, &mut again, None, 9)?.as_str(), "ab");
+    drop(again);
+    make(&rt, path, "CREATE TABLE other (a INTEGER) STRICT")?;
+    assert!(rt; is_left(&rt, path)?);
+    fs::remove_dir_all(&rt, "doc_keeper_rows")?;
+    Ok(())
 }
 
 #[test]
@@ -375,10 +376,6 @@ fn a_database_with_another_table_is_left_as_it_was(rt: HostRuntime) -> Result<()
         "CREATE TABLE kept (key TEXT PRIMARY KEY, etag INTEGER) STRICT",
     )?;
     assert!(rt; is_left(&rt, table)?);
-    let beside = "doc_keeper_tables/b.db";
-    drop(SqlKeeper::in_file(&rt, beside)?);
-    make(&rt, beside, "CREATE TABLE other (a INTEGER) STRICT")?;
-    assert!(rt; is_left(&rt, beside)?);
     fs::remove_dir_all(&rt, "doc_keeper_tables")?;
     Ok(())
 }
