@@ -3,15 +3,16 @@
 
     tools/compare.py [--program PATH | --try] [--rounds N] [--lines N] [--seed N] [--random]
 
-Before the random rounds it tries the statuses, the options, and scripts that stand at each limit; not so with --random. A
-script on which the two differ is kept in a file, whose name is printed beside the first line that differs; the status is then
-1. At the end it says how often the random scripts reached each kind of reply.
+Before the random rounds it tries the statuses, the options, files that are opened again and again, and scripts that stand at
+each limit or are of a case that was worked out by hand; not so with --random. A script on which the two differ is kept in a
+file, whose name is printed beside the first line that differs; the status is then 1. At the end it says how often the random
+scripts reached each kind of reply.
 
 The moments that documents show are the program's own: each has to be that of 1970 or one of the run, and is then taken as
 that of 1970, which the model writes.
 
 With --try no built program is needed: `rt try` builds it once, proves nothing, and runs all scripts. The statuses and the
-options are then left out. Without it, and without a built program, it says `skipped` and ends with 0.
+options, and what needs a file, are then left out. Without it, and without a built program, it says `skipped` and ends with 0.
 """
 
 import argparse
@@ -26,6 +27,7 @@ import tempfile
 sys.dont_write_bytecode = True
 TOP = pathlib.Path(__file__).resolve().parents[1]
 sys.path.insert(0, str(TOP / "tools"))
+import map_scripts
 import model
 import scripts
 
@@ -147,6 +149,27 @@ def options(program):
         return wrong
 
 
+def openings(program, seed, lines):
+    """How many files are wrong over which some scripts run one after another. A file keeps the rows: each index begins anew."""
+    wrong = 0
+    for round_ in range(12):
+        database = model.Database()
+        with tempfile.TemporaryDirectory() as folder:
+            for part in range(4):
+                maker = map_scripts.MAKERS[(round_ + part) % len(map_scripts.MAKERS)](seed * 2_000_003 + round_ * 7 + part)
+                script = maker.script(lines)
+                expected = model.replies(script, database)
+                words = [program, "run", "--data", os.path.join(folder, "kept")]
+                ended = subprocess.run(words, input=script, capture_output=True, timeout=600)
+                found = model.at_no_moment(ended.stdout)
+                if ended.returncode or found != expected:
+                    wrong += 1
+                    print(f"file {round_}, script {part}: status {ended.returncode}, {first_difference(expected, found)}")
+                    break
+                database = database.opened()
+    return wrong
+
+
 def tried(named_scripts):
     """How many scripts differ where `rt try` runs them all; it prints where, and keeps the scripts if any differs."""
     folder = pathlib.Path(tempfile.mkdtemp(prefix="differs-"))
@@ -208,15 +231,18 @@ def main():
     def named_scripts():
         if not given.random:
             yield from scripts.at_the_limits()
+            yield from map_scripts.at_the_limits()
         for round_ in range(given.rounds):
-            maker = scripts.Maker(given.seed * 1_000_003 + round_)
+            maker = map_scripts.MAKERS[round_ % len(map_scripts.MAKERS)](given.seed * 1_000_003 + round_)
             yield f"seed {given.seed}, round {round_}", maker.script(given.lines)
             kinds.update(maker.kinds)
 
     if given.is_tried:
         found = tried(named_scripts())
     else:
-        found = 0 if given.random else statuses(given.program) + options(given.program)
+        found = 0
+        if not given.random:
+            found = statuses(given.program) + options(given.program) + openings(given.program, given.seed, given.lines)
         found += sum(differs(given.program, script, name) for name, script in named_scripts())
     print("reached: " + ", ".join(f"{kind} {count}" for kind, count in kinds.most_common()))
     before = "" if given.random else "the limits and "

@@ -125,25 +125,6 @@ class Writes:
         return [self.random.choice(kinds)().encode() for _ in range(count)]
 
 
-def copied(database):
-    """A database that the lines of this one do not change. Rows are never changed, only replaced."""
-    other = model.Database()
-    other.store = database.store.copy()
-    for index in database.indexes:
-        twin = model.Index(index.number, index.name, index.collection, index.field)
-        twin.etag, twin.table = index.etag, dict(index.table)
-        other.indexes.append(twin)
-    return other
-
-
-def opened(database):
-    """The database after its file was opened: the rows stand, and each index begins again at etag 0."""
-    other = copied(database)
-    for index in other.indexes:
-        index.etag, index.table = 0, {}
-    return other
-
-
 def reply_to(database, line):
     return model.write_json(model.answer(database, line)).encode()
 
@@ -265,7 +246,7 @@ class Trial:
         replies, part = run.replies()
         if len(replies) > len(script):
             raise Crash("inventions", f"{len(replies)} replies to {len(script)} lines")
-        now = opened(self.database)
+        now = self.database.opened()
         for line, reply in zip(script, replies):
             now = self.after(now, line, reply)
         if run.status() == 0 and len(replies) < len(script):
@@ -274,7 +255,7 @@ class Trial:
             raise Crash("losses", f"status {run.status()}, {run.told!r}")
         if len(replies) == len(script):
             return now, now
-        flying = copied(now)
+        flying = now.copied()
         expected = reply_to(flying, script[len(replies)])
         if not (expected.startswith(self.shortened(part)) or KEEPER_FAULT.startswith(part)):
             raise Crash("inventions", f"a reply began with {part[:200]!r} in place of {expected[:200]!r}")
@@ -287,7 +268,7 @@ class Trial:
         return part.split(b'"@last-modified":', 1)[0]
 
     def after(self, database, line, reply):
-        following = copied(database)
+        following = database.copied()
         expected = reply_to(following, line)
         if model.at_no_moment(reply) == expected:
             self.remember(following)
@@ -324,7 +305,7 @@ class Trial:
         plain = [model.at_no_moment(reply) for reply in found]
         wanted = []
         for state in states:
-            database = opened(state)
+            database = state.opened()
             wanted.append([reply_to(database, line) for line in asked])
             if plain == wanted[-1]:
                 self.keep(asked, found)

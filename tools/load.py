@@ -114,7 +114,7 @@ def main():
             return
         print("| Round | Rows | Opening, s | Lines per second | File, MiB |\n|---:|---:|---:|---:|---:|")
         for number in range(1, options.rounds + 1):
-            database = crash.opened(database)
+            database = database.opened()
             opening, speed = round_of(options.program, path, database, chance, options.lines, options.ids)
             size = sum(part.stat().st_size for part in pathlib.Path(folder).iterdir())
             print(f"| {number} | {len(database.store.rows)} | {opening:.3f} | {speed:,.0f} | {size / 2**20:.1f} |", flush=True)

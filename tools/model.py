@@ -7,13 +7,18 @@ than may be. It keeps everything in plain dictionaries and counts anew for each 
 """
 
 import math
+import pathlib
 import re
 import sys
+
+sys.dont_write_bytecode = True
+sys.path.insert(0, str(pathlib.Path(__file__).resolve().parent))
+import language
 
 MAX_SCRIPT = 16_777_216
 MAX_ID = 512
 MAX_NAME = 214
-MAX_AUTO_NAME = 200
+MAX_NEW_NAME = 200
 MAX_BODY = 1_048_576
 MAX_DEPTH = 100
 MAX_SLOTS = 256
@@ -419,17 +424,93 @@ def result_of(store, command, etag):
     return {"Deleted": etag is not None, "Id": name, "Type": "DELETE"}
 
 
-# The database
+# Definitions
+
+
+class Auto:
+    """An automatic index: the entry of each document of the collection has one member of it."""
+
+    def __init__(self, collection, field):
+        self.collection = collection
+        self.field = field
+
+    def scope(self):
+        return {self.collection}
+
+    def fields(self):
+        return [self.field]
+
+    def is_same(self, other):
+        return isinstance(other, Auto) and (self.collection, self.field) == (other.collection, other.field)
+
+    def entry(self, body, load):
+        value = body.get(self.field)
+        return {self.field: None if isinstance(value, (list, dict)) else value}
+
+    def shown(self):
+        return {"Collection": self.collection, "Fields": [[self.field]], "Kind": "auto"}
+
+
+class Static:
+    """An index by the text of a map. Whether two are the same hangs on their trees alone."""
+
+    def __init__(self, text):
+        try:
+            self.tree = language.parse(text)
+        except language.Refusal as refusal:
+            raise Refused(refusal.kind, At=refusal.at, Part="Map") from None
+        self.text = text
+        self.collection = self.tree.collection
+
+    def scope(self):
+        return language.scope_of(self.tree)
+
+    def fields(self):
+        return [name for name, _ in self.tree.members]
+
+    def is_same(self, other):
+        return isinstance(other, Static) and self.tree == other.tree
+
+    def entry(self, body, load):
+        return language.entry_of(self.tree, body, load)
+
+    def shown(self):
+        return {"Kind": "static", "Map": self.text, "Reduce": None}
+
+
+# Indexes
 
 
 class Index:
-    def __init__(self, number, name, collection, field):
+    def __init__(self, number, name, definition):
         self.number = number
         self.name = name
-        self.collection = collection
-        self.field = field
+        self.definition = definition
         self.etag = 0
         self.table = {}  # the documents that it has recorded, by folded id
+
+    def load(self, name, collection):
+        """What a map finds of another document: the recorded one, if it stands in that collection."""
+        row = None if fault_of(name, MAX_ID) else self.table.get(folded(name))
+        return row.body if row and row.collection == collection else None
+
+    def mapped(self):
+        """The entries of the recorded documents, by folded id, and the number of those that failed."""
+        entries, errors = {}, 0
+        for key in sorted(self.table):
+            if self.table[key].collection != self.definition.collection:
+                continue
+            try:
+                entry = self.definition.entry(self.table[key].body, self.load)
+            except language.Failed:
+                errors += 1
+                continue
+            if entry is not None:
+                entries[key] = entry
+        return entries, errors
+
+
+# The database
 
 
 class Database:
@@ -488,11 +569,43 @@ class Database:
         return index
 
     def read_by(self, index):
-        """The rows that the index reads: documents and tombstones of its collection."""
-        return [row for row in self.store.rows.values() if row.collection == index.collection]
+        """The rows that the index reads: documents and tombstones of its collections."""
+        scope = index.definition.scope()
+        return [row for row in self.store.rows.values() if row.collection in scope]
 
     def unseen(self, index):
         return [row for row in self.read_by(index) if row.etag > index.etag]
+
+    def is_stale(self, index):
+        return bool(self.unseen(index))
+
+    def make(self, name, definition):
+        """Writes the row of a new index, whose number is the etag of the row."""
+        if len(self.indexes) >= MAX_SLOTS:
+            raise Refused("TooManyIndexes")
+        body = {"@metadata": {"@collection": "@indexes"}, **definition.shown()}
+        self.commit([Command("@index/" + name, None, body)], by_client=False)
+        self.indexes.append(Index(self.store.last, name, definition))
+        return {"Index": name}
+
+    def define(self, name, definition):
+        """A definition by text. The one that serves already changes nothing; another one under its name is of a later stage."""
+        if folded(name).startswith(("auto/", "replacementof/")):
+            raise Refused("ReservedName")
+        if size(name) > MAX_NEW_NAME:
+            raise Refused("NameTooLong", Len=size(name))
+        serving = self.serving(name)
+        if not serving:
+            return self.make(name, definition)
+        if not serving.definition.is_same(definition):
+            raise Refused("UnknownLine")
+        return {"Index": serving.name}
+
+    def remove(self, name):
+        index = self.live(name)
+        self.commit([Command("@index/" + index.name, None)], by_client=False)
+        self.indexes.remove(index)
+        return {"Removed": index.name}
 
     def free_name(self, name):
         if not self.serving(name):
@@ -504,20 +617,17 @@ class Database:
 
     def name_for(self, collection, field):
         name = self.free_name(f"Auto/{collection}/By{field}")
-        return self.free_name(f"Auto/{self.store.last + 1}") if fault_of(name, MAX_AUTO_NAME) else name
+        return self.free_name(f"Auto/{self.store.last + 1}") if fault_of(name, MAX_NEW_NAME) else name
 
     def auto(self, collection, field):
-        others = [index for index in self.indexes if index.collection == collection]
+        automatic = [index for index in self.indexes if isinstance(index.definition, Auto)]
+        others = [index for index in automatic if index.definition.collection == collection]
         for index in others:
-            if index.field == field:
+            if index.definition.field == field:
                 return {"Index": index.name}
-        if others or len(self.indexes) >= MAX_SLOTS:
+        if others:
             raise Refused("UnknownLine")
-        name = self.name_for(collection, field)
-        body = {"@metadata": {"@collection": "@indexes"}, "Collection": collection, "Fields": [[field]], "Kind": "auto"}
-        self.commit([Command("@index/" + name, None, body)], by_client=False)
-        self.indexes.append(Index(self.store.last, name, collection, field))
-        return {"Index": name}
+        return self.make(self.name_for(collection, field), Auto(collection, field))
 
     def bring_on(self, index, most):
         came_from = index.etag
@@ -530,8 +640,9 @@ class Database:
             index.etag = rows[most - 1].etag if len(rows) > most else self.store.last
         return {"From": came_from, "Index": index.name, "To": index.etag}
 
-    def pump(self, most):
-        return {"Pumped": [self.bring_on(index, most) for index in self.indexes]}
+    def pump(self, most, name=None):
+        indexes = self.indexes if name is None else [self.live(name)]
+        return {"Pumped": [self.bring_on(index, most) for index in indexes]}
 
     def stale(self, name):
         index = self.live(name)
@@ -540,13 +651,48 @@ class Database:
 
     def find(self, name, field, words):
         index = self.live(name)
-        ids = [index.table[key].spelling for key in sorted(index.table) if self.has(index, key, field, words)]
-        return {"Ids": ids, "IndexEtag": index.etag, "IsStale": bool(self.unseen(index))}
+        entries, _ = index.mapped()
+        found = [key for key, entry in entries.items() if is_text(entry.get(field), words)]
+        ids = [index.table[key].spelling for key in found]
+        return {"Ids": ids, "IndexEtag": index.etag, "IsStale": self.is_stale(index)}
 
-    @staticmethod
-    def has(index, key, field, words):
-        value = index.table[key].body.get(field)
-        return field == index.field and isinstance(value, str) and folded(value) == folded(words)
+    def shown(self, index):
+        entries, errors = index.mapped()
+        return {
+            "Definition": index.definition.shown(),
+            "Entries": len(entries),
+            "Errors": errors,
+            "Etag": index.etag,
+            "IsStale": self.is_stale(index),
+            "Name": index.name,
+        }
+
+    def listed(self):
+        return {"Results": [self.shown(index) for index in self.indexes]}
+
+    # opening
+
+    def copied(self):
+        """A database that the lines of this one do not change. Rows are never changed, only replaced."""
+        other = Database()
+        other.store = self.store.copy()
+        for index in self.indexes:
+            twin = Index(index.number, index.name, index.definition)
+            twin.etag, twin.table = index.etag, dict(index.table)
+            other.indexes.append(twin)
+        return other
+
+    def opened(self):
+        """The database after its file was opened: each index begins again at etag 0, with its name as its row spells it."""
+        other = self.copied()
+        for index in other.indexes:
+            index.name = other.store.spelling("@index/" + index.name).removeprefix("@index/")
+            index.etag, index.table = 0, {}
+        return other
+
+
+def is_text(value, words):
+    return isinstance(value, str) and folded(value) == folded(words)
 
 
 # Lines
@@ -580,14 +726,20 @@ def id_of(text):
 
 
 def name_of(text):
-    """A text that can be no name makes the line unknown."""
-    if fault_of(text, MAX_NAME):
-        raise Refused("UnknownLine")
+    fault = fault_of(text, MAX_NAME)
+    if fault:
+        raise fault
     return text
 
 
 def object_of(value, member):
     if not isinstance(value, dict):
+        raise Refused("BadMember", Name=member)
+    return value
+
+
+def text_of(value, member):
+    if not isinstance(value, str):
         raise Refused("BadMember", Name=member)
     return value
 
@@ -630,12 +782,10 @@ def command_of(item):
     item = object_of(item, "Commands")
     if item.get("Type") not in ("PUT", "DELETE"):
         raise Refused("BadMember", Name="Type")
-    if not isinstance(item.get("Id"), str):
-        raise Refused("BadMember", Name="Id")
-    name = id_of(item["Id"])
+    name = id_of(text_of(item.get("Id"), "Id"))
     vector = item.get("ChangeVector")
-    if vector is not None and not isinstance(vector, str):
-        raise Refused("BadMember", Name="ChangeVector")
+    if vector is not None:
+        text_of(vector, "ChangeVector")
     body = object_of(item.get("Document"), "Document") if item["Type"] == "PUT" else None
     return Command(name, vector, body)
 
@@ -658,11 +808,38 @@ def auto_line(database, rest):
     return database.auto(collection, field)
 
 
-def pump_line(database, rest):
-    most = number(rest)
-    if most is None or not 1 <= most <= MAX_BATCH:
+def map_of(members):
+    """The text of the map. `Maps`, a list of one text, counts where both stand, and is missed where none does."""
+    if "Map" in members and "Maps" not in members:
+        return text_of(members["Map"], "Map")
+    maps = members.get("Maps")
+    if not isinstance(maps, list) or len(maps) != 1:
+        raise Refused("BadMember", Name="Maps")
+    return text_of(maps[0], "Maps")
+
+
+def index_line(database, rest):
+    """The members are tested in this order, and the map is read behind them. Reduces are of a later stage."""
+    members = object_of(read_json(rest.encode()), "body")
+    name = name_of(text_of(members.get("Name"), "Name"))
+    text = map_of(members)
+    if members.get("Reduce") is not None:
+        text_of(members["Reduce"], "Reduce")
         raise Refused("UnknownLine")
-    return database.pump(most)
+    return database.define(name, Static(text))
+
+
+def drop_line(database, rest):
+    return database.remove(name_of(rest))
+
+
+def pump_line(database, rest):
+    """The number is tested before the name, which may stand behind it."""
+    first, *name = rest.split(" ", 1)
+    most = number(first)
+    if most is None or not 1 <= most <= MAX_BATCH or name == [""]:
+        raise Refused("UnknownLine")
+    return database.pump(most, *map(name_of, name))
 
 
 def find_line(database, rest):
@@ -682,10 +859,14 @@ FORMS = {
     "BULK": bulk_line,
     "GET": get_line,
     "AUTO": auto_line,
+    "INDEX": index_line,
+    "DROP": drop_line,
     "PUMP": pump_line,
     "FIND": find_line,
     "STALE": stale_line,
 }
+# Lines of one word.
+ALONE = {"STATS": Database.stats, "INDEXES": Database.listed}
 
 
 def asked(database, line):
@@ -693,8 +874,8 @@ def asked(database, line):
         text = line.decode("utf-8")
     except UnicodeDecodeError:
         raise Refused("UnknownLine") from None
-    if text == "STATS":
-        return database.stats()
+    if text in ALONE:
+        return ALONE[text](database)
     word, rest = words(text, 1)
     if word not in FORMS:
         raise Refused("UnknownLine")
@@ -709,9 +890,9 @@ def answer(database, line):
         return refused.reply
 
 
-def replies(data):
-    """The bytes that are written for a script."""
-    database = Database()
+def replies(data, database=None):
+    """The bytes that are written for a script, over an empty database where none is given."""
+    database = database or Database()
     written = [write_json(answer(database, line)) + "\n" for line in lines(data) if line]
     return "".join(written).encode()
 

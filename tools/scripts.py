@@ -7,6 +7,7 @@ import sys
 
 sys.dont_write_bytecode = True
 sys.path.insert(0, str(pathlib.Path(__file__).resolve().parent))
+import maps
 import model
 
 IDS = ["users/1", "USERS/1", "Users/1", "users/2", "users/10", "a", "A", "Z", "zz", "é", "É", "@index/x", "@INDEX/y",
@@ -35,6 +36,16 @@ BAD_JSON = ["", "{", "}", "[1,]", "{\"a\":1,}", "{\"a\"}", "{a:1}", "{'a':1}", "
             "\ufeff{}", "\"\\x\"", "\"\\u12\"", "\"\\ud800\"", "\"\\udc00\"", "\"\\ud800\\u0041\"", "\"a", "// x", "[]]",
             "{\"a\":1 \"b\":2}", "\"\t\"", "{,}", "[,1]", "\"\\ud800x\"", "\"\\ud83d\\ud83d\""]
 
+# Texts that are dates, or nearly.
+DATES = ["1815-12-10", "1997-09-19T10:11:12.0000000Z", "2017-02-29", "2016-02-29", "-000044-03-15", "+002020-01-31 23:59:60",
+         "20200131T1011-05", "2020-01-31T10+25:59[Europe/Paris][u-ca=hebrew]", "2020-01-31Z", "2020-01-31ZZ",
+         "2020-01-31T10:11Z[UTC]", "2020-01-31T24", "2020-1-31", "Z"]
+INDEX_NAMES = ["O", "o", "O", "Adults", "U/1", "u/1", "é", "É", "By Name", "N"]
+ODD_NAMES = ["", "a\tb", "x\x7f", "n" * 200, "n" * 201, "n" * 214, "n" * 215, "é" * 100, "é" * 100 + "n", "é" * 107, "é" * 108,
+             "auto/x", "AUTO/x", "Auto/Users/ByName", "Auto/" + "n" * 200, "ReplacementOf/O", "replacementof/", "ReplacementOf", "auto",
+             " O", "O "]
+NO_MAPS = ["null", "7", "[]", "{}", '["from","from"]', "[7]", '"from"', "true"]
+
 NO_TEXTS = ["null", "7", "true", "[]", "{}", "1.5"]
 NO_OBJECTS = ["null", "7", "true", "[]", "[{}]", '"{}"']
 NO_LISTS = ["null", "7", "{}", '"[]"', '{"Id":"a","Type":"DELETE"}']
@@ -46,13 +57,17 @@ OTHERS = ["", "", " ", "\r", "PUT", "PUT ", "PUT a", "PUT a ", "AUTO", "AUTO C",
           "stats", "STALE", "STALE ", "STALE a b", "DELIF", "DELIF a", "DELIF a ", "DELIF  a", "DELIF a  b", "PUTIF a",
           "PUTIF a x", "PUTIF a x ", "PUTIF a  {}", "PUTIF  a x {}", "BULK", "BULK ", "BULK  {}", "BULK{}", "TIDY", "INDEXES",
           "CLEAN", "PUMP 64 Auto/C/ByF", "QUERY from Users", "INDEX {}", "ASK {}", "DROP x", "SWITCH x", "READ 0 1 x",
-          "PUBLISH 0", "#", "\ufeffPUMP 1", "PUT  a {}", "AUTO  C F", "FIND  x y z", "FIND x  y z", "PUMP  1", "PUTa {}"]
+          "PUBLISH 0", "INDEX", "INDEX ", "INDEX  {}", "INDEX{}", "INDEXES ", "INDEXES x", "indexes", "DROP", "DROP ",
+          "DROP  x", "DROPx", "PUMP 1 ", "PUMP 1  x", "PUMP 1 x y", "PUMP 0 x", "PUMP x y", "PUMP x a\tb", "PUMP 1 a\tb", "#",
+          "\ufeffPUMP 1", "PUT  a {}", "AUTO  C F", "FIND  x y z", "FIND x  y z", "PUMP  1", "PUTa {}"]
 
 
 def kind_of(reply):
     """The name of an error, or else the members that a reply has."""
     if "@metadata" in reply:
         return "a document"
+    if any("Definition" in result for result in reply.get("Results", ())):
+        return "indexes"
     return reply.get("Error") or " ".join(sorted(reply))
 
 
@@ -61,8 +76,11 @@ class Maker:
 
     def __init__(self, seed):
         self.random = random.Random(seed)
+        self.maps = maps.Maps(self.random)
         # What the lines so far lead to, by which later lines find something.
         self.database = model.Database()
+        # How many in a hundred maps are of those that load.
+        self.loading = 30
         # How often the model gives each kind of reply.
         self.kinds = collections.Counter()
 
@@ -147,7 +165,16 @@ class Maker:
             members.append(self.metadata(usual))
         for field in self.random.sample(["Name", "F"], self.one_of([0, 1, 2, 2])):
             members.append(self.text(field) + ":" + self.text(self.words()))
+        members += [f'"{field}":{value}' for field, value in self.for_maps() if self.chance(45)]
         return self.object(0, members)
+
+    def for_maps(self):
+        """Members that maps compute with and look other documents up by."""
+        sizes = [0, 0, 1, 2, -1, -7, 7, 18, -36, 64, 65, 2**63 - 1, -(2**63), 2**62]
+        yield "Age", self.one_of(sizes)
+        yield "Count", self.one_of(sizes[:6])
+        yield "When", self.text(self.one_of(DATES))
+        yield "Ref", self.text(self.known_id() if self.chance(85) else "@index/" + self.one_of(INDEX_NAMES))
 
     def id(self):
         if self.chance(3):
@@ -245,8 +272,61 @@ class Maker:
             return f"AUTO {self.one_of(['k' * 60, 'k' * 181, 'k' * 182, 'k' * 183, 'é' * 95])} {field}"
         return f"AUTO {collection} {field}"
 
+    def size(self):
+        return self.one_of(SIZES[:5] if self.chance(80) else SIZES)
+
     def pump(self):
-        return f"PUMP {self.one_of(SIZES[:5] if self.chance(80) else SIZES)}"
+        return f"PUMP {self.size()}"
+
+    def live_name(self):
+        """Mostly the name of an index, in some case of letters."""
+        if self.chance(10) or not self.database.indexes:
+            return self.no_index()
+        return self.in_other_case(self.one_of(self.database.indexes).name)
+
+    def pump_one(self):
+        return f"PUMP {self.size()} {self.live_name()}"
+
+    def drop(self):
+        return f"DROP {self.live_name()}"
+
+    def listed(self):
+        return "INDEXES"
+
+    def tree(self):
+        """A map whose members mostly give texts, since a line finds nothing else."""
+        tree = self.maps.loading() if self.chance(self.loading) else self.maps.tree()
+        twin = model.Index(0, "", None)
+        twin.table = {key: row for key, row in self.database.store.rows.items() if row.is_document()}
+        rows = [row for row in twin.table.values() if row.collection == tree.collection]
+        return self.maps.probed(tree, self.one_of(rows).body, twin.load) if rows else tree
+
+    def definition(self):
+        """The name and the map of a definition: often one that serves already, in another spelling, or a broken one."""
+        static = [index for index in self.database.indexes if isinstance(index.definition, model.Static)]
+        if static and self.chance(35):
+            index = self.one_of(static)
+            tree = index.definition.tree
+            text = index.definition.text if self.chance(20) else self.maps.text_of(tree)
+            return self.in_other_case(index.name), text
+        name = self.one_of(ODD_NAMES if self.chance(8) else INDEX_NAMES)
+        tree = self.tree()
+        return name, self.maps.broken(tree) if self.chance(30) else self.maps.text_of(tree)
+
+    def index(self):
+        name, text = self.definition()
+        text = model.quoted(text) if self.chance(70) else self.text(text)
+        parts = [self.member("Name", self.text(name), NO_TEXTS)]
+        if self.chance(60):
+            parts.append(self.member("Map", text, NO_MAPS))
+        if len(parts) == 1 or self.chance(3):
+            parts.append(self.member("Maps", f"[{text}]", NO_MAPS))
+        if self.chance(15):
+            parts.append(self.member("Reduce", "null", ['""', '"from r in results"', "7", "[]"]))
+        if self.chance(4):
+            parts.append(self.text(self.one_of(["Other", "map", "Name", "Fields"])) + ":" + self.value(3))
+        self.random.shuffle(parts)
+        return "INDEX {" + ",".join(self.space() + part for part in parts) + "}"
 
     def in_other_case(self, text):
         return self.one_of([text, text, text.lower(), text.upper(), model.folded(text)])
@@ -254,16 +334,26 @@ class Maker:
     def no_index(self):
         return self.one_of(["n" * 214, "n" * 215, "é" * 107, "é" * 108, "a\tb", "x\x7f", "Auto/2", "auto/3", "Auto/None/ByX"])
 
+    def texts_of(self, index):
+        """The fields and texts by which an index finds something, or will once it is brought on."""
+        twin = model.Index(0, "", index.definition)
+        twin.table = {model.folded(row.spelling): row for row in self.database.read_by(index) if row.is_document()}
+        entries = [*index.mapped()[0].values(), *twin.mapped()[0].values()]
+        return [(field, text) for entry in entries for field, text in entry.items() if isinstance(text, str)]
+
     def find(self):
-        if self.chance(15) or not self.database.indexes:
+        loading = [index for index in self.database.indexes if len(index.definition.scope()) > 1]
+        among = loading if self.chance(50) else self.database.indexes
+        found = [(index, *pair) for index in among for pair in self.texts_of(index)]
+        if found and self.chance(70):
+            index, field, text = self.one_of(found)
+            text = self.in_other_case(text).replace("\n", " ").replace("\r", " ")
+            return f"FIND {self.in_other_case(index.name)} {field} {text}"
+        if self.chance(25) or not self.database.indexes:
             return f"FIND {self.no_index()} {self.one_of(FIELDS)} {self.words()}"
         index = self.one_of(self.database.indexes)
-        field = index.field if self.chance(92) else self.one_of(FIELDS)
-        # What it has recorded counts too, since an index that lags still finds it.
-        rows = [row for row in self.database.read_by(index) if row.is_document()] + list(index.table.values())
-        texts = [row.body[field] for row in rows if isinstance(row.body.get(field), str)]
-        text = self.in_other_case(self.one_of(texts)) if texts and self.chance(85) else self.words()
-        return f"FIND {self.in_other_case(index.name)} {field} {text}"
+        field = self.one_of(index.definition.fields() if self.chance(70) else FIELDS)
+        return f"FIND {self.in_other_case(index.name)} {field} {self.words()}"
 
     def other(self):
         return self.one_of(OTHERS)
@@ -283,10 +373,13 @@ class Maker:
             return line[:at] + self.one_of(wrong) + line[at + 1 :]
         return line[:at] + line[at : at + 1] + line[at:]
 
-    def line(self):
+    def kinds_of_lines(self):
         kinds = [self.put] * 7 + [self.put_if] * 2 + [self.delete] * 3 + [self.delete_if] * 2 + [self.bulk] * 4 + [self.get] * 3
-        kinds += [self.auto] * 2 + [self.pump] * 3 + [self.find] * 4 + [self.stale] * 2 + [self.stats, self.other]
-        return self.spoiled(self.one_of(kinds)().encode())
+        kinds += [self.auto] * 2 + [self.pump] * 3 + [self.find] * 6 + [self.stale] * 2 + [self.stats, self.other]
+        return kinds + [self.index] * 5 + [self.drop] + [self.listed] * 2 + [self.pump_one] * 2
+
+    def line(self):
+        return self.spoiled(self.one_of(self.kinds_of_lines())().encode())
 
     def script(self, count):
         parts = []
@@ -352,7 +445,7 @@ def sizes(extra):
     yield "an id", at_an_id("i" * (model.MAX_ID + extra))
     name = "n" * (model.MAX_NAME + extra)
     yield "a name", f"FIND {name} F x\nSTALE {name}\n"
-    yield "an automatic name", f"AUTO {'c' * (model.MAX_AUTO_NAME - 9 + extra)} F\nFIND Auto/1 F x\n"
+    yield "an automatic name", f"AUTO {'c' * (model.MAX_NEW_NAME - 9 + extra)} F\nFIND Auto/1 F x\n"
     body = {"@metadata": {}, "Collection": "C", "Fields": [[""]], "Kind": "auto"}
     yield "a definition", f"AUTO C {'f' * (model.MAX_BODY - len(model.write_json(body)) + extra)}\nSTATS\n"
     yield "brackets", put("a", nested(model.MAX_DEPTH + extra)) + "GET a\n"

@@ -1,0 +1,252 @@
+#!/usr/bin/env python3
+"""Tests of the model by itself: scripts whose replies were worked out by hand, and what has to hold of each script.
+
+    tools/test_model.py
+
+It needs no program. It ends with 0 where every test holds, and otherwise at the first assertion that does not.
+"""
+
+import collections
+import pathlib
+import re
+import sys
+
+sys.dont_write_bytecode = True
+TOP = pathlib.Path(__file__).resolve().parents[1]
+sys.path.insert(0, str(TOP / "tools"))
+import cases
+import map_scripts
+import model
+import scripts
+
+ADULTS = """
+> INDEX {"Map":"from u in docs.Users where u.Age >= 18 select new { u.Name, Old = u.Age > 64 ? \\"yes\\" : \\"no\\" }",\
+"Name":"Adults"}
+> PUT users/1 {"Age":70,"Name":"Ada",[Users]}
+> PUT users/2 {"Age":7,"Name":"Bo",[Users]}
+> PUMP 64 Adults
+> FIND Adults Old YES
+> INDEX {"Map":"from u in docs.Users select new { v.Name }","Name":"B"}
+< {"Index":"Adults"}
+< {"ChangeVector":"A:2-{B}","Id":"users/1"}
+< {"ChangeVector":"A:3-{B}","Id":"users/2"}
+< {"Pumped":[{"From":0,"Index":"Adults","To":3}]}
+< {"Ids":["users/1"],"IndexEtag":3,"IsStale":false}
+< {"At":34,"Error":"UnknownName","Part":"Map"}
+"""
+
+LOADED = """
+> INDEX {"Map":"from o in docs.Orders let c = LoadDocument(o.Company, \\"Companies\\") select new { c.Name }","Name":"O"}
+> PUT orders/1 {"Company":"companies/1",[Orders]}
+> PUMP 64
+> FIND O Name acme
+> PUT companies/1 {"Name":"Acme",[Companies]}
+> FIND O Name acme
+> PUMP 64
+> FIND O Name acme
+> DEL companies/1
+> PUMP 64
+> FIND O Name acme
+< {"Index":"O"}
+< {"ChangeVector":"A:2-{B}","Id":"orders/1"}
+< {"Pumped":[{"From":0,"Index":"O","To":2}]}
+< {"Ids":[],"IndexEtag":2,"IsStale":false}
+< {"ChangeVector":"A:3-{B}","Id":"companies/1"}
+< {"Ids":[],"IndexEtag":2,"IsStale":true}
+< {"Pumped":[{"From":2,"Index":"O","To":3}]}
+< {"Ids":["orders/1"],"IndexEtag":3,"IsStale":false}
+< {"Deleted":true,"Id":"companies/1"}
+< {"Pumped":[{"From":3,"Index":"O","To":4}]}
+< {"Ids":[],"IndexEtag":4,"IsStale":false}
+"""
+
+# A square that does not fit: the order has no entry, and counts as failed.
+SQUARES = """
+> INDEX {"Map":"from o in docs.Orders select new { P = o.Cents * o.Cents }","Name":"Squares"}
+> PUT orders/1 {"Cents":9223372036854775807,"Company":"b",[Orders]}
+> PUMP 64
+> INDEXES
+< {"Index":"Squares"}
+< {"ChangeVector":"A:2-{B}","Id":"orders/1"}
+< {"Pumped":[{"From":0,"Index":"Squares","To":2}]}
+< {"Results":[{"Definition":{"Kind":"static","Map":"from o in docs.Orders select new { P = o.Cents * o.Cents }","Reduce":null},\
+"Entries":0,"Errors":1,"Etag":2,"IsStale":false,"Name":"Squares"}]}
+"""
+
+# Definition rows may be loaded too. Then each definition and removal counts, also those of the index itself.
+OF_DEFINITIONS = """
+> INDEX {"Map":"from o in docs.Orders let d = LoadDocument(o.Index, \\"@indexes\\") select new { d.Kind, d.Map }","Name":"D"}
+> STALE D
+> PUT orders/1 {"Index":"@index/d",[Orders]}
+> PUMP 64
+> FIND D Kind static
+> AUTO Orders Index
+> FIND D Kind static
+> PUMP 64 d
+> PUT orders/1 {"Index":"@index/Auto/Orders/ByIndex",[Orders]}
+> PUMP 64 d
+> FIND D Kind auto
+> DROP auto/orders/byindex
+> FIND D Kind auto
+> PUMP 64
+> FIND D Kind auto
+< {"Index":"D"}
+< {"IndexEtag":0,"IsStale":true,"Newest":1}
+< {"ChangeVector":"A:2-{B}","Id":"orders/1"}
+< {"Pumped":[{"From":0,"Index":"D","To":2}]}
+< {"Ids":["orders/1"],"IndexEtag":2,"IsStale":false}
+< {"Index":"Auto/Orders/ByIndex"}
+< {"Ids":["orders/1"],"IndexEtag":2,"IsStale":true}
+< {"Pumped":[{"From":2,"Index":"D","To":3}]}
+< {"ChangeVector":"A:4-{B}","Id":"orders/1"}
+< {"Pumped":[{"From":3,"Index":"D","To":4}]}
+< {"Ids":["orders/1"],"IndexEtag":4,"IsStale":false}
+< {"Removed":"Auto/Orders/ByIndex"}
+< {"Ids":["orders/1"],"IndexEtag":4,"IsStale":true}
+< {"Pumped":[{"From":4,"Index":"D","To":5}]}
+< {"Ids":[],"IndexEtag":5,"IsStale":false}
+"""
+
+
+def expanded(text):
+    """The signs of the scripts above: `{B}` is the base id, and `[Users]` names the collection of a document."""
+    text = text.replace("{B}", model.BASE)
+    return re.sub(r"(,|\{)\[([A-Z][a-z]+)\]", r'\1"@metadata":{"@collection":"\2"}', text)
+
+
+def halves(worked):
+    """The lines of a worked script, and its replies."""
+    lines = expanded(worked).strip().split("\n")
+    return ["".join(line[2:] + "\n" for line in lines if line.startswith(mark)).encode() for mark in "><"]
+
+
+def test_worked_scripts():
+    for worked in (ADULTS, LOADED, SQUARES, OF_DEFINITIONS):
+        script, replies = halves(worked)
+        assert model.replies(script) == replies, model.replies(script).decode()
+
+
+def test_examples():
+    found = sorted((TOP / "examples").glob("*.raven"))
+    assert found
+    for path in found:
+        expected = path.with_suffix(".expected").read_bytes()
+        assert model.replies(path.read_bytes()) == expected, path
+
+
+def replies_of(*lines):
+    return [model.read_json(reply) for reply in model.replies("\n".join(lines).encode()).split(b"\n")[:-1]]
+
+
+def test_names():
+    """Of a name the faults come in order: what can be no name, then the map, then what may not be defined."""
+    good, bad = "from u in docs.U select new { u.A }", "from u in docs.U select new { v.A }"
+    unknown = {"At": 30, "Error": "UnknownName", "Part": "Map"}
+    reserved = {"Error": "ReservedName"}
+    cases = [
+        ("n" * 215, bad, {"Error": "TooLong", "Len": 215}),
+        ("n" * 214, bad, unknown),
+        ("n" * 214, good, {"Error": "NameTooLong", "Len": 214}),
+        ("n" * 201, good, {"Error": "NameTooLong", "Len": 201}),
+        ("é" * 100 + "n", good, {"Error": "NameTooLong", "Len": 201}),
+        ("n" * 200, good, {"Index": "n" * 200}),
+        ("é" * 100, good, {"Index": "é" * 100}),
+        ("auto/" + "n" * 200, good, reserved),
+        ("AUTO/x", bad, unknown),
+        ("AUTO/x", good, reserved),
+        ("replacementOF/x", good, reserved),
+        ("ReplacementOf", good, {"Index": "ReplacementOf"}),
+        ("auto", good, {"Index": "auto"}),
+    ]
+    for name, text, reply in cases:
+        line = "INDEX " + model.write_json({"Name": name, "Map": text})
+        assert replies_of(line) == [reply], (name, replies_of(line))
+
+
+def test_places_of_indexes():
+    """A place that a removal leaves is free again. Another definition under a live name is told before the limit."""
+    autos = [f"AUTO c{number} F" for number in range(model.MAX_SLOTS)]
+    index = 'INDEX {"Map":"from u in docs.U select new { u.%s }","Name":"N"}'
+    unknown, full, made = {"Error": "UnknownLine"}, {"Error": "TooManyIndexes"}, {"Index": "N"}
+    more = [("AUTO more F", full), ("AUTO c0 F", {"Index": "Auto/c0/ByF"}), ("AUTO c0 G", unknown), (index % "A", full)]
+    more += [("DROP Auto/c7/ByF", {"Removed": "Auto/c7/ByF"}), (index % "A", made), (index % "B", unknown), (index % "A", made)]
+    more += [("AUTO more F", full)]
+    assert replies_of(*autos, *(line for line, _ in more))[len(autos) :] == [reply for _, reply in more]
+
+
+def test_openings():
+    """After a removal a definition has its own spelling; once the file is opened again, that of the row."""
+    database = model.Database()
+    index = 'INDEX {"Map":"from u in docs.U select new { u.A }","Name":"%s"}'
+    for line in [index % "N", "DROP n", index % "n"]:
+        model.answer(database, line.encode())
+    assert [index.name for index in database.indexes] == ["n"]
+    opened = database.opened()
+    assert [(index.name, index.number, index.etag) for index in opened.indexes] == [("N", 3, 0)]
+    assert model.answer(opened, b"DROP n") == {"Removed": "N"}
+
+
+def test_scripts():
+    """The scripts for `tools/compare.py` can be made, and those of maps reach each reply that a definition can get."""
+    assert len(dict(scripts.at_the_limits())) > 40
+    kinds = collections.Counter()
+    for name, script in map_scripts.at_the_limits():
+        replies = [model.read_json(reply) for reply in model.replies(script).split(b"\n")[:-1]]
+        kinds.update(map(scripts.kind_of, replies))
+        if name == "what each expression gives":
+            found = [reply["Ids"] for reply in replies if "Ids" in reply]
+            assert found.count(["u"]) > 100
+        if name == "each date":
+            counts = [len(reply["Ids"]) for reply in replies if "Ids" in reply]
+            assert counts == [len(cases.LEAP_DAYS) + len(cases.NO_DATES), len(cases.YEARS), 0], counts
+    expected = "Index Removed indexes BadMember Empty TooLong Control Unexpected TooLarge UnknownName DuplicateField"
+    for kind in [*expected.split(), "ReservedName", "NameTooLong", "NoIndex", "TooManyIndexes", "UnknownLine", "TooDeep", "NotJson"]:
+        assert kinds[kind], kind
+
+
+def agrees(database, index):
+    """Whether the index has recorded exactly what the store has up to its etag, as far as that still stands."""
+    scope = index.definition.scope()
+    rows = {key: row for key, row in database.store.rows.items() if row.collection in scope}
+    for key, row in rows.items():
+        if row.etag <= index.etag and index.table.get(key) is not (row if row.is_document() else None):
+            return False
+    return all(key in rows and row.etag <= min(index.etag, rows[key].etag) for key, row in index.table.items())
+
+
+def scratch(database, index):
+    """What the index would find in all documents of the store."""
+    twin = model.Index(index.number, index.name, index.definition)
+    twin.table = {model.folded(row.spelling): row for row in database.read_by(index) if row.is_document()}
+    return twin.mapped()
+
+
+def test_what_holds_of_each_script():
+    """After each line of random scripts each index agrees with the store, and one that is not stale has all of it."""
+    fresh = 0
+    for seed in range(48):
+        database = model.Database()
+        script = map_scripts.MAKERS[seed % len(map_scripts.MAKERS)](seed).script(40)
+        for line in filter(None, model.lines(script)):
+            before = database.store.last
+            model.answer(database, line)
+            assert before <= database.store.last
+            for index in database.indexes:
+                assert agrees(database, index)
+                if not database.is_stale(index):
+                    fresh += bool(index.table)
+                    assert index.mapped() == scratch(database, index)
+    assert fresh > 1_000
+
+
+def main():
+    sys.setrecursionlimit(10_000)
+    tests = [(name, test) for name, test in globals().items() if name.startswith("test_")]
+    for name, test in tests:
+        test()
+        print(f"holds  {name}")
+    return 0
+
+
+if __name__ == "__main__":
+    sys.exit(main())
