@@ -6,3 +6,6 @@ pub mod ScanGroups
 pub mod Parse
 pub mod Shape
 pub mod Adding
+pub mod DefinitionView
+pub mod Rows
+pub mod RefusalView

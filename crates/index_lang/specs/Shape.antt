@@ -4,8 +4,9 @@ use Rattle.raven_data.specs.Data.{null}
 use Rattle.raven_data.specs.Rising.{Pairs, put}
 use Rattle.index_tree.specs.declared.reduce_query.ReduceQuery.{ReduceQuery}
 use Rattle.map_meaning.specs.Scope as meaning
+use Rattle.raven_model.specs.Mapping.{joined}
 use Rattle.index_lang.specs.declared.definition.DefBody.{DefBody}
-use Rattle.index_lang.specs.declared.definition.DefBody.TheVariants.{Static}
+use Rattle.index_lang.specs.declared.definition.DefBody.TheVariants.{Static, Auto}
 
 -- ---- the same definition, whatever its name and its texts
 
@@ -17,16 +18,14 @@ SameReduce _ _ = ⊥
 
 abbrev pub Same : DefBody → DefBody → Type 0
 Same (Static a reduce text reduce_text) (Static b other other_text other_reduce_text) = (a ≡ b) × SameReduce reduce other
-
--- ---- the collections that it reads
-
-abbrev pub scope : DefBody → List (List ℕ)
-scope (Static query reduce text reduce_text) = meaning.scope_of query
+Same (Auto collection fields) (Auto other others) = (collection ≡ other) × (fields ≡ others)
+Same _ _ = ⊥
 
 -- ---- the fields of its entries
 
 abbrev pub names : DefBody → List (List ℕ)
 names (Static query reduce text reduce_text) = meaning.fields_of query
+names (Auto collection fields) = map joined fields
 
 -- the names as those of the members of an object, which rise by their bytes, and each of which is there once
 abbrev pub put_all : List (List ℕ) → Pairs → Pairs

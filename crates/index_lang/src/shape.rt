@@ -1,16 +1,20 @@
 //! What is told of a definition: whether another one is the same, and what it reads.
 ghost use Rattle.std.specs.Prelude.{◌≡◌, ◌↔◌, ◌++◌, ◌∷◌, [], IsTrue, IfOk, OnOk, flat_map, map};
 ghost use Rattle.map_meaning.specs.Scope as meaning;
+ghost use Rattle.raven_model.specs.Definitions.{same_definition};
+ghost use Rattle.raven_model.specs.Mapping.{mapper_of, scope_of as model_scope_of};
 ghost use Rattle.index_lang.specs.Adding as adding;
+ghost use Rattle.index_lang.specs.DefinitionView.{definition_view};
 ghost use Rattle.index_lang.specs.Shape as spec;
 
 use crate::definition::{DefBody, Definition};
 use crate::members::is_among;
+use crate::paths::joined_names;
 use index_tree::{
     Clause, Expr, ExprKind, MapMember, MapQuery, ReduceQuery, Texts, same_map, same_reduce,
 };
 use raven_base::NoMemory;
-use raven_value::{Members, Scope, Text, Value};
+use raven_value::{Members, Path, Scope, Text, Value};
 use std::alloc::Global;
 
 fn same_reduces(a: &Option<ReduceQuery>, b: &Option<ReduceQuery>) -> bool
@@ -23,21 +27,84 @@ fn same_reduces(a: &Option<ReduceQuery>, b: &Option<ReduceQuery>) -> bool
     }
 }
 
+fn same_path(a: &Path, b: &Path) -> bool
+    ensures { IsTrue result ↔ (a.now ≡ b.now) }
+{
+    same_texts(a.as_slice(), b.as_slice())
+}
+
+fn same_text(a: &Text, b: &Text) -> bool
+    ensures { IsTrue result ↔ (a.now ≡ b.now) }
+{
+    *a == *b
+}
+
+fn same_texts(a: &[Text], b: &[Text]) -> bool
+    ensures { IsTrue result ↔ (a.now ≡ b.now) }
+{
+    let mut left = a;
+    let mut right = b;
+    while let [text, more @ ..] = left {
+        let [other, others @ ..] = right else {
+            return false;
+        };
+        if !same_text(text, other) {
+            return false;
+        }
+        left = more;
+        right = others;
+    }
+    right.is_empty()
+}
+
+fn same_paths(a: &[Path], b: &[Path]) -> bool
+    ensures { IsTrue result ↔ (a.now ≡ b.now) }
+{
+    let mut left = a;
+    let mut right = b;
+    while let [path, more @ ..] = left {
+        let [other, others @ ..] = right else {
+            return false;
+        };
+        if !same_path(path, other) {
+            return false;
+        }
+        left = more;
+        right = others;
+    }
+    right.is_empty()
+}
+
 fn same_bodies(a: &DefBody, b: &DefBody) -> bool
     ensures { IsTrue result ↔ spec.Same a.now b.now }
 {
-    let DefBody::Static { map, reduce, .. } = a;
-    let DefBody::Static {
-        map: other,
-        reduce: other_reduce,
-        ..
-    } = b;
-    same_map(map, other) && same_reduces(reduce, other_reduce)
+    match (a, b) {
+        (
+            DefBody::Static { map, reduce, .. },
+            DefBody::Static {
+                map: other,
+                reduce: other_reduce,
+                ..
+            },
+        ) => same_map(map, other) && same_reduces(reduce, other_reduce),
+        (
+            DefBody::Auto { collection, fields },
+            DefBody::Auto {
+                collection: other,
+                fields: other_fields,
+            },
+        ) => {
+            same_text(collection, other) && same_paths(fields.as_slice(), other_fields.as_slice())
+        }
+        (DefBody::Static { .. }, DefBody::Auto { .. }) => false,
+        (DefBody::Auto { .. }, DefBody::Static { .. }) => false,
+    }
 }
 
 /// Whether two definitions are the same, whatever their names, their texts and the name that a reduce gives a group.
 pub fn same(a: &Definition, b: &Definition) -> bool
-    ensures { IsTrue result ↔ spec.Same a.now.body b.now.body }
+    ensures says { IsTrue result ↔ spec.Same a.now.body b.now.body }
+    ensures definition { result ≡ same_definition (definition_view a.now.body) (definition_view b.now.body) }
 {
     same_bodies(&a.body, &b.body)
 }
@@ -134,10 +201,12 @@ fn scope_alone(alloc: Global, collection: &Text) -> Result<Scope, NoMemory>
 
 /// The collections that a definition reads: the mapped one first, and then those that it loads from, each once.
 pub fn scope(alloc: Global, definition: &Definition) -> Result<Scope, NoMemory>
-    ensures { IfOk result (λ scope. scope ≡ spec.scope definition.now.body) }
+    ensures { IfOk result (λ scope. scope ≡ model_scope_of (mapper_of (definition_view definition.now.body))) }
 {
-    let DefBody::Static { map, .. } = &definition.body;
-    scope_of(alloc, map)
+    match &definition.body {
+        DefBody::Static { map, .. } => scope_of(alloc, map),
+        DefBody::Auto { collection, .. } => scope_alone(alloc, collection),
+    }
 }
 
 fn map_names(alloc: Global, members: &[MapMember]) -> Result<Texts, NoMemory>
@@ -178,11 +247,19 @@ fn in_order(alloc: Global, names: &[Text]) -> Result<Texts, NoMemory>
     Ok(sorted)
 }
 
+fn all_fields(alloc: Global, body: &DefBody) -> Result<Texts, NoMemory>
+    ensures { IfOk result (λ names. names ≡ spec.names body.now) }
+{
+    match body {
+        DefBody::Static { map, .. } => map_names(alloc, map.members.as_slice()),
+        DefBody::Auto { fields, .. } => joined_names(alloc, fields.as_slice()),
+    }
+}
+
 /// The names of the fields of a definition's entries, in the order of their bytes, each once.
 pub fn fields(alloc: Global, definition: &Definition) -> Result<Texts, NoMemory>
     ensures { IfOk result (λ fields. fields ≡ spec.fields definition.now.body) }
 {
-    let DefBody::Static { map, .. } = &definition.body;
-    let names = map_names(alloc, map.members.as_slice())?;
+    let names = all_fields(alloc, &definition.body)?;
     in_order(alloc, names.as_slice())
 }

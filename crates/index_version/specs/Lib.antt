@@ -1,2 +1,0 @@
-pub mod DefinitionView
-pub mod EntryView

@@ -4,8 +4,9 @@ ghost use Rattle.std.specs.Prelude.{false};
 ghost use Rattle.raven_data.specs.Scalars.{holds, Is, words as spec_words};
 ghost use Rattle.raven_model.specs.Machine.{has_words};
 ghost use Rattle.raven_value.specs.ScalarView.{scalar_view};
-ghost use Rattle.index_version.specs.EntryView.{fields_view};
+ghost use Rattle.map_stage.specs.MappedView.{fields_of};
 
+use map_stage::Entry as Fields;
 use raven_value::{Id, Scalar, Text};
 use std::marker::Model;
 
@@ -13,7 +14,7 @@ use std::marker::Model;
 #[derive(Drop)]
 pub struct Entry {
     id: Id,
-    fields: Vec<(Text, Scalar)>,
+    fields: Fields,
 }
 
 impl Model for Entry {
@@ -26,15 +27,15 @@ impl Model for Entry {
 
     ghost coded = { coded× text_code (coded_list (coded× text_code scalar_code)) };
 
-    ghost use Rattle.index_version.specs.EntryView.{fields_view};
+    ghost use Rattle.map_stage.specs.MappedView.{fields_of};
 
-    ghost view = { λ a. (a.id, fields_view a.fields.items) };
+    ghost view = { λ a. (a.id, fields_of a.fields) };
 }
 
 impl Entry {
     /// The entry of the document of this id.
-    pub fn of(id: Id, fields: Vec<(Text, Scalar)>) -> Entry
-        ensures { result ≡ (id, fields_view fields.items) }
+    pub fn of(id: Id, fields: Fields) -> Entry
+        ensures { result ≡ (id, fields_of fields) }
     {
         Entry { id, fields }
     }
@@ -50,12 +51,12 @@ impl Entry {
     pub fn has_words(&self, field: &str, words: &str) -> bool
         ensures { result ≡ has_words field.now words.now self.now.1 }
     {
-        has_words_in(&self.fields, field, words)
+        has_words_in(self.fields.as_slice(), field, words)
     }
 }
 
 fn has_words_in(fields: &[(Text, Scalar)], name: &str, words: &str) -> bool
-    ensures { result ≡ has_words name.now words.now (fields_view fields.now) }
+    ensures { result ≡ has_words name.now words.now (fields_of fields.now) }
 {
     for field in fields {
         if name == field.0.as_str() {

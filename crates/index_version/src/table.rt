@@ -1,12 +1,15 @@
 //! What an index has recorded.
-ghost use Rattle.std.specs.Prelude.{◌≡◌, ◌++◌, OnOk, IfOk};
-ghost use Rattle.std.specs.FinMap.{empty, values};
+ghost use Rattle.std.specs.Prelude.{◌≡◌, ◌++◌, OnOk, IfOk, option_map};
+ghost use Rattle.std.specs.FinMap.{empty, get, values};
+ghost use Rattle.raven_data.specs.Folding.{folded};
 ghost use Rattle.raven_data.specs.Rows as model;
 ghost use Rattle.raven_model.specs.Index.{note_rows};
-ghost use Rattle.raven_laws.specs.Keyed.{in_front, noted_list, noted_lists};
+ghost use Rattle.raven_model.specs.Store.{row_at};
+ghost use Rattle.raven_laws.specs.Keyed.{AreKeyed, in_front, noted_list, noted_lists};
 
+use map_stage::Lookup;
 use raven_base::NoMemory;
-use raven_value::{Body, Row};
+use raven_value::{Body, Id, Row};
 use std::alloc::Global;
 use std::cmp::Ordering;
 use std::marker::Model;
@@ -55,6 +58,25 @@ impl Table {
         Ok(Table {
             rows: all_noted(alloc, &self.rows, taken)?,
         })
+    }
+}
+
+impl Lookup for Table {
+    ghost rows = { λ t q. get t q };
+
+    fn find(&self, id: &Id) -> Option<&Row> {
+        row_of(&self.rows, id)
+    }
+}
+
+// The row of an id among rows in order of their folded ids.
+fn row_of<'r>(rows: &'r [Row], id: &Id) -> Option<&'r Row>
+    requires { AreKeyed rows.now }
+    ensures { option_map (λ row. row.now) result ≡ row_at (folded id.now) rows.now }
+{
+    match rows.binary_search_by(|row| row.id.cmp(id)) {
+        Ok(place) => Some(&rows[place]),
+        Err(_) => None,
     }
 }
 

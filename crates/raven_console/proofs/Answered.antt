@@ -1,52 +1,63 @@
--- What is written for a line, and what it leaves, by what it asks.
+-- What is written for a line, and what it leaves, by what it comes to.
 use Rattle.std.proofs.Common.{◌≡◌, ℕ, List, [], Bool, true, Option, Some, None, Result, Ok, Err, refl, sym, ap, ◌∙◌, subst}
+use Rattle.std.specs.Prelude.{option_map}
+use Rattle.raven_data.specs.Faults.{Fault}
 use Rattle.raven_data.specs.Rows.{Row}
 use Rattle.raven_model.specs.Machine.{Machine, Request, change_of, step}
 use Rattle.raven_model.specs.Replies.{Reply, printed}
-use Rattle.raven_model.specs.Script.{Circumstance, Line, Do, ReadRefusal, after_line, left_by, line_of, refusal_reply, reply_to, written_for}
-use Rattle.raven_console.specs.Outside.{KeeperState, Asked, circumstance, given, rows_in, rows_written}
+use Rattle.raven_model.specs.Script.{Circumstance, Do, LineRead, ReadRefusal, asked_of, after_line, fault_reply, left_by, refusal_reply, reply_to, written_for}
+use Rattle.raven_model.specs.Script as read
+use Rattle.raven_reading.specs.Lines.{IsLine}
+use Rattle.raven_value.specs.Refusal.{fault_in}
+use Rattle.raven_value.specs.declared.refusal.IdRefusal.{IdRefusal}
+use Rattle.raven_script.specs.LineView.{Answers, IsReading}
+use Rattle.raven_script.specs.RequestView.{IsBadId, IsBadName, line_view}
+use Rattle.raven_script.specs.declared.request.Line.{Line}
+use Rattle.raven_console.specs.Answering.{IsAnswered, IsRefusedLine}
+use Rattle.raven_console.specs.Outside.{KeeperState, Asked, circumstance, given, rows_in}
 
 -- REFUSALS
 
-pub refused_written : (M : Machine) (c : Circumstance) (asked : Result (Option Line) ReadRefusal) (refusal : ReadRefusal) (reply : Reply) → asked ≡ Err refusal → reply ≡ refusal_reply refusal
-    → printed reply ≡ written_for M c asked
-refused_written M c asked refusal reply e r = ap printed r ∙ ap (written_for M c) (sym e)
+pub refused_line : (line : List ℕ) (read : LineRead) (refusal : ReadRefusal) (reply : Reply) → IsLine line read → read ≡ Err refusal → reply ≡ refusal_reply refusal → IsRefusedLine line reply
+refused_line line read refusal reply said is told = record { refusal = refusal; said = subst (IsLine line) is said; told = told }
 
-pub refused_left : (M : Machine) (c : Circumstance) (asked : Result (Option Line) ReadRefusal) (refusal : ReadRefusal) → asked ≡ Err refusal → M ≡ left_by M c asked
-refused_left M c asked refusal e = ap (left_by M c) (sym e)
+pub refused_id : (line : List ℕ) (read : LineRead) (fault : Option Fault) (reply : Reply) → IsLine line read → IsBadId fault read → ((f : Fault) → fault ≡ Some f → reply ≡ fault_reply f) → IsRefusedLine line reply
+refused_id line read None reply said h told = absurd h
+refused_id line read (Some f) reply said h told = refused_line line read (read.BadId f) reply said h (told f refl)
 
-pub refused_rows : (M : Machine) (now : ℕ) (asked : Result (Option Line) ReadRefusal) (refusal : ReadRefusal) → asked ≡ Err refusal → [] ≡ rows_in M now asked
-refused_rows M now asked refusal e = ap (rows_in M now) (sym e)
+pub refused_name : (line : List ℕ) (read : LineRead) (fault : Option Fault) (reply : Reply) → IsLine line read → IsBadName fault read → ((f : Fault) → fault ≡ Some f → reply ≡ fault_reply f) → IsRefusedLine line reply
+refused_name line read None reply said h told = absurd h
+refused_name line read (Some f) reply said h told = refused_line line read (read.BadName f) reply said h (told f refl)
 
-pub ruleset refusals = (refused_written, refused_left, refused_rows)
+-- ANSWERS
 
--- REQUESTS
+-- nothing was asked of the keeper
+unasked : (line : List ℕ) (now : ℕ) (before after : KeeperState) (M N : Machine) (text : List ℕ) (read : LineRead) → IsLine line read → after ≡ before → N ≡ M
+    → text ≡ written_for M (circumstance now true before after) read → M ≡ left_by M (circumstance now true before after) read → [] ≡ rows_in M now read → IsAnswered line now true before after M N text
+unasked line now before after M N text read said same still t m r = record {
+  read = read;
+  said = said;
+  reply = t;
+  machine = still ∙ m;
+  asked = subst (λ all. Asked before after true all) r (refl, same);
+}
 
-pub done_written : (M : Machine) (line : List ℕ) (request : Request) (now : ℕ) (taken : Bool) (before after : KeeperState) → line_of line ≡ Ok (Some (Do request))
-    → printed (step M (circumstance now taken before after).keeping now request).reply ≡ reply_to (given line now taken before after) M
-done_written M line request now taken before after e = ap (written_for M (circumstance now taken before after)) (sym e)
+pub answers-refused : (line : List ℕ) (now : ℕ) (before after : KeeperState) (M N : Machine) (text : List ℕ) (reply : Reply) → IsRefusedLine line reply → text ≡ printed reply → after ≡ before → N ≡ M
+    → IsAnswered line now true before after M N text
+answers-refused line now before after M N text reply h t same still = unasked line now before after M N text (Err h.refusal) h.said same still (t ∙ ap printed h.told) refl refl
 
-pub done_left : (M : Machine) (line : List ℕ) (request : Request) (now : ℕ) (taken : Bool) (before after : KeeperState) → line_of line ≡ Ok (Some (Do request))
-    → (step M (circumstance now taken before after).keeping now request).machine ≡ after_line (given line now taken before after) M
-done_left M line request now taken before after e = ap (left_by M (circumstance now taken before after)) (sym e)
+pub answers-none : (line : List ℕ) (now : ℕ) (before after : KeeperState) (M N : Machine) (text : List ℕ) → IsLine line (Ok None) → text ≡ [] → after ≡ before → N ≡ M → IsAnswered line now true before after M N text
+answers-none line now before after M N text said t same still = unasked line now before after M N text (Ok None) said same still t refl refl
 
-pub done_asked : (M : Machine) (line : List ℕ) (request : Request) (now : ℕ) (taken : Bool) (before after : KeeperState) → line_of line ≡ Ok (Some (Do request))
-    → Asked before after taken (change_of M now request).rows → Asked before after taken (rows_written M now line)
-done_asked M line request now taken before after e a = subst (λ rows. Asked before after taken rows) (ap (rows_in M now) (sym e)) a
+pub answers-done : (line : List ℕ) (now : ℕ) (taken : Bool) (before after : KeeperState) (M N : Machine) (text : List ℕ) (request : Request) → IsLine line (Ok (Some (Do request)))
+    → text ≡ printed (step M (circumstance now taken before after).keeping now request).reply → N ≡ (step M (circumstance now taken before after).keeping now request).machine
+    → Asked before after taken (change_of M now request).rows → IsAnswered line now taken before after M N text
+answers-done line now taken before after M N text request said t m a = record { read = Ok (Some (Do request)); said = said; reply = t; machine = m; asked = a }
 
-pub none_written : (M : Machine) (line : List ℕ) (now : ℕ) (taken : Bool) (before after : KeeperState) → line_of line ≡ Ok None → [] ≡ reply_to (given line now taken before after) M
-none_written M line now taken before after e = ap (written_for M (circumstance now taken before after)) (sym e)
+-- what was read is that to which the line comes
+pub comes : (line : List ℕ) (found : Option Line) → Answers (asked_of line) (Ok found) → IsLine line (Ok (option_map line_view found))
+comes line found h = subst (IsLine line) h.told h.comes
 
-pub none_left : (M : Machine) (line : List ℕ) (now : ℕ) (taken : Bool) (before after : KeeperState) → line_of line ≡ Ok None → M ≡ after_line (given line now taken before after) M
-none_left M line now taken before after e = ap (left_by M (circumstance now taken before after)) (sym e)
+pub ruleset refusals = (refused_line, refused_id, refused_name)
 
-nothing_asked : (before after : KeeperState) (rows : List Row) → after ≡ before → [] ≡ rows → Asked before after true rows
-nothing_asked before after rows s e = subst (λ all. Asked before after true all) e (refl, s)
-
-pub none_asked : (M : Machine) (line : List ℕ) (now : ℕ) (before after : KeeperState) → line_of line ≡ Ok None → after ≡ before → Asked before after true (rows_written M now line)
-none_asked M line now before after e s = nothing_asked before after (rows_written M now line) s (ap (rows_in M now) (sym e))
-
-pub refused_asked : (M : Machine) (line : List ℕ) (now : ℕ) (before after : KeeperState) → [] ≡ rows_written M now line → after ≡ before → Asked before after true (rows_written M now line)
-refused_asked M line now before after e s = nothing_asked before after (rows_written M now line) s e
-
-pub ruleset answers = (done_written, done_left, done_asked, none_written, none_left, none_asked, refused_asked)
+pub ruleset answers = (answers-refused, answers-none, answers-done, comes)

@@ -3,7 +3,8 @@ use Rattle.std.proofs.Common.{◌≡◌, ℕ, ◌+◌, ◌≤◌, List, ◌++◌
 use Rattle.std.proofs.lemmas.List.{length-append}
 use Rattle.raven_data.specs.Kept.{KeptRow}
 use Rattle.raven_ports.specs.Told.{preceded}
-use Rattle.raven_model.specs.Kept.{opened_from}
+use Rattle.raven_reading.proofs.Once.{held_once}
+use Rattle.raven_reading.specs.Openings.{IsOpened}
 use Rattle.raven_model.specs.Options.{Options, options_in, setting_with}
 use Rattle.raven_console.specs.declared.status.Status.{Status}
 use Rattle.raven_console.specs.declared.status.Status.TheVariants as status
@@ -32,9 +33,9 @@ not_more words left after held v t =
 not_bad : (words : List (List ℕ)) (left : Option (List ℕ)) (held : Option (List KeptRow)) (etag : ℕ) → IsValid words left held → IsKeptBad words held etag → ⊥
 not_bad words left held etag v b =
     let o : v.options ≡ b.options = same (options_in words) v.options b.options v.ordered b.ordered in
-    let bad : opened_from (setting_with b.options.base) v.rows ≡ Err etag = subst (λ (h : Option (List KeptRow)). IsBad (setting_with b.options.base) h etag) v.kept b.bad in
-    let good : opened_from (setting_with b.options.base) v.rows ≡ Ok v.machine = subst (λ (x : Options). opened_from (setting_with x.base) v.rows ≡ Ok v.machine) o v.opens in
-    absurd cc
+    let bad = subst (λ (h : Option (List KeptRow)). IsBad (setting_with b.options.base) h etag) v.kept b.bad in
+    let good = subst (λ (x : Options). IsOpened (setting_with x.base) v.rows (Ok v.machine)) o v.opens in
+    absurd (let told = held_once (setting_with b.options.base) v.rows (Ok v.machine) (Err etag) good bad in cc)
 
 pub completes : (words : List (List ℕ)) (left left_after : Option (List ℕ)) (held : Option (List KeptRow)) (s : Status) (R W K : Type 0)
     → (s ≡ status.Usage → options_in words ≡ None) → (s ≡ status.ReadFault → R) → (s ≡ status.WriteFault → W) → (s ≡ status.KeptFault → K) → TellsKeptBad words held s

@@ -3,11 +3,12 @@ use Rattle.std.proofs.Common.{◌≡◌, ℕ, List, [], ◌∷◌, Bool, true, f
 use Rattle.raven_data.specs.Kept.{KeptRow, EtagsRise, all_kept, keep_all, last_kept}
 use Rattle.raven_data.specs.Rows.{Row}
 use Rattle.raven_model.specs.Machine.{Machine, Change, Request, change_of, settled}
-use Rattle.raven_model.specs.Script.{Line, Do, ReadRefusal, after_line, left_by, line_of}
+use Rattle.raven_model.specs.Script.{Do, LineRead, after_line, left_by}
 use Rattle.raven_model.specs.Store.{Store, with_rows}
 use Rattle.raven_laws.proofs.KeepLemmas.{change-rows, kept-with_rows, next-alone, next-behind}
 use Rattle.raven_laws.proofs.MachineLemmas.{step-Moves}
-use Rattle.raven_console.specs.Outside.{KeeperState, Asked, Keeps, circumstance, given, rows_in, rows_written}
+use Rattle.raven_console.specs.Answering.{IsAnswered}
+use Rattle.raven_console.specs.Outside.{KeeperState, Asked, Keeps, circumstance, given, rows_in}
 
 -- THE ROWS OF A CHANGE ARE IN ORDER BEHIND WHAT THE KEEPER HOLDS
 
@@ -49,7 +50,7 @@ settled_holds before after M c (r ∷ rows) now false e s h a =
     let here : HoldsStore after.held M.world.store = subst (λ held. HoldsStore held M.world.store) (sym (a.failed refl).0) h in
     subst (λ all. HoldsStore after.held (settled M (circumstance now false before after).keeping (record { reply = c.reply; machine = c.machine; rows = all })).machine.world.store) (sym e) here
 
-left_keeps : (before after : KeeperState) (M : Machine) (now : ℕ) (taken : Bool) (asked : Result (Option Line) ReadRefusal) → Keeps before.held M → Asked before after taken (rows_in M now asked)
+left_keeps : (before after : KeeperState) (M : Machine) (now : ℕ) (taken : Bool) (asked : LineRead) → Keeps before.held M → Asked before after taken (rows_in M now asked)
     → Keeps after.held (left_by M (circumstance now taken before after) asked)
 left_keeps before after M now taken (Err refusal) k a = subst (λ (x : KeeperState). Keeps x.held M) (sym a.1) k
 left_keeps before after M now taken (Ok None) k a = subst (λ (x : KeeperState). Keeps x.held M) (sym a.1) k
@@ -58,6 +59,5 @@ left_keeps before after M now taken (Ok (Some (Do request))) k a = record {
   holds = settled_holds before after M (change_of M now request) (change_of M now request).rows now taken refl (change-rows M now request).store k.holds a;
 }
 
-pub keeps_on : (before after : KeeperState) (M N : Machine) (line : List ℕ) (now : ℕ) (taken : Bool) → Keeps before.held M → Asked before after taken (rows_written M now line)
-    → N ≡ after_line (given line now taken before after) M → Keeps after.held N
-keeps_on before after M N line now taken k a e = subst (Keeps after.held) (sym e) (left_keeps before after M now taken (line_of line) k a)
+pub keeps_on : (before after : KeeperState) (M N : Machine) (line : List ℕ) (now : ℕ) (taken : Bool) (text : List ℕ) → Keeps before.held M → IsAnswered line now taken before after M N text → Keeps after.held N
+keeps_on before after M N line now taken text k a = subst (Keeps after.held) (sym a.machine) (left_keeps before after M now taken a.read k a.asked)

@@ -1,5 +1,5 @@
 -- Opening from what a keeper holds.
-use Rattle.std.proofs.Common.{◌≡◌, ℕ, ◌<◌, ◌≤◌, ◌^◌, List, [], ◌∷◌, ◌++◌, Bool, true, false, not, ◌&&◌, nat_lt, nat_le, is_some, is_none, cond, Option, Some, None, IfSome, Result, Ok, Err, length, refl, sym, ap, ◌∙◌, subst, append_assoc, arith}
+use Rattle.std.proofs.Common.{◌≡◌, ℕ, ◌<◌, ◌≤◌, ◌^◌, List, [], ◌∷◌, ◌++◌, Bool, true, false, not, ◌&&◌, nat_lt, nat_le, is_some, is_none, cond, Option, Some, None, IfSome, Result, Ok, Err, length, ◌⊎◌, inl, inr, refl, sym, ap, ◌∙◌, subst, append_assoc, arith}
 use Rattle.std.specs.Option.{option_map}
 use Rattle.std.proofs.lemmas.Bool.{ltb-true}
 use Rattle.std.proofs.lemmas.List.{append-nil, length-append}
@@ -8,9 +8,9 @@ use Rattle.raven_data.specs.Kept.{KeptRow, all_kept}
 use Rattle.raven_data.specs.Moments.{moments_end}
 use Rattle.raven_data.specs.Rows.{Row, Body, key}
 use Rattle.raven_model.specs.Commit.{Setting}
-use Rattle.raven_model.specs.Kept.{body_in, is_etag, max_etag, may_stand_behind, opened_by, opened_from, row_behind, row_in, rows_behind, rows_in, or_bad_row}
+use Rattle.raven_model.specs.Kept.{body_in, is_etag, max_etag, may_stand_behind, row_behind, row_in, rows_behind, rows_in, or_bad_row}
 use Rattle.raven_model.specs.Machine.{Machine}
-use Rattle.raven_model.specs.Opening.{opened}
+use Rattle.raven_reading.specs.Openings.{IsOpened, IsOpenedBy, OpensAs}
 use Rattle.raven_model.specs.Options.{setting_with}
 use Rattle.raven_model.specs.Store.{last_of, row_at}
 use Rattle.raven_model.specs.Words.{base_id, program}
@@ -20,7 +20,8 @@ use Rattle.doc_txn.specs.declared.limits.Limits.{Limits}
 use Rattle.raven_laws.proofs.StoreLemmas.{both_true}
 use Rattle.doc_keeper.specs.Loading.{AreCalls, IsLoaded}
 use Rattle.raven_world.specs.Opened as worlds
-use Rattle.raven_laws.proofs.OpenLemmas.{opened_from-is}
+use Rattle.raven_laws.proofs.OpenLemmas.{opened_from-Sound, opened_from-rows}
+use Rattle.raven_reopening.proofs.TextLemmas.{opened-told}
 use Rattle.raven_console.specs.Outcome.{IsBad, Loads, Opens}
 use Rattle.raven_console.specs.Outside.{KeeperState, Keeps}
 
@@ -118,38 +119,41 @@ back : (held : Option (List KeptRow)) (given : List KeptRow) → IfSome held (λ
 back None given h = tt
 back (Some all) given h = sym h
 
+-- what opens the rows opens what is held
+held_opens : (s : Setting) (held : List KeptRow) (told : Result (List Row) ℕ) (M : Result Machine ℕ) → rows_in s.max_rows held ≡ told → IsOpenedBy s told M → IsOpened s held M
+held_opens s held told M is h = subst (λ t. IsOpenedBy s t M) (sym is) h
+
 -- where the rows are those of the keeper and the world is theirs
 pub opens : (base : List ℕ) (limits : Limits) (held : Option (List KeptRow)) (rows : List Row) (M : Machine) → setting_of base_id limits ≡ program → IsLoaded limits.rows held (Ok rows)
-    → opened (setting_of base limits) rows ≡ Ok M → Opens (setting_with base) held M
+    → OpensAs (setting_of base limits) rows M → Opens (setting_with base) held M
 opens base limits held rows M l is e =
-    let whole : opened_from (setting_of base limits) is.given ≡ Ok M = ap (opened_by (setting_of base limits)) is.rows ∙ e in
-    record { rows = is.given; told = back held is.given is.all; opened = subst (λ s. opened_from s is.given ≡ Ok M) (limits_are base limits l) whole }
+    let whole = held_opens (setting_of base limits) is.given (Ok rows) (Ok M) is.rows e in
+    record { rows = is.given; told = back held is.given is.all; opened = subst (λ s. IsOpened s is.given (Ok M)) (limits_are base limits l) whole }
 
-bad_of : (s : Setting) (held : Option (List KeptRow)) (given : List KeptRow) (etag : ℕ) → IfSome held (λ all. given ≡ all) → opened_from s given ≡ Err etag → IsBad s held etag
+bad_of : (s : Setting) (held : Option (List KeptRow)) (given : List KeptRow) (etag : ℕ) → IfSome held (λ all. given ≡ all) → IsOpened s given (Err etag) → IsBad s held etag
 bad_of s None given etag h e = tt
-bad_of s (Some all) given etag h e = subst (λ x. opened_from s x ≡ Err etag) h e
+bad_of s (Some all) given etag h e = subst (λ x. IsOpened s x (Err etag)) h e
 
 -- where a row is bad as it is read
 pub bad_row : (base : List ℕ) (limits : Limits) (held : Option (List KeptRow)) (etag : ℕ) → setting_of base_id limits ≡ program → IsLoaded limits.rows held (Err etag) → IsBad (setting_with base) held etag
 bad_row base limits held etag l is =
-    subst (λ s. IsBad s held etag) (limits_are base limits l) (bad_of (setting_of base limits) held is.given etag is.all (ap (opened_by (setting_of base limits)) is.rows))
-
-told_bad : (found : Option ℕ) (o : Result Machine ℕ) (etag : ℕ) → found ≡ None → worlds.bad_row found o ≡ Some etag → o ≡ Err etag
-told_bad found (Ok M) etag n b = absurd (let e : worlds.bad_row None (Ok M) ≡ Some etag = ap (λ f. worlds.bad_row f (Ok M)) (sym n) ∙ b in cc)
-told_bad found (Err x) etag n b = let e : worlds.bad_row None (Err x) ≡ Some etag = ap (λ f. worlds.bad_row f (Err x)) (sym n) ∙ b in ap Err (let same : (a c : ℕ) → Some a ≡ Some c → a ≡ c = λ a c h. cc in same x etag e)
+    subst (λ s. IsBad s held etag) (limits_are base limits l)
+    (bad_of (setting_of base limits) held is.given etag is.all (held_opens (setting_of base limits) is.given (Err etag) (Err etag) is.rows refl))
 
 -- where a row is bad as the row of a definition
 pub bad_definition : (base : List ℕ) (limits : Limits) (held : Option (List KeptRow)) (rows : List Row) (etag : ℕ) → setting_of base_id limits ≡ program → IsLoaded limits.rows held (Ok rows)
-    → worlds.bad_row (first_bad [] rows) (opened (setting_of base limits) rows) ≡ Some etag → IsBad (setting_with base) held etag
-bad_definition base limits held rows etag l is b =
-    let e = told_bad (first_bad [] rows) (opened (setting_of base limits) rows) etag (read_are_sound limits.rows is.given rows is.rows) b in
-    subst (λ s. IsBad s held etag) (limits_are base limits l) (bad_of (setting_of base limits) held is.given etag is.all (ap (opened_by (setting_of base limits)) is.rows ∙ e))
+    → worlds.IsBadRow (setting_of base limits) rows etag → IsBad (setting_with base) held etag
+bad_definition base limits held rows etag l is (inl first) = absurd (let none = read_are_sound limits.rows is.given rows is.rows in cc)
+bad_definition base limits held rows etag l is (inr later) =
+    subst (λ s. IsBad s held etag) (limits_are base limits l)
+    (bad_of (setting_of base limits) held is.given etag is.all (held_opens (setting_of base limits) is.given (Ok rows) (Err etag) is.rows later.1))
 
 -- the keeper holds the rows of the machine that it opens
 pub keeps_from : (setting : Setting) (held after : Option (List KeptRow)) (M : Machine) → after ≡ held → Opens setting held M → Keeps after M
 keeps_from setting held after M e o =
-    let is = opened_from-is setting o.rows M o.opened in
-    subst (λ h. Keeps h M) (sym e) (record { sound = is.sound; holds = by held o.told is.kept })
+    let as_told = opened-told setting o.rows M o.opened in
+    let is = opened_from-rows setting o.rows M as_told.opened in
+    subst (λ h. Keeps h M) (sym e) (record { sound = opened_from-Sound setting o.rows M as_told; holds = by held o.told is.kept })
   where
     by : (held : Option (List KeptRow)) → IfSome held (λ all. all ≡ o.rows) → all_kept M.world.store.rows ≡ o.rows → IfSome held (λ all. all ≡ all_kept M.world.store.rows)
     by None h k = tt

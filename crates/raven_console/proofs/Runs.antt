@@ -6,7 +6,8 @@ use Rattle.raven_ports.specs.Told.{appended}
 use Rattle.raven_model.specs.Lines.{lines}
 use Rattle.raven_model.specs.Machine.{Machine}
 use Rattle.raven_model.specs.Script.{Given, reply_to, replies_to, after_line, after_lines}
-use Rattle.raven_console.specs.Outside.{KeeperState, Asked, Come, Comes, MayTell, given, rows_written}
+use Rattle.raven_console.specs.Answering.{IsAnswered}
+use Rattle.raven_console.specs.Outside.{KeeperState, Asked, Come, Comes, MayTell, given, rows_in}
 use Rattle.raven_console.specs.Outcome.{Answers, GivesFront, StopsBefore, StopsIn, texts_of}
 use Rattle.raven_console.proofs.Pieces.{appended-appended, appended-nil}
 
@@ -19,9 +20,9 @@ after_lines-after : (done : List Given) (line : Given) (M : Machine) → after_l
 after_lines-after [] line M = refl
 after_lines-after (l ∷ ls) line M = after_lines-after ls line (after_line l M)
 
-texts_of-after : (done : List Given) (line : Given) (more : List (List ℕ)) → texts_of (done ++ line ∷ []) ++ more ≡ texts_of done ++ line.0 ∷ more
+texts_of-after : (done : List Given) (line : Given) (more : List (List ℕ)) → texts_of (done ++ line ∷ []) ++ more ≡ texts_of done ++ line.line ∷ more
 texts_of-after [] line more = refl
-texts_of-after (l ∷ ls) line more = ap (λ z. l.0 ∷ z) (texts_of-after ls line more)
+texts_of-after (l ∷ ls) line more = ap (λ z. l.line ∷ z) (texts_of-after ls line more)
 
 come_on : (clock : Option ℕ) (before at after : KeeperState) (M : Machine) (done : List Given) (line : Given) → Come clock before at M done → Comes clock at after (after_lines done M) line
     → Come clock before after M (done ++ line ∷ [])
@@ -39,19 +40,24 @@ pub record HasRun (clock : Option ℕ) (before at : KeeperState) (old now : Opti
 -- the line that was answered
 pub record Answered (clock : Option ℕ) (at after : KeeperState) (N O : Machine) (line : List ℕ) (moment : ℕ) (taken : Bool) (reply : List ℕ) : Type 0 where
   pub moment_is : MayTell clock moment
-  pub asked : Asked at after taken (rows_written N moment line)
-  pub reply_is : reply ≡ reply_to (given line moment taken at after) N
-  pub machine_is : O ≡ after_line (given line moment taken at after) N
+  pub answer : IsAnswered line moment taken at after N O reply
 
 pub answered : (clock : Option ℕ) (at after : KeeperState) (N O : Machine) (line : List ℕ) (moment : ℕ) (taken : Bool) (reply : List ℕ)
-    → moment < moments_end → IfSome clock (λ m. moment ≡ m) → Asked at after taken (rows_written N moment line)
-    → reply ≡ reply_to (given line moment taken at after) N → O ≡ after_line (given line moment taken at after) N → Answered clock at after N O line moment taken reply
-answered clock at after N O line moment taken reply b s a r m = record { moment_is = record { below = b; still = s }; asked = a; reply_is = r; machine_is = m }
+    → moment < moments_end → IfSome clock (λ m. moment ≡ m) → IsAnswered line moment taken at after N O reply → Answered clock at after N O line moment taken reply
+answered clock at after N O line moment taken reply b s a = record { moment_is = record { below = b; still = s }; answer = a }
 
 came : (clock : Option ℕ) (at after : KeeperState) (N L O : Machine) (line : List ℕ) (moment : ℕ) (taken : Bool) (reply : List ℕ) → N ≡ L
-    → Answered clock at after N O line moment taken reply → Comes clock at after L (given line moment taken at after)
-came clock at after N L O line moment taken reply e a =
-    record { line = line; now = moment; taken = taken; is = refl; moment = a.moment_is; asked = let P : Machine → Type 0 = λ x. Asked at after taken (rows_written x moment line) in subst P e a.asked }
+    → (a : Answered clock at after N O line moment taken reply) → Comes clock at after L (given line a.answer.read moment taken at after)
+came clock at after N L O line moment taken reply e a = record {
+  line = line;
+  read = a.answer.read;
+  now = moment;
+  taken = taken;
+  is = refl;
+  said = a.answer.said;
+  moment = a.moment_is;
+  asked = let P : Machine → Type 0 = λ x. Asked at after taken (rows_in x moment a.answer.read) in subst P e a.answer.asked;
+}
 
 pub starts : (clock : Option ℕ) (k : KeeperState) (old : Option (List ℕ)) (script : List ℕ) (M : Machine) → HasRun clock k k old old script script M M
 starts clock k old script M = record { done = []; split = refl; come = refl; given = sym (appended-nil old); left = refl }
@@ -60,14 +66,14 @@ pub runs_on : (clock : Option ℕ) (before at after : KeeperState) (old now new 
     → HasRun clock before at old now script rest M N → lines rest ≡ line ∷ lines more → Answered clock at after N O line moment taken reply → new ≡ appended now reply
     → HasRun clock before after old new script more M O
 runs_on clock before at after old now new script rest line more M N O moment taken reply h l a k =
-    let g : Given = given line moment taken at after in
+    let g : Given = given line a.answer.read moment taken at after in
     record {
       done = h.done ++ g ∷ [];
       split = h.split ∙ ap (λ z. texts_of h.done ++ z) l ∙ sym (texts_of-after h.done g (lines more));
       come = come_on clock before at after M h.done g h.come (came clock at after N (after_lines h.done M) O line moment taken reply h.left a);
       given = k ∙ ap (λ z. appended z reply) h.given ∙ appended-appended old (replies_to h.done M) reply
-          ∙ ap (λ z. appended old (replies_to h.done M ++ z)) (a.reply_is ∙ ap (reply_to g) h.left) ∙ ap (appended old) (sym (replies_to-after h.done g M));
-      left = a.machine_is ∙ ap (after_line g) h.left ∙ sym (after_lines-after h.done g M);
+          ∙ ap (λ z. appended old (replies_to h.done M ++ z)) (a.answer.reply ∙ ap (reply_to g) h.left) ∙ ap (appended old) (sym (replies_to-after h.done g M));
+      left = a.answer.machine ∙ ap (after_line g) h.left ∙ sym (after_lines-after h.done g M);
     }
 
 pub runs_out : (clock : Option ℕ) (before at : KeeperState) (old now : Option (List ℕ)) (script rest : List ℕ) (M N : Machine) → HasRun clock before at old now script rest M N → rest ≡ []
@@ -79,7 +85,7 @@ pub stops_in : (clock : Option ℕ) (before at after : KeeperState) (old now new
     → HasRun clock before at old now script rest M N → lines rest ≡ line ∷ more → Answered clock at after N O line moment taken reply → GivesFront now new reply
     → StopsIn clock before after old new script M O
 stops_in clock before at after old now new script rest line more M N O moment taken reply h l a k =
-    let g : Given = given line moment taken at after in
+    let g : Given = given line a.answer.read moment taken at after in
     record {
       done = h.done;
       line = g;
@@ -87,10 +93,10 @@ stops_in clock before at after old now new script rest line more M N O moment ta
       part = k.front;
       rest = k.rest;
       split = h.split ∙ ap (λ z. texts_of h.done ++ z) l ∙ sym (texts_of-after h.done g more);
-      piece = ap (reply_to g) (sym h.left) ∙ sym a.reply_is ∙ k.split;
+      piece = ap (reply_to g) (sym h.left) ∙ sym a.answer.reply ∙ k.split;
       come = come_on clock before at after M h.done g h.come (came clock at after N (after_lines h.done M) O line moment taken reply h.left a);
       given = k.given ∙ ap (λ z. appended z k.front) h.given ∙ appended-appended old (replies_to h.done M) k.front;
-      executed = a.machine_is ∙ ap (after_line g) h.left ∙ sym (after_lines-after h.done g M);
+      executed = a.answer.machine ∙ ap (after_line g) h.left ∙ sym (after_lines-after h.done g M);
     }
 
 pub stops_before : (clock : Option ℕ) (before at after : KeeperState) (old now : Option (List ℕ)) (script rest line : List ℕ) (more : List (List ℕ)) (M N : Machine)

@@ -1,6 +1,7 @@
 pub mod LineEnds
 pub mod Input
 pub mod Outside
+pub mod Answering
 pub mod Outcome
 pub mod OutcomeView
 pub mod Ends

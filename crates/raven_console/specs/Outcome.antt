@@ -4,12 +4,12 @@ use Rattle.raven_data.specs.Kept.{KeptRow}
 use Rattle.raven_ports.specs.Told.{appended}
 use Rattle.doc_keeper.specs.Loading.{AreCalls}
 use Rattle.raven_model.specs.Commit.{Setting}
-use Rattle.raven_model.specs.Kept.{opened_from}
 use Rattle.raven_model.specs.Lines.{lines}
 use Rattle.raven_model.specs.Machine.{Machine}
 use Rattle.raven_model.specs.Options.{Options, options_in, setting_with}
 use Rattle.raven_model.specs.Script.{Given, reply_to, replies_to, after_lines}
 use Rattle.raven_model.specs.Words.{max_input}
+use Rattle.raven_reading.specs.Openings.{IsOpened}
 use Rattle.raven_console.specs.Outside.{KeeperState, Come, Holds}
 
 -- a front of these bytes was added
@@ -22,7 +22,7 @@ pub record GivesFront (old new : Option (List ℕ)) (bytes : List ℕ) : Type 0 
 -- ANSWERING LINES ON A MACHINE
 
 abbrev pub texts_of : List Given → List (List ℕ)
-texts_of all = map (λ g. g.0) all
+texts_of all = map (λ g. g.line) all
 
 -- all lines were executed, one after another, and their replies written
 pub record Answers (clock : Option ℕ) (before after : KeeperState) (old new : Option (List ℕ)) (script : List ℕ) (M N : Machine) : Type 0 where
@@ -65,11 +65,11 @@ pub record StopsBefore (clock : Option ℕ) (before after : KeeperState) (old ne
 pub record Opens (setting : Setting) (held : Option (List KeptRow)) (M : Machine) : Type 0 where
   pub rows : List KeptRow
   pub told : IfSome held (λ all. all ≡ rows)
-  pub opened : opened_from setting rows ≡ Ok M
+  pub opened : IsOpened setting rows (Ok M)
 
 -- the row of this etag is the first that breaks the form, where the keeper tells its rows
 abbrev pub IsBad : Setting → Option (List KeptRow) → ℕ → Type 0
-IsBad setting held etag = IfSome held (λ all. opened_from setting all ≡ Err etag)
+IsBad setting held etag = IfSome held (λ all. IsOpened setting all (Err etag))
 
 -- a keeper was asked for its rows, and holds what it held
 pub record Loads (before after : KeeperState) : Type 0 where
@@ -136,4 +136,4 @@ pub record IsValid (words : List (List ℕ)) (left : Option (List ℕ)) (held : 
   pub rows : List KeptRow
   pub kept : held ≡ Some rows
   pub machine : Machine
-  pub opens : opened_from (setting_with options.base) rows ≡ Ok machine
+  pub opens : IsOpened (setting_with options.base) rows (Ok machine)

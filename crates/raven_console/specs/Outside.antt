@@ -1,13 +1,14 @@
 -- What a keeper and a clock do while lines are answered, as far as they tell it.
-use Rattle.std.specs.Prelude.{◌≡◌, ℕ, ◌<◌, ◌≤◌, List, [], ◌∷◌, Bool, true, false, not, Option, Some, None, option_map, IfSome, Result, Ok, Err}
+use Rattle.std.specs.Prelude.{◌≡◌, ℕ, ◌<◌, ◌≤◌, List, [], ◌∷◌, Bool, true, false, not, Option, Some, None, option_map, IfSome, Ok, Err}
 use Rattle.raven_data.specs.Kept.{KeptRow, all_kept, keep_all}
 use Rattle.raven_data.specs.Moments.{moments_end}
 use Rattle.raven_data.specs.Rows.{Row}
 use Rattle.raven_ports.specs.Faults.{Rose}
 use Rattle.raven_ports.specs.Plan.{Plan, is_failing, one_later}
 use Rattle.raven_model.specs.Machine.{Machine, change_of}
-use Rattle.raven_model.specs.Script.{Circumstance, Given, Line, Do, ReadRefusal, after_line, line_of}
+use Rattle.raven_model.specs.Script.{Circumstance, Given, LineRead, Do, after_line}
 use Rattle.raven_model.specs.Sound.{Sound}
+use Rattle.raven_reading.specs.Lines.{IsLine}
 
 -- a keeper at one moment: the rows that it holds and the calls that fail, where it tells them, and its count of faults
 pub record KeeperState : Type 0 where
@@ -31,35 +32,34 @@ abbrev pub Asked : KeeperState → KeeperState → Bool → List Row → Type 0
 Asked before after taken [] = (taken ≡ true) × (after ≡ before)
 Asked before after taken (r ∷ rows) = AskedOnce before after taken (r ∷ rows)
 
--- the rows that a line writes if the keeper takes them
-abbrev pub rows_in : Machine → ℕ → Result (Option Line) ReadRefusal → List Row
+-- the rows that a line writes, which comes to this, if the keeper takes them
+abbrev pub rows_in : Machine → ℕ → LineRead → List Row
 rows_in M now (Err refusal) = []
 rows_in M now (Ok None) = []
 rows_in M now (Ok (Some (Do request))) = (change_of M now request).rows
-
-abbrev pub rows_written : Machine → ℕ → List ℕ → List Row
-rows_written M now line = rows_in M now (line_of line)
 
 -- what the outside gives to a line: the moment, whether the keeper took its rows, and the keeper's counts before and after
 abbrev pub circumstance : ℕ → Bool → KeeperState → KeeperState → Circumstance
 circumstance now taken before after = record { now = now; keeping = record { takes = taken ∷ []; before = before.count; after = after.count } }
 
-abbrev pub given : List ℕ → ℕ → Bool → KeeperState → KeeperState → Given
-given line now taken before after = (line, circumstance now taken before after)
+abbrev pub given : List ℕ → LineRead → ℕ → Bool → KeeperState → KeeperState → Given
+given line read now taken before after = record { line = line; read = read; circumstance = circumstance now taken before after }
 
 -- the clock may have told this moment
 pub record MayTell (clock : Option ℕ) (now : ℕ) : Type 0 where
   pub below : now < moments_end
   pub still : IfSome clock (λ moment. now ≡ moment)
 
--- A line that came with what clock and keeper gave: the keeper was asked for its rows, in this state of the machine.
+-- A line that was read as it is, and came with what clock and keeper gave: the keeper was asked for its rows, in this state of the machine.
 pub record Comes (clock : Option ℕ) (before after : KeeperState) (M : Machine) (g : Given) : Type 0 where
   pub line : List ℕ
+  pub read : LineRead
   pub now : ℕ
   pub taken : Bool
-  pub is : g ≡ given line now taken before after
+  pub is : g ≡ given line read now taken before after
+  pub said : IsLine line read
   pub moment : MayTell clock now
-  pub asked : Asked before after taken (rows_written M now line)
+  pub asked : Asked before after taken (rows_in M now read)
 
 -- lines that came one after another
 abbrev pub Come : Option ℕ → KeeperState → KeeperState → Machine → List Given → Type 0

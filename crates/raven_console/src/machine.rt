@@ -3,9 +3,9 @@ ghost use Rattle.std.specs.Prelude.{◌≡◌, ◌<◌, ◌≤◌, true, false, 
 ghost use Rattle.raven_data.specs.Moments.{moments_end};
 ghost use Rattle.raven_model.specs.Machine.{change_of, step};
 ghost use Rattle.raven_model.specs.Replies.{KeeperFault, printed as spec_printed};
-ghost use Rattle.raven_model.specs.Script.{after_line, reply_to};
 ghost use Rattle.raven_reply.specs.ReplyView.{reply_view};
-ghost use Rattle.raven_console.specs.Outside.{Asked, Keeps, circumstance, given, rows_written, seen};
+ghost use Rattle.raven_console.specs.Answering.{IsAnswered};
+ghost use Rattle.raven_console.specs.Outside.{Asked, Keeps, circumstance, seen};
 ghost use Rattle.raven_console.specs.OutcomeView.{world_left};
 ghost use Rattle.raven_console.specs.Prepared.{IsPrepared};
 ghost use Rattle.raven_world.specs.Told.{machine_of};
@@ -147,9 +147,7 @@ impl Machine {
     ) -> Result<Answer, NoMemory>
         requires below { now < moments_end }
         requires keeps { Keeps (K.held keeper.old) self.old }
-        ensures reply { IfOk result (λ a. a.text.items ≡ reply_to (given bytes.now now a.taken (seen (K.held keeper.old) (K.plan keeper.old) (K.count keeper.old)) (seen (K.held keeper.new) (K.plan keeper.new) (K.count keeper.new))) self.old) }
-        ensures machine { IfOk result (λ a. self.new ≡ after_line (given bytes.now now a.taken (seen (K.held keeper.old) (K.plan keeper.old) (K.count keeper.old)) (seen (K.held keeper.new) (K.plan keeper.new) (K.count keeper.new))) self.old) }
-        ensures asked { IfOk result (λ a. Asked (seen (K.held keeper.old) (K.plan keeper.old) (K.count keeper.old)) (seen (K.held keeper.new) (K.plan keeper.new) (K.count keeper.new)) a.taken (rows_written self.old now bytes.now)) }
+        ensures answered { IfOk result (λ a. IsAnswered bytes.now now a.taken (seen (K.held keeper.old) (K.plan keeper.old) (K.count keeper.old)) (seen (K.held keeper.new) (K.plan keeper.new) (K.count keeper.new)) self.old self.new a.text.items) }
         ensures err { OnErr result ((self.new ≡ self.old) × (K.held keeper.new ≡ K.held keeper.old)) }
         ensures later { K.count keeper.old ≤ K.count keeper.new }
     {

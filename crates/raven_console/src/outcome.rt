@@ -91,8 +91,15 @@ pub fn outcome_of(
         Request::Find { index, field, text } => {
             Ok(unchanged(alloc, world.find(alloc, &index, &field, &text)?))
         }
-        Request::Pump { max } => Ok(changed(world.pump(alloc, max)?)),
+        Request::Define { definition } => settled(alloc, world.define(alloc, definition, now)),
+        Request::Remove { name } => settled(alloc, world.remove(alloc, &name, now)),
+        Request::Pump { max, index: None } => Ok(changed(world.pump(alloc, max)?)),
+        Request::Pump {
+            max,
+            index: Some(name),
+        } => settled(alloc, world.pump_one(alloc, max, &name)),
         Request::Stale { name, cutoff } => Ok(unchanged(alloc, world.stale(alloc, &name, cutoff)?)),
+        Request::Indexes => Ok(unchanged(alloc, world.indexes(alloc)?)),
         Request::Stats => Ok(unchanged(alloc, world.stats())),
     }
 }

@@ -1,23 +1,21 @@
 //! The replies to lines that are not read.
-ghost use Rattle.std.specs.Prelude.{◌≡◌, ℕ, List, [], IfOk};
-ghost use Rattle.raven_model.specs.Machine as is;
-ghost use Rattle.raven_model.specs.Replies.{printed};
-ghost use Rattle.raven_model.specs.Script.{Circumstance, left_by, line_of, written_for};
+ghost use Rattle.std.specs.Prelude.{◌≡◌, ℕ, List, IfOk, Err};
+ghost use Rattle.raven_data.specs.Faults.{Fault};
+ghost use Rattle.raven_model.specs.Script.{asked_of, fault_reply};
 ghost use Rattle.raven_reply.specs.ReplyView.{reply_view};
-ghost use Rattle.raven_console.specs.Outside.{rows_written};
-ghost use Rattle.raven_script.specs.RequestView.{IsBadId, Refuses};
+ghost use Rattle.raven_console.specs.Answering.{IsRefusedLine};
+ghost use Rattle.raven_script.specs.LineView.{Answers};
 ghost use Rattle.raven_value.specs.Refusal.{fault_in};
+ghost use Rattle.std.specs.Prelude.{Some};
 
 use raven_base::NoMemory;
 use raven_script::ReadRefusal;
 use raven_value::IdRefusal;
 use raven_world::Reply;
 
-#[tactic(auto, using(crate::proofs::Answered::refusals))]
-fn reply_to_id(refusal: IdRefusal) -> Result<Reply, NoMemory>
-    ensures written { IfOk result (λ reply. (M : is.Machine) (c : Circumstance) (bytes : List ℕ) → IsBadId (fault_in refusal) (line_of bytes) → printed (reply_view reply) ≡ written_for M c (line_of bytes)) }
-    ensures left { IfOk result (λ reply. (M : is.Machine) (c : Circumstance) (bytes : List ℕ) → IsBadId (fault_in refusal) (line_of bytes) → M ≡ left_by M c (line_of bytes)) }
-    ensures rows { IfOk result (λ _. (M : is.Machine) (now : ℕ) (bytes : List ℕ) → IsBadId (fault_in refusal) (line_of bytes) → [] ≡ rows_written M now bytes) }
+// The reply to a text that can be no id, or no name.
+fn reply_to_fault(refusal: IdRefusal) -> Result<Reply, NoMemory>
+    ensures { IfOk result (λ reply. (fault : Fault) → fault_in refusal ≡ Some fault → reply_view reply ≡ fault_reply fault) }
 {
     match refusal {
         IdRefusal::Empty => Ok(Reply::Empty),
@@ -30,17 +28,20 @@ fn reply_to_id(refusal: IdRefusal) -> Result<Reply, NoMemory>
 /// The reply to a line that is refused, which changes nothing.
 #[tactic(auto, using(crate::proofs::Answered::refusals))]
 pub fn reply_to_refusal(refusal: ReadRefusal) -> Result<Reply, NoMemory>
-    ensures written { IfOk result (λ reply. (M : is.Machine) (c : Circumstance) (bytes : List ℕ) → Refuses refusal (line_of bytes) → printed (reply_view reply) ≡ written_for M c (line_of bytes)) }
-    ensures left { IfOk result (λ reply. (M : is.Machine) (c : Circumstance) (bytes : List ℕ) → Refuses refusal (line_of bytes) → M ≡ left_by M c (line_of bytes)) }
-    ensures rows { IfOk result (λ _. (M : is.Machine) (now : ℕ) (bytes : List ℕ) → Refuses refusal (line_of bytes) → [] ≡ rows_written M now bytes) }
+    ensures { IfOk result (λ reply. (line : List ℕ) → Answers (asked_of line) (Err refusal) → IsRefusedLine line (reply_view reply)) }
 {
     match refusal {
         ReadRefusal::UnknownLine => Ok(Reply::UnknownLine),
         ReadRefusal::NotJson => Ok(Reply::NotJson),
         ReadRefusal::NumberNotWhole => Ok(Reply::NumberNotWhole),
         ReadRefusal::TooDeep => Ok(Reply::TooDeep),
-        ReadRefusal::BadId(refusal) => reply_to_id(refusal),
+        ReadRefusal::BadId(refusal) | ReadRefusal::BadName(refusal) => reply_to_fault(refusal),
         ReadRefusal::BadMember { name } => Ok(Reply::BadMember { name }),
+        ReadRefusal::BadDefinition { part, at, kind } => Ok(Reply::Lang {
+            part,
+            at: at as u64,
+            kind,
+        }),
         ReadRefusal::NoMemory => Err(NoMemory),
     }
 }

@@ -156,7 +156,6 @@ fn refuses_lines(rt: HostRuntime) -> Result<(), Fail> {
         "GET ",
         "BULK",
         "STALE ",
-        "STALE \u{1}",
         "AUTO C",
         "AUTO C F G",
         "AUTO @C F",
@@ -167,10 +166,16 @@ fn refuses_lines(rt: HostRuntime) -> Result<(), Fail> {
         "PUMP 65537",
         "PUMP 00000000000000001",
         "PUMP +1",
-        "PUMP 1 x",
+        "PUMP x 1",
+        "PUMP 0 \u{1}",
+        "DROP",
+        "DROP ",
+        "INDEX",
+        "INDEXES x",
+        "INDEX {\"Map\":\"x\",\"Name\":\"N\",\"Reduce\":\"\"}",
         "FIND a b",
         "FIND a b ",
-        "FIND \u{1} b c",
+        "FIND \u{1} b",
         " ",
     ];
     for line in lines {
@@ -268,6 +273,158 @@ fn names_each_refusal(rt: HostRuntime) -> Result<(), Fail> {
         {\"Error\":\"BadMember\",\"Name\":\"Document\"}\n\
         {\"CountOfDocuments\":0,\"CountOfIndexes\":0,\"CountOfTombstones\":0,\"LastDocEtag\":0}\n";
     let got = replies(&rt, script)?;
+    assert_eq!(rt; got.as_str(), wanted);
+    Ok(())
+}
+
+// Each case is a script and its replies, with `[C]` for the collection of a document and `{B}` for the base id.
+const DEFINITIONS: &[(&str, &str)] = &[
+    (
+        "INDEX {\"Map\":\"from u in docs.Users where u.Age >= 18 select new { u.Name, Old = u.Age > 64 ? \\\"yes\\\" : \\\"no\\\" }\",\"Name\":\"Adults\"}
+PUT users/1 {\"Age\":70,\"Name\":\"Ada\",[Users]}
+PUT users/2 {\"Age\":7,\"Name\":\"Bo\",[Users]}
+PUMP 64 Adults
+FIND Adults Old YES
+INDEX {\"Map\":\"from u in docs.Users select new { v.Name }\",\"Name\":\"B\"}
+",
+        "{\"Index\":\"Adults\"}
+{\"ChangeVector\":\"A:2-{B}\",\"Id\":\"users/1\"}
+{\"ChangeVector\":\"A:3-{B}\",\"Id\":\"users/2\"}
+{\"Pumped\":[{\"From\":0,\"Index\":\"Adults\",\"To\":3}]}
+{\"Ids\":[\"users/1\"],\"IndexEtag\":3,\"IsStale\":false}
+{\"At\":34,\"Error\":\"UnknownName\",\"Part\":\"Map\"}
+",
+    ),
+    (
+        "INDEX {\"Map\":\"from o in docs.Orders let c = LoadDocument(o.Company, \\\"Companies\\\") select new { c.Name }\",\"Name\":\"O\"}
+PUT orders/1 {\"Company\":\"companies/1\",[Orders]}
+PUMP 64
+FIND O Name acme
+PUT companies/1 {\"Name\":\"Acme\",[Companies]}
+FIND O Name acme
+PUMP 64
+FIND O Name acme
+DEL companies/1
+PUMP 64
+FIND O Name acme
+",
+        "{\"Index\":\"O\"}
+{\"ChangeVector\":\"A:2-{B}\",\"Id\":\"orders/1\"}
+{\"Pumped\":[{\"From\":0,\"Index\":\"O\",\"To\":2}]}
+{\"Ids\":[],\"IndexEtag\":2,\"IsStale\":false}
+{\"ChangeVector\":\"A:3-{B}\",\"Id\":\"companies/1\"}
+{\"Ids\":[],\"IndexEtag\":2,\"IsStale\":true}
+{\"Pumped\":[{\"From\":2,\"Index\":\"O\",\"To\":3}]}
+{\"Ids\":[\"orders/1\"],\"IndexEtag\":3,\"IsStale\":false}
+{\"Deleted\":true,\"Id\":\"companies/1\"}
+{\"Pumped\":[{\"From\":3,\"Index\":\"O\",\"To\":4}]}
+{\"Ids\":[],\"IndexEtag\":4,\"IsStale\":false}
+",
+    ),
+    (
+        "INDEX {\"Maps\":[\"from o in docs.Orders select new { P = o.Cents * o.Cents }\"],\"Name\":\"P\"}
+PUT orders/1 {\"Cents\":9223372036854775807,[Orders]}
+PUMP 64
+INDEXES
+INDEX {\"Map\":\"from o in docs.Orders  select new { P = o.Cents * o.Cents }\",\"Name\":\"p\"}
+INDEX {\"Map\":\"from o in docs.Orders select new { P = o.Cents }\",\"Name\":\"P\"}
+DROP p
+DROP p
+PUMP 64 p
+INDEXES
+STATS
+",
+        "{\"Index\":\"P\"}
+{\"ChangeVector\":\"A:2-{B}\",\"Id\":\"orders/1\"}
+{\"Pumped\":[{\"From\":0,\"Index\":\"P\",\"To\":2}]}
+{\"Results\":[{\"Definition\":{\"Kind\":\"static\",\"Map\":\"from o in docs.Orders select new { P = o.Cents * o.Cents }\",\"Reduce\":null},\"Entries\":0,\"Errors\":1,\"Etag\":2,\"IsStale\":false,\"Name\":\"P\"}]}
+{\"Index\":\"P\"}
+{\"Error\":\"UnknownLine\"}
+{\"Removed\":\"P\"}
+{\"Error\":\"NoIndex\",\"Name\":\"p\"}
+{\"Error\":\"NoIndex\",\"Name\":\"p\"}
+{\"Results\":[]}
+{\"CountOfDocuments\":1,\"CountOfIndexes\":0,\"CountOfTombstones\":0,\"LastDocEtag\":3}
+",
+    ),
+    (
+        "INDEX []
+INDEX {\"Map\":\"x\"}
+INDEX {\"Map\":\"x\",\"Name\":\"\"}
+INDEX {\"Map\":\"x\",\"Name\":\"a\\tb\"}
+INDEX {\"Name\":\"N\"}
+INDEX {\"Map\":1,\"Name\":\"N\"}
+INDEX {\"Map\":\"x\",\"Maps\":[],\"Name\":\"N\"}
+INDEX {\"Map\":\"x\",\"Name\":\"N\",\"Reduce\":1}
+INDEX {\"Map\":\"x\",\"Name\":\"N\",\"Reduce\":null}
+INDEX {\"Map\":\"from u in docs.Users select new { u.A }\",\"Name\":\"auto/x\"}
+INDEX {\"Map\":\"from u in docs.Users select new { u.A }\",\"Name\":\"ReplacementOf/x\"}
+FIND \u{1} b c
+STALE a\u{1}
+PUMP 1 \u{1}
+DROP \u{1}
+",
+        "{\"Error\":\"BadMember\",\"Name\":\"body\"}
+{\"Error\":\"BadMember\",\"Name\":\"Name\"}
+{\"Error\":\"Empty\"}
+{\"At\":1,\"Error\":\"Control\"}
+{\"Error\":\"BadMember\",\"Name\":\"Maps\"}
+{\"Error\":\"BadMember\",\"Name\":\"Map\"}
+{\"Error\":\"BadMember\",\"Name\":\"Maps\"}
+{\"Error\":\"BadMember\",\"Name\":\"Reduce\"}
+{\"At\":0,\"Error\":\"Unexpected\",\"Part\":\"Map\"}
+{\"Error\":\"ReservedName\"}
+{\"Error\":\"ReservedName\"}
+{\"At\":0,\"Error\":\"Control\"}
+{\"At\":1,\"Error\":\"Control\"}
+{\"At\":0,\"Error\":\"Control\"}
+{\"At\":0,\"Error\":\"Control\"}
+",
+    ),
+];
+
+// The text with the signs of `DEFINITIONS` written out.
+fn written_out(rt: &HostRuntime, text: &str) -> Result<String, Fail> {
+    let alloc = rt.alloc();
+    let mut whole = String::from_str(alloc, text)?;
+    for (sign, meaning) in [
+        ("[Users]", "\"@metadata\":{\"@collection\":\"Users\"}"),
+        ("[Orders]", "\"@metadata\":{\"@collection\":\"Orders\"}"),
+        (
+            "[Companies]",
+            "\"@metadata\":{\"@collection\":\"Companies\"}",
+        ),
+        ("{B}", "AAAAAAAAAAAAAAAAAAAAAA"),
+    ] {
+        whole = whole.replace(alloc, sign, meaning)?;
+    }
+    Ok(whole)
+}
+
+#[test]
+fn defines_lists_and_removes_indexes(rt: HostRuntime) -> Result<(), Fail> {
+    for (script, wanted) in DEFINITIONS.iter() {
+        let script = written_out(&rt, script)?;
+        let wanted = written_out(&rt, wanted)?;
+        let got = replies(&rt, script.as_str())?;
+        assert_eq!(rt; got.as_str(), wanted.as_str());
+    }
+    Ok(())
+}
+
+#[test]
+fn a_definition_is_opened_again(rt: HostRuntime) -> Result<(), Fail> {
+    let script =
+        "INDEX {\"Map\":\"from u in docs.Users select new { u.Name }\",\"Name\":\"Names\"}\n\
+        INDEX {\"Map\":\"from u in docs.Users select new { u.Age }\",\"Name\":\"Ages\"}\n\
+        DROP Ages\n";
+    let (_, kept) = replies_over(&rt, script, keeper(&rt, &[])?)?;
+    let script = format!(in rt.alloc(); "STALE ages\n{PUT}PUMP 9 names\nFIND NAMES Name ADA\n")?;
+    let (got, _) = replies_over(&rt, script.as_str(), kept)?;
+    let wanted = "{\"Error\":\"NoIndex\",\"Name\":\"ages\"}\n\
+        {\"ChangeVector\":\"A:4-AAAAAAAAAAAAAAAAAAAAAA\",\"Id\":\"users/1\"}\n\
+        {\"Pumped\":[{\"From\":0,\"Index\":\"Names\",\"To\":4}]}\n\
+        {\"Ids\":[\"users/1\"],\"IndexEtag\":4,\"IsStale\":false}\n";
     assert_eq!(rt; got.as_str(), wanted);
     Ok(())
 }

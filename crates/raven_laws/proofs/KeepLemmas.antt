@@ -9,8 +9,8 @@ use Rattle.raven_model.specs.Commit.{AreNext, Client, Command, Put, Delete, Refu
 use Rattle.raven_model.specs.Mapping.{Definition}
 use Rattle.raven_model.specs.Optimiser.{Choice, Use, Make, Merge, pick, name_of}
 use Rattle.raven_model.specs.Replies as told
-use Rattle.raven_model.specs.World.{Slot, SlotChange, SlotRefusal, define}
-use Rattle.raven_model.specs.Machine.{Machine, Request, Put as PutOne, Delete as DeleteOne, Bulk, Get, Auto, Find, Pump, Stale, Stats, Event, Keeping, Change, after, change_of, defined, is_taken, one_field, rewrote, run, same_machine, settled, single_reply, use_or_make, write, wrote}
+use Rattle.raven_model.specs.World.{Slot, serving, SlotChange, SlotRefusal, define, define_named, remove}
+use Rattle.raven_model.specs.Machine.{Machine, Request, Put as PutOne, Delete as DeleteOne, Bulk, Get, Define, Remove, Auto, Find, Pump, Stale, Indexes, Stats, Event, Keeping, Change, after, change_of, is_taken, one_field, pump_at, pump_for, reslotted, rewrote, run, same_machine, settled, single_reply, use_or_make, write, wrote}
 use Rattle.raven_model.specs.Script.{Given, after_lines, events_of}
 use Rattle.raven_laws.proofs.ScriptLemmas.{lines-run}
 use Rattle.raven_laws.specs.Keeping.{rows_given, held_after}
@@ -133,31 +133,42 @@ wrote-rows M reply now commands (Ok w) is =
 write-rows : (M : Machine) (reply : List told.Result → told.Reply) (now : ℕ) (commands : List Command) → IsItsRows M.world.store (write M reply now commands)
 write-rows M reply now commands = wrote-rows M reply now commands (commit M.world.setting Client now commands M.world.store) refl
 
-rewrote-rows : (M : Machine) (name : List ℕ) (slots : List Slot) (now : ℕ) (commands : List Command) (o : Result Written Refused)
-    → commit M.world.setting Server now commands M.world.store ≡ o → IsItsRows M.world.store (rewrote M name slots o)
-rewrote-rows M name slots now commands (Err refused) is = unchanged M _
-rewrote-rows M name slots now commands (Ok w) is =
+rewrote-rows : (M : Machine) (reply : told.Reply) (slots : List Slot) (now : ℕ) (commands : List Command) (o : Result Written Refused)
+    → commit M.world.setting Server now commands M.world.store ≡ o → IsItsRows M.world.store (rewrote M reply slots o)
+rewrote-rows M reply slots now commands (Err refused) is = unchanged M _
+rewrote-rows M reply slots now commands (Ok w) is =
     let a = commit-Adds M.world.setting Server now commands M.world.store w is in record { store = a.store; next = a.next }
 
-defined-rows : (M : Machine) (now : ℕ) (name : List ℕ) (r : Result SlotChange SlotRefusal) → IsItsRows M.world.store (defined M now name r)
-defined-rows M now name (Err refusal) = unchanged M _
-defined-rows M now name (Ok c) = rewrote-rows M name c.slots now c.commands (commit M.world.setting Server now c.commands M.world.store) refl
+reslotted-rows : (M : Machine) (now : ℕ) (reply : List ℕ → told.Reply) (name : List ℕ) (r : Result SlotChange SlotRefusal) → IsItsRows M.world.store (reslotted M now reply name r)
+reslotted-rows M now reply name (Err refusal) = unchanged M _
+reslotted-rows M now reply name (Ok c) = rewrote-rows M (reply c.name) c.slots now c.commands (commit M.world.setting Server now c.commands M.world.store) refl
 
 auto-rows : (M : Machine) (now : ℕ) (c : Choice) → IsItsRows M.world.store (use_or_make M now c)
 auto-rows M now (Use s) = unchanged M _
 auto-rows M now (Make shape) =
-    let name = name_of M.world.slots (last M.world.store + 1) shape in defined-rows M now name (define M.world name (Definition.Auto shape.collection shape.fields))
+    let name = name_of M.world.slots (last M.world.store + 1) shape in reslotted-rows M now told.Index name (define M.world name (Definition.Auto shape.collection shape.fields))
 auto-rows M now Merge = unchanged M _
+
+pump_at-rows : (M : Machine) (max : ℕ) (name : List ℕ) (there : Option Slot) → IsItsRows M.world.store (pump_at M max name there)
+pump_at-rows M max name None = unchanged M _
+pump_at-rows M max name (Some s) = record { store = refl; next = tt }
+
+pump_for-rows : (M : Machine) (max : ℕ) (index : Option (List ℕ)) → IsItsRows M.world.store (pump_for M max index)
+pump_for-rows M max None = record { store = refl; next = tt }
+pump_for-rows M max (Some name) = pump_at-rows M max name (serving M.world.slots name)
 
 pub change-rows : (M : Machine) (now : ℕ) (request : Request) → IsItsRows M.world.store (change_of M now request)
 change-rows M now (PutOne id expected body) = write-rows M single_reply now (Command.Put id expected body ∷ [])
 change-rows M now (DeleteOne id expected) = write-rows M single_reply now (Command.Delete id expected ∷ [])
 change-rows M now (Bulk commands) = write-rows M told.Bulk now commands
 change-rows M now (Get id) = unchanged M _
+change-rows M now (Define name d) = reslotted-rows M now told.Index name (define_named M.world name d)
+change-rows M now (Remove name) = reslotted-rows M now told.Removed name (remove M.world name)
 change-rows M now (Auto collection field) = auto-rows M now (pick (one_field collection field) M.world.store M.world.slots)
 change-rows M now (Find index field ws) = unchanged M _
-change-rows M now (Pump max) = record { store = refl; next = tt }
+change-rows M now (Pump max index) = pump_for-rows M max index
 change-rows M now (Stale name cutoff) = unchanged M _
+change-rows M now Indexes = unchanged M _
 change-rows M now Stats = unchanged M _
 
 -- EVENTS

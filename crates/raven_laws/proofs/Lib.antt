@@ -18,6 +18,7 @@ pub mod ScriptLemmas
 pub mod WorkedRows
 pub mod WorkedScript
 pub mod WriteLemmas
+pub mod DefinitionLemmas
 pub mod KeepLemmas
 pub mod MemberLemmas
 pub mod OpenLemmas

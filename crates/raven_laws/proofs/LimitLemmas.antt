@@ -1,5 +1,5 @@
 -- A store never has more rows than its setting allows, and no etag past the last that there is.
-use Rattle.std.proofs.Common.{◌≡◌, ℕ, suc, ◌+◌, ◌<◌, ◌≤◌, List, [], ◌∷◌, length, true, false, not, cond, ◌&&◌, ◌==◌, nat_lt, nat_le, is_none, is_some, Option, Some, None, Ok, filter, map, refl, sym, ap, ◌∙◌, subst, arith, inl, inr, length-append}
+use Rattle.std.proofs.Common.{◌≡◌, ℕ, suc, ◌+◌, ◌<◌, ◌≤◌, List, [], ◌∷◌, length, Bool, true, false, not, cond, ◌&&◌, ◌==◌, nat_lt, nat_le, is_none, is_some, Option, Some, None, Ok, filter, map, refl, sym, ap, ◌∙◌, subst, arith, inl, inr, length-append}
 use Rattle.std.proofs.lemmas.Bool.{leb-false, ltb-true, ltb-false, eq-eqb}
 use Rattle.std.specs.Option.{option_map}
 use Rattle.raven_data.specs.Folding.{folded, same_key}
@@ -123,3 +123,20 @@ commit_from-last at s w now (c ∷ cs) done new le h =
 pub length_mapped : {X Y : Type 0} (f : X → Y) (xs : List X) → length (map f xs) ≡ length xs
 length_mapped f [] = refl
 length_mapped f (x ∷ xs) = ap suc (length_mapped f xs)
+
+pub length_filtered : {X : Type 0} (p : X → Bool) (xs : List X) → length (filter p xs) ≤ length xs
+length_filtered p [] = omega arith
+length_filtered p (x ∷ xs) = elim (p x) as (λ b. length (cond b (x ∷ filter p xs) (filter p xs)) ≤ length (x ∷ xs)) [
+  | true ↦ let a = length_filtered p xs in omega arith
+  | false ↦ let a = length_filtered p xs in omega arith
+]
+
+-- an element that does not pass is left out
+pub fewer_filtered : {X : Type 0} (p : X → Bool) (xs : List X) (x : X) → Has xs x → p x ≡ false → length (filter p xs) < length xs
+fewer_filtered p [] x h is = absurd h
+fewer_filtered p (y ∷ xs) x (inl e) is =
+    subst (λ b. length (cond b (y ∷ filter p xs) (filter p xs)) < length (y ∷ xs)) (sym (ap p e ∙ is)) (let a = length_filtered p xs in omega arith)
+fewer_filtered p (y ∷ xs) x (inr h) is = let a = fewer_filtered p xs x h is in elim (p y) as (λ b. length (cond b (y ∷ filter p xs) (filter p xs)) < length (y ∷ xs)) [
+  | true ↦ omega arith
+  | false ↦ omega arith
+]

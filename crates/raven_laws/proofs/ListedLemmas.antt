@@ -3,11 +3,11 @@ use Rattle.std.proofs.Common.{◌≡◌, ℕ, ◌+◌, List, [], ◌∷◌, ◌+
 use Rattle.std.specs.List.{starts_with}
 use Rattle.std.specs.Str.{bytes_eq}
 use Rattle.std.proofs.lemmas.Slice.Eq.{bytes_eq-Decides}
-use Rattle.std.specs.Option.{option_map}
+use Rattle.std.specs.Option.{option_and_then, option_map}
 use Rattle.raven_data.specs.Folding.{folded, same_key}
-use Rattle.raven_data.specs.Rows.{Row, doc, key, is_document}
+use Rattle.raven_data.specs.Rows.{Row, Body, doc, gone, key, is_document}
 use Rattle.raven_model.specs.Store.{row_at, put, Store, last, with_row}
-use Rattle.raven_model.specs.Mapping.{Definition, Auto}
+use Rattle.raven_model.specs.Mapping.{Definition, Static, Auto}
 use Rattle.raven_model.specs.Commit.{Command, Put, Delete, AnyVector, Writer, Client, Setting, Refusal, Written, first_of, refusal_of, reserved, is_reserved, is_index_id, too_large, collection_changed, conflict, store_full, etags_spent, collection_of, stored, kept_spelling, document_at, tombstone, row_of, with_written, with_option, after_commands, unless, commit_from}
 use Rattle.raven_model.specs.World.{Slot, index_id, row_body}
 use Rattle.raven_model.specs.Sound.{Has, IsListed, AreListed}
@@ -40,7 +40,8 @@ index_joined a b h = ap (λ x. folded (codes "@index/") ++ x) h
 index_key : (q a : List ℕ) → q ≡ folded (index_id a) → starts_with nat_eq q (codes "@index/") ≡ true
 index_key q a h = subst (λ k. starts_with nat_eq k (codes "@index/") ≡ true) (sym h) refl
 
-in_indexes_collection : (d : Definition) → collection_of (row_body d) ≡ codes "@indexes"
+pub in_indexes_collection : (d : Definition) → collection_of (row_body d) ≡ codes "@indexes"
+in_indexes_collection (Static map reduce map_text reduce_text) = refl
 in_indexes_collection (Auto c fields) = refl
 
 differ : (q k : List ℕ) → (q ≡ k → ⊥) → same_key q k ≡ false
@@ -88,6 +89,55 @@ put-AreListed S slots more now name d new l there called under means from to = r
 
     found_at : (q : List ℕ) → row_at q (put r S.rows) ≡ cond (same_key q (folded (index_id name))) (Some r) (row_at q S.rows)
     found_at q = row_at-put q r S.rows ∙ ap (λ k. cond (same_key q k) (Some r) (row_at q S.rows)) (put_key (index_id name) S.rows)
+
+-- A DELETE OF A DEFINITION
+
+abbrev if_document : Body → Row → Option Row
+if_document (doc d) r = Some r
+if_document gone r = None
+
+if_document_is : (r : Row) → cond (is_document r) (Some r) None ≡ if_document r.body r
+if_document_is r = elim r.body as (λ b. cond (is_document (record r { body = b })) (Some r) None ≡ if_document b r) [ doc d ↦ refl | gone ↦ refl ]
+
+-- the row of a definition is a document
+pub listed-document : (S : Store) (s : Slot) (i : IsListed S s) → document_at S (folded (index_id s.name)) ≡ Some i.row
+listed-document S s i =
+    ap (option_and_then (λ r. cond (is_document r) (Some r) None)) i.found
+    ∙ if_document_is i.row
+    ∙ ap (λ (b : Body). if_document b i.row) i.body
+
+pub delete-AreListed : (S : Store) (slots less : List Slot) (now : ℕ) (s : Slot) → AreListed S slots → Has slots s
+    → ((x : Slot) → Has less x → Has slots x × (folded x.name ≡ folded s.name → ⊥))
+    → ((x : Slot) → Has slots x → Has less x ⊎ (folded x.name ≡ folded s.name))
+    → AreListed (with_option S (row_of now S (Delete (index_id s.name) AnyVector))) less
+delete-AreListed S slots less now s l h from to =
+    subst (λ o. AreListed (with_option S (option_map (tombstone (last S + 1) now) o)) less) (sym (listed-document S s i)) (record {
+      each = λ x at. let old = from x at in let j = l.each x old.0 in record {
+        row = j.row;
+        etag = j.etag;
+        collection = j.collection;
+        body = j.body;
+        found = row_at-put (folded (index_id x.name)) t S.rows
+            ∙ ap (λ b. cond b (Some t) (row_at (folded (index_id x.name)) S.rows)) (differ (folded (index_id x.name)) (key t) (λ e. old.1 (index_apart x.name s.name (e ∙ sym under))))
+            ∙ j.found;
+      };
+      only = λ q x at is c. elim (same_key q (key t)) as (λ b. same_key q (key t) ≡ b → cond b (Some t) (row_at q S.rows) ≡ Some x → (w : Slot) × Has less w × (q ≡ folded (index_id w.name))) [
+        | true ↦ λ e g. absurd (let f = ap is_document (same_row t x g) ∙ is in cc)
+        | false ↦ λ e g. let w = l.only q x g is c in elim (to w.0 w.1) [
+          | inl k ↦ (w.0, k, w.2)
+          | inr k ↦ absurd (let f = subst (λ y. same_key q y ≡ true) (w.2 ∙ index_joined w.0.name s.name k ∙ under) (same_itself q) in cc)
+        ]
+      ] refl (sym (row_at-put q t S.rows) ∙ at);
+    })
+  where
+    i : IsListed S s
+    i = l.each s h
+
+    t : Row
+    t = tombstone (last S + 1) now i.row
+
+    under : folded (index_id s.name) ≡ key t
+    under = found_key (folded (index_id s.name)) S.rows i.row i.found
 
 -- WHAT A CLIENT WRITES
 

@@ -1,5 +1,5 @@
 -- Each step of the machine leaves a sound and later world.
-use Rattle.std.proofs.Common.{◌≡◌, ℕ, ◌+◌, ◌<◌, ◌≤◌, List, [], ◌∷◌, ◌++◌, length, Some, None, Result, Ok, Err, map, refl, sym, ap, subst, arith, inl, true, false, cond}
+use Rattle.std.proofs.Common.{◌≡◌, ℕ, ◌+◌, ◌<◌, ◌≤◌, List, [], ◌∷◌, ◌++◌, length, Option, Some, None, Result, Ok, Err, map, refl, sym, ap, subst, arith, inl, true, false, cond}
 use Rattle.raven_data.specs.Rows.{Row}
 use Rattle.raven_model.specs.Store.{Store, last, IsStore}
 use Rattle.raven_model.specs.Later.{Later}
@@ -8,15 +8,15 @@ use Rattle.raven_model.specs.Mapping.{Definition}
 use Rattle.raven_model.specs.Optimiser.{Choice, Use, Make, Merge, pick, name_of}
 use Rattle.raven_model.specs.Commit.{Command, Put, Delete, Writer, Client, Server, Setting, Refused, Written, refusal_of, row_of, with_written, unless, commit_from, commit}
 use Rattle.raven_model.specs.Replies as told
-use Rattle.raven_model.specs.World.{Version, Slot, World, reads, advanced, batch, SlotChange, SlotRefusal, define}
-use Rattle.raven_model.specs.Machine.{Machine, Request, Put as PutOne, Delete as DeleteOne, Bulk, Get, Auto, Find, Pump, Stale, Stats, Event, Keeping, Change, is_taken, same_machine, settled, single_reply, wrote, write, rewrote, defined, use_or_make, one_field, or_as_before, brought_on, pump, change_of, step, start, after, run}
+use Rattle.raven_model.specs.World.{Slot, World, reads, advanced, batch, serving, SlotChange, SlotRefusal, define, define_named, is_named, remove}
+use Rattle.raven_model.specs.Machine.{Machine, Request, Put as PutOne, Delete as DeleteOne, Bulk, Get, Define, Remove, Auto, Find, Pump, Stale, Indexes, Stats, Event, Keeping, Change, is_taken, same_machine, settled, single_reply, wrote, write, rewrote, reslotted, use_or_make, one_field, or_as_before, brought_on, brought_on_if, with_slots, pump, pump_at, pump_for, change_of, step, start, after, run}
 use Rattle.raven_model.specs.Sound.{Has, NumbersRise, NamesApart, AreListed, Sound, LaterW}
 use Rattle.raven_laws.proofs.LaterLemmas.{Later-itself, IsStore-with, last-with}
 use Rattle.raven_laws.proofs.CommitLemmas.{row_of-follows, commit-Commits}
 use Rattle.raven_laws.proofs.SlotLemmas.{Has-map, NumbersRise-map, NamesApart-map, batch-Brought}
 use Rattle.raven_laws.proofs.ListedLemmas.{commit_from-applied, clients-AreListed, map-AreListed}
 use Rattle.raven_laws.proofs.LimitLemmas.{commit_from-fits, commit_from-last, length_mapped}
-use Rattle.raven_laws.proofs.WorldLemmas.{append-none, LaterW-itself, LaterW-then, Comes, stays, StartsWithPut, Onto, Settles, define-Settles}
+use Rattle.raven_laws.proofs.WorldLemmas.{append-none, LaterW-itself, LaterW-then, Comes, stays, StartsWithPut, Onto, Settles, define-Settles, define_named-Settles, remove-Settles}
 
 -- from a sound world to a sound and later one
 pub record Moves (W V : World) : Type 0 where
@@ -112,10 +112,10 @@ put-grows s w now (Put id expected body ∷ cs) S new o h p =
       | Some kind ↦ λ e g. absurd cc
     ] refl h
 
-rewrote-Moves : (now : ℕ) (M : Machine) (name : List ℕ) (c : SlotChange) (o : Result Written Refused) → Sound M.world → ((S : Store) → Onto M.world c S → Settles M.world c S)
-    → commit M.world.setting Server now c.commands M.world.store ≡ o → Moves M.world (rewrote M name c.slots o).machine.world
-rewrote-Moves now M name c (Err refused) o by is = Moves-itself M.world o
-rewrote-Moves now M name c (Ok w) o by is =
+rewrote-Moves : (now : ℕ) (M : Machine) (reply : told.Reply) (c : SlotChange) (o : Result Written Refused) → Sound M.world → ((S : Store) → Onto M.world c S → Settles M.world c S)
+    → commit M.world.setting Server now c.commands M.world.store ≡ o → Moves M.world (rewrote M reply c.slots o).machine.world
+rewrote-Moves now M reply c (Err refused) o by is = Moves-itself M.world o
+rewrote-Moves now M reply c (Ok w) o by is =
     let k = commit-Commits M.world.setting Server now c.commands M.world.store w o.store is in
     let t = by w.store (record {
       store = k.sound;
@@ -136,16 +136,17 @@ rewrote-Moves now M name c (Ok w) o by is =
       etags = commit_from-last 0 M.world.setting Server now c.commands _ w o.limits.etags is;
     })
 
-defined-Moves : (now : ℕ) (M : Machine) (name : List ℕ) (r : Result SlotChange SlotRefusal) → Sound M.world → ((c : SlotChange) → r ≡ Ok c → (S : Store) → Onto M.world c S → Settles M.world c S) → Moves M.world (defined M now name r).machine.world
-defined-Moves now M name (Err refusal) o by = Moves-itself M.world o
-defined-Moves now M name (Ok c) o by = rewrote-Moves now M name c (commit M.world.setting Server now c.commands M.world.store) o (by c refl) refl
+reslotted-Moves : (now : ℕ) (M : Machine) (reply : List ℕ → told.Reply) (name : List ℕ) (r : Result SlotChange SlotRefusal) → Sound M.world
+    → ((c : SlotChange) → r ≡ Ok c → Sound M.world → (S : Store) → Onto M.world c S → Settles M.world c S) → Moves M.world (reslotted M now reply name r).machine.world
+reslotted-Moves now M reply name (Err refusal) o by = Moves-itself M.world o
+reslotted-Moves now M reply name (Ok c) o by = rewrote-Moves now M (reply c.name) c (commit M.world.setting Server now c.commands M.world.store) o (by c refl o) refl
 
 auto-Moves : (now : ℕ) (M : Machine) (c : Choice) → Sound M.world → Moves M.world (use_or_make M now c).machine.world
 auto-Moves now M (Use s) o = Moves-itself M.world o
 auto-Moves now M (Make shape) o =
     let name = name_of M.world.slots (last M.world.store + 1) shape in
-    defined-Moves now M name (define M.world name (Definition.Auto shape.collection shape.fields)) o
-    (λ c h. define-Settles M.world name (Definition.Auto shape.collection shape.fields) c h o)
+    let d = Definition.Auto shape.collection shape.fields in
+    reslotted-Moves now M told.Index name (define M.world name d) o (define-Settles M.world name d)
 auto-Moves now M Merge o = Moves-itself M.world o
 
 -- BATCHES
@@ -162,26 +163,59 @@ brought-Comes W x max o h =
       }
     ] refl
 
+-- what a batch keeps of a slot
+pub record Keeps (x y : Slot) : Type 0 where
+  pub number : y.number ≡ x.number
+  pub name : y.name ≡ x.name
+  pub row : y.row ≡ x.row
+  pub definition : y.version.definition ≡ x.version.definition
+
 -- to be brought on keeps the definition
-same_definition : (S : Store) (v : Version) (max : ℕ) → (or_as_before v (batch v S max)).definition ≡ v.definition
-same_definition S v max = by (taken (reads v) v.etag S max)
+pub brought-Keeps : (S : Store) (max : ℕ) (x : Slot) → Keeps x (brought_on S max x)
+brought-Keeps S max x = record { number = refl; name = refl; row = refl; definition = by (taken (reads x.version) x.version.etag S max) }
   where
-    by : (rows : List Row) → (or_as_before v (advanced v rows (etag_of_batch (reads v) v.etag S max))).definition ≡ v.definition
+    by : (rows : List Row) → (or_as_before x.version (advanced x.version rows (etag_of_batch (reads x.version) x.version.etag S max))).definition ≡ x.version.definition
     by [] = refl
     by (r ∷ rows) = refl
 
-pump-Moves : (M : Machine) (max : ℕ) → Sound M.world → Moves M.world (pump M max).machine.world
-pump-Moves M max o = Turns-Moves M.world M.world.store (map (brought_on M.world.store max) M.world.slots) o (record {
+-- each slot is brought on or stays
+mapped-Moves : (M : Machine) (f : Slot → Slot) → Sound M.world → ((x : Slot) → Has M.world.slots x → Comes M.world M.world.store [] (f x)) → ((x : Slot) → Keeps x (f x))
+    → Moves M.world (with_slots M.world (map f M.world.slots))
+mapped-Moves M f o comes keeps = Turns-Moves M.world M.world.store (map f M.world.slots) o (record {
   store = o.store;
   later = Later-itself M.world.store;
-  comes = λ s h. let x = Has-map (brought_on M.world.store max) M.world.slots s h in subst (Comes M.world M.world.store []) x.2 (brought-Comes M.world x.0 max o x.1);
-  rising = NumbersRise-map 0 (brought_on M.world.store max) M.world.slots (λ x. refl) o.rising;
-  apart = NamesApart-map (brought_on M.world.store max) M.world.slots (λ x. refl) o.apart;
-  listed = map-AreListed M.world.store (brought_on M.world.store max) M.world.slots (λ x h. (refl, refl, same_definition M.world.store x.version max)) o.listed;
+  comes = λ s h. let x = Has-map f M.world.slots s h in subst (Comes M.world M.world.store []) x.2 (comes x.0 x.1);
+  rising = NumbersRise-map 0 f M.world.slots (λ x. (keeps x).number) o.rising;
+  apart = NamesApart-map f M.world.slots (λ x. (keeps x).name) o.apart;
+  listed = map-AreListed M.world.store f M.world.slots (λ x h. ((keeps x).name, (keeps x).row, (keeps x).definition)) o.listed;
   rows = o.limits.rows;
-  count = let a = length_mapped (brought_on M.world.store max) M.world.slots in let b = o.limits.slots in omega arith;
+  count = let a = length_mapped f M.world.slots in let b = o.limits.slots in omega arith;
   etags = o.limits.etags;
 })
+
+pump-Moves : (M : Machine) (max : ℕ) → Sound M.world → Moves M.world (pump M max).machine.world
+pump-Moves M max o = mapped-Moves M (brought_on M.world.store max) o (λ x h. brought-Comes M.world x max o h) (brought-Keeps M.world.store max)
+
+-- a batch for one name
+pump_at-Moves : (M : Machine) (max : ℕ) (name : List ℕ) (there : Option Slot) → Sound M.world → Moves M.world (pump_at M max name there).machine.world
+pump_at-Moves M max name None o = Moves-itself M.world o
+pump_at-Moves M max name (Some s) o = mapped-Moves M (brought_on_if M.world.store max name) o comes keeps
+  where
+    comes : (x : Slot) → Has M.world.slots x → Comes M.world M.world.store [] (brought_on_if M.world.store max name x)
+    comes x h = elim (is_named name x) as (λ b. Comes M.world M.world.store [] (cond b (brought_on M.world.store max x) x)) [
+      | true ↦ brought-Comes M.world x max o h
+      | false ↦ stays M.world M.world.store [] x o (Later-itself M.world.store) h
+    ]
+
+    keeps : (x : Slot) → Keeps x (brought_on_if M.world.store max name x)
+    keeps x = elim (is_named name x) as (λ b. Keeps x (cond b (brought_on M.world.store max x) x)) [
+      | true ↦ brought-Keeps M.world.store max x
+      | false ↦ record { number = refl; name = refl; row = refl; definition = refl }
+    ]
+
+pump_for-Moves : (M : Machine) (max : ℕ) (index : Option (List ℕ)) → Sound M.world → Moves M.world (pump_for M max index).machine.world
+pump_for-Moves M max None o = pump-Moves M max o
+pump_for-Moves M max (Some name) o = pump_at-Moves M max name (serving M.world.slots name) o
 
 -- RUNS
 
@@ -193,10 +227,13 @@ change-Moves M now (PutOne id expected body) o = write-Moves now M single_reply 
 change-Moves M now (DeleteOne id expected) o = write-Moves now M single_reply (Command.Delete id expected ∷ []) o
 change-Moves M now (Bulk commands) o = write-Moves now M told.Bulk commands o
 change-Moves M now (Get id) o = Moves-itself M.world o
+change-Moves M now (Define name d) o = reslotted-Moves now M told.Index name (define_named M.world name d) o (define_named-Settles M.world name d)
+change-Moves M now (Remove name) o = reslotted-Moves now M told.Removed name (remove M.world name) o (remove-Settles M.world name)
 change-Moves M now (Auto collection field) o = auto-Moves now M (pick (one_field collection field) M.world.store M.world.slots) o
 change-Moves M now (Find index field ws) o = Moves-itself M.world o
-change-Moves M now (Pump max) o = pump-Moves M max o
+change-Moves M now (Pump max index) o = pump_for-Moves M max index o
 change-Moves M now (Stale name cutoff) o = Moves-itself M.world o
+change-Moves M now Indexes o = Moves-itself M.world o
 change-Moves M now Stats o = Moves-itself M.world o
 
 -- whatever the keeper does

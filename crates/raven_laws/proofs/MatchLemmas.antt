@@ -1,5 +1,5 @@
 -- A fresh answer has the ids of all documents that match, and no others.
-use Rattle.std.proofs.Common.{◌≡◌, ℕ, List, [], ◌∷◌, Bool, true, false, cond, ◌&&◌, ◌||◌, Option, Some, None, filter, refl, sym, ap, ◌∙◌, subst, ◌⊎◌, inl, inr}
+use Rattle.std.proofs.Common.{◌≡◌, ℕ, List, [], ◌∷◌, true, false, cond, ◌&&◌, ◌||◌, Option, Some, None, filter, refl, sym, ap, ◌∙◌, subst, ◌⊎◌, inl, inr}
 use Rattle.std.specs.List.{filter_map, cons_option, list_any}
 use Rattle.std.specs.Option.{option_and_then}
 use Rattle.std.specs.Ordering.{eq_by_cmp}
@@ -16,27 +16,11 @@ use Rattle.raven_model.specs.Sound.{Has, Sound}
 use Rattle.raven_laws.specs.Claims.{IsMatch, ids_in, FreshIsExact}
 use Rattle.raven_laws.proofs.StoreLemmas.{both_true, found_key}
 use Rattle.raven_laws.proofs.IndexLemmas.{get-documents}
-use Rattle.raven_laws.proofs.SlotLemmas.{Has-filter, Has-map, Has-mapped}
+use Rattle.raven_laws.proofs.SlotLemmas.{Has-filter, Has-map, Has-mapped, passes, into-filter}
 use Rattle.raven_laws.proofs.MachineLemmas.{run-Sound}
 use Rattle.raven_laws.proofs.AnswerLemmas.{Has-filter_map, value_found, Sound-fresh}
 
 -- LISTS
-
-passes : {X : Type 0} (p : X → Bool) (xs : List X) (x : X) → Has (filter p xs) x → p x ≡ true
-passes p [] x h = absurd h
-passes p (y ∷ xs) x h =
-    elim (p y) as (λ b. p y ≡ b → Has (cond b (y ∷ filter p xs) (filter p xs)) x → p x ≡ true) [
-      | true ↦ λ e g. elim g [ inl same ↦ ap p (sym same) ∙ e | inr more ↦ passes p xs x more ]
-      | false ↦ λ e g. passes p xs x g
-    ] refl h
-
-into-filter : {X : Type 0} (p : X → Bool) (xs : List X) (x : X) → Has xs x → p x ≡ true → Has (filter p xs) x
-into-filter p [] x h is = absurd h
-into-filter p (y ∷ xs) x (inl e) is = subst (λ b. Has (cond b (y ∷ filter p xs) (filter p xs)) x) (sym (ap p e ∙ is)) (inl e)
-into-filter p (y ∷ xs) x (inr h) is = elim (p y) as (λ b. Has (cond b (y ∷ filter p xs) (filter p xs)) x) [
-  | true ↦ inr (into-filter p xs x h is)
-  | false ↦ into-filter p xs x h is
-]
 
 pub into-filter_map : {X Y : Type 0} (f : X → Option Y) (xs : List X) (x : X) (y : Y) → Has xs x → f x ≡ Some y → Has (filter_map f xs) y
 into-filter_map f [] x y h is = absurd h

@@ -16,6 +16,7 @@ use Rattle.raven_model.specs.World.{Slot, serving}
 use Rattle.raven_model.specs.Optimiser.{Shape, plain_name, free_name, first_free, name_of}
 use Rattle.raven_model.specs.Sound.{Has}
 use Rattle.raven_laws.proofs.StoreLemmas.{same_itself, same_means}
+use Rattle.raven_laws.proofs.LimitLemmas.{fewer_filtered}
 use Rattle.raven_laws.proofs.SlotLemmas.{served}
 use Rattle.raven_laws.proofs.MachineLemmas.{run-Sound, run-LaterW}
 
@@ -51,23 +52,6 @@ Serves name n k slots = (m : ℕ) → n ≤ m → m < n + k → (s : Slot) × Ha
 abbrev others : List ℕ → List Slot → List Slot
 others q slots = filter (λ s. not (same_key q (folded s.name))) slots
 
-no_more : (q : List ℕ) (slots : List Slot) → length (others q slots) ≤ length slots
-no_more q [] = omega arith
-no_more q (x ∷ slots) = elim (same_key q (folded x.name)) as (λ b. length (cond (not b) (x ∷ others q slots) (others q slots)) ≤ length (x ∷ slots)) [
-  | true ↦ let a = no_more q slots in omega arith
-  | false ↦ let a = no_more q slots in omega arith
-]
-
-one_fewer : (q : List ℕ) (slots : List Slot) (s : Slot) → Has slots s → folded s.name ≡ q → length (others q slots) < length slots
-one_fewer q [] s at is = absurd at
-one_fewer q (x ∷ slots) s (inl e) is =
-    let t = subst (λ k. same_key q k ≡ true) (sym is ∙ ap (λ (y : Slot). folded y.name) (sym e)) (same_itself q) in
-    subst (λ b. length (cond (not b) (x ∷ others q slots) (others q slots)) < length (x ∷ slots)) (sym t) (let a = no_more q slots in omega arith)
-one_fewer q (x ∷ slots) s (inr at) is = let a = one_fewer q slots s at is in elim (same_key q (folded x.name)) as (λ b. length (cond (not b) (x ∷ others q slots) (others q slots)) < length (x ∷ slots)) [
-  | true ↦ omega arith
-  | false ↦ omega arith
-]
-
 stays : (q : List ℕ) (slots : List Slot) (s : Slot) → Has slots s → same_key q (folded s.name) ≡ false → Has (others q slots) s
 stays q [] s at apart = at
 stays q (x ∷ slots) s (inl e) apart =
@@ -82,7 +66,7 @@ enough name n zero slots small all = omega arith
 enough name n (suc k) slots small all =
     let top = all (n + k) (omega arith) (omega arith) in
     let q = folded (numbered name (n + k)) in
-    let fewer = one_fewer q slots top.0 top.1 top.2 in
+    let fewer = fewer_filtered (λ x. not (same_key q (folded x.name))) slots top.0 top.1 (ap not (subst (λ k. same_key q k ≡ true) (sym top.2) (same_itself q))) in
     let rest = enough name n k (others q slots) (omega arith) (λ m low high.
     let s = all m low (omega arith) in
     (s.0, stays q slots s.0 s.1 (differ (folded s.0.name) q (λ e. let f : n + k ≡ m = numbered_apart name (n + k) m (omega arith) (omega arith) (sym e ∙ s.2) in omega arith)), s.2)) in

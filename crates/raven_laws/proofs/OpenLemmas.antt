@@ -6,7 +6,7 @@ use Rattle.std.proofs.lemmas.Slice.Eq.{bytes_eq-Decides}
 use Rattle.std.specs.Cmp.Lexicographic.{nat_list_eq_equiv}
 use Rattle.std.specs.Option.{option_or}
 use Rattle.std.specs.Str.{bytes_eq}
-use Rattle.raven_data.specs.Data.{Data, null, flag, num, text, array, object, Items, no_items, item, no_entries, entry, pairs_of}
+use Rattle.raven_data.specs.Data.{Data, null, flag, num, text, array, object, Items, Entries, no_items, item, no_entries, entry, pairs_of}
 use Rattle.raven_data.specs.Faults.{is_fit, max_id}
 use Rattle.raven_data.specs.Folding.{folded, same_key}
 use Rattle.raven_data.specs.Json.{JsonRefusal, reading}
@@ -21,9 +21,10 @@ use Rattle.raven_model.specs.Mapping.{Definition, Auto}
 use Rattle.raven_model.specs.Commit.{Setting, is_index_id, stored}
 use Rattle.raven_model.specs.World.{Slot, fresh, index_id, row_body}
 use Rattle.raven_model.specs.Machine.{Machine}
-use Rattle.raven_model.specs.Kept.{max_body, max_etag, is_stored, document_of, document_in, body_in, is_etag, row_in, may_stand_behind, row_behind, or_bad_row, rows_behind, rows_in, opened_by, opened_from}
-use Rattle.raven_model.specs.Opening.{is_part, auto_read, definition_read, definition_in, is_defining, name_in, is_auto_name, is_filed, is_too_many, slot_of, with_slot, slots_with, slots_after, or_bad, and_then, slots_from, opened_with}
+use Rattle.raven_model.specs.Kept.{OpenedFrom, max_body, max_etag, is_stored, document_of, document_in, body_in, is_etag, row_in, may_stand_behind, row_behind, or_bad_row, rows_behind, rows_in}
+use Rattle.raven_model.specs.Opening.{is_part, auto_read, map_read, form_of, body_form, NoForm, ReadRow, is_defining, name_in, may_be_named, is_filed, is_too_many, slot_of, with_slot, slots_with, slots_after, or_bad, and_then, slots_from, opened_with, rows_of}
 use Rattle.raven_model.specs.Sound.{Has, Fits, NumbersRise, NamesApart, AreListed, Sound}
+use Rattle.raven_laws.specs.Opened.{IsTold, IsToldIn, IsToldBy, AreTold, OpenedAsTold}
 use Rattle.raven_laws.proofs.StoreLemmas.{same_row, both_true, either_false, same_itself, same_means, found_key, row_at-append, last_of-append}
 use Rattle.raven_laws.proofs.SlotLemmas.{Has-append, Has-left, Has-right, find-Has, NumbersRise-push, Fits-fresh}
 use Rattle.raven_laws.proofs.MemberLemmas.{Rises, read_rises, they_are}
@@ -294,27 +295,107 @@ four c f = (codes "@metadata", object no_entries) ∷ (codes "Collection", text 
 four-rise : (c f : List ℕ) → IsRising (four c f)
 four-rise c f = ((refl, (refl, (refl, tt))), ((refl, (refl, tt)), ((refl, tt), (tt, tt))))
 
--- the body of a definition is the one that the server writes for it
-pub definition_read-is : (v : Data) (d : Definition) → Rises v → definition_read v ≡ Some d → v ≡ stored (row_body d)
-definition_read-is null d up h = absurd cc
-definition_read-is (flag b) d up h = absurd cc
-definition_read-is (num n) d up h = absurd cc
-definition_read-is (text s) d up h = absurd cc
-definition_read-is (array ds) d up h = absurd cc
-definition_read-is (object ms) d up h =
-    elim (length (pairs_of ms) == 4) as (λ b. length (pairs_of ms) == 4 ≡ b
-    → cond b (auto_read (member (codes "@metadata") ms) (member (codes "Collection") ms) (member (codes "Fields") ms) (member (codes "Kind") ms)) None ≡ Some d
-    → object ms ≡ stored (row_body d)) [
-      | true ↦ λ e g.
-          let a = auto_read-IsAuto (member (codes "@metadata") ms) (member (codes "Collection") ms) (member (codes "Fields") ms) (member (codes "Kind") ms) d g in
-          let they = they_are (four a.name a.field) ms (four-rise a.name a.field) up (a.metadata_is, (a.collection_is, (a.fields_are, (a.kind_is, tt)))) (let n = eqb-true (length (pairs_of ms)) 4 e in omega arith) in
-          ap object they ∙ ap (λ x. stored (row_body x)) a.definition_is
+-- what the four members of the body of a definition by a text are
+record IsStatic (metadata kind map reduce : Option Data) (words : List ℕ) : Type 0 where
+  pub metadata_is : metadata ≡ Some (object no_entries)
+  pub kind_is : kind ≡ Some (text (codes "static"))
+  pub map_is : map ≡ Some (text words)
+  pub reduce_is : reduce ≡ Some null
+
+same_words : (a b : List ℕ) → Some a ≡ Some b → a ≡ b
+same_words a b h = cc
+
+by_words : (k s words : List ℕ) → map_read (Some (object no_entries)) (Some (text k)) (Some (text s)) (Some null) ≡ Some words
+    → IsStatic (Some (object no_entries)) (Some (text k)) (Some (text s)) (Some null) words
+by_words k s words h =
+    elim (bytes_eq k (codes "static")) as (λ b. bytes_eq k (codes "static") ≡ b → cond b (Some s) None ≡ Some words
+    → IsStatic (Some (object no_entries)) (Some (text k)) (Some (text s)) (Some null) words) [
+      | true ↦ λ e g. record {
+        metadata_is = refl;
+        kind_is = ap (λ x. Some (text x)) ((bytes_eq-Decides k (codes "static")).0 e);
+        map_is = ap (λ x. Some (text x)) (same_words s words g);
+        reduce_is = refl;
+      }
       | false ↦ λ e g. absurd cc
     ] refl h
 
-definition_in-is : (b : Body) (d : Definition) → BodyRises b → elim b as (λ x. Option Definition) [ doc v ↦ definition_read v | gone ↦ None ] ≡ Some d → b ≡ doc (stored (row_body d))
-definition_in-is (doc v) d up h = ap doc (definition_read-is v d up h)
-definition_in-is gone d up h = absurd cc
+by_reduce : (k s : List ℕ) (r : Option Data) (words : List ℕ) → map_read (Some (object no_entries)) (Some (text k)) (Some (text s)) r ≡ Some words
+    → IsStatic (Some (object no_entries)) (Some (text k)) (Some (text s)) r words
+by_reduce k s None words h = absurd cc
+by_reduce k s (Some null) words h = by_words k s words h
+by_reduce k s (Some (flag b)) words h = absurd cc
+by_reduce k s (Some (num n)) words h = absurd cc
+by_reduce k s (Some (text x)) words h = absurd cc
+by_reduce k s (Some (array ds)) words h = absurd cc
+by_reduce k s (Some (object ms)) words h = absurd cc
+
+by_map : (k : List ℕ) (m r : Option Data) (words : List ℕ) → map_read (Some (object no_entries)) (Some (text k)) m r ≡ Some words → IsStatic (Some (object no_entries)) (Some (text k)) m r words
+by_map k None r words h = absurd cc
+by_map k (Some null) r words h = absurd cc
+by_map k (Some (flag b)) r words h = absurd cc
+by_map k (Some (num n)) r words h = absurd cc
+by_map k (Some (array ds)) r words h = absurd cc
+by_map k (Some (object ms)) r words h = absurd cc
+by_map k (Some (text s)) r words h = by_reduce k s r words h
+
+by_static : (k m r : Option Data) (words : List ℕ) → map_read (Some (object no_entries)) k m r ≡ Some words → IsStatic (Some (object no_entries)) k m r words
+by_static None m r words h = absurd cc
+by_static (Some null) m r words h = absurd cc
+by_static (Some (flag b)) m r words h = absurd cc
+by_static (Some (num n)) m r words h = absurd cc
+by_static (Some (array ds)) m r words h = absurd cc
+by_static (Some (object ms)) m r words h = absurd cc
+by_static (Some (text k)) m r words h = by_map k m r words h
+
+map_read-IsStatic : (d k m r : Option Data) (words : List ℕ) → map_read d k m r ≡ Some words → IsStatic d k m r words
+map_read-IsStatic None k m r words h = absurd cc
+map_read-IsStatic (Some null) k m r words h = absurd cc
+map_read-IsStatic (Some (flag b)) k m r words h = absurd cc
+map_read-IsStatic (Some (num n)) k m r words h = absurd cc
+map_read-IsStatic (Some (text s)) k m r words h = absurd cc
+map_read-IsStatic (Some (array ds)) k m r words h = absurd cc
+map_read-IsStatic (Some (object (entry n v ms))) k m r words h = absurd cc
+map_read-IsStatic (Some (object no_entries)) k m r words h = by_static k m r words h
+
+-- the members of the body of a definition by a text, in order
+abbrev four_of : List ℕ → Pairs
+four_of words = (codes "@metadata", object no_entries) ∷ (codes "Kind", text (codes "static")) ∷ (codes "Map", text words) ∷ (codes "Reduce", null) ∷ []
+
+four_of-rise : (words : List ℕ) → IsRising (four_of words)
+four_of-rise words = ((refl, (refl, (refl, tt))), ((refl, (refl, tt)), ((refl, tt), (tt, tt))))
+
+-- the body of a definition is the one that the server writes for it
+members-told : (ms : Entries) (d : Definition) → Rises (object ms) → length (pairs_of ms) ≡ 4
+    → (auto : Option Definition) → auto_read (member (codes "@metadata") ms) (member (codes "Collection") ms) (member (codes "Fields") ms) (member (codes "Kind") ms) ≡ auto
+    → (words : Option (List ℕ)) → map_read (member (codes "@metadata") ms) (member (codes "Kind") ms) (member (codes "Map") ms) (member (codes "Reduce") ms) ≡ words
+    → IsTold (form_of auto words) d → object ms ≡ stored (row_body d)
+members-told ms d up n (Some told) e words k h =
+    let a = auto_read-IsAuto (member (codes "@metadata") ms) (member (codes "Collection") ms) (member (codes "Fields") ms) (member (codes "Kind") ms) told e in
+    let they = they_are (four a.name a.field) ms (four-rise a.name a.field) up (a.metadata_is, (a.collection_is, (a.fields_are, (a.kind_is, tt)))) (omega arith) in
+    ap object they ∙ ap (λ x. stored (row_body x)) (a.definition_is ∙ sym h)
+members-told ms d up n None e (Some words) k h =
+    let a = map_read-IsStatic (member (codes "@metadata") ms) (member (codes "Kind") ms) (member (codes "Map") ms) (member (codes "Reduce") ms) words k in
+    let they = they_are (four_of words) ms (four_of-rise words) up (a.metadata_is, (a.kind_is, (a.map_is, (a.reduce_is, tt)))) (omega arith) in
+    ap object they ∙ ap (λ x. stored (row_body x)) (sym h.1)
+members-told ms d up n None e None k h = absurd h
+
+told-is : (v : Data) (d : Definition) → Rises v → IsTold (body_form v) d → v ≡ stored (row_body d)
+told-is null d up h = absurd h
+told-is (flag b) d up h = absurd h
+told-is (num n) d up h = absurd h
+told-is (text s) d up h = absurd h
+told-is (array ds) d up h = absurd h
+told-is (object ms) d up h =
+    let auto = auto_read (member (codes "@metadata") ms) (member (codes "Collection") ms) (member (codes "Fields") ms) (member (codes "Kind") ms) in
+    let words = map_read (member (codes "@metadata") ms) (member (codes "Kind") ms) (member (codes "Map") ms) (member (codes "Reduce") ms) in
+    elim (length (pairs_of ms) == 4) as (λ b. length (pairs_of ms) == 4 ≡ b → IsTold (cond b (form_of auto words) NoForm) d → object ms ≡ stored (row_body d)) [
+      | true ↦ λ e g. members-told ms d up (eqb-true (length (pairs_of ms)) 4 e) auto refl words refl g
+      | false ↦ λ e g. absurd g
+    ] refl h
+
+pub toldin-is : (b : Body) (d : Definition) → BodyRises b → IsToldIn b d → b ≡ doc (stored (row_body d))
+toldin-is (doc v) d up h = ap doc (told-is v d up h)
+toldin-is gone d up h = absurd h
 
 -- THE KEY OF A DEFINITION'S ROW
 
@@ -338,7 +419,7 @@ pub record IsMade (rows : List Row) (x : Slot) : Type 0 where
   pub defining : is_defining from ≡ true
   pub indexed : is_index_id from.id ≡ true
   pub definition : Definition
-  pub defined : definition_in from ≡ Some definition
+  pub told : IsToldIn from.body definition
   pub made : slot_of from definition ≡ x
 
 -- the slots of the rows so far
@@ -356,7 +437,7 @@ IsMade-further rows r x m = record {
   defining = m.defining;
   indexed = m.indexed;
   definition = m.definition;
-  defined = m.defined;
+  told = m.told;
   made = m.made;
 }
 
@@ -376,7 +457,7 @@ plain-AreMade max rows slots r a up plain = record {
 
 -- a row of a definition brings its slot
 defining-AreMade : (max : ℕ) (rows : List Row) (slots : List Slot) (r : Row) (d : Definition) → AreMade max rows slots → last_of 0 rows < r.etag → length slots < max
-    → is_defining r ≡ true → is_index_id r.id ≡ true → definition_in r ≡ Some d → AreMade max (rows ++ r ∷ []) (slots ++ slot_of r d ∷ [])
+    → is_defining r ≡ true → is_index_id r.id ≡ true → IsToldIn r.body d → AreMade max (rows ++ r ∷ []) (slots ++ slot_of r d ∷ [])
 defining-AreMade max rows slots r d a up room is filed means = record {
   rising = NumbersRise-push 0 slots (slot_of r d) a.rising (omega arith) (λ x h. let u = a.under x h in omega arith);
   under = λ x h. let l = last_of-push 0 rows r in elim (Has-append slots (slot_of r d ∷ []) x h) [
@@ -386,7 +467,7 @@ defining-AreMade max rows slots r d a up room is filed means = record {
   ];
   each = λ x h. elim (Has-append slots (slot_of r d ∷ []) x h) [
     | inl old ↦ IsMade-further rows r x (a.each x old)
-    | inr (inl e) ↦ record { from = r; there = Has-right rows (r ∷ []) r (inl refl); defining = is; indexed = filed; definition = d; defined = means; made = e }
+    | inr (inl e) ↦ record { from = r; there = Has-right rows (r ∷ []) r (inl refl); defining = is; indexed = filed; definition = d; told = means; made = e }
     | inr (inr no_more) ↦ absurd no_more
   ];
   only = λ y h at. elim (Has-append rows (r ∷ []) y h) [
@@ -401,23 +482,23 @@ same_slots : (a b : List Slot) → Some a ≡ Some b → a ≡ b
 same_slots a b h = cc
 
 -- what a row that is taken has met
-pub record IsTaken (s : Setting) (slots : List Slot) (r : Row) (more : List Slot) : Type 0 where
-  pub room : is_defining r && nat_le s.max_slots (length slots) ≡ false
-  pub filed : is_filed r ≡ true
-  pub rest : slots_with slots r ≡ Some more
+pub record IsTaken (s : Setting) (slots : List Slot) (x : ReadRow) (more : List Slot) : Type 0 where
+  pub room : is_defining x.row && nat_le s.max_slots (length slots) ≡ false
+  pub filed : is_filed x.row ≡ true
+  pub rest : slots_with slots x ≡ Some more
 
 pub not_false : (b : Bool) → not b ≡ false → b ≡ true
 not_false true h = refl
 not_false false h = absurd cc
 
-pub taken-of : (s : Setting) (n : ℕ) (slots : List Slot) (r : Row) (more : List Slot) → slots_after s n slots r ≡ Some more → IsTaken s slots r more
-taken-of s n slots r more h = elim (is_too_many s n slots r || not (is_filed r)) as (λ b. is_too_many s n slots r || not (is_filed r) ≡ b → cond b None (slots_with slots r) ≡ Some more → IsTaken s slots r more) [
+pub taken-of : (s : Setting) (n : ℕ) (slots : List Slot) (x : ReadRow) (more : List Slot) → slots_after s n slots x ≡ Some more → IsTaken s slots x more
+taken-of s n slots x more h = elim (is_too_many s n slots x.row || not (is_filed x.row)) as (λ b. is_too_many s n slots x.row || not (is_filed x.row) ≡ b → cond b None (slots_with slots x) ≡ Some more → IsTaken s slots x more) [
   | true ↦ λ e g. absurd cc
   | false ↦ λ e g.
-      let f = either_false (is_too_many s n slots r) (not (is_filed r)) e in
+      let f = either_false (is_too_many s n slots x.row) (not (is_filed x.row)) e in
       record {
-        room = (either_false (nat_le s.max_rows n) (is_defining r && nat_le s.max_slots (length slots)) f.0).1;
-        filed = not_false (is_filed r) f.1;
+        room = (either_false (nat_le s.max_rows n) (is_defining x.row && nat_le s.max_slots (length slots)) f.0).1;
+        filed = not_false (is_filed x.row) f.1;
         rest = g;
       }
 ] refl h
@@ -426,40 +507,48 @@ filed-indexed : (r : Row) → is_filed r ≡ true → is_defining r ≡ true →
 filed-indexed r filed is =
     sym (ap (λ b. cond b (is_index_id r.id) (not (is_index_id r.id))) (both_true (is_document r) (bytes_eq r.collection (codes "@indexes")) is).1) ∙ filed
 
-pub with_slot-is : (slots : List Slot) (r : Row) (o : Option Definition) (more : List Slot) → with_slot slots r o ≡ Some more → (d : Definition) × (o ≡ Some d) × (slots ++ slot_of r d ∷ [] ≡ more)
-with_slot-is slots r None more h = absurd cc
-with_slot-is slots r (Some d) more h = elim (is_auto_name (name_in r)) as (λ b. cond b (Some (slots ++ slot_of r d ∷ [])) None ≡ Some more → (c : Definition) × (Some d ≡ Some c) × (slots ++ slot_of r c ∷ [] ≡ more)) [
-  | true ↦ λ g. (d, refl, same_slots _ more g)
-  | false ↦ λ g. absurd cc
-] h
+-- a row of a definition brings one that may have the row's name
+pub record IsBrought (slots : List Slot) (r : Row) (o : Option Definition) (more : List Slot) : Type 0 where
+  pub definition : Definition
+  pub read : o ≡ Some definition
+  pub may : may_be_named definition (name_in r) ≡ true
+  pub brought : slots ++ slot_of r definition ∷ [] ≡ more
 
-slots_after-AreMade : (s : Setting) (n : ℕ) (rows : List Row) (slots : List Slot) (r : Row) (more : List Slot) → AreMade s.max_slots rows slots → last_of 0 rows < r.etag
-    → slots_after s n slots r ≡ Some more → AreMade s.max_slots (rows ++ r ∷ []) more
-slots_after-AreMade s n rows slots r more a up h =
-    let t = taken-of s n slots r more h in
-    elim (is_defining r) as (λ b. is_defining r ≡ b → cond b (with_slot slots r (definition_in r)) (Some slots) ≡ Some more → AreMade s.max_slots (rows ++ r ∷ []) more) [
+pub with_slot-is : (slots : List Slot) (r : Row) (o : Option Definition) (more : List Slot) → with_slot slots r o ≡ Some more → IsBrought slots r o more
+with_slot-is slots r None more h = absurd cc
+with_slot-is slots r (Some d) more h = elim (may_be_named d (name_in r)) as (λ b. may_be_named d (name_in r) ≡ b → cond b (Some (slots ++ slot_of r d ∷ [])) None ≡ Some more → IsBrought slots r (Some d) more) [
+  | true ↦ λ e g. record { definition = d; read = refl; may = e; brought = same_slots _ more g }
+  | false ↦ λ e g. absurd cc
+] refl h
+
+slots_after-AreMade : (s : Setting) (n : ℕ) (rows : List Row) (slots : List Slot) (x : ReadRow) (more : List Slot) → AreMade s.max_slots rows slots → last_of 0 rows < x.row.etag → IsToldBy x
+    → slots_after s n slots x ≡ Some more → AreMade s.max_slots (rows ++ x.row ∷ []) more
+slots_after-AreMade s n rows slots x more a up told h =
+    let t = taken-of s n slots x more h in
+    elim (is_defining x.row) as (λ b. is_defining x.row ≡ b → cond b (with_slot slots x.row x.definition) (Some slots) ≡ Some more → AreMade s.max_slots (rows ++ x.row ∷ []) more) [
       | true ↦ λ e g.
-          let w = with_slot-is slots r (definition_in r) more g in
+          let w = with_slot-is slots x.row x.definition more g in
           let free = sym (ap (λ b. b && nat_le s.max_slots (length slots)) e) ∙ t.room in
-          subst (AreMade s.max_slots (rows ++ r ∷ [])) w.2
-          (defining-AreMade s.max_slots rows slots r w.0 a up (leb-false s.max_slots (length slots) free) e (filed-indexed r t.filed e) w.1)
-      | false ↦ λ e g. subst (AreMade s.max_slots (rows ++ r ∷ [])) (same_slots slots more g) (plain-AreMade s.max_slots rows slots r a up e)
+          subst (AreMade s.max_slots (rows ++ x.row ∷ [])) w.brought
+          (defining-AreMade s.max_slots rows slots x.row w.definition a up (leb-false s.max_slots (length slots) free) e (filed-indexed x.row t.filed e) (told w.definition e w.read))
+      | false ↦ λ e g. subst (AreMade s.max_slots (rows ++ x.row ∷ [])) (same_slots slots more g) (plain-AreMade s.max_slots rows slots x.row a up e)
     ] refl t.rest
 
 same_opened : (a b : List Slot) → (let r : Result (List Slot) ℕ = Ok a in r) ≡ Ok b → a ≡ b
 same_opened a b h = cc
 
-slots_from-AreMade : (s : Setting) (n : ℕ) (earlier : List Row) (slots : List Slot) (rows : List Row) (all : List Slot) → AreMade s.max_slots earlier slots → AreRising (last_of 0 earlier) rows
-    → slots_from s n slots rows ≡ Ok all → AreMade s.max_slots (earlier ++ rows) all
-slots_from-AreMade s n earlier slots [] all a up h =
-    subst (λ xs. AreMade s.max_slots xs all) (sym (append-nil earlier)) (subst (AreMade s.max_slots earlier) (same_opened slots all h) a)
-slots_from-AreMade s n earlier slots (r ∷ rows) all a up h =
-    elim (slots_after s n slots r) as (λ o. slots_after s n slots r ≡ o → and_then (or_bad r.etag o) (λ more. slots_from s (n + 1) more rows) ≡ Ok all → AreMade s.max_slots (earlier ++ r ∷ rows) all) [
+slots_from-AreMade : (s : Setting) (n : ℕ) (earlier : List Row) (slots : List Slot) (xs : List ReadRow) (all : List Slot) → AreMade s.max_slots earlier slots
+    → AreRising (last_of 0 earlier) (rows_of xs) → AreTold xs → slots_from s n slots xs ≡ Ok all → AreMade s.max_slots (earlier ++ rows_of xs) all
+slots_from-AreMade s n earlier slots [] all a up told h =
+    subst (λ rows. AreMade s.max_slots rows all) (sym (append-nil earlier)) (subst (AreMade s.max_slots earlier) (same_opened slots all h) a)
+slots_from-AreMade s n earlier slots (x ∷ xs) all a up told h =
+    elim (slots_after s n slots x) as (λ o. slots_after s n slots x ≡ o → and_then (or_bad x.row.etag o) (λ more. slots_from s (n + 1) more xs) ≡ Ok all
+    → AreMade s.max_slots (earlier ++ x.row ∷ rows_of xs) all) [
       | None ↦ λ e g. absurd cc
       | Some more ↦ λ e g.
-          subst (λ xs. AreMade s.max_slots xs all) (append_assoc earlier (r ∷ []) rows)
-          (slots_from-AreMade s (n + 1) (earlier ++ r ∷ []) more rows all (slots_after-AreMade s n earlier slots r more a up.0 e)
-          (subst (λ low. AreRising low rows) (sym (last_of-push 0 earlier r)) up.1) g)
+          subst (λ rows. AreMade s.max_slots rows all) (append_assoc earlier (x.row ∷ []) (rows_of xs))
+          (slots_from-AreMade s (n + 1) (earlier ++ x.row ∷ []) more xs all (slots_after-AreMade s n earlier slots x more a up.0 told.0 e)
+          (subst (λ low. AreRising low (rows_of xs)) (sym (last_of-push 0 earlier x.row)) up.1) told.1 g)
     ] refl h
 
 -- THE WORLD
@@ -475,6 +564,19 @@ Has-found (x ∷ rows) r apart (inr h) =
       | false ↦ λ e. Has-found rows r apart.1 h
     ] refl
 
+number-above : (low : ℕ) (slots : List Slot) (s : Slot) → NumbersRise low slots → Has slots s → low < s.number
+number-above low [] s up h = absurd h
+number-above low (x ∷ slots) s up (inl e) = subst (λ (y : Slot). low < y.number) e up.0
+number-above low (x ∷ slots) s up (inr h) = let first = up.0 in let later = number-above x.number slots s up.1 h in omega arith
+
+-- slots of one number are one
+same-number : (low : ℕ) (slots : List Slot) (s t : Slot) → NumbersRise low slots → Has slots s → Has slots t → s.number ≡ t.number → s ≡ t
+same-number low [] s t up h g e = absurd h
+same-number low (x ∷ slots) s t up (inl a) (inl b) e = sym a ∙ b
+same-number low (x ∷ slots) s t up (inl a) (inr g) e = absurd (let n = ap (λ (y : Slot). y.number) a in let later = number-above x.number slots t up.1 g in omega arith)
+same-number low (x ∷ slots) s t up (inr h) (inl b) e = absurd (let n = ap (λ (y : Slot). y.number) b in let later = number-above x.number slots s up.1 h in omega arith)
+same-number low (x ∷ slots) s t up (inr h) (inr g) e = same-number x.number slots s t up.1 h g e
+
 opened-apart : (max : ℕ) (rows : List Row) (slots : List Slot) → AreApart rows → AreMade max rows slots → NamesApart slots
 opened-apart max rows slots apart a s t h g e =
     let x = a.each s h in
@@ -483,8 +585,7 @@ opened-apart max rows slots apart a s t h g e =
     ap (λ n. folded (codes "@index/") ++ n) (ap (λ (z : Slot). folded z.name) x.made ∙ e ∙ ap (λ (z : Slot). folded z.name) (sym y.made)) in
     let keyed : key x.from ≡ key y.from = indexed x.from.id x.indexed ∙ named ∙ sym (indexed y.from.id y.indexed) in
     let same : x.from ≡ y.from = same_row x.from y.from (sym (Has-found rows x.from apart x.there) ∙ ap (λ k. row_at k rows) keyed ∙ Has-found rows y.from apart y.there) in
-    let defined : x.definition ≡ y.definition = same_definition x.definition y.definition (sym x.defined ∙ ap definition_in same ∙ y.defined) in
-    sym x.made ∙ (λ i. slot_of (same i) (defined i)) ∙ y.made
+    same-number 0 slots s t a.rising h g (ap (λ (z : Slot). z.number) (sym x.made) ∙ ap (λ (r : Row). r.etag) same ∙ ap (λ (z : Slot). z.number) y.made)
 
 opened-listed : (max : ℕ) (rows : List Row) (slots : List Slot) → Stand max rows → (most : ℕ) → AreMade most rows slots → AreListed (record { rows = rows }) slots
 opened-listed max rows slots s most a = record {
@@ -496,7 +597,7 @@ opened-listed max rows slots s most a = record {
         found = ap (λ (z : Slot). row_at (folded (index_id z.name)) rows) (sym m.made) ∙ ap (λ k. row_at k rows) (sym (indexed m.from.id m.indexed)) ∙ Has-found rows m.from s.apart m.there;
         etag = ap (λ (z : Slot). z.row) m.made;
         collection = (bytes_eq-Decides m.from.collection (codes "@indexes")).0 shut.1;
-        body = definition_in-is m.from.body m.definition (s.rises m.from m.there) m.defined ∙ ap (λ (z : Slot). doc (stored (row_body z.version.definition))) m.made;
+        body = toldin-is m.from.body m.definition (s.rises m.from m.there) m.told ∙ ap (λ (z : Slot). doc (stored (row_body z.version.definition))) m.made;
       };
   only = λ q r h is c.
       let at = find-Has (λ x. same_key q (key x)) rows r h in
@@ -507,13 +608,6 @@ opened-listed max rows slots s most a = record {
 }
 
 -- the machine that rows open
-pub record IsOpened (s : Setting) (held : List KeptRow) (M : Machine) : Type 0 where
-  pub sound : Sound M.world
-  pub kept : all_kept M.world.store.rows ≡ held
-  pub setting : M.world.setting ≡ s
-  pub notes : M.world.notes ≡ []
-  pub slots : (x : Slot) → Has M.world.slots x → x.version ≡ fresh x.version.definition
-
 abbrev machine_of : Setting → List Row → List Slot → Machine
 machine_of s rows slots = record { world = record { setting = s; store = record { rows = rows }; slots = slots; notes = [] } }
 
@@ -537,23 +631,57 @@ none-AreMade max = record { rising = tt; under = λ x h. absurd h; each = λ x h
 same_machine_of : (a b : Machine) → (let r : Result Machine ℕ = Ok a in r) ≡ Ok b → a ≡ b
 same_machine_of a b h = cc
 
-opened-is : (s : Setting) (held : List KeptRow) (M : Machine) (r : Result (List Row) ℕ) → rows_in s.max_rows held ≡ r → opened_by s r ≡ Ok M → IsOpened s held M
-opened-is s held M (Err etag) e h = absurd cc
-opened-is s held M (Ok rows) e h =
-    let f = rows_in-AreRowsOf s.max_rows held rows e in
-    elim (slots_from s 0 [] rows) as (λ o. slots_from s 0 [] rows ≡ o → opened_with s rows o ≡ Ok M → IsOpened s held M) [
-      | Err etag ↦ λ k g. absurd cc
-      | Ok slots ↦ λ k g.
-          let stand = f.stand in
-          let a = slots_from-AreMade s 0 [] [] rows slots (none-AreMade s.max_slots) stand.rising k in
-          subst (IsOpened s held) (same_machine_of (machine_of s rows slots) M g) (record {
-            sound = world-Sound s rows slots f.stand a;
-            kept = f.kept;
-            setting = refl;
-            notes = refl;
-            slots = λ x h. let m = a.each x h in ap (λ (z : Slot). z.version) (sym m.made) ∙ ap (λ (z : Slot). fresh z.version.definition) m.made;
-          })
+-- slots that have recorded nothing yet
+abbrev AreFresh : List Slot → Type 0
+AreFresh slots = (x : Slot) → Has slots x → x.version ≡ fresh x.version.definition
+
+one-fresh : (s : Setting) (n : ℕ) (slots : List Slot) (x : ReadRow) (more : List Slot) → AreFresh slots → slots_after s n slots x ≡ Some more → AreFresh more
+one-fresh s n slots x more f h =
+    let t = taken-of s n slots x more h in
+    elim (is_defining x.row) as (λ b. cond b (with_slot slots x.row x.definition) (Some slots) ≡ Some more → AreFresh more) [
+      | true ↦ λ g.
+          let w = with_slot-is slots x.row x.definition more g in
+          subst AreFresh w.brought (λ y at. elim (Has-append slots (slot_of x.row w.definition ∷ []) y at) [
+            | inl old ↦ f y old
+            | inr (inl e) ↦ subst (λ (z : Slot). z.version ≡ fresh z.version.definition) e refl
+            | inr (inr no_more) ↦ absurd no_more
+          ])
+      | false ↦ λ g. subst AreFresh (same_slots slots more g) f
+    ] t.rest
+
+all-fresh : (s : Setting) (n : ℕ) (slots : List Slot) (xs : List ReadRow) (all : List Slot) → AreFresh slots → slots_from s n slots xs ≡ Ok all → AreFresh all
+all-fresh s n slots [] all f h = subst AreFresh (same_opened slots all h) f
+all-fresh s n slots (x ∷ xs) all f h =
+    elim (slots_after s n slots x) as (λ o. slots_after s n slots x ≡ o → and_then (or_bad x.row.etag o) (λ more. slots_from s (n + 1) more xs) ≡ Ok all → AreFresh all) [
+      | None ↦ λ e g. absurd cc
+      | Some more ↦ λ e g. all-fresh s (n + 1) more xs all (one-fresh s n slots x more f e) g
     ] refl h
 
-pub opened_from-is : (s : Setting) (held : List KeptRow) (M : Machine) → opened_from s held ≡ Ok M → IsOpened s held M
-opened_from-is s held M h = opened-is s held M (rows_in s.max_rows held) refl h
+-- what holds of the machine whatever was read of the rows
+pub record HoldsRows (s : Setting) (held : List KeptRow) (M : Machine) : Type 0 where
+  pub kept : all_kept M.world.store.rows ≡ held
+  pub setting : M.world.setting ≡ s
+  pub notes : M.world.notes ≡ []
+  pub slots : (x : Slot) → Has M.world.slots x → x.version ≡ fresh x.version.definition
+
+holds-rows : (s : Setting) (held : List KeptRow) (M : Machine) (xs : List ReadRow) → AreRowsOf s.max_rows held (rows_of xs)
+    → (r : Result (List Slot) ℕ) → slots_from s 0 [] xs ≡ r → opened_with s (rows_of xs) r ≡ Ok M → HoldsRows s held M
+holds-rows s held M xs f (Err etag) k g = absurd cc
+holds-rows s held M xs f (Ok slots) k g =
+    subst (HoldsRows s held) (same_machine_of (machine_of s (rows_of xs) slots) M g)
+    (record { kept = f.kept; setting = refl; notes = refl; slots = all-fresh s 0 [] xs slots (λ x at. absurd at) k })
+
+pub opened_from-rows : (s : Setting) (held : List KeptRow) (M : Machine) → OpenedFrom s held M → HoldsRows s held M
+opened_from-rows s held M from = holds-rows s held M from.read (rows_in-AreRowsOf s.max_rows held (rows_of from.read) from.rows) (slots_from s 0 [] from.read) refl from.opens
+
+opened-sound : (s : Setting) (held : List KeptRow) (M : Machine) (xs : List ReadRow) → AreRowsOf s.max_rows held (rows_of xs) → AreTold xs
+    → (r : Result (List Slot) ℕ) → slots_from s 0 [] xs ≡ r → opened_with s (rows_of xs) r ≡ Ok M → Sound M.world
+opened-sound s held M xs f told (Err etag) k g = absurd cc
+opened-sound s held M xs f told (Ok slots) k g =
+    let stand = f.stand in
+    let a = slots_from-AreMade s 0 [] [] xs slots (none-AreMade s.max_slots) stand.rising told k in
+    subst (λ (N : Machine). Sound N.world) (same_machine_of (machine_of s (rows_of xs) slots) M g) (world-Sound s (rows_of xs) slots f.stand a)
+
+pub opened_from-Sound : (s : Setting) (held : List KeptRow) (M : Machine) → OpenedAsTold s held M → Sound M.world
+opened_from-Sound s held M o =
+    let from = o.opened in opened-sound s held M from.read (rows_in-AreRowsOf s.max_rows held (rows_of from.read) from.rows) o.told (slots_from s 0 [] from.read) refl from.opens

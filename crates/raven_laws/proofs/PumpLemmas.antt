@@ -13,6 +13,7 @@ use Rattle.raven_model.specs.Sound.{Has}
 use Rattle.raven_laws.proofs.StoreLemmas.{either_false, same_itself, found_etag}
 use Rattle.raven_laws.proofs.IndexLemmas.{Taken, Taken-batch}
 use Rattle.raven_laws.proofs.StaleLemmas.{seen-fresh}
+use Rattle.raven_laws.proofs.LimitLemmas.{length_filtered}
 use Rattle.raven_laws.proofs.SlotLemmas.{Has-map}
 use Rattle.raven_laws.proofs.MachineLemmas.{run-Sound}
 
@@ -46,13 +47,6 @@ taken_none (suc max) (x ∷ rows) some h = absurd cc
 take_none : (max : ℕ) → (let xs : List Row = [] in take max xs) ≡ []
 take_none zero = refl
 take_none (suc max) = refl
-
-fewer : (p : Row → Bool) (rows : List Row) → length (filter p rows) ≤ length rows
-fewer p [] = omega arith
-fewer p (x ∷ rows) = elim (p x) as (λ b. length (cond b (x ∷ filter p rows) (filter p rows)) ≤ length (x ∷ rows)) [
-  | true ↦ let a = fewer p rows in omega arith
-  | false ↦ let a = fewer p rows in omega arith
-]
 
 -- nothing is taken exactly where nothing is unseen
 nothing_taken : (S : Store) (scope : Scope) (e max : ℕ) → 1 ≤ max → taken scope e S max ≡ [] → stale S scope e None ≡ false
@@ -102,7 +96,7 @@ all-fresh S s max o some most =
     v = s.version
 
     nothing_left : left_over (reads v) v.etag S max ≡ []
-    nothing_left = drop_all max (past (reads v) v.etag S) (let a = fewer (λ r. in_scope (reads v) r && nat_lt v.etag r.etag) S.rows in omega arith)
+    nothing_left = drop_all max (past (reads v) v.etag S) (let a = length_filtered (λ r. in_scope (reads v) r && nat_lt v.etag r.etag) S.rows in omega arith)
 
 -- AFTER A RUN
 

@@ -1,24 +1,24 @@
 -- A script is a run.
-use Rattle.std.proofs.Common.{◌≡◌, List, [], ◌∷◌, ◌++◌, Option, Some, None, Result, Ok, Err, refl, sym, ◌∙◌, subst}
+use Rattle.std.proofs.Common.{◌≡◌, List, [], ◌∷◌, ◌++◌, Some, None, Ok, Err, refl, sym, ◌∙◌, subst}
 use Rattle.std.specs.List.{cons_option}
 use Rattle.raven_model.specs.Commit.{Setting}
 use Rattle.raven_model.specs.Machine.{Machine, Event, start, run}
 use Rattle.raven_model.specs.Sound.{Sound, LaterW}
-use Rattle.raven_model.specs.Script.{Line, Do, ReadRefusal, Circumstance, Given, line_of, event_of, left_by, after_line, after_lines, events_of}
+use Rattle.raven_model.specs.Script.{Do, LineRead, Circumstance, Given, event_of, left_by, after_line, after_lines, events_of}
 use Rattle.raven_laws.specs.Claims.{FreshIsFromScratch, FreshIsExact, FlagsAreExact, IdsAreAsKept}
 use Rattle.raven_laws.proofs.MachineLemmas.{run-Sound, run-Moves}
 use Rattle.raven_laws.proofs.MatchLemmas.{Sound-exact}
 use Rattle.raven_laws.proofs.AnswerLemmas.{Sound-fresh, Sound-flags, Sound-ids}
 
 -- a line is no event or one
-one_line : (c : Circumstance) (r : Result (Option Line) ReadRefusal) (events : List Event) (M : Machine) → run (cons_option (event_of c r) events) M ≡ run events (left_by M c r)
+one_line : (c : Circumstance) (r : LineRead) (events : List Event) (M : Machine) → run (cons_option (event_of c r) events) M ≡ run events (left_by M c r)
 one_line c (Err refusal) events M = refl
 one_line c (Ok None) events M = refl
 one_line c (Ok (Some (Do request))) events M = refl
 
 pub lines-run : (all : List Given) (M : Machine) → after_lines all M ≡ run (events_of all) M
 lines-run [] M = refl
-lines-run (g ∷ more) M = lines-run more (after_line g M) ∙ sym (one_line g.1 (line_of g.0) (events_of more) M)
+lines-run (g ∷ more) M = lines-run more (after_line g M) ∙ sym (one_line g.circumstance g.read (events_of more) M)
 
 pub lines-append : (all more : List Given) (M : Machine) → after_lines (all ++ more) M ≡ after_lines more (after_lines all M)
 lines-append [] more M = refl

@@ -36,6 +36,22 @@ Has-filter p (y ∷ xs) x h =
       | false ↦ λ g. inr (Has-filter p xs x g)
     ] h
 
+pub passes : {X : Type 0} (p : X → Bool) (xs : List X) (x : X) → Has (filter p xs) x → p x ≡ true
+passes p [] x h = absurd h
+passes p (y ∷ xs) x h =
+    elim (p y) as (λ b. p y ≡ b → Has (cond b (y ∷ filter p xs) (filter p xs)) x → p x ≡ true) [
+      | true ↦ λ e g. elim g [ inl same ↦ ap p (sym same) ∙ e | inr more ↦ passes p xs x more ]
+      | false ↦ λ e g. passes p xs x g
+    ] refl h
+
+pub into-filter : {X : Type 0} (p : X → Bool) (xs : List X) (x : X) → Has xs x → p x ≡ true → Has (filter p xs) x
+into-filter p [] x h is = absurd h
+into-filter p (y ∷ xs) x (inl e) is = subst (λ b. Has (cond b (y ∷ filter p xs) (filter p xs)) x) (sym (ap p e ∙ is)) (inl e)
+into-filter p (y ∷ xs) x (inr h) is = elim (p y) as (λ b. Has (cond b (y ∷ filter p xs) (filter p xs)) x) [
+  | true ↦ inr (into-filter p xs x h is)
+  | false ↦ into-filter p xs x h is
+]
+
 -- what a mapped list has comes from what the list has
 pub Has-map : {X Y : Type 0} (f : X → Y) (xs : List X) (y : Y) → Has (map f xs) y → (x : X) × Has xs x × (f x ≡ y)
 Has-map f [] y h = absurd h
@@ -66,6 +82,17 @@ pub NumbersRise-push : (low : ℕ) (slots : List Slot) (new : Slot) → NumbersR
 NumbersRise-push low [] new up h below = (h, tt)
 NumbersRise-push low (s ∷ slots) new up h below = (up.0, NumbersRise-push s.number slots new up.1 (below s (inl refl)) (λ x at. below x (inr at)))
 
+NumbersRise-lower : (low high : ℕ) (slots : List Slot) → low ≤ high → NumbersRise high slots → NumbersRise low slots
+NumbersRise-lower low high [] le up = tt
+NumbersRise-lower low high (s ∷ slots) le up = (let a = up.0 in omega arith, up.1)
+
+pub NumbersRise-filter : (low : ℕ) (p : Slot → Bool) (slots : List Slot) → NumbersRise low slots → NumbersRise low (filter p slots)
+NumbersRise-filter low p [] up = tt
+NumbersRise-filter low p (s ∷ slots) up = elim (p s) as (λ b. NumbersRise low (cond b (s ∷ filter p slots) (filter p slots))) [
+  | true ↦ (up.0, NumbersRise-filter s.number p slots up.1)
+  | false ↦ NumbersRise-filter low p slots (NumbersRise-lower low s.number slots (let a = up.0 in omega arith) up.1)
+]
+
 -- NAMES
 
 pub NamesApart-map : (f : Slot → Slot) (slots : List Slot) → ((s : Slot) → (f s).name ≡ s.name) → NamesApart slots → NamesApart (map f slots)
@@ -89,6 +116,9 @@ NamesApart-push slots new apart free s t h g e = elim (Has-append slots (new ∷
   ]
   | inr (inr no_more) ↦ absurd no_more
 ]
+
+pub NamesApart-filter : (p : Slot → Bool) (slots : List Slot) → NamesApart slots → NamesApart (filter p slots)
+NamesApart-filter p slots apart s t h g e = apart s t (Has-filter p slots s h) (Has-filter p slots t g) e
 
 -- a name that nothing serves is no slot's
 pub unserved : (slots : List Slot) (name : List ℕ) → serving slots name ≡ None → (s : Slot) → Has slots s → folded s.name ≡ folded name → ⊥

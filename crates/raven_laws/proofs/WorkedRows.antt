@@ -1,5 +1,5 @@
 -- The definitions at work: what is answered to requests that were worked out by hand, and what is printed.
-use Rattle.std.proofs.Common.{◌≡◌, ℕ, List, [], ◌∷◌, ◌++◌, true, false, Some, None, filter, refl, ap, codes}
+use Rattle.std.proofs.Common.{◌≡◌, ℕ, List, [], ◌∷◌, ◌++◌, replicate, true, false, Some, None, filter, refl, ap, codes}
 use Rattle.std.specs.List.{filter_map}
 use Rattle.std.specs.Fmt.{digits}
 use Rattle.std.specs.FinMap.{empty}
@@ -8,9 +8,10 @@ use Rattle.raven_data.specs.Moments.{moment_text, day_from, day_in, day_text}
 use Rattle.raven_data.specs.Rows.{Row, doc}
 use Rattle.raven_model.specs.Mapping.{Definition, Mapper, mapper_of, is_mapped, entry_of}
 use Rattle.raven_model.specs.Commit.{Command, AnyVector, Vector}
+use Rattle.raven_model.specs.World.{definition_data}
 use Rattle.raven_model.specs.Replies.{Result as Done}
-use Rattle.raven_model.specs.Replies.{Reply, Index, Pumped, Pumping, Found, NoIndex, UnknownLine, Stale, Stats, Document, NoDocument, Deleted, CollectionChanged, ReservedId, Conflict, TooLong, KeeperFault, printed}
-use Rattle.raven_model.specs.Machine.{Machine, Request, Put, Delete, Bulk, Get, Auto, Find, Pump, Stale as AskStale, Stats as AskStats, found, start, step, untroubled}
+use Rattle.raven_model.specs.Replies.{Reply, Index, Indexes, Removed, ReservedName, NameTooLong, Pumped, Pumping, Found, NoIndex, UnknownLine, Stale, Stats, Document, NoDocument, Deleted, CollectionChanged, ReservedId, Conflict, TooLong, KeeperFault, printed}
+use Rattle.raven_model.specs.Machine.{Machine, Request, Put, Delete, Bulk, Get, Define, Remove, Auto, Find, Pump, Stale as AskStale, Stats as AskStats, found, start, step, untroubled}
 use Rattle.raven_model.specs.Words.{program}
 use Rattle.raven_laws.proofs.KeyedLemmas.{values-table_of}
 
@@ -34,21 +35,21 @@ abbrev pub moved : ℕ → List ℕ → ℕ → Pumping
 moved from name to = record { from = from; index = name; to = to }
 
 -- one of two rows is taken, and the etag stays below the one that remains
-one_at_a_time : replies (Auto (codes "C") (codes "F") ∷ put (codes "C") (codes "x") (codes "F") (codes "a") ∷ put (codes "C") (codes "y") (codes "F") (codes "b") ∷ put (codes "C") (codes "X") (codes "F") (codes "c") ∷ Pump 1 ∷ Pump 1 ∷ Pump 1 ∷ [])
+one_at_a_time : replies (Auto (codes "C") (codes "F") ∷ put (codes "C") (codes "x") (codes "F") (codes "a") ∷ put (codes "C") (codes "y") (codes "F") (codes "b") ∷ put (codes "C") (codes "X") (codes "F") (codes "c") ∷ Pump 1 None ∷ Pump 1 None ∷ Pump 1 None ∷ [])
     ≡ Index (codes "Auto/C/ByF") ∷ was_put (codes "2") (codes "x") ∷ was_put (codes "3") (codes "y") ∷ was_put (codes "4") (codes "x")
     ∷ Pumped (moved 0 (codes "Auto/C/ByF") 3 ∷ []) ∷ Pumped (moved 3 (codes "Auto/C/ByF") 4 ∷ []) ∷ Pumped (moved 4 (codes "Auto/C/ByF") 4 ∷ []) ∷ []
 unfolding digits
 one_at_a_time = refl
 
 -- a row of another collection moves no index, until a row that it reads is taken
-other_collection : replies (Auto (codes "C") (codes "F") ∷ put (codes "D") (codes "x") (codes "F") (codes "a") ∷ Pump 64 ∷ put (codes "C") (codes "y") (codes "F") (codes "b") ∷ put (codes "D") (codes "z") (codes "F") (codes "c") ∷ Pump 1 ∷ [])
+other_collection : replies (Auto (codes "C") (codes "F") ∷ put (codes "D") (codes "x") (codes "F") (codes "a") ∷ Pump 64 None ∷ put (codes "C") (codes "y") (codes "F") (codes "b") ∷ put (codes "D") (codes "z") (codes "F") (codes "c") ∷ Pump 1 None ∷ [])
     ≡ Index (codes "Auto/C/ByF") ∷ was_put (codes "2") (codes "x") ∷ Pumped (moved 0 (codes "Auto/C/ByF") 0 ∷ [])
     ∷ was_put (codes "3") (codes "y") ∷ was_put (codes "4") (codes "z") ∷ Pumped (moved 0 (codes "Auto/C/ByF") 4 ∷ []) ∷ []
 unfolding digits
 other_collection = refl
 
 -- without an index there is nothing to bring on, and nothing to ask
-no_index : replies (Pump 64 ∷ Find (codes "X") (codes "F") (codes "a") ∷ []) ≡ Pumped [] ∷ NoIndex (codes "X") ∷ []
+no_index : replies (Pump 64 None ∷ Find (codes "X") (codes "F") (codes "a") ∷ []) ≡ Pumped [] ∷ NoIndex (codes "X") ∷ []
 no_index = refl
 
 -- a field that is asked for twice has one index; for another field of the collection none is made yet
@@ -71,8 +72,8 @@ unfolding digits
 ids_kept = refl
 
 -- one row of two is taken: the index is behind the other until the next batch
-behind_one : replies (Auto (codes "C") (codes "F") ∷ put (codes "C") (codes "x") (codes "F") (codes "a") ∷ put (codes "C") (codes "y") (codes "F") (codes "b") ∷ put (codes "C") (codes "x") (codes "F") (codes "c") ∷ Pump 1
-    ∷ AskStale (codes "Auto/C/ByF") None ∷ AskStale (codes "Auto/C/ByF") (Some 3) ∷ AskStale (codes "Auto/C/ByF") (Some 4) ∷ Pump 1 ∷ AskStale (codes "auto/c/byf") None ∷ AskStale (codes "B") None ∷ [])
+behind_one : replies (Auto (codes "C") (codes "F") ∷ put (codes "C") (codes "x") (codes "F") (codes "a") ∷ put (codes "C") (codes "y") (codes "F") (codes "b") ∷ put (codes "C") (codes "x") (codes "F") (codes "c") ∷ Pump 1 None
+    ∷ AskStale (codes "Auto/C/ByF") None ∷ AskStale (codes "Auto/C/ByF") (Some 3) ∷ AskStale (codes "Auto/C/ByF") (Some 4) ∷ Pump 1 None ∷ AskStale (codes "auto/c/byf") None ∷ AskStale (codes "B") None ∷ [])
     ≡ Index (codes "Auto/C/ByF") ∷ was_put (codes "2") (codes "x") ∷ was_put (codes "3") (codes "y") ∷ was_put (codes "4") (codes "x") ∷ Pumped (moved 0 (codes "Auto/C/ByF") 3 ∷ [])
     ∷ Stale 3 true 4 ∷ Stale 3 false 3 ∷ Stale 3 true 4 ∷ Pumped (moved 3 (codes "Auto/C/ByF") 4 ∷ []) ∷ Stale 4 false 4 ∷ NoIndex (codes "B") ∷ []
 unfolding digits
@@ -109,6 +110,29 @@ shown_document = refl
 unkept : (step (start program) (record { takes = false ∷ []; before = 3; after = 4 }) 0 (put (codes "Users") (codes "users/1") (codes "Name") (codes "Ada"))) ≡ record { reply = KeeperFault 3 4; machine = start program }
 unkept = refl
 
+-- a name that is removed serves nothing, however it was spelled, and may be taken again
+removals : replies (Auto (codes "C") (codes "F") ∷ Remove (codes "AUTO/c/byf") ∷ Find (codes "Auto/C/ByF") (codes "F") (codes "a") ∷ Remove (codes "Auto/C/ByF") ∷ AskStats ∷ Auto (codes "C") (codes "F") ∷ AskStats ∷ [])
+    ≡ Index (codes "Auto/C/ByF") ∷ Removed (codes "Auto/C/ByF") ∷ NoIndex (codes "Auto/C/ByF") ∷ NoIndex (codes "Auto/C/ByF") ∷ Stats 0 0 0 2 ∷ Index (codes "Auto/C/ByF") ∷ Stats 0 1 0 3 ∷ []
+unfolding digits
+removals = refl
+
+abbrev by_field : List ℕ → Definition
+by_field field = Definition.Auto (codes "C") ((field ∷ []) ∷ [])
+
+-- names of the server are none of a client's, and a name may be long, but not longer
+definitions : replies (Define (codes "N") (by_field (codes "F")) ∷ Define (codes "aUTO/x") (by_field (codes "F")) ∷ Define (codes "ReplacementOf/N") (by_field (codes "F"))
+    ∷ Define (replicate 201 97) (by_field (codes "F")) ∷ Define (replicate 200 97) (by_field (codes "F")) ∷ AskStats ∷ [])
+    ≡ Index (codes "N") ∷ ReservedName ∷ ReservedName ∷ NameTooLong 201 ∷ Index (replicate 200 97) ∷ Stats 0 2 0 2 ∷ []
+unfolding digits
+definitions = refl
+
+-- a batch for one name leaves the others behind
+one_batch : replies (Auto (codes "C") (codes "F") ∷ Auto (codes "D") (codes "F") ∷ put (codes "C") (codes "x") (codes "F") (codes "a") ∷ put (codes "D") (codes "y") (codes "F") (codes "b") ∷ Pump 64 (Some (codes "auto/c/byf")) ∷ Pump 64 (Some (codes "N")) ∷ Pump 64 None ∷ [])
+    ≡ Index (codes "Auto/C/ByF") ∷ Index (codes "Auto/D/ByF") ∷ was_put (codes "3") (codes "x") ∷ was_put (codes "4") (codes "y") ∷ Pumped (moved 0 (codes "Auto/C/ByF") 4 ∷ []) ∷ NoIndex (codes "N")
+    ∷ Pumped (moved 4 (codes "Auto/C/ByF") 4 ∷ moved 0 (codes "Auto/D/ByF") 4 ∷ []) ∷ []
+unfolding digits
+one_batch = refl
+
 -- QUERIES: what a table lists is said of the list of its rows
 
 abbrev users_by_name : Mapper
@@ -121,7 +145,7 @@ abbrev pub ada : Row
 ada = record { etag = 1; id = codes "users/1"; collection = codes "Users"; body = doc (object (entry (codes "@metadata") (object no_entries) (entry (codes "Name") (text (codes "Ada")) no_entries))); changed = 0 }
 
 -- a document that was brought in is found, whatever the case of its text
-first_run : replies (put (codes "Users") (codes "users/1") (codes "Name") (codes "Ada") ∷ Auto (codes "Users") (codes "Name") ∷ Pump 64 ∷ Find (codes "auto/users/byname") (codes "Name") (codes "ada") ∷ [])
+first_run : replies (put (codes "Users") (codes "users/1") (codes "Name") (codes "Ada") ∷ Auto (codes "Users") (codes "Name") ∷ Pump 64 None ∷ Find (codes "auto/users/byname") (codes "Name") (codes "ada") ∷ [])
     ≡ was_put (codes "1") (codes "users/1") ∷ Index (codes "Auto/Users/ByName") ∷ Pumped (moved 0 (codes "Auto/Users/ByName") 2 ∷ []) ∷ Found (codes "users/1" ∷ []) 2 false ∷ []
 unfolding digits
 first_run = ap (λ rows. was_put (codes "1") (codes "users/1") ∷ Index (codes "Auto/Users/ByName") ∷ Pumped (moved 0 (codes "Auto/Users/ByName") 2 ∷ []) ∷ Found (found_among rows) 2 false ∷ []) (values-table_of (ada ∷ []) (tt, tt))
@@ -133,7 +157,7 @@ unfolding digits
 not_brought_on = ap (λ rows. was_put (codes "1") (codes "users/1") ∷ Index (codes "Auto/Users/ByName") ∷ Found (found_among rows) 0 true ∷ []) (values-table_of [] tt)
 
 -- what is written after a batch makes the answer stale, and is not found yet
-behind : replies (put (codes "Users") (codes "users/1") (codes "Name") (codes "Ada") ∷ Auto (codes "Users") (codes "Name") ∷ Pump 64 ∷ put (codes "Users") (codes "users/2") (codes "Name") (codes "ADA") ∷ Find (codes "Auto/Users/ByName") (codes "Name") (codes "ada") ∷ [])
+behind : replies (put (codes "Users") (codes "users/1") (codes "Name") (codes "Ada") ∷ Auto (codes "Users") (codes "Name") ∷ Pump 64 None ∷ put (codes "Users") (codes "users/2") (codes "Name") (codes "ADA") ∷ Find (codes "Auto/Users/ByName") (codes "Name") (codes "ada") ∷ [])
     ≡ was_put (codes "1") (codes "users/1") ∷ Index (codes "Auto/Users/ByName") ∷ Pumped (moved 0 (codes "Auto/Users/ByName") 2 ∷ []) ∷ was_put (codes "3") (codes "users/2") ∷ Found (codes "users/1" ∷ []) 2 true ∷ []
 unfolding digits
 behind = ap (λ rows. was_put (codes "1") (codes "users/1") ∷ Index (codes "Auto/Users/ByName") ∷ Pumped (moved 0 (codes "Auto/Users/ByName") 2 ∷ []) ∷ was_put (codes "3") (codes "users/2") ∷ Found (found_among rows) 2 true ∷ []) (values-table_of (ada ∷ []) (tt, tt))
@@ -146,6 +170,9 @@ put_text = refl
 index_text : printed (Index (codes "Auto/Users/ByName")) ≡ codes "{\"Index\":\"Auto/Users/ByName\"}\n"
 index_text = refl
 
+removed_text : printed (Removed (codes "Auto/Users/ByName")) ≡ codes "{\"Removed\":\"Auto/Users/ByName\"}\n"
+removed_text = refl
+
 pumped_text : printed (Pumped (moved 0 (codes "Auto/Users/ByName") 2 ∷ [])) ≡ codes "{\"Pumped\":[{\"From\":0,\"Index\":\"Auto/Users/ByName\",\"To\":2}]}\n"
 unfolding digits
 pumped_text = refl
@@ -157,6 +184,11 @@ found_text = refl
 stale_text : printed (Found [] 0 true) ≡ codes "{\"Ids\":[],\"IndexEtag\":0,\"IsStale\":true}\n"
 unfolding digits
 stale_text = refl
+
+indexes_text : printed (Indexes (record { definition = definition_data (by_field (codes "F")); entries = 1; errors = 0; etag = 2; is_stale = true; name = codes "N" } ∷ []))
+    ≡ codes "{\"Results\":[{\"Definition\":{\"Collection\":\"C\",\"Fields\":[[\"F\"]],\"Kind\":\"auto\"},\"Entries\":1,\"Errors\":0,\"Etag\":2,\"IsStale\":true,\"Name\":\"N\"}]}\n"
+unfolding digits
+indexes_text = refl
 
 unknown_text : printed UnknownLine ≡ codes "{\"Error\":\"UnknownLine\"}\n"
 unknown_text = refl

@@ -1,5 +1,5 @@
 -- The definitions at work on bytes: lines, what they ask, and a whole script with all that is written for it.
-use Rattle.std.proofs.Common.{◌≡◌, ℕ, zero, suc, List, [], ◌∷◌, ◌++◌, true, false, if◌then◌else◌, nat_lt, length, Option, Some, None, Result, Ok, Err, map, refl, ap, ◌∙◌, codes, arith}
+use Rattle.std.proofs.Common.{◌≡◌, ℕ, zero, suc, List, [], ◌∷◌, ◌++◌, true, false, if◌then◌else◌, nat_lt, length, Some, None, Result, Ok, Err, map, refl, ap, ◌∙◌, codes, arith}
 use Rattle.std.specs.List.{list_all}
 use Rattle.std.specs.Fmt.{digits}
 use Rattle.std.specs.Str.{is_utf8, IsAscii}
@@ -15,9 +15,9 @@ use Rattle.raven_data.specs.Json.{JsonRefusal, not_json, too_deep, reading, whol
 use Rattle.raven_data.specs.Scan.{is_too_deep, outside}
 use Rattle.raven_model.specs.Commit.{AnyVector, Vector}
 use Rattle.raven_model.specs.Replies.{Found, printed}
-use Rattle.raven_model.specs.Machine.{Machine, Request, Delete, Get, Auto, Find, Pump, Stale, Stats, start, untroubled}
+use Rattle.raven_model.specs.Machine.{Machine, Request, Delete, Get, Remove, Auto, Find, Pump, Stale, Indexes, Stats, start, untroubled}
 use Rattle.raven_model.specs.Lines.{lines}
-use Rattle.raven_model.specs.Script.{Line, Do, ReadRefusal, UnknownLine, BadJson, BadId, BadMember, Given, then_read, put_read, request_of, line_of, written_for, left_by, reply_to, after_line, replies_to}
+use Rattle.raven_model.specs.Script.{Do, ReadRefusal, UnknownLine, BadJson, BadId, BadName, BadMember, Given, then_read, put_read, json_read, request_of, line_of, LineRead, Plain, Defining, texts_of_body, index_of, asked_to_define, asked_of, written_for, left_by, reply_to, after_line, replies_to}
 use Rattle.raven_model.specs.Words.{program}
 use Rattle.raven_laws.proofs.StoreLemmas.{both_true}
 use Rattle.raven_laws.proofs.KeyedLemmas.{values-table_of}
@@ -33,8 +33,8 @@ no_bytes = refl
 
 -- WHAT A LINE ASKS
 
-abbrev asked_of : Result Request ReadRefusal → Result (Option Line) ReadRefusal
-asked_of request = then_read request (λ r. Ok (Some (Do r)))
+abbrev line_told : Result Request ReadRefusal → LineRead
+line_told request = then_read request (λ r. Ok (Some (Do r)))
 
 below_128 : (bs : List ℕ) → list_all (λ b. nat_lt b 128) bs ≡ true → IsAscii bs
 below_128 [] h i = omega arith
@@ -45,9 +45,9 @@ below_128 (b ∷ bs) h (suc i) = below_128 bs (both_true (nat_lt b 128) (list_al
 ascii : (bs : List ℕ) → list_all (λ b. nat_lt b 128) bs ≡ true → is_utf8 bs ≡ true
 ascii bs h = is_utf8-from_IsUtf8 bs (IsUtf8-from_ascii bs (below_128 bs h))
 
-asked_by : (line : List ℕ) (request : Result Request ReadRefusal) → list_all (λ b. nat_lt b 128) line ≡ true → nat_lt 0 (length line) ≡ true → request_of line ≡ request → line_of line ≡ asked_of request
-asked_by [] request h some e = absurd cc
-asked_by (b ∷ bs) request h some e = ap (λ u. if u then asked_of (request_of (b ∷ bs)) else Err UnknownLine) (ascii (b ∷ bs) h) ∙ ap asked_of e
+told_by : (line : List ℕ) (request : Result Request ReadRefusal) → list_all (λ b. nat_lt b 128) line ≡ true → nat_lt 0 (length line) ≡ true → request_of line ≡ request → line_of line ≡ line_told request
+told_by [] request h some e = absurd cc
+told_by (b ∷ bs) request h some e = ap (λ u. if u then line_told (request_of (b ∷ bs)) else Err UnknownLine) (ascii (b ∷ bs) h) ∙ ap line_told e
 
 auto_line : request_of (codes "AUTO Users Name") ≡ Ok (Auto (codes "Users") (codes "Name"))
 auto_line = refl
@@ -70,10 +70,10 @@ auto_of_three_words = refl
 auto_of_one_word : request_of (codes "AUTO Users") ≡ Err UnknownLine
 auto_of_one_word = refl
 
-pump_line : request_of (codes "PUMP 64") ≡ Ok (Pump 64)
+pump_line : request_of (codes "PUMP 64") ≡ Ok (Pump 64 None)
 pump_line = refl
 
-pump_zeros : request_of (codes "PUMP 0000000000065536") ≡ Ok (Pump 65536)
+pump_zeros : request_of (codes "PUMP 0000000000065536") ≡ Ok (Pump 65536 None)
 pump_zeros = refl
 
 pump_long : request_of (codes "PUMP 00000000000065536") ≡ Err UnknownLine
@@ -85,8 +85,32 @@ pump_none = refl
 pump_more : request_of (codes "PUMP 65537") ≡ Err UnknownLine
 pump_more = refl
 
-pump_named : request_of (codes "PUMP 64 Auto/Users/ByName") ≡ Err UnknownLine
+pump_named : request_of (codes "PUMP 64 Auto/Users/ByName") ≡ Ok (Pump 64 (Some (codes "Auto/Users/ByName")))
 pump_named = refl
+
+pump_named_control : request_of (codes "PUMP 64 a\tb") ≡ Err (BadName (control 1))
+pump_named_control = refl
+
+pump_named_none : request_of (codes "PUMP 0 N") ≡ Err UnknownLine
+pump_named_none = refl
+
+pump_two_names : request_of (codes "PUMP 64 a b") ≡ Ok (Pump 64 (Some (codes "a b")))
+pump_two_names = refl
+
+drop_line : request_of (codes "DROP Auto/Users/ByName") ≡ Ok (Remove (codes "Auto/Users/ByName"))
+drop_line = refl
+
+drop_nothing : request_of (codes "DROP ") ≡ Err UnknownLine
+drop_nothing = refl
+
+drop_control : request_of (codes "DROP a\tb") ≡ Err (BadName (control 1))
+drop_control = refl
+
+indexes_line : request_of (codes "INDEXES") ≡ Ok Indexes
+indexes_line = refl
+
+indexes_more : request_of (codes "INDEXES x") ≡ Err UnknownLine
+indexes_more = refl
 
 find_line : request_of (codes "FIND Auto/Users/ByName Name ada") ≡ Ok (Find (codes "Auto/Users/ByName") (codes "Name") (codes "ada"))
 find_line = refl
@@ -127,7 +151,7 @@ get_control = refl
 stale_line : request_of (codes "STALE Auto/C/ByF") ≡ Ok (Stale (codes "Auto/C/ByF") None)
 stale_line = refl
 
-stale_control : request_of (codes "STALE a\tb") ≡ Err UnknownLine
+stale_control : request_of (codes "STALE a\tb") ≡ Err (BadName (control 1))
 stale_control = refl
 
 put_of_no_body : request_of (codes "PUT users/1") ≡ Err UnknownLine
@@ -165,16 +189,45 @@ put_of_no_id : request_of (codes "PUT a\tb []") ≡ Err (BadId (control 1))
 unfolding value punctuate lex content
 put_of_no_id = ap (put_read (codes "a\tb") AnyVector) (read_as (codes "[]") refl refl)
 
--- A WHOLE SCRIPT, from its bytes to what is written for it
+-- THE DEFINITION OF AN INDEX
 
-abbrev Asked : Type 0
-Asked = Result (Option Line) ReadRefusal
+-- what comes of a line whose first word is INDEX, of ASCII
+defining_by : (line rest : List ℕ) (value : Result Data JsonRefusal) → list_all (λ b. nat_lt b 128) line ≡ true → reading rest ≡ value
+    → (if is_utf8 line then asked_to_define (index_of rest) else Plain (line_of line)) ≡ asked_to_define (then_read (json_read value) texts_of_body)
+defining_by line rest value h e = ap (λ u. if u then asked_to_define (index_of rest) else Plain (line_of line)) (ascii line h) ∙ ap (λ v. asked_to_define (then_read (json_read v) texts_of_body)) e
+
+abbrev one_map : List ℕ
+one_map = codes "{\"Maps\":[\"m\"],\"Name\":\"N\"}"
+
+index_of_one_map : asked_of (codes "INDEX " ++ one_map) ≡ Defining (codes "N") (codes "m")
+unfolding value punctuate lex content
+index_of_one_map = defining_by (codes "INDEX " ++ one_map) one_map (json_of one_map) refl (read_as one_map refl refl)
+
+abbrev two_maps : List ℕ
+two_maps = codes "{\"Maps\":[\"m\",\"n\"],\"Name\":\"N\"}"
+
+index_of_two_maps : asked_of (codes "INDEX " ++ two_maps) ≡ Plain (Err (BadMember (codes "Maps")))
+unfolding value punctuate lex content
+index_of_two_maps = defining_by (codes "INDEX " ++ two_maps) two_maps (json_of two_maps) refl (read_as two_maps refl refl)
+
+abbrev no_name : List ℕ
+no_name = codes "{\"Map\":[]}"
+
+-- what is no name is told before what is no map
+index_of_no_name : asked_of (codes "INDEX " ++ no_name) ≡ Plain (Err (BadMember (codes "Name")))
+unfolding value punctuate lex content
+index_of_no_name = defining_by (codes "INDEX " ++ no_name) no_name (json_of no_name) refl (read_as no_name refl refl)
+
+index_nothing : asked_of (codes "INDEX ") ≡ Plain (line_of (codes "INDEX "))
+index_nothing = refl
+
+-- A WHOLE SCRIPT, from its bytes to what is written for it
 
 -- a line that the outside gives nothing else
 abbrev plainly : List ℕ → Given
-plainly line = (line, record { now = 0; keeping = untroubled })
+plainly line = record { line = line; read = line_of line; circumstance = record { now = 0; keeping = untroubled } }
 
-abbrev written_from : List Asked → Machine → List ℕ
+abbrev written_from : List LineRead → Machine → List ℕ
 written_from [] M = []
 written_from (r ∷ rs) M = written_for M (record { now = 0; keeping = untroubled }) r ++ written_from rs (left_by M (record { now = 0; keeping = untroubled }) r)
 
@@ -188,8 +241,12 @@ first_script = codes "PUT users/1 {\"Name\":\"Ada\",\"@metadata\":{\"@collection
 -- what its lines ask; one has no bytes
 first_asked : map line_of (lines first_script)
     ≡ Ok (Some (Do (put (codes "Users") (codes "users/1") (codes "Name") (codes "Ada")))) ∷ Ok (Some (Do (Auto (codes "Users") (codes "Name")))) ∷ Ok None
-    ∷ Ok (Some (Do (Pump 64))) ∷ Ok (Some (Do (Find (codes "Auto/Users/ByName") (codes "Name") (codes "ada")))) ∷ []
-first_asked = λ i. asked_by (codes "PUT users/1 " ++ ada_text) _ refl refl put_line i ∷ asked_by (codes "AUTO Users Name") _ refl refl auto_line i ∷ Ok None ∷ asked_by (codes "PUMP 64") _ refl refl pump_line i ∷ asked_by (codes "FIND Auto/Users/ByName Name ada") _ refl refl find_line i ∷ []
+    ∷ Ok (Some (Do (Pump 64 None))) ∷ Ok (Some (Do (Find (codes "Auto/Users/ByName") (codes "Name") (codes "ada")))) ∷ []
+first_asked = λ i. told_by (codes "PUT users/1 " ++ ada_text) _ refl refl put_line i ∷ told_by (codes "AUTO Users Name") _ refl refl auto_line i ∷ Ok None ∷ told_by (codes "PUMP 64") _ refl refl pump_line i ∷ told_by (codes "FIND Auto/Users/ByName Name ada") _ refl refl find_line i ∷ []
+
+-- none of them has a text of a definition
+first_plain : map asked_of (lines first_script) ≡ map (λ line. Plain (line_of line)) (lines first_script)
+first_plain = refl
 
 -- the first three replies, and then the rest
 abbrev first_replies : List ℕ → List ℕ

@@ -1,16 +1,19 @@
 -- Later worlds, and the change of a world in which an index is added.
-use Rattle.std.proofs.Common.{◌≡◌, ℕ, ◌+◌, ◌<◌, ◌≤◌, List, [], ◌∷◌, ◌++◌, Bool, true, false, cond, nat_le, length, is_some, Option, Some, None, Result, Ok, Err, refl, sym, ap, ◌∙◌, subst, arith, inl, inr, append_assoc, length-append}
+use Rattle.std.proofs.Common.{◌≡◌, ℕ, ◌+◌, ◌<◌, ◌≤◌, List, [], ◌∷◌, ◌++◌, Bool, true, false, not, cond, filter, nat_le, length, is_some, Option, Some, None, Result, Ok, Err, refl, sym, ap, ◌∙◌, subst, arith, ◌⊎◌, inl, inr, append_assoc, length-append}
 use Rattle.std.proofs.lemmas.Bool.{leb-false}
-use Rattle.raven_data.specs.Folding.{folded}
+use Rattle.raven_data.specs.Folding.{folded, same_key}
 use Rattle.raven_model.specs.Store.{Store, last, IsStore}
 use Rattle.raven_model.specs.Later.{Later}
 use Rattle.raven_model.specs.Mapping.{Definition}
-use Rattle.raven_model.specs.Commit.{Command, Put, Delete, after_commands}
-use Rattle.raven_model.specs.World.{Slot, Note, World, fresh, serving, SlotChange, SlotRefusal, NameServes, TooManyIndexes, added, define}
+use Rattle.raven_model.specs.Commit.{Command, Put, Delete, AnyVector, after_commands}
+use Rattle.raven_model.specs.World.{Slot, Note, World, fresh, serving, SlotChange, SlotRefusal, NameServes, TooManyIndexes, added, added_if_room, define, define_at, define_named, index_id, is_named, name_refusal, remove, removed, unless_refused}
+use Rattle.raven_model.specs.Definitions.{same_definition}
 use Rattle.raven_model.specs.Sound.{Has, Fits, NumbersRise, NamesApart, AreListed, Sound, IsOldOrNew, HasItsName, LaterW}
 use Rattle.raven_laws.proofs.LaterLemmas.{Later-itself, Later-then}
-use Rattle.raven_laws.proofs.ListedLemmas.{put-AreListed}
-use Rattle.raven_laws.proofs.SlotLemmas.{Has-append, Has-left, Has-right, NumbersRise-push, NamesApart-push, unserved, Fits-later, Fits-fresh}
+use Rattle.raven_laws.proofs.ListedLemmas.{put-AreListed, delete-AreListed}
+use Rattle.raven_laws.proofs.LimitLemmas.{length_filtered}
+use Rattle.raven_laws.proofs.StoreLemmas.{same_itself, same_means}
+use Rattle.raven_laws.proofs.SlotLemmas.{Has-append, Has-left, Has-right, Has-filter, passes, into-filter, NumbersRise-push, NumbersRise-filter, NamesApart-push, NamesApart-filter, unserved, served, Fits-later, Fits-fresh}
 
 -- LATER WORLDS
 
@@ -114,10 +117,10 @@ added-Settles W S name d o free room t = record {
     new : Slot
     new = record { number = last W.store + 1; name = name; version = fresh d; row = last W.store + 1 }
 
-same_change : (a c : SlotChange) → (let r : Result SlotChange SlotRefusal = Ok a in r) ≡ Ok c → a ≡ c
+pub same_change : (a c : SlotChange) → (let r : Result SlotChange SlotRefusal = Ok a in r) ≡ Ok c → a ≡ c
 same_change a c h = cc
 
-past_test : (b : Bool) (refusal : SlotRefusal) (rest : Result SlotChange SlotRefusal) (c : SlotChange) → cond b (Err refusal) rest ≡ Ok c → (b ≡ false) × (rest ≡ Ok c)
+pub past_test : (b : Bool) (refusal : SlotRefusal) (rest : Result SlotChange SlotRefusal) (c : SlotChange) → cond b (Err refusal) rest ≡ Ok c → (b ≡ false) × (rest ≡ Ok c)
 past_test true refusal rest c h = absurd cc
 past_test false refusal rest c h = (refl, h)
 
@@ -125,9 +128,87 @@ not_some : (o : Option Slot) → is_some o ≡ false → o ≡ None
 not_some None h = refl
 not_some (Some s) h = absurd cc
 
+-- where the name serves nothing yet
+pub added_if_room-Settles : (W : World) (name : List ℕ) (d : Definition) (c : SlotChange) → added_if_room W name d ≡ Ok c → serving W.slots name ≡ None → Sound W → (S : Store) → Onto W c S → Settles W c S
+added_if_room-Settles W name d c h free o S =
+    let room = past_test (nat_le W.setting.max_slots (length W.slots)) TooManyIndexes (Ok (added W name d)) c h in
+    subst (λ x. Onto W x S → Settles W x S) (same_change (added W name d) c room.1)
+    (added-Settles W S name d o (unserved W.slots name free) (leb-false W.setting.max_slots (length W.slots) room.0))
+
 pub define-Settles : (W : World) (name : List ℕ) (d : Definition) (c : SlotChange) → define W name d ≡ Ok c → Sound W → (S : Store) → Onto W c S → Settles W c S
 define-Settles W name d c h o S =
-    let free = past_test (is_some (serving W.slots name)) NameServes (cond (nat_le W.setting.max_slots (length W.slots)) (Err TooManyIndexes) (Ok (added W name d))) c h in
-    let room = past_test (nat_le W.setting.max_slots (length W.slots)) TooManyIndexes (Ok (added W name d)) c free.1 in
-    subst (λ x. Onto W x S → Settles W x S) (same_change (added W name d) c room.1)
+    let room = past_test (nat_le W.setting.max_slots (length W.slots)) TooManyIndexes (cond (is_some (serving W.slots name)) (Err NameServes) (Ok (added W name d))) c h in
+    let free = past_test (is_some (serving W.slots name)) NameServes (Ok (added W name d)) c room.1 in
+    subst (λ x. Onto W x S → Settles W x S) (same_change (added W name d) c free.1)
     (added-Settles W S name d o (unserved W.slots name (not_some (serving W.slots name) free.0)) (leb-false W.setting.max_slots (length W.slots) room.0))
+
+-- nothing is changed
+abbrev pub unchanged_slots : World → List ℕ → SlotChange
+unchanged_slots W name = record { slots = W.slots; commands = []; name = name }
+
+unchanged-Settles : (W : World) (name : List ℕ) → Sound W → (S : Store) → Onto W (unchanged_slots W name) S → Settles W (unchanged_slots W name) S
+unchanged-Settles W name o S t = record {
+  slots = λ s h. stays W S [] s o t.later h;
+  rising = o.rising;
+  apart = o.apart;
+  listed = subst (λ T. AreListed T W.slots) (sym t.written) o.listed;
+  count = o.limits.slots;
+}
+
+define_at-Settles : (W : World) (name : List ℕ) (d : Definition) (there : Option Slot) (c : SlotChange) → serving W.slots name ≡ there → define_at W name d there ≡ Ok c → Sound W → (S : Store) → Onto W c S → Settles W c S
+define_at-Settles W name d None c e h o S = added_if_room-Settles W name d c h e o S
+define_at-Settles W name d (Some s) c e h o S =
+    elim (same_definition d s.version.definition) as (λ b. cond b (Ok (unchanged_slots W s.name)) (Err NameServes) ≡ Ok c → Onto W c S → Settles W c S) [
+      | true ↦ λ g. subst (λ x. Onto W x S → Settles W x S) (same_change (unchanged_slots W s.name) c g) (unchanged-Settles W s.name o S)
+      | false ↦ λ g. absurd cc
+    ] h
+
+pub define_named-Settles : (W : World) (name : List ℕ) (d : Definition) (c : SlotChange) → define_named W name d ≡ Ok c → Sound W → (S : Store) → Onto W c S → Settles W c S
+define_named-Settles W name d c h =
+    elim (name_refusal name) as (λ r. unless_refused r (define_at W name d (serving W.slots name)) ≡ Ok c → Sound W → (S : Store) → Onto W c S → Settles W c S) [
+      | None ↦ λ g. define_at-Settles W name d (serving W.slots name) c refl g
+      | Some refusal ↦ λ g. absurd cc
+    ] h
+
+-- A SLOT IS TAKEN OUT
+
+abbrev pub others_of : List ℕ → List Slot → List Slot
+others_of name slots = filter (λ t. not (is_named name t)) slots
+
+-- the slots but that of this name
+abbrev pub taken_out : World → List ℕ → Slot → SlotChange
+taken_out W name s = record { slots = others_of name W.slots; commands = Delete (index_id s.name) AnyVector ∷ []; name = s.name }
+
+-- a slot that is left has another name
+pub other_name : (name : List ℕ) (slots : List Slot) (x : Slot) → Has (others_of name slots) x → folded name ≡ folded x.name → ⊥
+other_name name slots x h e =
+    let p = passes (λ t. not (is_named name t)) slots x h in
+    let f = subst (λ k. same_key (folded name) k ≡ true) e (same_itself (folded name)) in
+    let g : false ≡ true = sym (ap not f) ∙ p in cc
+
+-- and each of another name is left
+pub left_over : (name : List ℕ) (slots : List Slot) (x : Slot) → Has slots x → Has (others_of name slots) x ⊎ (folded name ≡ folded x.name)
+left_over name slots x h = elim (is_named name x) as (λ b. is_named name x ≡ b → Has (others_of name slots) x ⊎ (folded name ≡ folded x.name)) [
+  | true ↦ λ e. inr (same_means (folded name) (folded x.name) e)
+  | false ↦ λ e. inl (into-filter (λ t. not (is_named name t)) slots x h (ap not e))
+] refl
+
+taken_out-Settles : (W : World) (name : List ℕ) (s : Slot) → serving W.slots name ≡ Some s → Sound W → (S : Store) → Onto W (taken_out W name s) S → Settles W (taken_out W name s) S
+taken_out-Settles W name s h o S t =
+    let at = served W.slots name s h in
+    record {
+      slots = λ x g. stays W S [] x o t.later (Has-filter (λ y. not (is_named name y)) W.slots x g);
+      rising = NumbersRise-filter 0 (λ y. not (is_named name y)) W.slots o.rising;
+      apart = NamesApart-filter (λ y. not (is_named name y)) W.slots o.apart;
+      listed = subst (λ T. AreListed T (others_of name W.slots)) (sym t.written) (delete-AreListed W.store W.slots (others_of name W.slots) t.now s o.listed at.0
+          (λ x g. (Has-filter (λ y. not (is_named name y)) W.slots x g, λ e. other_name name W.slots x g (at.1 ∙ sym e)))
+          (λ x g. elim (left_over name W.slots x g) [ inl k ↦ inl k | inr e ↦ inr (sym e ∙ at.1) ]));
+      count = let a = length_filtered (λ y. not (is_named name y)) W.slots in let b = o.limits.slots in omega arith;
+    }
+
+pub remove-Settles : (W : World) (name : List ℕ) (c : SlotChange) → remove W name ≡ Ok c → Sound W → (S : Store) → Onto W c S → Settles W c S
+remove-Settles W name c h o S = by (serving W.slots name) refl h
+  where
+    by : (there : Option Slot) → serving W.slots name ≡ there → removed W name there ≡ Ok c → Onto W c S → Settles W c S
+    by None e g = absurd cc
+    by (Some s) e g = subst (λ x. Onto W x S → Settles W x S) (same_change (taken_out W name s) c g) (taken_out-Settles W name s e o S)

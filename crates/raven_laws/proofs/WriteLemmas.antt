@@ -1,5 +1,5 @@
 -- What writes leave, and that no row is invented.
-use Rattle.std.proofs.Common.{◌≡◌, ℕ, ◌+◌, List, [], ◌∷◌, Bool, true, false, cond, length, nat_le, nat_eq, codes, is_some, Option, Some, None, Result, Ok, Err, refl, sym, ap, ◌∙◌, subst, ◌⊎◌, inl, inr}
+use Rattle.std.proofs.Common.{◌≡◌, ℕ, ◌+◌, List, [], ◌∷◌, ◌++◌, Bool, true, false, cond, length, nat_le, nat_eq, codes, is_some, Option, Some, None, Result, Ok, Err, refl, sym, ap, ◌∙◌, subst, ◌⊎◌, inl, inr}
 use Rattle.std.specs.List.{starts_with}
 use Rattle.std.specs.Option.{option_map}
 use Rattle.raven_data.specs.Data.{Data}
@@ -7,25 +7,28 @@ use Rattle.raven_data.specs.Folding.{folded, same_key}
 use Rattle.raven_data.specs.Rows.{Row, key}
 use Rattle.raven_model.specs.Store.{Store, row_at, last, put}
 use Rattle.raven_model.specs.Mapping.{Definition}
-use Rattle.raven_model.specs.Commit.{Command, Expect, AnyVector, Client, Server, Setting, Refused, Written, after_command, after_commands, commit, document_at, is_index_id, kept_spelling, refusal_of, row_of, tombstone, unless, vector_of, with_option, with_written, etags_taken}
+use Rattle.raven_model.specs.Commit.{Command, Expect, Client, Server, Setting, Refused, Written, after_command, after_commands, commit, document_at, id_of, is_index_id, kept_spelling, refusal_of, row_of, tombstone, unless, vector_of, with_option, with_written, etags_taken}
 use Rattle.raven_model.specs.Replies.{Reply, Result as Done}
-use Rattle.raven_model.specs.World.{SlotRefusal, added, define, index_id, row_body, serving}
+use Rattle.raven_model.specs.Replies as told
+use Rattle.raven_model.specs.World.{Slot, World, SlotChange, SlotRefusal, added, added_if_room, define, define_at, define_named, name_refusal, remove, removed, serving, unless_refused}
+use Rattle.raven_model.specs.Definitions.{same_definition}
 use Rattle.raven_model.specs.Optimiser.{Choice, Use, Make, Merge, name_of, pick}
-use Rattle.raven_model.specs.Machine.{Machine, Change, Event, Keeping, Replied, Request, Put, Delete, Bulk, Get, Auto, Find, Pump, Stale, Stats, after, change_of, commands_in, defined, is_first_taken, is_taken, one_field, rewrote, run, same_machine, settled, single_reply, start, step, use_or_make, write, wrote, results_of}
+use Rattle.raven_model.specs.Machine.{Machine, Change, Event, Keeping, Replied, Request, Put, Delete, Bulk, Get, Define, Remove, Auto, Find, Pump, Stale, Indexes, Stats, after, change_of, commands_in, is_first_taken, is_taken, one_field, pump_at, reslotted, rewrote, run, same_machine, settled, single_reply, start, step, use_or_make, write, wrote, results_of}
 use Rattle.raven_laws.specs.Writes.{row_given, AreWritten, BulkIsAnswered, DeleteIsAnswered, IsCommanded, IsDeleted, IsNotThere, IsPutKept, IsRefused, IsUnkept, IsWritten, OnlyReads, PutIsAnswered}
 use Rattle.raven_laws.proofs.StoreLemmas.{found_key, row_at-put, same_itself, same_row}
 use Rattle.raven_laws.proofs.CommitLemmas.{document_found, put_key}
 use Rattle.raven_laws.proofs.ListedLemmas.{commit_from-applied}
+use Rattle.raven_laws.proofs.WorldLemmas.{same_change, past_test, unchanged_slots, taken_out}
 
 -- A FURTHER ROW
 
-found_again : (q : List ℕ) (r : Row) (rows : List Row) → key r ≡ q → row_at q (put r rows) ≡ Some r
+pub found_again : (q : List ℕ) (r : Row) (rows : List Row) → key r ≡ q → row_at q (put r rows) ≡ Some r
 found_again q r rows under =
     row_at-put q r rows
     ∙ ap (λ k. cond (same_key q k) (Some r) (row_at q rows)) under
     ∙ ap (λ b. cond b (Some r) (row_at q rows)) (same_itself q)
 
-others_stay : (M : Machine) (id : List ℕ) (r : Row) → key r ≡ folded id
+pub others_stay : (M : Machine) (id : List ℕ) (r : Row) → key r ≡ folded id
     → (q : List ℕ) → same_key q (folded id) ≡ false → row_at q (put r M.world.store.rows) ≡ row_at q M.world.store.rows
 others_stay M id r under q apart =
     let rows = M.world.store.rows in
@@ -35,12 +38,12 @@ others_stay M id r under q apart =
 
 -- WHAT THE KEEPER DOES
 
-first_or_not : (takes : List Bool) → (is_first_taken takes ≡ true) ⊎ ((later : List Bool) × (takes ≡ false ∷ later))
+pub first_or_not : (takes : List Bool) → (is_first_taken takes ≡ true) ⊎ ((later : List Bool) × (takes ≡ false ∷ later))
 first_or_not [] = inl refl
 first_or_not (true ∷ more) = inl refl
 first_or_not (false ∷ more) = inr (more, refl)
 
-unkept : (M : Machine) (k : Keeping) (kept : Replied) (later : List Bool) → k.takes ≡ false ∷ later
+pub unkept : (M : Machine) (k : Keeping) (kept : Replied) (later : List Bool) → k.takes ≡ false ∷ later
     → IsUnkept M k (cond (is_first_taken k.takes) kept (same_machine M (Reply.KeeperFault k.before k.after)))
 unkept M k kept later e = subst (λ b. IsUnkept M k (cond b kept (same_machine M (Reply.KeeperFault k.before k.after)))) (sym (ap is_first_taken e)) (record {
   later = later;
@@ -50,7 +53,7 @@ unkept M k kept later e = subst (λ b. IsUnkept M k (cond b kept (same_machine M
 
 -- PUTS
 
-abbrev new_row : Machine → ℕ → List ℕ → Data → Row
+abbrev pub new_row : Machine → ℕ → List ℕ → Data → Row
 new_row M now id body = row_given M.world.store now (kept_spelling id (row_at (folded id) M.world.store.rows)) body
 
 pub put-answered : (M : Machine) (k : Keeping) (now : ℕ) (id : List ℕ) (expected : Expect) (body : Data) → PutIsAnswered M k now id expected body
@@ -168,16 +171,33 @@ reads-change-nothing M k now (Put id expected body) h = absurd h
 reads-change-nothing M k now (Delete id expected) h = absurd h
 reads-change-nothing M k now (Bulk commands) h = absurd h
 reads-change-nothing M k now (Get id) h = refl
+reads-change-nothing M k now (Define name d) h = absurd h
+reads-change-nothing M k now (Remove name) h = absurd h
 reads-change-nothing M k now (Auto collection field) h = absurd h
 reads-change-nothing M k now (Find index field ws) h = refl
-reads-change-nothing M k now (Pump max) h = absurd h
+reads-change-nothing M k now (Pump max index) h = absurd h
 reads-change-nothing M k now (Stale name cutoff) h = refl
+reads-change-nothing M k now Indexes h = refl
 reads-change-nothing M k now Stats h = refl
+
+pub batches-change-no-row : (M : Machine) (k : Keeping) (now max : ℕ) (index : Option (List ℕ)) → (step M k now (Pump max index)).machine.world.store ≡ M.world.store
+batches-change-no-row M k now max None = refl
+batches-change-no-row M k now max (Some name) = by (serving M.world.slots name)
+  where
+    by : (there : Option Slot) → (settled M k (pump_at M max name there)).machine.world.store ≡ M.world.store
+    by None = refl
+    by (Some s) = refl
 
 -- NOTHING IS INVENTED
 
-is_indexed : (name : List ℕ) (rows : List Row) → is_index_id (kept_spelling (index_id name) (row_at (folded (index_id name)) rows)) ≡ true
-is_indexed name rows = ap (λ k. starts_with nat_eq k (codes "@index/")) (put_key (index_id name) rows) ∙ refl
+-- a row has the id of the command that wrote it
+written_key : (now : ℕ) (S : Store) (c : Command) (x : Row) → row_of now S c ≡ Some x → key x ≡ folded (id_of c)
+written_key now S (Command.Put id expected body) x h = ap key (sym (same_row _ x h)) ∙ put_key id S.rows
+written_key now S (Command.Delete id expected) x h =
+    elim (document_at S (folded id)) as (λ o. document_at S (folded id) ≡ o → option_map (tombstone (last S + 1) now) o ≡ Some x → key x ≡ folded id) [
+      | None ↦ λ e g. absurd cc
+      | Some d ↦ λ e g. ap key (sym (same_row _ x g)) ∙ sym (found_key (folded id) S.rows d (document_found S (folded id) d e))
+    ] refl h
 
 -- the row that a further row leaves under an id is this row, or was there
 either_row : (q : List ℕ) (r x : Row) (rows : List Row) → row_at q (put r rows) ≡ Some x → (x ≡ r) ⊎ (row_at q rows ≡ Some x)
@@ -190,34 +210,6 @@ either_row q r x rows h =
 -- a request that writes nothing of its own leaves the rows of documents as they were
 abbrev Stays : Machine → Machine → Type 0
 Stays M N = (q : List ℕ) (x : Row) → row_at q N.world.store.rows ≡ Some x → is_index_id x.id ≡ false → row_at q M.world.store.rows ≡ Some x
-
-rewrote-Stays : (now : ℕ) (M : Machine) (name : List ℕ) (d : Definition) → Stays M (rewrote M name (added M.world name d).slots (commit M.world.setting Server now (added M.world name d).commands M.world.store)).machine
-rewrote-Stays now M name d =
-    let id = index_id name in
-    let r = new_row M now id (row_body d) in
-    let done : Written = record { store = record { rows = put r M.world.store.rows }; rows = r ∷ [] } in
-    elim (refusal_of M.world.setting Server M.world.store (Command.Put id AnyVector (row_body d))) as (λ o. Stays M (rewrote M name (added M.world name d).slots (unless o 0 (Ok done))).machine) [
-      | None ↦ λ q x h not_index. elim (either_row q r x M.world.store.rows h) as (λ e. row_at q M.world.store.rows ≡ Some x) [
-        | inl same ↦ absurd (let t = ap (λ (y : Row). is_index_id y.id) same ∙ is_indexed name M.world.store.rows in cc)
-        | inr there ↦ there
-      ]
-      | Some kind ↦ λ q x h not_index. h
-    ]
-
-defined-Stays : (now : ℕ) (M : Machine) (name : List ℕ) (d : Definition) → Stays M (defined M now name (define M.world name d)).machine
-defined-Stays now M name d =
-    elim (is_some (serving M.world.slots name)) as (λ b. Stays M (defined M now name (cond b (Err SlotRefusal.NameServes) (cond (nat_le M.world.setting.max_slots (length M.world.slots)) (Err SlotRefusal.TooManyIndexes) (Ok (added M.world name d))))).machine) [
-      | true ↦ λ q x h not_index. h
-      | false ↦ elim (nat_le M.world.setting.max_slots (length M.world.slots)) as (λ b. Stays M (defined M now name (cond b (Err SlotRefusal.TooManyIndexes) (Ok (added M.world name d)))).machine) [
-        | true ↦ λ q x h not_index. h
-        | false ↦ rewrote-Stays now M name d
-      ]
-    ]
-
-auto-Stays : (now : ℕ) (M : Machine) (c : Choice) → Stays M (use_or_make M now c).machine
-auto-Stays now M (Use s) = λ q x h not_index. h
-auto-Stays now M (Make shape) = defined-Stays now M (name_of M.world.slots (last M.world.store + 1) shape) (Definition.Auto shape.collection shape.fields)
-auto-Stays now M Merge = λ q x h not_index. h
 
 -- what the store has after one command was there, or is what it wrote
 after-one : (now : ℕ) (c : Command) (S : Store) (q : List ℕ) (x : Row) → row_at q (after_command now S c).rows ≡ Some x
@@ -238,6 +230,74 @@ after-commanded now (c ∷ cs) S q x h =
       ]
       | inr g ↦ inr (record { earlier = c ∷ g.earlier; command = g.command; later = g.later; among = ap (λ l. c ∷ l) g.among; given = g.given })
     ]
+
+-- the ids of the commands are those of rows of definitions
+abbrev pub AreIndexed : List Command → Type 0
+AreIndexed [] = Unit {0}
+AreIndexed (c ∷ cs) = (is_index_id (id_of c) ≡ true) × AreIndexed cs
+
+among-indexed : (earlier : List Command) (c : Command) (later : List Command) → AreIndexed (earlier ++ c ∷ later) → is_index_id (id_of c) ≡ true
+among-indexed [] c later h = h.0
+among-indexed (e ∷ earlier) c later h = among-indexed earlier c later h.1
+
+commanded-indexed : (now : ℕ) (cs : List Command) (S : Store) (x : Row) → AreIndexed cs → IsCommanded now cs S x → is_index_id x.id ≡ true
+commanded-indexed now cs S x h g =
+    ap (λ q. starts_with nat_eq q (codes "@index/")) (written_key now (after_commands now g.earlier S) g.command x g.given)
+    ∙ among-indexed g.earlier g.command g.later (subst AreIndexed g.among h)
+
+rewrote-Stays : (now : ℕ) (M : Machine) (reply : Reply) (slots : List Slot) (cs : List Command) (o : Result Written Refused) → AreIndexed cs
+    → commit M.world.setting Server now cs M.world.store ≡ o → Stays M (rewrote M reply slots o).machine
+rewrote-Stays now M reply slots cs (Err refused) h e = λ q x at not_index. at
+rewrote-Stays now M reply slots cs (Ok w) h e = λ q x at not_index.
+    let all = commit_from-applied 0 M.world.setting Server now cs (record { store = M.world.store; rows = [] }) w e in
+    elim (after-commanded now cs M.world.store q x (subst (λ (S : Store). row_at q S.rows ≡ Some x) all at)) as (λ _. row_at q M.world.store.rows ≡ Some x) [
+      | inl there ↦ there
+      | inr given ↦ absurd (let t = commanded-indexed now cs M.world.store x h given in cc)
+    ]
+
+reslotted-Stays : (now : ℕ) (M : Machine) (reply : List ℕ → Reply) (name : List ℕ) (r : Result SlotChange SlotRefusal) → ((c : SlotChange) → r ≡ Ok c → AreIndexed c.commands)
+    → Stays M (reslotted M now reply name r).machine
+reslotted-Stays now M reply name (Err refusal) h = λ q x at not_index. at
+reslotted-Stays now M reply name (Ok c) h = rewrote-Stays now M (reply c.name) c.slots c.commands (commit M.world.setting Server now c.commands M.world.store) (h c refl) refl
+
+-- the commands of each change of the indexes are of that kind
+added-indexed : (W : World) (name : List ℕ) (d : Definition) (c : SlotChange) → added_if_room W name d ≡ Ok c → AreIndexed c.commands
+added-indexed W name d c h =
+    let room = past_test (nat_le W.setting.max_slots (length W.slots)) SlotRefusal.TooManyIndexes (Ok (added W name d)) c h in
+    subst (λ (x : SlotChange). AreIndexed x.commands) (same_change (added W name d) c room.1) (refl, tt)
+
+define-indexed : (W : World) (name : List ℕ) (d : Definition) (c : SlotChange) → define W name d ≡ Ok c → AreIndexed c.commands
+define-indexed W name d c h =
+    let room = past_test (nat_le W.setting.max_slots (length W.slots)) SlotRefusal.TooManyIndexes (cond (is_some (serving W.slots name)) (Err SlotRefusal.NameServes) (Ok (added W name d))) c h in
+    let free = past_test (is_some (serving W.slots name)) SlotRefusal.NameServes (Ok (added W name d)) c room.1 in
+    subst (λ (x : SlotChange). AreIndexed x.commands) (same_change (added W name d) c free.1) (refl, tt)
+
+define_at-indexed : (W : World) (name : List ℕ) (d : Definition) (there : Option Slot) (c : SlotChange) → define_at W name d there ≡ Ok c → AreIndexed c.commands
+define_at-indexed W name d None c = added-indexed W name d c
+define_at-indexed W name d (Some s) c = elim (same_definition d s.version.definition) as (λ b. cond b (Ok (unchanged_slots W s.name)) (Err SlotRefusal.NameServes) ≡ Ok c → AreIndexed c.commands) [
+  | true ↦ λ h. subst (λ (x : SlotChange). AreIndexed x.commands) (same_change (unchanged_slots W s.name) c h) tt
+  | false ↦ λ h. absurd cc
+]
+
+define_named-indexed : (W : World) (name : List ℕ) (d : Definition) (c : SlotChange) → define_named W name d ≡ Ok c → AreIndexed c.commands
+define_named-indexed W name d c = elim (name_refusal name) as (λ r. unless_refused r (define_at W name d (serving W.slots name)) ≡ Ok c → AreIndexed c.commands) [
+  | None ↦ define_at-indexed W name d (serving W.slots name) c
+  | Some refusal ↦ λ h. absurd cc
+]
+
+remove-indexed : (W : World) (name : List ℕ) (c : SlotChange) → remove W name ≡ Ok c → AreIndexed c.commands
+remove-indexed W name c = elim (serving W.slots name) as (λ o. removed W name o ≡ Ok c → AreIndexed c.commands) [
+  | None ↦ λ h. absurd cc
+  | Some s ↦ λ h. subst (λ (x : SlotChange). AreIndexed x.commands) (same_change (taken_out W name s) c h) (refl, tt)
+]
+
+auto-Stays : (now : ℕ) (M : Machine) (c : Choice) → Stays M (use_or_make M now c).machine
+auto-Stays now M (Use s) = λ q x h not_index. h
+auto-Stays now M (Make shape) =
+    let name = name_of M.world.slots (last M.world.store + 1) shape in
+    let d = Definition.Auto shape.collection shape.fields in
+    reslotted-Stays now M told.Index name (define M.world name d) (define-indexed M.world name d)
+auto-Stays now M Merge = λ q x h not_index. h
 
 -- a row of the store that a request leaves was there, or the request wrote it
 abbrev Comes : Machine → ℕ → List Command → Machine → Type 0
@@ -287,11 +347,16 @@ step-given M k now (Delete id expected) more q x h not_index =
 step-given M k now (Bulk commands) more q x h not_index =
     step-written M (record { request = Bulk commands; now = now; keeping = k }) more q x (write-Comes M k Reply.Bulk now commands) h
 step-given M k now (Get id) more q x h not_index = inl h
+step-given M k now (Define name d) more q x h not_index =
+    inl (settled-Stays M k (change_of M now (Define name d)) (reslotted-Stays now M told.Index name (define_named M.world name d) (define_named-indexed M.world name d)) q x h not_index)
+step-given M k now (Remove name) more q x h not_index =
+    inl (settled-Stays M k (change_of M now (Remove name)) (reslotted-Stays now M told.Removed name (remove M.world name) (remove-indexed M.world name)) q x h not_index)
 step-given M k now (Auto collection field) more q x h not_index =
     inl (settled-Stays M k (change_of M now (Auto collection field)) (auto-Stays now M (pick (one_field collection field) M.world.store M.world.slots)) q x h not_index)
 step-given M k now (Find index field ws) more q x h not_index = inl h
-step-given M k now (Pump max) more q x h not_index = inl h
+step-given M k now (Pump max index) more q x h not_index = inl (subst (λ (S : Store). row_at q S.rows ≡ Some x) (batches-change-no-row M k now max index) h)
 step-given M k now (Stale name cutoff) more q x h not_index = inl h
+step-given M k now Indexes more q x h not_index = inl h
 step-given M k now Stats more q x h not_index = inl h
 
 given-later : (M : Machine) (e : Event) (es : List Event) (x : Row) → IsWritten (after M e) es x → IsWritten M (e ∷ es) x

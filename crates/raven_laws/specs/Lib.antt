@@ -1,4 +1,6 @@
 pub mod Keyed
 pub mod Claims
 pub mod Writes
+pub mod Definitions
 pub mod Keeping
+pub mod Opened

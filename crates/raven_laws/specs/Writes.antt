@@ -6,7 +6,7 @@ use Rattle.raven_data.specs.Rows.{Row, doc}
 use Rattle.raven_model.specs.Store.{Store, row_at, last}
 use Rattle.raven_model.specs.Commit.{Command, Expect, Client, Refused, after_commands, collection_of, commit, document_at, etags_taken, row_of, stored, tombstone, vector_of}
 use Rattle.raven_model.specs.Replies.{Reply}
-use Rattle.raven_model.specs.Machine.{Machine, Event, Keeping, Replied, Request, Put, Delete, Bulk, Get, Find, Stale, Stats, after, commands_in, results_of, run, same_machine, spelling, step, write_refused}
+use Rattle.raven_model.specs.Machine.{Machine, Event, Keeping, Replied, Request, Put, Delete, Bulk, Get, Find, Stale, Indexes, Stats, after, commands_in, results_of, run, same_machine, spelling, step, write_refused}
 
 -- what a Put is to write: the body without what the server writes itself, under the next etag
 abbrev pub row_given : Store → ℕ → List ℕ → Data → Row
@@ -93,5 +93,6 @@ abbrev pub OnlyReads : Request → Type 0
 OnlyReads (Get id) = Unit {0}
 OnlyReads (Find index field words) = Unit {0}
 OnlyReads (Stale name cutoff) = Unit {0}
+OnlyReads Indexes = Unit {0}
 OnlyReads Stats = Unit {0}
 OnlyReads other = ⊥

@@ -1,6 +1,7 @@
 //! The laws of the database, each the contract of a function without a body: they speak of no code, and every state that the model can reach meets them.
 #![tactic(auto)]
 
+mod definitions;
 mod indexes;
 mod keeping;
 mod opening;
@@ -9,6 +10,10 @@ mod scripts;
 mod stores;
 mod writes;
 
+pub use definitions::{
+    batches_for_one_leave_the_others, definitions_are_kept, definitions_are_told_apart,
+    removals_are_kept,
+};
 pub use indexes::{
     agreement_survives, batch_agrees, documents_are_all, fresh_is_whole, orders_are_total,
     stale_by_newest, stale_is_unseen, touched_is_enough,

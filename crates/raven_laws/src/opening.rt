@@ -4,23 +4,24 @@ ghost use Rattle.std.specs.Prelude.{◌≡◌, ◌⊎◌, ◌++◌, ℕ, List, [
 ghost use Rattle.raven_data.specs.Kept.{KeptRow, all_kept};
 ghost use Rattle.raven_data.specs.Rows.{Row};
 ghost use Rattle.raven_model.specs.Commit.{Setting, is_index_id};
-ghost use Rattle.raven_model.specs.Kept.{opened_from};
+ghost use Rattle.raven_model.specs.Kept.{OpenedFrom};
 ghost use Rattle.raven_model.specs.Machine.{Event, Machine, run};
 ghost use Rattle.raven_model.specs.Script.{Given, after_lines};
 ghost use Rattle.raven_model.specs.Sound.{Has, LaterW, Sound};
 ghost use Rattle.raven_model.specs.Store.{row_at};
 ghost use Rattle.raven_model.specs.World.{Slot, fresh};
 ghost use Rattle.raven_laws.specs.Claims.{FlagsAreExact, FreshIsExact, FreshIsFromScratch, IdsAreAsKept};
+ghost use Rattle.raven_laws.specs.Opened.{OpenedAsTold};
 ghost use Rattle.raven_laws.specs.Writes.{IsWritten};
 
-/// The database that kept rows open is sound. Its rows are kept as those rows, it has the setting under which it was opened, and its
-/// indexes have recorded nothing yet.
+/// The database that kept rows open is sound, if each definition that was read of a row is one of which the row's body tells. Whatever was
+/// read, its rows are kept as those rows, it has the setting under which it was opened, and its indexes have recorded nothing yet.
 pub fn opened_is_sound()
-    ensures sound { (setting : Setting) (held : List KeptRow) (M : Machine) → opened_from setting held ≡ Ok M → Sound M.world }
-    ensures kept { (setting : Setting) (held : List KeptRow) (M : Machine) → opened_from setting held ≡ Ok M → all_kept M.world.store.rows ≡ held }
-    ensures setting { (setting : Setting) (held : List KeptRow) (M : Machine) → opened_from setting held ≡ Ok M → M.world.setting ≡ setting }
-    ensures notes { (setting : Setting) (held : List KeptRow) (M : Machine) → opened_from setting held ≡ Ok M → M.world.notes ≡ [] }
-    ensures fresh { (setting : Setting) (held : List KeptRow) (M : Machine) → opened_from setting held ≡ Ok M →
+    ensures sound { (setting : Setting) (held : List KeptRow) (M : Machine) → OpenedAsTold setting held M → Sound M.world }
+    ensures kept { (setting : Setting) (held : List KeptRow) (M : Machine) → OpenedFrom setting held M → all_kept M.world.store.rows ≡ held }
+    ensures setting { (setting : Setting) (held : List KeptRow) (M : Machine) → OpenedFrom setting held M → M.world.setting ≡ setting }
+    ensures notes { (setting : Setting) (held : List KeptRow) (M : Machine) → OpenedFrom setting held M → M.world.notes ≡ [] }
+    ensures fresh { (setting : Setting) (held : List KeptRow) (M : Machine) → OpenedFrom setting held M →
         (s : Slot) → Has M.world.slots s → s.version ≡ fresh s.version.definition }
 {}
 
@@ -40,24 +41,24 @@ pub fn sound_states_answer_truly()
 
 /// Whatever is asked of a database that kept rows open, each state is sound, is later than those before, and its answers are true.
 pub fn every_run_from_kept_rows_is_sound()
-    ensures sound { (setting : Setting) (held : List KeptRow) (M : Machine) (events : List Event) → opened_from setting held ≡ Ok M → Sound (run events M).world }
-    ensures goes_on { (setting : Setting) (held : List KeptRow) (M : Machine) (events more : List Event) → opened_from setting held ≡ Ok M →
+    ensures sound { (setting : Setting) (held : List KeptRow) (M : Machine) (events : List Event) → OpenedAsTold setting held M → Sound (run events M).world }
+    ensures goes_on { (setting : Setting) (held : List KeptRow) (M : Machine) (events more : List Event) → OpenedAsTold setting held M →
         LaterW (run events M).world (run (events ++ more) M).world }
-    ensures fresh { (setting : Setting) (held : List KeptRow) (M : Machine) (events : List Event) → opened_from setting held ≡ Ok M → FreshIsFromScratch (run events M) }
-    ensures exact { (setting : Setting) (held : List KeptRow) (M : Machine) (events : List Event) → opened_from setting held ≡ Ok M → FreshIsExact (run events M) }
-    ensures flags { (setting : Setting) (held : List KeptRow) (M : Machine) (events : List Event) → opened_from setting held ≡ Ok M → FlagsAreExact (run events M) }
-    ensures ids { (setting : Setting) (held : List KeptRow) (M : Machine) (events : List Event) → opened_from setting held ≡ Ok M → IdsAreAsKept (run events M) }
+    ensures fresh { (setting : Setting) (held : List KeptRow) (M : Machine) (events : List Event) → OpenedAsTold setting held M → FreshIsFromScratch (run events M) }
+    ensures exact { (setting : Setting) (held : List KeptRow) (M : Machine) (events : List Event) → OpenedAsTold setting held M → FreshIsExact (run events M) }
+    ensures flags { (setting : Setting) (held : List KeptRow) (M : Machine) (events : List Event) → OpenedAsTold setting held M → FlagsAreExact (run events M) }
+    ensures ids { (setting : Setting) (held : List KeptRow) (M : Machine) (events : List Event) → OpenedAsTold setting held M → IdsAreAsKept (run events M) }
 {}
 
 /// The same of the lines of a script.
 pub fn every_script_from_kept_rows_is_sound()
-    ensures sound { (setting : Setting) (held : List KeptRow) (M : Machine) (lines : List Given) → opened_from setting held ≡ Ok M → Sound (after_lines lines M).world }
-    ensures goes_on { (setting : Setting) (held : List KeptRow) (M : Machine) (lines more : List Given) → opened_from setting held ≡ Ok M →
+    ensures sound { (setting : Setting) (held : List KeptRow) (M : Machine) (lines : List Given) → OpenedAsTold setting held M → Sound (after_lines lines M).world }
+    ensures goes_on { (setting : Setting) (held : List KeptRow) (M : Machine) (lines more : List Given) → OpenedAsTold setting held M →
         LaterW (after_lines lines M).world (after_lines (lines ++ more) M).world }
-    ensures fresh { (setting : Setting) (held : List KeptRow) (M : Machine) (lines : List Given) → opened_from setting held ≡ Ok M → FreshIsFromScratch (after_lines lines M) }
-    ensures exact { (setting : Setting) (held : List KeptRow) (M : Machine) (lines : List Given) → opened_from setting held ≡ Ok M → FreshIsExact (after_lines lines M) }
-    ensures flags { (setting : Setting) (held : List KeptRow) (M : Machine) (lines : List Given) → opened_from setting held ≡ Ok M → FlagsAreExact (after_lines lines M) }
-    ensures ids { (setting : Setting) (held : List KeptRow) (M : Machine) (lines : List Given) → opened_from setting held ≡ Ok M → IdsAreAsKept (after_lines lines M) }
+    ensures fresh { (setting : Setting) (held : List KeptRow) (M : Machine) (lines : List Given) → OpenedAsTold setting held M → FreshIsFromScratch (after_lines lines M) }
+    ensures exact { (setting : Setting) (held : List KeptRow) (M : Machine) (lines : List Given) → OpenedAsTold setting held M → FreshIsExact (after_lines lines M) }
+    ensures flags { (setting : Setting) (held : List KeptRow) (M : Machine) (lines : List Given) → OpenedAsTold setting held M → FlagsAreExact (after_lines lines M) }
+    ensures ids { (setting : Setting) (held : List KeptRow) (M : Machine) (lines : List Given) → OpenedAsTold setting held M → IdsAreAsKept (after_lines lines M) }
 {}
 
 /// No row is invented: each, but those of the indexes' definitions, was there before the run, or is what a command of one of the requests

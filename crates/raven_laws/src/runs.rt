@@ -16,7 +16,7 @@ pub fn every_run_is_sound()
     ensures { (setting : Setting) (events : List Event) → Sound (run events (start setting)).world }
 {}
 
-/// Each state is later than those before: rows stay or are replaced, indexes go forward, and a name keeps its index.
+/// Each state is later than those before: rows stay or are replaced, indexes go forward, and a name keeps its index until that is removed.
 pub fn every_run_goes_on()
     ensures { (setting : Setting) (events more : List Event) →
         LaterW (run events (start setting)).world (run (events ++ more) (start setting)).world }

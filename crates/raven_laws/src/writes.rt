@@ -1,6 +1,6 @@
 //! What a request writes, and what it leaves alone.
 
-ghost use Rattle.std.specs.Prelude.{◌≡◌, ℕ, List, [], Some, false};
+ghost use Rattle.std.specs.Prelude.{◌≡◌, ℕ, List, [], Option, Some, false};
 ghost use Rattle.raven_data.specs.Data.{Data};
 ghost use Rattle.raven_data.specs.Rows.{Row};
 ghost use Rattle.raven_model.specs.Store.{row_at};
@@ -29,7 +29,7 @@ pub fn transactions_are_whole()
 /// What asks a question changes nothing, and batches change no row.
 pub fn only_writes_write()
     ensures questions { (M : Machine) (k : Keeping) (now : ℕ) (request : Request) → OnlyReads request → (step M k now request).machine ≡ M }
-    ensures batches { (M : Machine) (k : Keeping) (now max : ℕ) → (step M k now (Pump max)).machine.world.store ≡ M.world.store }
+    ensures batches { (M : Machine) (k : Keeping) (now max : ℕ) (index : Option (List ℕ)) → (step M k now (Pump max index)).machine.world.store ≡ M.world.store }
 {}
 
 /// No row is invented: each, but those of the indexes' definitions, is what a command of one of the requests wrote, and that request was

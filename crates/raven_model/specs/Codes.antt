@@ -1,16 +1,18 @@
 -- Codes of what the types of the crates above are seen as.
-use Rattle.std.specs.Prelude.{◌≡◌, ℕ, List, refl}
-use Rattle.std.specs.Coded.{Coded, coded_ℕ, coded_list, coded×, code_by}
+use Rattle.std.specs.Prelude.{ℕ, List, Bool, refl}
+use Rattle.std.specs.Coded.{Coded, coded_ℕ, coded_bool, coded_list, coded×, code_by}
 use Rattle.std.specs.FinMap as map
 use Rattle.raven_data.specs.Codes.{text_code, row_code}
-use Rattle.raven_data.specs.Members.{Path}
+use Rattle.raven_data.specs.DataCode.{data_code}
 use Rattle.raven_data.specs.Rows.{Row}
 use Rattle.raven_model.specs.Store.{Store}
+use Rattle.raven_data.specs.Data.{Data}
 use Rattle.raven_model.specs.Index.{Table}
-use Rattle.raven_model.specs.Mapping.{Definition, Auto}
+use Rattle.raven_model.specs.Mapping.{Definition}
+use Rattle.raven_model.specs.Definitions.{definition_code}
 use Rattle.raven_model.specs.Commit.{Setting}
 use Rattle.raven_model.specs.World.{Version, Slot, Note, World}
-use Rattle.raven_model.specs.Replies.{Pumping}
+use Rattle.raven_model.specs.Replies.{Pumping, Listing}
 use Rattle.raven_model.specs.Machine.{Machine}
 
 abbrev pub store_code : Coded Store
@@ -18,18 +20,6 @@ store_code = code_by (List Row) (coded_list row_code) (λ S. S.rows) (λ rows. r
 
 abbrev pub table_code : Coded Table
 table_code = map.code text_code row_code
-
-abbrev pub path_code : Coded Path
-path_code = coded_list text_code
-
-abbrev definition_parts : Definition → List ℕ × List Path
-definition_parts (Auto collection fields) = (collection, fields)
-
-pub definition_back : (d : Definition) → Auto (definition_parts d).0 (definition_parts d).1 ≡ d
-definition_back (Auto collection fields) = refl
-
-abbrev pub definition_code : Coded Definition
-definition_code = code_by (List ℕ × List Path) (coded× text_code (coded_list path_code)) definition_parts (λ p. Auto p.0 p.1) definition_back
 
 abbrev pub version_code : Coded Version
 version_code = code_by (Definition × (ℕ × Table)) (coded× definition_code (coded× coded_ℕ table_code))
@@ -58,3 +48,8 @@ machine_code = code_by World world_code (λ m. m.world) (λ w. record { world = 
 abbrev pub pumping_code : Coded Pumping
 pumping_code = code_by (ℕ × (List ℕ × ℕ)) (coded× coded_ℕ (coded× text_code coded_ℕ))
     (λ p. (p.from, (p.index, p.to))) (λ q. record { from = q.0; index = q.1.0; to = q.1.1 }) (λ _. refl)
+
+abbrev pub listing_code : Coded Listing
+listing_code = code_by (Data × (ℕ × (ℕ × (ℕ × (Bool × List ℕ))))) (coded× data_code (coded× coded_ℕ (coded× coded_ℕ (coded× coded_ℕ (coded× coded_bool text_code)))))
+    (λ l. (l.definition, (l.entries, (l.errors, (l.etag, (l.is_stale, l.name))))))
+    (λ p. record { definition = p.0; entries = p.1.0; errors = p.1.1.0; etag = p.1.1.1.0; is_stale = p.1.1.1.1.0; name = p.1.1.1.1.1 }) (λ _. refl)

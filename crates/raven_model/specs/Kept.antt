@@ -14,7 +14,7 @@ use Rattle.raven_data.specs.Written.{text_of}
 use Rattle.raven_model.specs.Store.{row_at, last_of}
 use Rattle.raven_model.specs.Commit.{Setting, is_own}
 use Rattle.raven_model.specs.Machine.{Machine}
-use Rattle.raven_model.specs.Opening.{opened}
+use Rattle.raven_model.specs.Opening.{ReadRow, opened, rows_of}
 
 -- ONE ROW
 
@@ -82,10 +82,8 @@ rows_in max held = rows_behind max [] held
 
 -- THE DATABASE
 
-abbrev pub opened_by : Setting → Result (List Row) ℕ → Result Machine ℕ
-opened_by s (Err etag) = Err etag
-opened_by s (Ok rows) = opened s rows
-
--- the machine of what a keeper holds, or the etag of the first bad row
-abbrev pub opened_from : Setting → List KeptRow → Result Machine ℕ
-opened_from s held = opened_by s (rows_in s.max_rows held)
+-- the machine that the held rows open, where this was read of them
+pub record OpenedFrom (s : Setting) (held : List KeptRow) (M : Machine) : Type 0 where
+  pub read : List ReadRow
+  pub rows : rows_in s.max_rows held ≡ Ok (rows_of read)
+  pub opens : opened s read ≡ Ok M

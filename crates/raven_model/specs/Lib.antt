@@ -3,8 +3,10 @@ pub mod Later
 pub mod Commit
 pub mod Index
 pub mod Mapping
+pub mod Definitions
 pub mod World
 pub mod Optimiser
+pub mod Language
 pub mod Replies
 pub mod Machine
 pub mod Sound

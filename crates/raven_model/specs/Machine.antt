@@ -10,12 +10,12 @@ use Rattle.raven_data.specs.Rows.{Row, doc, gone, is_document}
 use Rattle.raven_data.specs.Scalars.{Scalar, words, Is, holds}
 use Rattle.raven_model.specs.Store.{Store, row_at, last, empty_store}
 use Rattle.raven_model.specs.Index.{Table, stale, newest}
-use Rattle.raven_model.specs.Mapping.{Definition, Mapper, Fields, mapper_of, scratch}
-use Rattle.raven_model.specs.Commit.{Command, Expect, Client, Server, Setting, Refusal, Written, Refused, commit, vector_of, kept_spelling, document_at, etags_taken}
+use Rattle.raven_model.specs.Mapping.{Definition, Mapper, Fields, failures, mapper_of, scratch}
+use Rattle.raven_model.specs.Commit.{Command, Expect, Client, Server, Setting, Refusal, Written, Refused, commit, vector_of, kept_spelling, etags_taken}
 use Rattle.raven_model.specs.Optimiser.{Shape, Choice, Use, Make, Merge, pick, name_of}
-use Rattle.raven_model.specs.Replies.{Reply, Index, Pumped, Pumping, Found, NoIndex, UnknownLine}
+use Rattle.raven_model.specs.Replies.{Reply, Index, Removed, Pumped, Pumping, Listing, Found, NoIndex, UnknownLine}
 use Rattle.raven_model.specs.Replies as told
-use Rattle.raven_model.specs.World.{Version, Slot, World, reads, batch, serving, SlotChange, SlotRefusal, define}
+use Rattle.raven_model.specs.World.{Version, Slot, World, reads, batch, serving, SlotChange, SlotRefusal, define, define_named, remove, is_named, definition_data}
 
 pub record Machine : Type 0 where
   pub world : World
@@ -25,11 +25,14 @@ pub data Request : Type 0 where
   Delete : (id : List ℕ) (expected : Expect) → Request
   Bulk : (commands : List Command) → Request
   Get : (id : List ℕ) → Request
+  Define : (name : List ℕ) (definition : Definition) → Request
+  Remove : (name : List ℕ) → Request
   Auto : (collection field : List ℕ) → Request
   Find : (index field words : List ℕ) → Request
-  Pump : (max : ℕ) → Request
+  -- one batch for each index, or for the one of this name
+  Pump : (max : ℕ) (index : Option (List ℕ)) → Request
   Stale : (name : List ℕ) (cutoff : Option ℕ) → Request
-  Stats : Request
+  Indexes Stats : Request
 
 -- the commands that a request asks to write
 abbrev pub commands_in : Request → List Command
@@ -102,9 +105,13 @@ refused_at at (Refusal.EtagsSpent etag) = told.EtagsSpent at etag
 abbrev pub write_refused : Refused → Reply
 write_refused refused = refused_at refused.at refused.kind
 
--- a refused index gets its own replies once indexes are defined by name
-abbrev pub slot_refused : SlotRefusal → Reply
-slot_refused refusal = UnknownLine
+-- the reply where an index of this name is refused; that the name serves with another definition gets its own once replacements are built
+abbrev pub slot_refused : List ℕ → SlotRefusal → Reply
+slot_refused name SlotRefusal.NameServes = UnknownLine
+slot_refused name SlotRefusal.NoIndex = NoIndex name
+slot_refused name SlotRefusal.ReservedName = told.ReservedName
+slot_refused name SlotRefusal.TooManyIndexes = told.TooManyIndexes
+slot_refused name (SlotRefusal.NameTooLong len) = told.NameTooLong len
 
 -- WRITES
 
@@ -143,20 +150,21 @@ write M reply now commands = wrote M reply now commands (commit M.world.setting 
 
 -- INDEXES, whose rows are written by the server
 
-abbrev pub rewrote : Machine → List ℕ → List Slot → Result Written Refused → Change
-rewrote M name slots (Err refused) = no_change M (write_refused refused)
-rewrote M name slots (Ok w) = record { reply = Index name; machine = record { world = in_world M.world w.store slots }; rows = w.rows }
+abbrev pub rewrote : Machine → Reply → List Slot → Result Written Refused → Change
+rewrote M reply slots (Err refused) = no_change M (write_refused refused)
+rewrote M reply slots (Ok w) = record { reply = reply; machine = record { world = in_world M.world w.store slots }; rows = w.rows }
 
-abbrev pub defined : Machine → ℕ → List ℕ → Result SlotChange SlotRefusal → Change
-defined M now name (Err refusal) = no_change M (slot_refused refusal)
-defined M now name (Ok c) = rewrote M name c.slots (commit M.world.setting Server now c.commands M.world.store)
+-- the reply tells the name of the index, which may be spelled in another way than in the request
+abbrev pub reslotted : Machine → ℕ → (List ℕ → Reply) → List ℕ → Result SlotChange SlotRefusal → Change
+reslotted M now reply name (Err refusal) = no_change M (slot_refused name refusal)
+reslotted M now reply name (Ok c) = rewrote M (reply c.name) c.slots (commit M.world.setting Server now c.commands M.world.store)
 
 -- the index that is picked, or a new one
 abbrev pub use_or_make : Machine → ℕ → Choice → Change
 use_or_make M now (Use s) = no_change M (Index s.name)
 use_or_make M now (Make shape) =
     let name = name_of M.world.slots (last M.world.store + 1) shape in
-    defined M now name (define M.world name (Definition.Auto shape.collection shape.fields))
+    reslotted M now Index name (define M.world name (Definition.Auto shape.collection shape.fields))
 use_or_make M now Merge = no_change M UnknownLine
 
 -- the shape of one field
@@ -183,6 +191,22 @@ pump M max = record {
   machine = record { world = with_slots M.world (map (brought_on M.world.store max) M.world.slots) };
   rows = [];
 }
+
+abbrev pub brought_on_if : Store → ℕ → List ℕ → Slot → Slot
+brought_on_if S max name s = if is_named name s then brought_on S max s else s
+
+-- one batch for the slot that serves the name
+abbrev pub pump_at : Machine → ℕ → List ℕ → Option Slot → Change
+pump_at M max name None = no_change M (NoIndex name)
+pump_at M max name (Some s) = record {
+  reply = Pumped (pumping M.world.store max s ∷ []);
+  machine = record { world = with_slots M.world (map (brought_on_if M.world.store max name) M.world.slots) };
+  rows = [];
+}
+
+abbrev pub pump_for : Machine → ℕ → Option (List ℕ) → Change
+pump_for M max None = pump M max
+pump_for M max (Some name) = pump_at M max name (serving M.world.slots name)
 
 -- ANSWERS, which change nothing
 
@@ -218,6 +242,21 @@ abbrev pub answer_stale : World → List ℕ → Option ℕ → Option Slot → 
 answer_stale W name cutoff None = NoIndex name
 answer_stale W name cutoff (Some s) =
     told.Stale s.version.etag (stale W.store (reads s.version) s.version.etag cutoff) (newest W.store (reads s.version) cutoff)
+
+-- what is told of a slot: its entries and the documents whose map fails, over what it has recorded
+abbrev pub listing : Store → Slot → Listing
+listing S s = record {
+  definition = definition_data s.version.definition;
+  entries = length (scratch (mapper_of s.version.definition) s.version.table);
+  errors = failures (mapper_of s.version.definition) s.version.table;
+  etag = s.version.etag;
+  is_stale = is_stale S s;
+  name = s.name;
+}
+
+-- by number
+abbrev pub answer_indexes : World → Reply
+answer_indexes W = told.Indexes (map (listing W.store) W.slots)
 
 -- the members of an object, and none of any other value
 abbrev pub members_of : Option Data → Pairs
@@ -262,10 +301,13 @@ change_of M now (Put id expected body) = write M single_reply now (Command.Put i
 change_of M now (Delete id expected) = write M single_reply now (Command.Delete id expected ∷ [])
 change_of M now (Bulk commands) = write M told.Bulk now commands
 change_of M now (Get id) = no_change M (answer_get M.world id)
+change_of M now (Define name definition) = reslotted M now Index name (define_named M.world name definition)
+change_of M now (Remove name) = reslotted M now Removed name (remove M.world name)
 change_of M now (Auto collection field) = use_or_make M now (pick (one_field collection field) M.world.store M.world.slots)
 change_of M now (Find index field ws) = no_change M (answer_find M.world index field ws (serving M.world.slots index))
-change_of M now (Pump max) = pump M max
+change_of M now (Pump max index) = pump_for M max index
 change_of M now (Stale name cutoff) = no_change M (answer_stale M.world name cutoff (serving M.world.slots name))
+change_of M now Indexes = no_change M (answer_indexes M.world)
 change_of M now Stats = no_change M (answer_stats M.world)
 
 abbrev pub step : Machine → Keeping → ℕ → Request → Replied

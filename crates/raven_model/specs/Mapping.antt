@@ -9,27 +9,19 @@ use Rattle.raven_data.specs.Folding.{key_cmp}
 use Rattle.raven_data.specs.Members.{Path, value_at}
 use Rattle.raven_data.specs.Scalars.{Scalar, nothing, scalar_of}
 use Rattle.raven_data.specs.Rows.{Row, Body, doc, gone, key}
+use Rattle.index_tree.specs.declared.map_query.MapQuery.{MapQuery}
+use Rattle.index_tree.specs.declared.reduce_query.ReduceQuery.{ReduceQuery}
+use Rattle.map_meaning.specs.Asking.{AgreeAt}
+use Rattle.map_meaning.specs.Local.{meaning_local}
+use Rattle.map_meaning.specs.Meaning as query
+use Rattle.map_meaning.specs.Scope.{loaded_of}
 use Rattle.raven_model.specs.Store.{row_at}
 use Rattle.raven_model.specs.Index.{Table, Scope}
-
--- names of fields and what stands there
-abbrev pub Fields : Type 0
-Fields = List (List ℕ × Scalar)
-
-pub data Outcome : Type 0 where
-  Entry : Fields → Outcome
-  NoEntry : Outcome
-  Failed : Outcome
-
--- what the map of a document gives, and the folded ids that it loaded
-pub record Mapped : Type 0 where
-  pub outcome : Outcome
-  pub loads : List (List ℕ)
+pub use Rattle.map_meaning.specs.Meaning.{Fields, Outcome, Entry, NoEntry, Failed, Mapped}
 
 -- the two tables have the same at these ids
 abbrev pub AlikeAt : List (List ℕ) → Table → Table → Type 0
-AlikeAt [] T U = Unit {0}
-AlikeAt (q ∷ qs) T U = (get T q ≡ get U q) × AlikeAt qs T U
+AlikeAt qs T U = AgreeAt qs (get T) (get U)
 
 -- the meaning of a definition: it depends on the document and on what it loads, and on nothing else
 pub record Mapper : Type 0 where
@@ -101,6 +93,8 @@ AreResults m T K = (q : List ℕ) → get K q ≡ result_of m T q
 -- DEFINITIONS
 
 pub data Definition : Type 0 where
+  -- what the texts of a map and of a reduce say, and these texts. The groups of a reduce are not made yet.
+  Static : (map : MapQuery) (reduce : Option ReduceQuery) (map_text : List ℕ) (reduce_text : Option (List ℕ)) → Definition
   -- the fields of an automatic index, in the order of the bytes of their joined paths
   Auto : (collection : List ℕ) (fields : List Path) → Definition
 
@@ -125,5 +119,13 @@ field_of gone path = nothing
 abbrev pub auto_meaning : List Path → Row → Table → Mapped
 auto_meaning fields d T = record { outcome = Entry (map (λ path. (joined path, field_of d.body path)) fields); loads = [] }
 
+-- a map looks documents up in the table alone
+abbrev pub static_meaning : MapQuery → Row → Table → Mapped
+static_meaning map d T = query.meaning map d (get T)
+
+abbrev pub static_mapper : MapQuery → Mapper
+static_mapper map = record { collection = map.collection; loaded = loaded_of map; meaning = static_meaning map; local = λ d T U alike. meaning_local map d (get T) (get U) alike }
+
 abbrev pub mapper_of : Definition → Mapper
+mapper_of (Static map reduce map_text reduce_text) = static_mapper map
 mapper_of (Auto collection fields) = record { collection = collection; loaded = []; meaning = auto_meaning fields; local = λ d T U alike. refl }

@@ -1,36 +1,53 @@
 -- Opening a database from the rows that its keeper has.
-use Rattle.std.specs.Prelude.{ℕ, ◌+◌, List, [], ◌∷◌, ◌++◌, Bool, true, false, not, ◌&&◌, ◌||◌, ◌==◌, nat_le, nat_lt, nat_eq, if◌then◌else◌, Option, Some, None, is_none, Result, Ok, Err, length, codes, drop}
+use Rattle.std.specs.Prelude.{ℕ, ◌+◌, List, [], ◌∷◌, ◌++◌, Bool, not, ◌&&◌, ◌||◌, ◌==◌, nat_le, nat_lt, nat_eq, if◌then◌else◌, Option, Some, None, Result, Ok, Err, length, codes, drop, map}
 use Rattle.std.specs.List.{list_any, starts_with}
 use Rattle.std.specs.Str.{bytes_eq}
-use Rattle.raven_data.specs.Data.{Data, text, array, object, no_items, item, no_entries, pairs_of}
+use Rattle.raven_data.specs.Data.{Data, null, text, array, object, no_items, item, no_entries, pairs_of}
 use Rattle.raven_data.specs.Faults.{is_fit}
 use Rattle.raven_data.specs.Folding.{folded}
 use Rattle.raven_data.specs.Members.{member}
-use Rattle.raven_data.specs.Rows.{Row, doc, gone, is_document}
+use Rattle.raven_data.specs.Rows.{Row, is_document}
 use Rattle.raven_model.specs.Commit.{Setting, is_index_id}
-use Rattle.raven_model.specs.Mapping.{Definition, Auto}
-use Rattle.raven_model.specs.World.{Slot, World, fresh}
+use Rattle.raven_model.specs.Mapping.{Definition, Static, Auto}
+use Rattle.raven_model.specs.World.{Slot, fresh, is_reserved_name, max_index_name}
 use Rattle.raven_model.specs.Machine.{Machine}
 
--- THE DEFINITION IN A BODY: of an automatic index of one field of one part, as the server keeps it
+-- THE DEFINITION IN A BODY, as the server keeps it
 
 -- a part of a path has a byte, and none of `.`, `(` and `)`
 abbrev pub is_part : List ℕ → Bool
 is_part part = nat_lt 0 (length part) && not (list_any (λ b. (b == 46) || (b == 40) || (b == 41)) part)
 
+-- of an automatic index of one field of one part
 abbrev pub auto_read : Option Data → Option Data → Option Data → Option Data → Option Definition
 auto_read (Some (object no_entries)) (Some (text collection)) (Some (array (item (array (item (text field) no_items)) no_items))) (Some (text kind)) =
     if bytes_eq kind (codes "auto") && is_part field then Some (Auto collection ((field ∷ []) ∷ [])) else None
 auto_read metadata collection fields kind = None
 
--- there are these four members and no others
-abbrev pub definition_read : Data → Option Definition
-definition_read (object ms) =
-    if length (pairs_of ms) == 4 then auto_read (member (codes "@metadata") ms) (member (codes "Collection") ms) (member (codes "Fields") ms) (member (codes "Kind") ms) else None
-definition_read other = None
+-- the text of the map of an index without a reduce
+abbrev pub map_read : Option Data → Option Data → Option Data → Option Data → Option (List ℕ)
+map_read (Some (object no_entries)) (Some (text kind)) (Some (text map)) (Some null) = if bytes_eq kind (codes "static") then Some map else None
+map_read metadata kind map reduce = None
 
-abbrev pub definition_in : Row → Option Definition
-definition_in r = elim r.body [ doc d ↦ definition_read d | gone ↦ None ]
+-- what a body says, as far as no text of a definition has to be read
+pub data BodyForm : Type 0 where
+  NoForm : BodyForm
+  AutoForm : (definition : Definition) → BodyForm
+  StaticForm : (map : List ℕ) → BodyForm
+
+abbrev pub form_of : Option Definition → Option (List ℕ) → BodyForm
+form_of (Some d) other = AutoForm d
+form_of None (Some map) = StaticForm map
+form_of None None = NoForm
+
+-- there are four members and no others
+abbrev pub body_form : Data → BodyForm
+body_form (object ms) =
+    if length (pairs_of ms) == 4
+    then form_of (auto_read (member (codes "@metadata") ms) (member (codes "Collection") ms) (member (codes "Fields") ms) (member (codes "Kind") ms))
+    (map_read (member (codes "@metadata") ms) (member (codes "Kind") ms) (member (codes "Map") ms) (member (codes "Reduce") ms))
+    else NoForm
+body_form other = NoForm
 
 -- ROWS OF DEFINITIONS
 
@@ -43,7 +60,20 @@ name_in r = drop 7 r.id
 
 -- the name of an automatic index
 abbrev pub is_auto_name : List ℕ → Bool
-is_auto_name name = is_fit 200 name && starts_with nat_eq (folded name) (codes "auto/")
+is_auto_name name = is_fit max_index_name name && starts_with nat_eq (folded name) (codes "auto/")
+
+-- the name of an index that a client defined
+abbrev pub is_static_name : List ℕ → Bool
+is_static_name name = is_fit max_index_name name && not (is_reserved_name name)
+
+abbrev pub may_be_named : Definition → List ℕ → Bool
+may_be_named (Static map reduce map_text reduce_text) name = is_static_name name
+may_be_named (Auto collection fields) name = is_auto_name name
+
+-- a row, and the definition that was read of it, if it is the live row of one
+pub record ReadRow : Type 0 where
+  pub row : Row
+  pub definition : Option Definition
 
 -- the id begins with `@index/` exactly where the collection is `@indexes`
 abbrev pub is_filed : Row → Bool
@@ -60,13 +90,13 @@ slot_of r d = record { number = r.etag; name = name_in r; version = fresh d; row
 -- the slots with that of the row, if it is the live row of a definition; nothing where the row is of no form
 abbrev pub with_slot : List Slot → Row → Option Definition → Option (List Slot)
 with_slot slots r None = None
-with_slot slots r (Some d) = if is_auto_name (name_in r) then Some (slots ++ slot_of r d ∷ []) else None
+with_slot slots r (Some d) = if may_be_named d (name_in r) then Some (slots ++ slot_of r d ∷ []) else None
 
-abbrev pub slots_with : List Slot → Row → Option (List Slot)
-slots_with slots r = if is_defining r then with_slot slots r (definition_in r) else Some slots
+abbrev pub slots_with : List Slot → ReadRow → Option (List Slot)
+slots_with slots x = if is_defining x.row then with_slot slots x.row x.definition else Some slots
 
-abbrev pub slots_after : Setting → ℕ → List Slot → Row → Option (List Slot)
-slots_after s rows slots r = if is_too_many s rows slots r || not (is_filed r) then None else slots_with slots r
+abbrev pub slots_after : Setting → ℕ → List Slot → ReadRow → Option (List Slot)
+slots_after s rows slots x = if is_too_many s rows slots x.row || not (is_filed x.row) then None else slots_with slots x
 
 -- THE WORLD: one row after another, in order of etag; a row that is of no form is told by its etag
 
@@ -78,14 +108,17 @@ abbrev pub and_then : Result (List Slot) ℕ → (List Slot → Result (List Slo
 and_then (Err etag) more = Err etag
 and_then (Ok slots) more = more slots
 
-abbrev pub slots_from : Setting → ℕ → List Slot → List Row → Result (List Slot) ℕ
+abbrev pub slots_from : Setting → ℕ → List Slot → List ReadRow → Result (List Slot) ℕ
 slots_from s count slots [] = Ok slots
-slots_from s count slots (r ∷ rows) = and_then (or_bad r.etag (slots_after s count slots r)) (λ more. slots_from s (count + 1) more rows)
+slots_from s count slots (x ∷ xs) = and_then (or_bad x.row.etag (slots_after s count slots x)) (λ more. slots_from s (count + 1) more xs)
 
 abbrev pub opened_with : Setting → List Row → Result (List Slot) ℕ → Result Machine ℕ
 opened_with s rows (Err etag) = Err etag
 opened_with s rows (Ok slots) = Ok (record { world = record { setting = s; store = record { rows = rows }; slots = slots; notes = [] } })
 
+abbrev pub rows_of : List ReadRow → List Row
+rows_of xs = map (λ x. x.row) xs
+
 -- the machine of these rows, which are those of a store; or the etag of the first that is of no form
-abbrev pub opened : Setting → List Row → Result Machine ℕ
-opened s rows = opened_with s rows (slots_from s 0 [] rows)
+abbrev pub opened : Setting → List ReadRow → Result Machine ℕ
+opened s xs = opened_with s (rows_of xs) (slots_from s 0 [] xs)

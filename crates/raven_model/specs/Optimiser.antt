@@ -1,5 +1,5 @@
 -- Which automatic index answers a query, and what a new one is called. A slot is fresh where it is not stale without a cutoff.
-use Rattle.std.specs.Prelude.{ℕ, ◌+◌, suc, zero, List, [], ◌∷◌, ◌++◌, Bool, not, ◌&&◌, ◌||◌, nat_lt, if◌then◌else◌, Option, Some, None, is_some, length, codes, filter}
+use Rattle.std.specs.Prelude.{ℕ, ◌+◌, suc, zero, List, [], ◌∷◌, ◌++◌, Bool, false, not, ◌&&◌, ◌||◌, nat_lt, if◌then◌else◌, Option, Some, None, is_some, length, codes, filter}
 use Rattle.std.specs.List.{list_any, list_all}
 use Rattle.std.specs.Str.{bytes_eq}
 use Rattle.std.specs.Fmt.{decimal}
@@ -8,7 +8,7 @@ use Rattle.raven_data.specs.Faults.{is_fit}
 use Rattle.raven_data.specs.Members.{Path}
 use Rattle.raven_model.specs.Store.{Store}
 use Rattle.raven_model.specs.Index.{stale}
-use Rattle.raven_model.specs.Mapping.{Definition, Auto, joined}
+use Rattle.raven_model.specs.Mapping.{Definition, Static, Auto, joined}
 use Rattle.raven_model.specs.World.{Slot, reads, serving}
 
 -- what a query asks of an index
@@ -16,10 +16,12 @@ pub record Shape : Type 0 where
   pub collection : List ℕ
   pub fields : List Path
 
-abbrev pub shape_of : Definition → Shape
-shape_of (Auto collection fields) = record { collection = collection; fields = fields }
+-- an automatic index has a shape, and no other has one
+abbrev pub shape_of : Definition → Option Shape
+shape_of (Static map reduce map_text reduce_text) = None
+shape_of (Auto collection fields) = Some (record { collection = collection; fields = fields })
 
-abbrev pub slot_shape : Slot → Shape
+abbrev pub slot_shape : Slot → Option Shape
 slot_shape s = shape_of s.version.definition
 
 abbrev pub is_fresh : Store → Slot → Bool
@@ -29,11 +31,16 @@ abbrev pub has_path : List Path → Path → Bool
 has_path fields path = list_any (pointwise bytes_eq path) fields
 
 -- an index of the shape a can answer what the shape b asks
-abbrev pub covers : Shape → Shape → Bool
-covers a b = bytes_eq a.collection b.collection && list_all (has_path a.fields) b.fields
+abbrev pub covers : Option Shape → Shape → Bool
+covers None b = false
+covers (Some a) b = bytes_eq a.collection b.collection && list_all (has_path a.fields) b.fields
+
+abbrev pub fields_in : Option Shape → ℕ
+fields_in None = 0
+fields_in (Some a) = length a.fields
 
 abbrev pub width : Slot → ℕ
-width s = length (slot_shape s).fields
+width s = fields_in (slot_shape s)
 
 -- the fresh before the stale, then the fewer fields
 abbrev pub beats : Store → Slot → Slot → Bool
@@ -56,8 +63,13 @@ pub data Choice : Type 0 where
   -- a new one that takes in the fields of the others of its collection, which is not built yet
   Merge : Choice
 
+abbrev pub has_collection : List ℕ → Option Shape → Bool
+has_collection collection None = false
+has_collection collection (Some a) = bytes_eq a.collection collection
+
+-- an automatic index of the collection
 abbrev pub is_of : List ℕ → Slot → Bool
-is_of collection s = bytes_eq (slot_shape s).collection collection
+is_of collection s = has_collection collection (slot_shape s)
 
 abbrev pub chosen : Shape → List Slot → Option Slot → Choice
 chosen shape slots (Some s) = Use s

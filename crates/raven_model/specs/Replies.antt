@@ -2,6 +2,7 @@
 use Rattle.std.specs.Prelude.{ℕ, pos, List, [], ◌∷◌, ◌++◌, Bool, codes, map}
 use Rattle.raven_data.specs.Data.{Data, flag, num, text, array, object, items_of, entries_of}
 use Rattle.raven_data.specs.Written.{text_of}
+use Rattle.raven_model.specs.Language.{LangRefusal, kind_name, part_name}
 
 -- what one command of a transaction did
 pub data Result : Type 0 where
@@ -14,15 +15,26 @@ pub record Pumping : Type 0 where
   pub index : List ℕ
   pub to : ℕ
 
+-- what is told of an index
+pub record Listing : Type 0 where
+  pub definition : Data
+  pub entries : ℕ
+  pub errors : ℕ
+  pub etag : ℕ
+  pub is_stale : Bool
+  pub name : List ℕ
+
 pub data Reply : Type 0 where
   Put : (change_vector id : List ℕ) → Reply
   Deleted : (deleted : Bool) (id : List ℕ) → Reply
   Bulk : (results : List Result) → Reply
   Document : (document : Data) → Reply
   Index : (name : List ℕ) → Reply
+  Removed : (name : List ℕ) → Reply
   Found : (ids : List (List ℕ)) (index_etag : ℕ) (is_stale : Bool) → Reply
   Pumped : (pumped : List Pumping) → Reply
   Stale : (index_etag : ℕ) (is_stale : Bool) (newest : ℕ) → Reply
+  Indexes : (results : List Listing) → Reply
   Stats : (documents indexes tombstones last : ℕ) → Reply
   -- refusals of a line
   UnknownLine : Reply
@@ -34,6 +46,11 @@ pub data Reply : Type 0 where
   -- refusals of what is not there
   NoDocument : (id : List ℕ) → Reply
   NoIndex : (name : List ℕ) → Reply
+  -- refusals of a definition
+  Lang : LangRefusal → Reply
+  ReservedName : Reply
+  NameTooLong : (len : ℕ) → Reply
+  TooManyIndexes : Reply
   -- refusals of a transaction, each with the place of the command
   ReservedId : (at : ℕ) → Reply
   TooLarge : (at len : ℕ) → Reply
@@ -60,6 +77,16 @@ result_data (Result.Deleted deleted id) = members ((codes "Deleted", flag delete
 abbrev pub pumping_data : Pumping → Data
 pumping_data p = members ((codes "From", number p.from) ∷ (codes "Index", text p.index) ∷ (codes "To", number p.to) ∷ [])
 
+abbrev pub listing_data : Listing → Data
+listing_data l = members (
+    (codes "Definition", l.definition)
+    ∷ (codes "Entries", number l.entries)
+    ∷ (codes "Errors", number l.errors)
+    ∷ (codes "Etag", number l.etag)
+    ∷ (codes "IsStale", flag l.is_stale)
+    ∷ (codes "Name", text l.name)
+    ∷ [])
+
 abbrev pub error : List ℕ → List (List ℕ × Data) → Data
 error name more = members ((codes "Error", text name) ∷ more)
 
@@ -73,9 +100,11 @@ reply_data (Deleted deleted id) = members ((codes "Deleted", flag deleted) ∷ (
 reply_data (Bulk results) = members ((codes "Results", array (items_of (map result_data results))) ∷ [])
 reply_data (Document document) = document
 reply_data (Index name) = members ((codes "Index", text name) ∷ [])
+reply_data (Removed name) = members ((codes "Removed", text name) ∷ [])
 reply_data (Found ids etag is_stale) = members ((codes "Ids", texts ids) ∷ (codes "IndexEtag", number etag) ∷ (codes "IsStale", flag is_stale) ∷ [])
 reply_data (Pumped pumped) = members ((codes "Pumped", array (items_of (map pumping_data pumped))) ∷ [])
 reply_data (Stale etag is_stale newest) = members ((codes "IndexEtag", number etag) ∷ (codes "IsStale", flag is_stale) ∷ (codes "Newest", number newest) ∷ [])
+reply_data (Indexes results) = members ((codes "Results", array (items_of (map listing_data results))) ∷ [])
 reply_data (Stats documents indexes tombstones last) =
     members ((codes "CountOfDocuments", number documents) ∷ (codes "CountOfIndexes", number indexes) ∷ (codes "CountOfTombstones", number tombstones) ∷ (codes "LastDocEtag", number last) ∷ [])
 reply_data UnknownLine = error (codes "UnknownLine") []
@@ -88,6 +117,10 @@ reply_data (Control at) = error_at at (codes "Control") []
 reply_data (BadMember name) = error (codes "BadMember") ((codes "Name", text name) ∷ [])
 reply_data (NoDocument id) = error (codes "NoDocument") ((codes "Id", text id) ∷ [])
 reply_data (NoIndex name) = error (codes "NoIndex") ((codes "Name", text name) ∷ [])
+reply_data (Lang refusal) = members ((codes "At", number refusal.at) ∷ (codes "Error", text (kind_name refusal.kind)) ∷ (codes "Part", text (part_name refusal.part)) ∷ [])
+reply_data ReservedName = error (codes "ReservedName") []
+reply_data (NameTooLong len) = error (codes "NameTooLong") ((codes "Len", number len) ∷ [])
+reply_data TooManyIndexes = error (codes "TooManyIndexes") []
 reply_data (ReservedId at) = error_at at (codes "ReservedId") []
 reply_data (TooLarge at len) = error_at at (codes "TooLarge") ((codes "Len", number len) ∷ [])
 reply_data (CollectionChanged at from) = error_at at (codes "CollectionChanged") ((codes "From", text from) ∷ [])

@@ -4,13 +4,15 @@ use Rattle.std.specs.List.{list_any, list_all, filter_map}
 use Rattle.std.specs.Str.{bytes_eq, is_utf8}
 use Rattle.raven_data.specs.Data.{Data, Entries, list_of}
 use Rattle.raven_data.specs.Data as json
-use Rattle.raven_data.specs.Faults.{Fault, empty, too_long, control, fault_of, is_fit, max_id, max_name}
+use Rattle.raven_data.specs.Faults.{Fault, empty, too_long, control, fault_of, max_id, max_name}
 use Rattle.raven_data.specs.Json.{JsonRefusal, not_json, number_not_whole, too_deep, reading}
 use Rattle.raven_data.specs.Members.{member}
 use Rattle.raven_model.specs.Commit.{Command, Expect, AnyVector, Vector}
+use Rattle.raven_model.specs.Language.{LangRefusal}
+use Rattle.raven_model.specs.Mapping.{Definition}
 use Rattle.raven_model.specs.Replies.{Reply, printed}
 use Rattle.raven_model.specs.Replies as told
-use Rattle.raven_model.specs.Machine.{Machine, Request, Put, Delete, Bulk, Get, Auto, Find, Pump, Stale, Stats, Keeping, Event, step}
+use Rattle.raven_model.specs.Machine.{Machine, Request, Put, Delete, Bulk, Get, Define, Remove, Auto, Find, Pump, Stale, Indexes, Stats, Keeping, Event, step}
 use Rattle.raven_model.specs.Lines.{begins_with}
 
 -- what one line asks
@@ -22,7 +24,13 @@ pub data ReadRefusal : Type 0 where
   UnknownLine : ReadRefusal
   BadJson : JsonRefusal → ReadRefusal
   BadId : Fault → ReadRefusal
+  BadName : Fault → ReadRefusal
   BadMember : (name : List ℕ) → ReadRefusal
+  BadDefinition : LangRefusal → ReadRefusal
+
+-- what a line comes to: a request, or nothing where it has no bytes, or its refusal
+abbrev pub LineRead : Type 0
+LineRead = Result (Option Line) ReadRefusal
 
 -- a value, unless something before it is refused
 abbrev pub then_read : {A B : Type 0} → Result A ReadRefusal → (A → Result B ReadRefusal) → Result B ReadRefusal
@@ -180,18 +188,34 @@ is_field text = nat_lt 0 (length text) && not (has_byte 32 text || has_byte 46 t
 abbrev pub auto_of : List ℕ → Result Request ReadRefusal
 auto_of more = then_read (parts_read more) (λ parts. if is_collection parts.0 && is_field parts.1 then Ok (Auto parts.0 parts.1) else Err UnknownLine)
 
--- PUMP <max>
-abbrev pub pump_of : List ℕ → Result Request ReadRefusal
-pump_of more = then_read (or_unknown (number_of more)) (λ max. if nat_le 1 max && nat_le max 65536 then Ok (Pump max) else Err UnknownLine)
+abbrev pub unless_name_fault : Option Fault → List ℕ → Result (List ℕ) ReadRefusal
+unless_name_fault None name = Ok name
+unless_name_fault (Some fault) name = Err (BadName fault)
 
--- a text that can be no name makes the line unknown
+-- the name of an index
 abbrev pub name_read : List ℕ → Result (List ℕ) ReadRefusal
-name_read text = if is_fit max_name text then Ok text else Err UnknownLine
+name_read text = unless_name_fault (fault_of max_name text) text
+
+-- how many rows a batch may take
+abbrev pub max_read : List ℕ → Result ℕ ReadRefusal
+max_read text = then_read (or_unknown (number_of text)) (λ max. if nat_le 1 max && nat_le max 65536 then Ok max else Err UnknownLine)
+
+abbrev pub pump_read : List ℕ → Option (List ℕ × List ℕ) → Result Request ReadRefusal
+pump_read more None = then_read (max_read more) (λ max. Ok (Pump max None))
+pump_read more (Some parts) = then_read (max_read parts.0) (λ max. then_read (name_read parts.1) (λ name. Ok (Pump max (Some name))))
+
+-- PUMP <max>, PUMP <max> <index>
+abbrev pub pump_of : List ℕ → Result Request ReadRefusal
+pump_of more = pump_read more (word_and_rest more)
 
 -- FIND <index> <field> <text>
 abbrev pub find_of : List ℕ → Result Request ReadRefusal
 find_of more =
     then_read (parts_read more) (λ parts. then_read (parts_read parts.1) (λ rest. then_read (name_read parts.0) (λ index. Ok (Find index rest.0 rest.1))))
+
+-- DROP <index>
+abbrev pub drop_of : List ℕ → Result Request ReadRefusal
+drop_of more = then_read (name_read more) (λ name. Ok (Remove name))
 
 -- STALE <index>
 abbrev pub stale_of : List ℕ → Result Request ReadRefusal
@@ -205,20 +229,79 @@ by_word word more =
     if bytes_eq word (codes "DELIF") then delete_if_of more else (
     if bytes_eq word (codes "BULK") then bulk_read more else (
     if bytes_eq word (codes "GET") then get_of more else (
+    if bytes_eq word (codes "DROP") then drop_of more else (
     if bytes_eq word (codes "AUTO") then auto_of more else (
     if bytes_eq word (codes "PUMP") then pump_of more else (
     if bytes_eq word (codes "FIND") then find_of more else (
-    if bytes_eq word (codes "STALE") then stale_of more else Err UnknownLine)))))))))
+    if bytes_eq word (codes "STALE") then stale_of more else Err UnknownLine))))))))))
 
--- a line is the word STATS alone, or a word and what stands behind it
+-- a line is the word STATS or INDEXES alone, or a word and what stands behind it
 abbrev pub request_of : List ℕ → Result Request ReadRefusal
 request_of line =
-    if bytes_eq line (codes "STATS") then Ok Stats else then_read (parts_read line) (λ parts. by_word parts.0 parts.1)
+    if bytes_eq line (codes "STATS") then Ok Stats else if bytes_eq line (codes "INDEXES") then Ok Indexes else then_read (parts_read line) (λ parts. by_word parts.0 parts.1)
 
 -- a line without bytes asks nothing
-abbrev pub line_of : List ℕ → Result (Option Line) ReadRefusal
+abbrev pub line_of : List ℕ → LineRead
 line_of [] = Ok None
 line_of (b ∷ bs) = if is_utf8 (b ∷ bs) then then_read (request_of (b ∷ bs)) (λ request. Ok (Some (Do request))) else Err UnknownLine
+
+-- THE DEFINITION OF AN INDEX, in JSON
+
+abbrev pub name_member : Option Data → Result (List ℕ) ReadRefusal
+name_member (Some (json.text name)) = name_read name
+name_member other = Err (BadMember (codes "Name"))
+
+-- a list of one text, or a text
+abbrev pub map_member : (maps map : Option Data) → Result (List ℕ) ReadRefusal
+map_member (Some (json.array (json.item (json.text map) json.no_items))) other = Ok map
+map_member (Some maps) other = Err (BadMember (codes "Maps"))
+map_member None (Some (json.text map)) = Ok map
+map_member None (Some other) = Err (BadMember (codes "Map"))
+map_member None None = Err (BadMember (codes "Maps"))
+
+-- a definition with a reduce is not built yet
+abbrev pub reduce_member : {A : Type 0} → Option Data → A → Result A ReadRefusal
+reduce_member None a = Ok a
+reduce_member (Some json.null) a = Ok a
+reduce_member (Some (json.text reduce)) a = Err UnknownLine
+reduce_member other a = Err (BadMember (codes "Reduce"))
+
+-- the name and the text of the map
+abbrev pub texts_in : Entries → Result (List ℕ × List ℕ) ReadRefusal
+texts_in ms =
+    then_read (name_member (member (codes "Name") ms)) (λ name.
+    then_read (map_member (member (codes "Maps") ms) (member (codes "Map") ms)) (λ map.
+    reduce_member (member (codes "Reduce") ms) (name, map)))
+
+abbrev pub texts_of_body : Data → Result (List ℕ × List ℕ) ReadRefusal
+texts_of_body (json.object ms) = texts_in ms
+texts_of_body other = Err (BadMember (codes "body"))
+
+-- INDEX <definition>
+abbrev pub index_of : List ℕ → Result (List ℕ × List ℕ) ReadRefusal
+index_of rest = then_read (json_read (reading rest)) texts_of_body
+
+-- what a line asks, as far as no text of a definition has to be read
+pub data Asked : Type 0 where
+  Plain : LineRead → Asked
+  -- an index of this name by the text of a map
+  Defining : (name map : List ℕ) → Asked
+
+abbrev pub asked_to_define : Result (List ℕ × List ℕ) ReadRefusal → Asked
+asked_to_define (Err refusal) = Plain (Err refusal)
+asked_to_define (Ok texts) = Defining texts.0 texts.1
+
+abbrev pub asked_by : List ℕ → Option (List ℕ × List ℕ) → Asked
+asked_by line None = Plain (line_of line)
+asked_by line (Some parts) = if bytes_eq parts.0 (codes "INDEX") && is_utf8 line then asked_to_define (index_of parts.1) else Plain (line_of line)
+
+abbrev pub asked_of : List ℕ → Asked
+asked_of line = asked_by line (word_and_rest line)
+
+-- what comes of the definition that the text says, or of its refusal
+abbrev pub defined_by : (name : List ℕ) → Result Definition LangRefusal → LineRead
+defined_by name (Ok d) = Ok (Some (Do (Define name d)))
+defined_by name (Err refusal) = Err (BadDefinition refusal)
 
 -- WHAT IS WRITTEN
 
@@ -236,7 +319,9 @@ abbrev pub refusal_reply : ReadRefusal → Reply
 refusal_reply UnknownLine = told.UnknownLine
 refusal_reply (BadJson refusal) = json_reply refusal
 refusal_reply (BadId fault) = fault_reply fault
+refusal_reply (BadName fault) = fault_reply fault
 refusal_reply (BadMember name) = told.BadMember name
+refusal_reply (BadDefinition refusal) = told.Lang refusal
 
 -- what the outside gives to one line: the moment at which it comes, and what the keeper does
 pub record Circumstance : Type 0 where
@@ -244,26 +329,28 @@ pub record Circumstance : Type 0 where
   pub keeping : Keeping
 
 -- a request is answered by the machine
-abbrev pub written_for : Machine → Circumstance → Result (Option Line) ReadRefusal → List ℕ
+abbrev pub written_for : Machine → Circumstance → LineRead → List ℕ
 written_for M c (Err refusal) = printed (refusal_reply refusal)
 written_for M c (Ok None) = []
 written_for M c (Ok (Some (Do request))) = printed (step M c.keeping c.now request).reply
 
-abbrev pub left_by : Machine → Circumstance → Result (Option Line) ReadRefusal → Machine
+abbrev pub left_by : Machine → Circumstance → LineRead → Machine
 left_by M c (Err refusal) = M
 left_by M c (Ok None) = M
 left_by M c (Ok (Some (Do request))) = (step M c.keeping c.now request).machine
 
--- a line and what the outside gives to it
-abbrev pub Given : Type 0
-Given = List ℕ × Circumstance
+-- a line, what it comes to, and what the outside gives to it
+pub record Given : Type 0 where
+  pub line : List ℕ
+  pub read : LineRead
+  pub circumstance : Circumstance
 
 -- what is written for a line, and the state after it
 abbrev pub reply_to : Given → Machine → List ℕ
-reply_to g M = written_for M g.1 (line_of g.0)
+reply_to g M = written_for M g.circumstance g.read
 
 abbrev pub after_line : Given → Machine → Machine
-after_line g M = left_by M g.1 (line_of g.0)
+after_line g M = left_by M g.circumstance g.read
 
 -- what is written for lines, one after another, and the state after them
 abbrev pub replies_to : List Given → Machine → List ℕ
@@ -275,10 +362,10 @@ after_lines [] M = M
 after_lines (g ∷ more) M = after_lines more (after_line g M)
 
 -- the events that lines make of the machine
-abbrev pub event_of : Circumstance → Result (Option Line) ReadRefusal → Option Event
+abbrev pub event_of : Circumstance → LineRead → Option Event
 event_of c (Err refusal) = None
 event_of c (Ok None) = None
 event_of c (Ok (Some (Do request))) = Some (record { request = request; now = c.now; keeping = c.keeping })
 
 abbrev pub events_of : List Given → List Event
-events_of all = filter_map (λ g. event_of g.1 (line_of g.0)) all
+events_of all = filter_map (λ g. event_of g.circumstance g.read) all

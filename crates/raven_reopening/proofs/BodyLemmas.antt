@@ -13,7 +13,9 @@ use Rattle.raven_data.specs.Sound.{IsSound, HasSound}
 use Rattle.raven_data.specs.Written.{text_of}
 use Rattle.raven_model.specs.Commit.{clean_metadata, is_own, stored}
 use Rattle.raven_model.specs.Kept.{is_clean, max_body}
-use Rattle.raven_model.specs.Mapping.{Auto}
+use Rattle.index_tree.specs.declared.map_query.MapQuery.{MapQuery}
+use Rattle.raven_model.specs.Mapping.{Auto, Static}
+use Rattle.raven_model.specs.Opening.{AutoForm, StaticForm, body_form, form_of, is_part}
 use Rattle.raven_model.specs.World.{row_body}
 use Rattle.raven_laws.proofs.KeyedLemmas.{differ_greater}
 use Rattle.raven_laws.proofs.MemberLemmas.{IsRising-put, pairs-entries}
@@ -209,3 +211,37 @@ definition-body c f u v = record {
   members = _;
   an_object = refl;
 }
+
+pub static-body : (query : MapQuery) (words : List ℕ) → IsUtf8 words → IsBody (row_body (Static query None words None))
+static-body query words u = record {
+  sound = (
+    ((refl, (refl, (refl, tt))), ((refl, (refl, tt)), ((refl, tt), (tt, tt)))),
+    (
+      IsUtf8-are_ascii _ refl,
+      (
+        ((tt, tt), (IsUtf8-are_ascii _ refl, (IsUtf8-are_ascii _ refl, tt))),
+        (
+          IsUtf8-are_ascii _ refl,
+          (
+            IsUtf8-are_ascii _ refl,
+            (
+              IsUtf8-are_ascii _ refl,
+              (u, (IsUtf8-are_ascii _ refl, (tt, tt))),
+            ),
+          ),
+        ),
+      ),
+    ),
+  );
+  shallow = omega arith;
+  members = _;
+  an_object = refl;
+}
+
+-- WHAT IS READ OF A DEFINITION'S BODY
+
+pub auto-back : (c f : List ℕ) → is_part f ≡ true → body_form (stored (row_body (Auto c ((f ∷ []) ∷ [])))) ≡ AutoForm (Auto c ((f ∷ []) ∷ []))
+auto-back c f h = ap (λ b. form_of (cond b (Some (Auto c ((f ∷ []) ∷ []))) None) None) h
+
+pub static-back : (query : MapQuery) (words : List ℕ) → body_form (stored (row_body (Static query None words None))) ≡ StaticForm words
+static-back query words = refl

@@ -1,5 +1,5 @@
 -- The names of automatic indexes, and the ids of their rows, are names and ids.
-use Rattle.std.proofs.Common.{◌≡◌, ℕ, zero, suc, ◌+◌, ◌^◌, ◌<◌, ◌≤◌, List, [], ◌∷◌, ◌++◌, true, false, cond, ◌&&◌, ◌==◌, nat_lt, nat_eq, is_none, is_some, length, codes, Option, Some, None, option_map, refl, sym, ap, ◌∙◌, subst, arith, ◌⊎◌, inl, inr}
+use Rattle.std.proofs.Common.{◌≡◌, ℕ, zero, suc, ◌+◌, ◌^◌, ◌<◌, ◌≤◌, List, [], ◌∷◌, ◌++◌, Bool, true, false, not, cond, ◌&&◌, ◌||◌, ◌==◌, nat_lt, nat_eq, is_none, is_some, length, codes, Option, Some, None, option_map, refl, sym, ap, ◌∙◌, subst, arith, ◌⊎◌, inl, inr}
 use Rattle.std.proofs.lemmas.Bool.{ltb-false, eq-eqb, cases_eq, ne_eqb}
 use Rattle.std.proofs.lemmas.Bool.Decides.{nat_tests}
 use Rattle.std.proofs.lemmas.Fmt.{decimal_is_IsNumeral, length-decimal-le}
@@ -10,10 +10,11 @@ use Rattle.std.specs.List.{position_from, starts_with}
 use Rattle.std.specs.Str.Parse.{AllDigits}
 use Rattle.raven_data.specs.Faults.{empty, too_long, control, is_control, is_fit}
 use Rattle.raven_data.specs.Folding.{folded}
-use Rattle.raven_model.specs.Opening.{is_auto_name}
+use Rattle.raven_model.specs.Mapping.{Definition, Static, Auto}
+use Rattle.raven_model.specs.Opening.{is_auto_name, is_static_name, may_be_named}
 use Rattle.raven_model.specs.Optimiser.{Shape, plain_name, free_name, first_free, name_of}
 use Rattle.raven_model.specs.Sound.{Has, NumbersRise}
-use Rattle.raven_model.specs.World.{Slot, index_id, serving}
+use Rattle.raven_model.specs.World.{Slot, index_id, is_reserved_name, serving}
 
 -- TEXTS THAT CAN BE IDS AND NAMES
 
@@ -106,6 +107,26 @@ auto_name-other a b same h = elim (is_fit 200 b) as (λ t. is_fit 200 b ≡ t �
   | false ↦ λ e g. absurd cc
 ] refl h
 
+static_name-other : (a b : List ℕ) → folded a ≡ folded b → is_static_name b ≡ true → is_static_name a ≡ true
+static_name-other a b same h = elim (is_fit 200 b) as (λ t. is_fit 200 b ≡ t → t && not (is_reserved_name b) ≡ true → is_static_name a ≡ true) [
+  | true ↦ λ e g.
+      ap (λ t. t && not (is_reserved_name a)) (text-fit 200 a (text-other 200 a b same (fit-text 200 b e)))
+      ∙ ap (λ words. not (starts_with nat_eq words (codes "auto/") || starts_with nat_eq words (codes "replacementof/"))) same ∙ g
+  | false ↦ λ e g. absurd cc
+] refl h
+
+-- so with each name that the index of a definition may have
+pub named-other : (d : Definition) (a b : List ℕ) → folded a ≡ folded b → may_be_named d b ≡ true → may_be_named d a ≡ true
+named-other (Static map reduce map_text reduce_text) a b same h = static_name-other a b same h
+named-other (Auto collection fields) a b same h = auto_name-other a b same h
+
+-- a name that a client may give
+pub static_name-fit : (limit : ℕ) (name : List ℕ) → is_fit limit name ≡ true → is_reserved_name name ≡ false → length name ≤ 200 → is_static_name name ≡ true
+static_name-fit limit name fit free few =
+    let t = fit-text limit name fit in
+    let short : is_fit 200 name ≡ true = text-fit 200 name (record { some = t.some; few = few; plain = t.plain }) in
+    λ i. short i && not (free i)
+
 plain-append : (a b : List ℕ) → IsPlain a → IsPlain b → IsPlain (a ++ b)
 plain-append [] b h g = g
 plain-append (x ∷ a) b h g = (h.0, plain-append a b h.1 g)
@@ -194,8 +215,13 @@ name_of-auto slots number shape small few =
           ∙ begins-numbered (decimal number) (length slots + 2) by_number numbered
     ] refl
 
-pub auto_name-fit : (name : List ℕ) → is_auto_name name ≡ true → is_fit 200 name ≡ true
-auto_name-fit name h = elim (is_fit 200 name) as (λ t. t && starts_with nat_eq (folded name) (codes "auto/") ≡ true → t ≡ true) [ true ↦ λ g. refl | false ↦ λ g. absurd cc ] h
+first-true : (a b : Bool) → a && b ≡ true → a ≡ true
+first-true true b h = refl
+first-true false b h = absurd cc
+
+pub named-fit : (d : Definition) (name : List ℕ) → may_be_named d name ≡ true → is_fit 200 name ≡ true
+named-fit (Static map reduce map_text reduce_text) name h = first-true (is_fit 200 name) (not (is_reserved_name name)) h
+named-fit (Auto collection fields) name h = first-true (is_fit 200 name) (starts_with nat_eq (folded name) (codes "auto/")) h
 
 -- HOW MANY SLOTS THERE CAN BE
 

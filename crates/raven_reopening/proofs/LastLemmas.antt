@@ -1,5 +1,5 @@
 -- Rows that open again stay so, whatever is written.
-use Rattle.std.proofs.Common.{◌≡◌, ℕ, ◌+◌, ◌<◌, ◌≤◌, List, [], ◌∷◌, ◌++◌, Bool, true, false, not, cond, ◌&&◌, nat_lt, nat_le, nat_eq, length, drop, codes, filter, Option, Some, None, option_map, Result, Ok, IsUtf8, refl, ap, ◌∙◌, subst, arith, inl, inr}
+use Rattle.std.proofs.Common.{◌≡◌, ℕ, ◌+◌, ◌<◌, ◌≤◌, List, [], ◌∷◌, Bool, true, false, not, cond, ◌&&◌, nat_lt, nat_le, nat_eq, length, drop, codes, filter, Option, Some, None, option_map, Result, Ok, refl, ap, ◌∙◌, subst, arith, inl, inr}
 use Rattle.std.proofs.lemmas.Bool.{le-leb, lt-ltb, ltb-false, leb-true}
 use Rattle.std.specs.List.{starts_with}
 use Rattle.std.specs.Str.{bytes_eq}
@@ -12,9 +12,9 @@ use Rattle.raven_data.specs.Rows.{Row, Body, doc, key}
 use Rattle.raven_data.specs.Written.{text_of}
 use Rattle.raven_model.specs.Store.{row_at, put, Store, last, with_row}
 use Rattle.raven_model.specs.Kept.{max_body, is_etag}
-use Rattle.raven_model.specs.Mapping.{Definition, Auto}
-use Rattle.raven_model.specs.Opening.{is_part, definition_read, definition_in, is_defining, name_in, is_auto_name, is_filed}
-use Rattle.raven_model.specs.Commit.{Command, Put, Delete, AnyVector, Writer, Client, Server, Setting, Refusal, Written, Refused, collection_of, named_collection, is_index_id, stored, kept_spelling, document_at, refusal_of, reserved, too_large, collection_changed, conflict, store_full, etags_spent, row_of, tombstone, with_written, unless, commit_from, commit}
+use Rattle.raven_model.specs.Mapping.{Definition}
+use Rattle.raven_model.specs.Opening.{name_in, is_filed}
+use Rattle.raven_model.specs.Commit.{Command, Expect, Put, Delete, AnyVector, Writer, Client, Server, Setting, Refusal, Written, Refused, collection_of, named_collection, is_index_id, stored, kept_spelling, document_at, refusal_of, reserved, too_large, collection_changed, conflict, store_full, etags_spent, row_of, tombstone, with_written, unless, commit_from, commit}
 use Rattle.raven_model.specs.World.{index_id, row_body}
 use Rattle.raven_model.specs.Sound.{Has}
 use Rattle.raven_laws.proofs.StoreLemmas.{same_row, either_false, both_true}
@@ -25,32 +25,18 @@ use Rattle.raven_laws.proofs.LimitLemmas.{all_none, takes, unspent}
 use Rattle.raven_laws.proofs.ListedLemmas.{unreserved}
 use Rattle.raven_laws.proofs.OpenLemmas.{folded-drop}
 use Rattle.raven_laws.proofs.SlotLemmas.{Has-append, Has-filter, find-Has}
-use Rattle.raven_reopening.specs.Form.{IsCommand, AreCommands}
+use Rattle.raven_reopening.specs.Form.{IsBody, IsCommand, AreCommands}
 use Rattle.raven_reopening.proofs.ReadLemmas.{IsBack}
-use Rattle.raven_reopening.proofs.BodyLemmas.{stored-back, definition-body}
-use Rattle.raven_reopening.proofs.FitLemmas.{auto_name-other, auto_name-fit, index_id-fit}
+use Rattle.raven_reopening.proofs.BodyLemmas.{stored-back}
+use Rattle.raven_reopening.proofs.FitLemmas.{index_id-fit}
 
--- what is read of a live row of a definition
-pub record IsMeant (r : Row) : Type 0 where
-  pub definition : Definition
-  pub defined : definition_in r ≡ Some definition
-  pub named : is_auto_name (name_in r) ≡ true
-
--- a row that a database can be opened with
+-- a row that a database can be opened with, if its definition can be read
 pub record Lasts (r : Row) : Type 0 where
   pub back : IsBack r
   pub filed : is_filed r ≡ true
-  pub means : is_defining r ≡ true → IsMeant r
 
 abbrev pub AllLast : List Row → Type 0
 AllLast rows = (r : Row) → Has rows r → Lasts r
-
--- how many live rows of definitions there are
-abbrev pub definitions : List Row → ℕ
-definitions rows = length (filter is_defining rows)
-
-abbrev one_if : Bool → ℕ
-one_if b = cond b 1 0
 
 AllLast-put : (r : Row) (rows : List Row) → AllLast rows → Lasts r → AllLast (put r rows)
 AllLast-put r rows all l x h = elim (Has-append (filter (λ y. not (same_key (key r) (key y))) rows) (r ∷ []) x h) [
@@ -58,18 +44,6 @@ AllLast-put r rows all l x h = elim (Has-append (filter (λ y. not (same_key (ke
   | inr (inl e) ↦ subst Lasts e l
   | inr (inr no_more) ↦ absurd no_more
 ]
-
-definitions-put : (r : Row) (rows : List Row) → definitions (put r rows) ≤ definitions rows + one_if (is_defining r)
-definitions-put r [] = elim (is_defining r) as (λ b. length (cond b (r ∷ []) []) ≤ 0 + one_if b) [ true ↦ omega arith | false ↦ omega arith ]
-definitions-put r (x ∷ rows) =
-    let more = definitions-put r rows in
-    elim (same_key (key r) (key x)) as (λ b. definitions (cond (not b) (x ∷ filter (λ y. not (same_key (key r) (key y))) rows) (filter (λ y. not (same_key (key r) (key y))) rows) ++ r ∷ []) ≤ definitions (x ∷ rows) + one_if (is_defining r)) [
-      | true ↦ elim (is_defining x) as (λ b. definitions (put r rows) ≤ length (cond b (x ∷ filter is_defining rows) (filter is_defining rows)) + one_if (is_defining r)) [ true ↦ omega arith | false ↦ more ]
-      | false ↦ elim (is_defining x) as (λ b. length (cond b (x ∷ filter is_defining (put r rows)) (filter is_defining (put r rows))) ≤ length (cond b (x ∷ filter is_defining rows) (filter is_defining rows)) + one_if (is_defining r)) [
-        | true ↦ omega arith
-        | false ↦ more
-      ]
-    ]
 
 -- WHAT A COMMAND THAT IS TAKEN WRITES
 
@@ -112,129 +86,119 @@ spelled-index id rows = ap (λ k. starts_with nat_eq k (codes "@index/")) (put_k
 abbrev other_row : Body → ℕ → List ℕ → List ℕ → ℕ → Row
 other_row body etag id collection now = record { etag = etag; id = id; collection = collection; body = body; changed = now }
 
--- a row of a client's
-pub record IsClients (r : Row) : Type 0 where
-  pub lasts : Lasts r
-  pub plain : is_defining r ≡ false
-
 and_false : (b : Bool) → b && false ≡ false
 and_false true = refl
 and_false false = refl
 
-pub client-row : (s : Setting) (now : ℕ) (S : Store) (c : Command) (r : Row) → refusal_of s Client S c ≡ None → row_of now S c ≡ Some r → IsCommand c → now < moments_end → AllLast S.rows → last S ≤ 9007199254740991 → IsClients r
+-- the mark of what was deleted, whoever deletes it
+deleted-row : (s : Setting) (w : Writer) (now : ℕ) (S : Store) (id : List ℕ) (expected : Expect) (r : Row) → refusal_of s w S (Delete id expected) ≡ None → row_of now S (Delete id expected) ≡ Some r
+    → now < moments_end → AllLast S.rows → last S ≤ 9007199254740991 → Lasts r
+deleted-row s w now S id expected r h is soon all le =
+    elim (document_at S (folded id)) as (λ o. document_at S (folded id) ≡ o → option_map (tombstone (last S + 1) now) o ≡ Some r → Lasts r) [
+      | None ↦ λ e g. absurd cc
+      | Some d ↦ λ e g.
+          let l = all d (find-Has (λ y. same_key (folded id) (key y)) S.rows d (document_found S (folded id) d e)).0 in
+          let etag = new_etag s w now S (Delete id expected) r h is le in
+          let same : tombstone (last S + 1) now d ≡ r = same_row (tombstone (last S + 1) now d) r g in
+          subst Lasts same (record {
+            back = record { etag = ap (λ (x : Row). is_etag x.etag) same ∙ etag; id = l.back.id; collection = l.back.collection; changed = soon; body = tt };
+            filed = l.filed;
+          })
+    ] refl is
+
+client-row : (s : Setting) (now : ℕ) (S : Store) (c : Command) (r : Row) → refusal_of s Client S c ≡ None → row_of now S c ≡ Some r → IsCommand c → now < moments_end → AllLast S.rows → last S ≤ 9007199254740991 → Lasts r
 client-row s now S (Put id expected body) r h is fits soon all le =
     let free = either_false (is_index_id id) (bytes_eq (collection_of body) (codes "@indexes")) (unreserved s S (Put id expected body) h) in
     let etag = new_etag s Client now S (Put id expected body) r h is le in
     let new : Row = record { etag = last S + 1; id = kept_spelling id (row_at (folded id) S.rows); collection = collection_of body; body = doc (stored body); changed = now } in
     let same : new ≡ r = same_row new r is in
-    subst IsClients same (record {
-      lasts = record {
-        back = record {
-          etag = ap (λ (x : Row). is_etag x.etag) same ∙ etag;
-          id = spelled-fit id S.rows all fits.0;
-          collection = named-some (value_at (codes "@metadata" ∷ codes "@collection" ∷ []) body);
-          changed = soon;
-          body = stored-back body fits.1 (not_large s Client S id expected body h);
-        };
-        filed = ap (λ b. cond b (is_index_id new.id) (not (is_index_id new.id))) free.1 ∙ ap not (spelled-index id S.rows ∙ free.0);
-        means = λ e. absurd (let f = free.1 in cc);
+    subst Lasts same (record {
+      back = record {
+        etag = ap (λ (x : Row). is_etag x.etag) same ∙ etag;
+        id = spelled-fit id S.rows all fits.0;
+        collection = named-some (value_at (codes "@metadata" ∷ codes "@collection" ∷ []) body);
+        changed = soon;
+        body = stored-back body fits.1 (not_large s Client S id expected body h);
       };
-      plain = free.1;
+      filed = ap (λ b. cond b (is_index_id new.id) (not (is_index_id new.id))) free.1 ∙ ap not (spelled-index id S.rows ∙ free.0);
     })
-client-row s now S (Delete id expected) r h is fits soon all le =
-    elim (document_at S (folded id)) as (λ o. document_at S (folded id) ≡ o → option_map (tombstone (last S + 1) now) o ≡ Some r → IsClients r) [
-      | None ↦ λ e g. absurd cc
-      | Some d ↦ λ e g.
-          let l = all d (find-Has (λ y. same_key (folded id) (key y)) S.rows d (document_found S (folded id) d e)).0 in
-          let etag = new_etag s Client now S (Delete id expected) r h is le in
-          let same : tombstone (last S + 1) now d ≡ r = same_row (tombstone (last S + 1) now d) r g in
-          subst IsClients same (record {
-            lasts = record {
-              back = record { etag = ap (λ (x : Row). is_etag x.etag) same ∙ etag; id = l.back.id; collection = l.back.collection; changed = soon; body = tt };
-              filed = l.filed;
-              means = λ f. absurd cc;
-            };
-            plain = refl;
-          })
-    ] refl is
+client-row s now S (Delete id expected) r h is fits soon all le = deleted-row s Client now S id expected r h is soon all le
 
 -- TRANSACTIONS OF CLIENTS
 
--- a store with which a database can be opened, with at most so many definitions
-pub record Stays (most : ℕ) (S : Store) : Type 0 where
+-- a store with which a database can be opened
+pub record Stays (S : Store) : Type 0 where
   pub all : AllLast S.rows
-  pub few : definitions S.rows ≤ most
   pub etags : last S ≤ 9007199254740991
 
 etag-below : (r : Row) → is_etag r.etag ≡ true → r.etag ≤ 9007199254740991
 etag-below r h = leb-true r.etag 9007199254740991 (both_true (nat_lt 0 r.etag) (nat_le r.etag 9007199254740991) h).1
 
-Stays-with : (most more : ℕ) (S : Store) (r : Row) → Stays most S → Lasts r → one_if (is_defining r) + most ≤ more → Stays more (with_row S r)
-Stays-with most more S r k l room = record {
-  all = AllLast-put r S.rows k.all l;
-  few = let a = definitions-put r S.rows in let b = k.few in omega arith;
-  etags = let a = last-with S r in let b = etag-below r l.back.etag in omega arith;
-}
+Stays-with : (S : Store) (r : Row) → Stays S → Lasts r → Stays (with_row S r)
+Stays-with S r k l = record { all = AllLast-put r S.rows k.all l; etags = let a = last-with S r in let b = etag-below r l.back.etag in omega arith }
 
 same_written : (a b : Written) → (let x : Result Written Refused = Ok a in x) ≡ Ok b → a ≡ b
 same_written a b h = cc
 
-pub clients-Stay : (at : ℕ) (s : Setting) (now : ℕ) (cs : List Command) (done new : Written) (most : ℕ) → commit_from at s Client now cs done ≡ Ok new → AreCommands cs → now < moments_end → Stays most done.store → Stays most new.store
-clients-Stay at s now [] done new most h fits soon k = subst (λ (x : Written). Stays most x.store) (same_written done new h) k
-clients-Stay at s now (c ∷ cs) done new most h fits soon k =
-    elim (refusal_of s Client done.store c) as (λ o. refusal_of s Client done.store c ≡ o → unless o at (commit_from (at + 1) s Client now cs (with_written (row_of now done.store c) done)) ≡ Ok new → Stays most new.store) [
-      | None ↦ λ e g. elim (row_of now done.store c) as (λ o. row_of now done.store c ≡ o → commit_from (at + 1) s Client now cs (with_written o done) ≡ Ok new → Stays most new.store) [
-        | None ↦ λ f j. clients-Stay (at + 1) s now cs done new most j fits.1 soon k
-        | Some r ↦ λ f j.
-            let l = client-row s now done.store c r e f fits.0 soon k.all k.etags in
-            let none = ap one_if l.plain in
-            clients-Stay (at + 1) s now cs (with_written (Some r) done) new most j fits.1 soon (Stays-with most most done.store r k l.lasts (omega arith))
+pub clients-Stay : (at : ℕ) (s : Setting) (now : ℕ) (cs : List Command) (done new : Written) → commit_from at s Client now cs done ≡ Ok new → AreCommands cs → now < moments_end → Stays done.store → Stays new.store
+clients-Stay at s now [] done new h fits soon k = subst (λ (x : Written). Stays x.store) (same_written done new h) k
+clients-Stay at s now (c ∷ cs) done new h fits soon k =
+    elim (refusal_of s Client done.store c) as (λ o. refusal_of s Client done.store c ≡ o → unless o at (commit_from (at + 1) s Client now cs (with_written (row_of now done.store c) done)) ≡ Ok new → Stays new.store) [
+      | None ↦ λ e g. elim (row_of now done.store c) as (λ o. row_of now done.store c ≡ o → commit_from (at + 1) s Client now cs (with_written o done) ≡ Ok new → Stays new.store) [
+        | None ↦ λ f j. clients-Stay (at + 1) s now cs done new j fits.1 soon k
+        | Some r ↦ λ f j. clients-Stay (at + 1) s now cs (with_written (Some r) done) new j fits.1 soon
+            (Stays-with done.store r k (client-row s now done.store c r e f fits.0 soon k.all k.etags))
       ] refl g
       | Some kind ↦ λ e g. absurd cc
     ] refl h
 
 -- THE ROW OF A DEFINITION
 
-pub definition-back : (c f : List ℕ) → is_part f ≡ true → definition_read (stored (row_body (Auto c ((f ∷ []) ∷ [])))) ≡ Some (Auto c ((f ∷ []) ∷ []))
-definition-back c f h = ap (λ b. cond b (Some (Auto c ((f ∷ []) ∷ []))) None) h
-
 -- the name in the id of a row is that under which it stands, without regard to case
 pub name-under : (r : Row) (name : List ℕ) → folded r.id ≡ folded (index_id name) → folded (name_in r) ≡ folded name
 name-under r name h = folded-drop 7 r.id ∙ ap (drop 7) h
 
-server-row : (s : Setting) (now : ℕ) (S : Store) (name c f : List ℕ) (r : Row) → let body = row_body (Auto c ((f ∷ []) ∷ [])) in refusal_of s Server S (Put (index_id name) AnyVector body) ≡ None
-    → row_of now S (Put (index_id name) AnyVector body) ≡ Some r → IsUtf8 c → IsUtf8 f → is_part f ≡ true → is_auto_name name ≡ true → now < moments_end → AllLast S.rows → last S ≤ 9007199254740991 → Lasts r
-server-row s now S name c f r h is u v part auto soon all le =
-    let body = row_body (Auto c ((f ∷ []) ∷ [])) in
-    let etag = new_etag s Server now S (Put (index_id name) AnyVector body) r h is le in
-    let new : Row = record { etag = last S + 1; id = kept_spelling (index_id name) (row_at (folded (index_id name)) S.rows); collection = codes "@indexes"; body = doc (stored body); changed = now } in
+server-row : (s : Setting) (now : ℕ) (S : Store) (name : List ℕ) (d : Definition) (r : Row) → refusal_of s Server S (Put (index_id name) AnyVector (row_body d)) ≡ None
+    → row_of now S (Put (index_id name) AnyVector (row_body d)) ≡ Some r → IsBody (row_body d) → is_fit 200 name ≡ true → now < moments_end → AllLast S.rows → last S ≤ 9007199254740991 → Lasts r
+server-row s now S name d r h is body fit soon all le =
+    let etag = new_etag s Server now S (Put (index_id name) AnyVector (row_body d)) r h is le in
+    let new : Row = record { etag = last S + 1; id = kept_spelling (index_id name) (row_at (folded (index_id name)) S.rows); collection = codes "@indexes"; body = doc (stored (row_body d)); changed = now } in
     let same : new ≡ r = same_row new r is in
     subst Lasts same (record {
       back = record {
         etag = ap (λ (x : Row). is_etag x.etag) same ∙ etag;
-        id = spelled-fit (index_id name) S.rows all (index_id-fit name (auto_name-fit name auto));
+        id = spelled-fit (index_id name) S.rows all (index_id-fit name fit);
         collection = omega arith;
         changed = soon;
-        body = stored-back body (definition-body c f u v) (not_large s Server S (index_id name) AnyVector body h);
+        body = stored-back (row_body d) body (not_large s Server S (index_id name) AnyVector (row_body d) h);
       };
       filed = spelled-index (index_id name) S.rows;
-      means = λ e. record {
-        definition = Auto c ((f ∷ []) ∷ []);
-        defined = definition-back c f part;
-        named = auto_name-other (name_in new) name (name-under new name (put_key (index_id name) S.rows)) auto;
-      };
     })
 
 -- the transaction that writes a definition
-pub server-Stays : (s : Setting) (now : ℕ) (S : Store) (name c f : List ℕ) (new : Written) (most : ℕ) → commit s Server now (Put (index_id name) AnyVector (row_body (Auto c ((f ∷ []) ∷ []))) ∷ []) S ≡ Ok new
-    → IsUtf8 c → IsUtf8 f → is_part f ≡ true → is_auto_name name ≡ true → now < moments_end → Stays most S → Stays (most + 1) new.store
-server-Stays s now S name c f new most h u v part auto soon k =
-    let put_one = Put (index_id name) AnyVector (row_body (Auto c ((f ∷ []) ∷ []))) in
-    let r : Row = record { etag = last S + 1; id = kept_spelling (index_id name) (row_at (folded (index_id name)) S.rows); collection = codes "@indexes"; body = doc (stored (row_body (Auto c ((f ∷ []) ∷ [])))); changed = now } in
+pub server-Stays : (s : Setting) (now : ℕ) (S : Store) (name : List ℕ) (d : Definition) (new : Written) → commit s Server now (Put (index_id name) AnyVector (row_body d) ∷ []) S ≡ Ok new
+    → IsBody (row_body d) → is_fit 200 name ≡ true → now < moments_end → Stays S → Stays new.store
+server-Stays s now S name d new h body fit soon k =
+    let put_one = Put (index_id name) AnyVector (row_body d) in
+    let r : Row = record { etag = last S + 1; id = kept_spelling (index_id name) (row_at (folded (index_id name)) S.rows); collection = codes "@indexes"; body = doc (stored (row_body d)); changed = now } in
     let done : Written = record { store = with_row S r; rows = r ∷ [] } in
-    elim (refusal_of s Server S put_one) as (λ o. refusal_of s Server S put_one ≡ o → unless o 0 (Ok done) ≡ Ok new → Stays (most + 1) new.store) [
+    elim (refusal_of s Server S put_one) as (λ o. refusal_of s Server S put_one ≡ o → unless o 0 (Ok done) ≡ Ok new → Stays new.store) [
       | None ↦ λ e g.
-          let l = server-row s now S name c f r e refl u v part auto soon k.all k.etags in
-          subst (λ (x : Written). Stays (most + 1) x.store) (same_written done new g) (Stays-with most (most + 1) S r k l (omega arith))
+          let l = server-row s now S name d r e refl body fit soon k.all k.etags in
+          subst (λ (x : Written). Stays x.store) (same_written done new g) (Stays-with S r k l)
+      | Some kind ↦ λ e g. absurd cc
+    ] refl h
+
+-- and the one that deletes it
+pub removal-Stays : (s : Setting) (now : ℕ) (S : Store) (id : List ℕ) (new : Written) → commit s Server now (Delete id AnyVector ∷ []) S ≡ Ok new → now < moments_end → Stays S → Stays new.store
+removal-Stays s now S id new h soon k =
+    let c = Delete id AnyVector in
+    let none : Written = record { store = S; rows = [] } in
+    elim (refusal_of s Server S c) as (λ o. refusal_of s Server S c ≡ o → unless o 0 (Ok (with_written (row_of now S c) none)) ≡ Ok new → Stays new.store) [
+      | None ↦ λ e g. elim (row_of now S c) as (λ o. row_of now S c ≡ o → (let x : Result Written Refused = Ok (with_written o none) in x) ≡ Ok new → Stays new.store) [
+        | None ↦ λ f j. subst (λ (x : Written). Stays x.store) (same_written none new j) k
+        | Some r ↦ λ f j. subst (λ (x : Written). Stays x.store) (same_written (with_written (Some r) none) new j)
+            (Stays-with S r k (deleted-row s Server now S id AnyVector r e f soon k.all k.etags))
+      ] refl g
       | Some kind ↦ λ e g. absurd cc
     ] refl h

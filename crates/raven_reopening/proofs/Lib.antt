@@ -1,8 +1,13 @@
 pub mod ReadLemmas
+pub mod TextLemmas
 pub mod BodyLemmas
 pub mod FitLemmas
+pub mod CountLemmas
 pub mod LastLemmas
+pub mod RightLemmas
 pub mod AgainLemmas
+pub mod OpenedLemmas
+pub mod BackLemmas
 pub mod Utf8Lemmas
 pub mod LexLemmas
 pub mod SoundLemmas

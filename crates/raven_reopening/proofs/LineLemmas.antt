@@ -1,29 +1,32 @@
 -- What the lines of a script ask can be kept.
-use Rattle.std.proofs.Common.{◌≡◌, ℕ, ◌<◌, ◌≤◌, List, [], ◌∷◌, ◌++◌, Bool, true, false, not, cond, ◌&&◌, ◌||◌, ◌==◌, nat_lt, nat_le, is_none, length, codes, Option, Some, None, Result, Ok, Err, IsUtf8, refl, sym, ap, ◌∙◌, subst, arith}
+use Rattle.std.proofs.Common.{◌≡◌, ℕ, ◌<◌, ◌≤◌, List, [], ◌∷◌, ◌++◌, Bool, true, false, not, cond, ◌&&◌, ◌||◌, ◌==◌, nat_lt, is_none, length, codes, Option, Some, None, Result, Ok, Err, IsUtf8, refl, sym, ap, ◌∙◌, subst, arith}
 use Rattle.std.proofs.Math.Utf8.{encode, encodes, scalar, scalars}
 use Rattle.std.proofs.lemmas.Bool.{ltb-true, ltb-false, ne_eqb}
 use Rattle.std.proofs.lemmas.Str.{IsUtf8-append, IsUtf8-encode, IsUtf8-from_is_utf8, IsUtf8-nil, encode_ascii}
 use Rattle.std.specs.List.{list_any, cons_option}
 use Rattle.std.specs.Str.{bytes_eq, is_utf8}
 use Rattle.raven_data.specs.Data.{Data, null, flag, num, text, array, object, Items, no_items, item, Entries, items_depth, list_of}
-use Rattle.raven_data.specs.Faults.{fault_of, is_fit, max_id}
+use Rattle.raven_data.specs.Faults.{fault_of, is_fit, max_id, max_name}
 use Rattle.raven_data.specs.Json.{JsonRefusal, reading}
-use Rattle.raven_data.specs.Kept.{KeptRow, all_kept}
+use Rattle.raven_data.specs.Kept.{KeptRow}
 use Rattle.raven_data.specs.Members.{member}
 use Rattle.raven_data.specs.Moments.{moments_end}
 use Rattle.raven_data.specs.Sound.{AreSound}
 use Rattle.raven_model.specs.Commit.{Command, Expect, AnyVector, Vector, Setting}
-use Rattle.raven_model.specs.Kept.{opened_from}
-use Rattle.raven_model.specs.Machine.{Event, Machine, Request, Put, Delete, Bulk, Get, Auto, Find, Pump, Stale, Stats, commands_in}
+use Rattle.raven_model.specs.Language.{LangRefusal}
+use Rattle.raven_model.specs.Mapping.{Definition}
+use Rattle.raven_model.specs.Machine.{Event, Machine, Request, Put, Delete, Bulk, Get, Remove, Auto, Find, Pump, Stale, Indexes, Stats, commands_in}
 use Rattle.raven_model.specs.Opening.{is_part}
-use Rattle.raven_model.specs.Script.{Line, Do, ReadRefusal, UnknownLine, BadMember, Circumstance, Given, then_read, before_space, after_space, both_parts, word_and_rest, has_byte, number_of, unless_fault, id_read, json_read, object_read, put_read, delete_read, id_member, vector_member, put_command, delete_command, typed_command, command_read, commands_read, list_member, commands_of, bulk_read, or_unknown, parts_read, put_of, put_if_of, delete_if_of, get_of, is_collection, is_field, auto_of, pump_of, name_read, find_of, stale_of, by_word, request_of, line_of, event_of, events_of, after_lines}
-use Rattle.raven_model.specs.Sound.{Has}
-use Rattle.raven_model.specs.World.{Slot}
+use Rattle.raven_model.specs.Script.{Do, LineRead, ReadRefusal, Plain, asked_by, asked_to_define, defined_by, index_of, map_member, name_member, reduce_member, texts_in, texts_of_body, unless_name_fault, UnknownLine, BadMember, Circumstance, Given, then_read, before_space, after_space, both_parts, word_and_rest, has_byte, unless_fault, id_read, json_read, object_read, put_read, delete_read, id_member, vector_member, put_command, delete_command, typed_command, command_read, commands_read, list_member, commands_of, bulk_read, or_unknown, parts_read, put_of, put_if_of, delete_if_of, get_of, is_collection, is_field, auto_of, drop_of, max_read, pump_of, pump_read, name_read, find_of, stale_of, by_word, request_of, line_of, event_of, events_of, after_lines}
 use Rattle.raven_laws.proofs.ScriptLemmas.{lines-run}
 use Rattle.raven_laws.proofs.StoreLemmas.{both_true, either_false}
 use Rattle.raven_reopening.specs.Form.{IsBody, IsCommand, AreCommands, IsIndexing, AreEvents, AreTimely}
-use Rattle.raven_reopening.specs.Reopened.{IsThereAgain, reopened, slots_in}
-use Rattle.raven_reopening.proofs.AgainLemmas.{run-opens, run-there}
+use Rattle.raven_reading.specs.Lines.{AreLines, Comes}
+use Rattle.raven_reading.specs.Openings.{IsOpened}
+use Rattle.raven_reading.specs.Says.{Says}
+use Rattle.raven_reopening.specs.Reopened.{OpensAgain}
+use Rattle.raven_reopening.proofs.BackLemmas.{run-opens}
+use Rattle.raven_reopening.proofs.TextLemmas.{said-by}
 use Rattle.raven_reopening.proofs.BodyLemmas.{member-sound, member-depth}
 use Rattle.raven_reopening.proofs.SoundLemmas.{AreFine, IsFine, reading-fine}
 use Rattle.raven_reopening.proofs.Utf8Lemmas.{AreHigh, encode-high, utf8-one}
@@ -298,12 +301,17 @@ get-asked : (words : List ℕ) (request : Request) → get_of words ≡ Ok reque
 get-asked words request h = let i = then-ok (id_read words) (λ id. Ok (Get id)) request h in asked (Get i.0) request i.2 (record { commands = tt; indexing = tt })
 
 pump-asked : (words : List ℕ) (request : Request) → pump_of words ≡ Ok request → IsAsked request
-pump-asked words request h =
-    let m = then-ok (or_unknown (number_of words)) (λ max. cond (nat_le 1 max && nat_le max 65536) (Ok (Pump max)) (Err UnknownLine)) request h in
-    elim (nat_le 1 m.0 && nat_le m.0 65536) as (λ b. cond b (Ok (Pump m.0)) (Err UnknownLine) ≡ Ok request → IsAsked request) [
-      | true ↦ λ g. asked (Pump m.0) request g (record { commands = tt; indexing = tt })
-      | false ↦ λ g. absurd cc
-    ] m.2
+pump-asked words request h = by (word_and_rest words) h
+  where
+    by : (parts : Option (List ℕ × List ℕ)) → pump_read words parts ≡ Ok request → IsAsked request
+    by None g = let m = then-ok (max_read words) (λ max. Ok (Pump max None)) request g in asked (Pump m.0 None) request m.2 (record { commands = tt; indexing = tt })
+    by (Some parts) g =
+        let m = then-ok (max_read parts.0) (λ max. then_read (name_read parts.1) (λ name. Ok (Pump max (Some name)))) request g in
+        let n = then-ok (name_read parts.1) (λ name. Ok (Pump m.0 (Some name))) request m.2 in
+        asked (Pump m.0 (Some n.0)) request n.2 (record { commands = tt; indexing = tt })
+
+drop-asked : (words : List ℕ) (request : Request) → drop_of words ≡ Ok request → IsAsked request
+drop-asked words request h = let n = then-ok (name_read words) (λ name. Ok (Remove name)) request h in asked (Remove n.0) request n.2 (record { commands = tt; indexing = tt })
 
 find-asked : (words : List ℕ) (request : Request) → find_of words ≡ Ok request → IsAsked request
 find-asked words request h =
@@ -327,51 +335,153 @@ word-asked word more request u h =
     either (bytes_eq word (codes "DELIF")) (delete_if_of more) _ request h (λ e. delete_if_of-asked more request e) (λ h.
     either (bytes_eq word (codes "BULK")) (bulk_read more) _ request h (λ e. bulk-asked more request e) (λ h.
     either (bytes_eq word (codes "GET")) (get_of more) _ request h (λ e. get-asked more request e) (λ h.
+    either (bytes_eq word (codes "DROP")) (drop_of more) _ request h (λ e. drop-asked more request e) (λ h.
     either (bytes_eq word (codes "AUTO")) (auto_of more) _ request h (λ e. auto-asked more request u e) (λ h.
     either (bytes_eq word (codes "PUMP")) (pump_of more) _ request h (λ e. pump-asked more request e) (λ h.
     either (bytes_eq word (codes "FIND")) (find_of more) _ request h (λ e. find-asked more request e) (λ h.
-    either (bytes_eq word (codes "STALE")) (stale_of more) (Err UnknownLine) request h (λ e. stale-asked more request e) (λ h. absurd cc))))))))))
+    either (bytes_eq word (codes "STALE")) (stale_of more) (Err UnknownLine) request h (λ e. stale-asked more request e) (λ h. absurd cc)))))))))))
 
 request-asked : (line : List ℕ) (request : Request) → IsUtf8 line → request_of line ≡ Ok request → IsAsked request
 request-asked line request u h =
-    either (bytes_eq line (codes "STATS")) (Ok Stats) (then_read (parts_read line) (λ parts. by_word parts.0 parts.1)) request h
-    (λ e. asked Stats request e (record { commands = tt; indexing = tt }))
-    (λ e. let p = then-ok (parts_read line) (λ parts. by_word parts.0 parts.1) request e in let w = parts-utf8 line p.0 u p.1 in word-asked p.0.0 p.0.1 request w.second p.2)
+    either (bytes_eq line (codes "STATS")) (Ok Stats) _ request h (λ e. asked Stats request e (record { commands = tt; indexing = tt })) (λ h.
+    either (bytes_eq line (codes "INDEXES")) (Ok Indexes) (then_read (parts_read line) (λ parts. by_word parts.0 parts.1)) request h (λ e. asked Indexes request e (record { commands = tt; indexing = tt }))
+    (λ e. let p = then-ok (parts_read line) (λ parts. by_word parts.0 parts.1) request e in let w = parts-utf8 line p.0 u p.1 in word-asked p.0.0 p.0.1 request w.second p.2))
 
--- LINES
+-- LINES WITHOUT A DEFINITION
 
--- what a line asks, if anything
-abbrev IsLine : Result (Option Line) ReadRefusal → Type 0
-IsLine (Err refusal) = Unit {0}
-IsLine (Ok None) = Unit {0}
-IsLine (Ok (Some (Do request))) = IsAsked request
+-- what a line asks, if anything, can be kept
+abbrev CanBeKept : LineRead → Type 0
+CanBeKept (Err refusal) = Unit {0}
+CanBeKept (Ok None) = Unit {0}
+CanBeKept (Ok (Some (Do request))) = IsAsked request
 
-done : (r : Result Request ReadRefusal) → ((request : Request) → r ≡ Ok request → IsAsked request) → IsLine (then_read r (λ request. Ok (Some (Do request))))
+done : (r : Result Request ReadRefusal) → ((request : Request) → r ≡ Ok request → IsAsked request) → CanBeKept (then_read r (λ request. Ok (Some (Do request))))
 done (Err refusal) f = tt
 done (Ok request) f = f request refl
 
-line-asked : (line : List ℕ) → IsLine (line_of line)
-line-asked [] = tt
-line-asked (b ∷ bs) = elim (is_utf8 (b ∷ bs)) as (λ t. is_utf8 (b ∷ bs) ≡ t → IsLine (cond t (then_read (request_of (b ∷ bs)) (λ request. Ok (Some (Do request)))) (Err UnknownLine))) [
+plain-asked : (line : List ℕ) → CanBeKept (line_of line)
+plain-asked [] = tt
+plain-asked (b ∷ bs) = elim (is_utf8 (b ∷ bs)) as (λ t. is_utf8 (b ∷ bs) ≡ t → CanBeKept (cond t (then_read (request_of (b ∷ bs)) (λ request. Ok (Some (Do request)))) (Err UnknownLine))) [
   | true ↦ λ e. done (request_of (b ∷ bs)) (λ request h. request-asked (b ∷ bs) request (IsUtf8-from_is_utf8 (b ∷ bs) e) h)
   | false ↦ λ e. tt
 ] refl
 
-event-asked : (c : Circumstance) (r : Result (Option Line) ReadRefusal) (es : List Event) → IsLine r → c.now < moments_end → AreEvents es → AreEvents (cons_option (event_of c r) es)
+-- LINES WITH ONE
+
+-- the name and the text that a line gives
+record AreTexts (texts : List ℕ × List ℕ) : Type 0 where
+  pub fit : is_fit max_name texts.0 ≡ true
+  pub utf8 : IsUtf8 texts.1
+
+name-fit : (name out : List ℕ) → name_read name ≡ Ok out → is_fit max_name out ≡ true
+name-fit name out h = elim (fault_of max_name name) as (λ o. fault_of max_name name ≡ o → unless_name_fault o name ≡ Ok out → is_fit max_name out ≡ true) [
+  | None ↦ λ e g. subst (λ x. is_fit max_name x ≡ true) (same_ok name out g) (ap is_none e)
+  | Some fault ↦ λ e g. absurd cc
+] refl h
+
+name-member : (o : Option Data) (name : List ℕ) → name_member o ≡ Ok name → is_fit max_name name ≡ true
+name-member None name h = absurd cc
+name-member (Some null) name h = absurd cc
+name-member (Some (flag b)) name h = absurd cc
+name-member (Some (num n)) name h = absurd cc
+name-member (Some (array ds)) name h = absurd cc
+name-member (Some (object ms)) name h = absurd cc
+name-member (Some (text s)) name h = name-fit s name h
+
+map-alone : (o : Option Data) (out : List ℕ) → ((d : Data) → o ≡ Some d → IsFine 100 d) → map_member None o ≡ Ok out → IsUtf8 out
+map-alone None out f h = absurd cc
+map-alone (Some null) out f h = absurd cc
+map-alone (Some (flag b)) out f h = absurd cc
+map-alone (Some (num n)) out f h = absurd cc
+map-alone (Some (array ds)) out f h = absurd cc
+map-alone (Some (object ms)) out f h = absurd cc
+map-alone (Some (text s)) out f h = subst IsUtf8 (same_ok s out h) (f (text s) refl).0
+
+map-first : (d : Data) (more : Items) (o : Option Data) (out : List ℕ) → AreSound (item d more) → map_member (Some (array (item d more))) o ≡ Ok out → IsUtf8 out
+map-first null more o out s h = absurd cc
+map-first (flag b) more o out s h = absurd cc
+map-first (num n) more o out s h = absurd cc
+map-first (array ds) more o out s h = absurd cc
+map-first (object ms) more o out s h = absurd cc
+map-first (text t) (item d more) o out s h = absurd cc
+map-first (text t) no_items o out s h = subst IsUtf8 (same_ok t out h) s.0
+
+map-member : (maps o : Option Data) (out : List ℕ) → ((d : Data) → maps ≡ Some d → IsFine 100 d) → ((d : Data) → o ≡ Some d → IsFine 100 d) → map_member maps o ≡ Ok out → IsUtf8 out
+map-member None o out f g h = map-alone o out g h
+map-member (Some null) o out f g h = absurd cc
+map-member (Some (flag b)) o out f g h = absurd cc
+map-member (Some (num n)) o out f g h = absurd cc
+map-member (Some (text s)) o out f g h = absurd cc
+map-member (Some (object ms)) o out f g h = absurd cc
+map-member (Some (array no_items)) o out f g h = absurd cc
+map-member (Some (array (item d more))) o out f g h = map-first d more o out (f (array (item d more)) refl).0 h
+
+same_texts : (a b : List ℕ × List ℕ) → (let r : Result (List ℕ × List ℕ) ReadRefusal = Ok a in r) ≡ Ok b → a ≡ b
+same_texts a b h = cc
+
+reduce-member : (o : Option Data) (a b : List ℕ × List ℕ) → reduce_member o a ≡ Ok b → a ≡ b
+reduce-member None a b h = same_texts a b h
+reduce-member (Some null) a b h = same_texts a b h
+reduce-member (Some (flag t)) a b h = absurd cc
+reduce-member (Some (num n)) a b h = absurd cc
+reduce-member (Some (text s)) a b h = absurd cc
+reduce-member (Some (array ds)) a b h = absurd cc
+reduce-member (Some (object ms)) a b h = absurd cc
+
+texts-in : (ms : Entries) (texts : List ℕ × List ℕ) → IsFine 100 (object ms) → texts_in ms ≡ Ok texts → AreTexts texts
+texts-in ms texts f h =
+    let reduce = member (codes "Reduce") ms in
+    let n = then-ok (name_member (member (codes "Name") ms)) (λ name. then_read (map_member (member (codes "Maps") ms) (member (codes "Map") ms)) (λ map. reduce_member reduce (name, map))) texts h in
+    let m = then-ok (map_member (member (codes "Maps") ms) (member (codes "Map") ms)) (λ map. reduce_member reduce (n.0, map)) texts n.2 in
+    subst AreTexts (reduce-member reduce (n.0, m.0) texts m.2) (record {
+      fit = name-member (member (codes "Name") ms) n.0 n.1;
+      utf8 = map-member (member (codes "Maps") ms) (member (codes "Map") ms) m.0 (λ d e. member-fine (codes "Maps") ms d f e) (λ d e. member-fine (codes "Map") ms d f e) m.1;
+    })
+
+body-texts : (d : Data) (texts : List ℕ × List ℕ) → IsFine 100 d → texts_of_body d ≡ Ok texts → AreTexts texts
+body-texts null texts f h = absurd cc
+body-texts (flag b) texts f h = absurd cc
+body-texts (num n) texts f h = absurd cc
+body-texts (text s) texts f h = absurd cc
+body-texts (array ds) texts f h = absurd cc
+body-texts (object ms) texts f h = texts-in ms texts f h
+
+index-texts : (words : List ℕ) (texts : List ℕ × List ℕ) → index_of words ≡ Ok texts → AreTexts texts
+index-texts words texts h =
+    let v = then-ok (json_read (reading words)) texts_of_body texts h in
+    body-texts v.0 texts (reading-fine words v.0 (json-ok (reading words) v.0 v.1)) v.2
+
+-- what comes of a definition that a text says
+defined-asked : (name map : List ℕ) (answer : Result Definition LangRefusal) → is_fit max_name name ≡ true → IsUtf8 map → Says map answer → CanBeKept (defined_by name answer)
+defined-asked name map (Err refusal) fit u says = tt
+defined-asked name map (Ok d) fit u says =
+    let by = said-by map d says in record { commands = tt; indexing = record { fit = fit; query = by.0; map = map; utf8 = u; by_text = by.1; says = says } }
+
+defining-asked : (r : Result (List ℕ × List ℕ) ReadRefusal) (read : LineRead) → ((texts : List ℕ × List ℕ) → r ≡ Ok texts → AreTexts texts) → Comes (asked_to_define r) read → CanBeKept read
+defining-asked (Err refusal) read f is = subst CanBeKept (sym is) tt
+defining-asked (Ok texts) read f is = let t = f texts refl in subst CanBeKept (sym is.read) (defined-asked texts.0 texts.1 is.answer t.fit t.utf8 is.says)
+
+asked-by : (line : List ℕ) (parts : Option (List ℕ × List ℕ)) (read : LineRead) → Comes (asked_by line parts) read → CanBeKept read
+asked-by line None read is = subst CanBeKept (sym is) (plain-asked line)
+asked-by line (Some parts) read is =
+    elim (bytes_eq parts.0 (codes "INDEX") && is_utf8 line) as (λ b. Comes (cond b (asked_to_define (index_of parts.1)) (Plain (line_of line))) read → CanBeKept read) [
+      | true ↦ λ g. defining-asked (index_of parts.1) read (λ texts e. index-texts parts.1 texts e) g
+      | false ↦ λ g. subst CanBeKept (sym g) (plain-asked line)
+    ] is
+
+-- LINES
+
+event-asked : (c : Circumstance) (r : LineRead) (es : List Event) → CanBeKept r → c.now < moments_end → AreEvents es → AreEvents (cons_option (event_of c r) es)
 event-asked c (Err refusal) es l soon f = f
 event-asked c (Ok None) es l soon f = f
 event-asked c (Ok (Some (Do request))) es l soon f = (record { moment = soon; commands = l.commands; indexing = l.indexing }, f)
 
-lines-asked : (lines : List Given) → AreTimely lines → AreEvents (events_of lines)
-lines-asked [] t = tt
-lines-asked (g ∷ more) t = event-asked g.1 (line_of g.0) (events_of more) (line-asked g.0) t.0 (lines-asked more t.1)
+lines-asked : (lines : List Given) → AreLines lines → AreTimely lines → AreEvents (events_of lines)
+lines-asked [] read t = tt
+lines-asked (g ∷ more) read t = event-asked g.circumstance g.read (events_of more) (asked-by g.line (word_and_rest g.line) g.read read.0) t.0 (lines-asked more read.1 t.1)
 
 -- AFTER A SCRIPT
 
-pub lines-open : (s : Setting) (held : List KeptRow) (M : Machine) (lines : List Given) → opened_from s held ≡ Ok M → AreTimely lines → opened_from s (all_kept (after_lines lines M).world.store.rows) ≡ Ok (reopened s (after_lines lines M).world.store)
-lines-open s held M lines h t =
-    subst (λ (N : Machine). opened_from s (all_kept N.world.store.rows) ≡ Ok (reopened s N.world.store)) (sym (lines-run lines M)) (run-opens s held M (events_of lines) h (lines-asked lines t))
-
-pub lines-there : (s : Setting) (held : List KeptRow) (M : Machine) (lines : List Given) → opened_from s held ≡ Ok M → AreTimely lines → (x : Slot) → Has (after_lines lines M).world.slots x → IsThereAgain (slots_in (after_lines lines M).world.store.rows) x
-lines-there s held M lines h t =
-    subst (λ (N : Machine). (x : Slot) → Has N.world.slots x → IsThereAgain (slots_in N.world.store.rows) x) (sym (lines-run lines M)) (λ x at. run-there s held M (events_of lines) h (lines-asked lines t) x at)
+pub lines-open : (s : Setting) (held : List KeptRow) (M : Machine) (lines : List Given) → IsOpened s held (Ok M) → AreLines lines → AreTimely lines → OpensAgain s (after_lines lines M).world
+lines-open s held M lines h read t =
+    subst (λ (N : Machine). OpensAgain s N.world) (sym (lines-run lines M)) (run-opens s held M (events_of lines) h (lines-asked lines read t))

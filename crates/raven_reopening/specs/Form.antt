@@ -1,16 +1,19 @@
 -- Which rows can be kept and read again, and which requests write no others.
-use Rattle.std.specs.Prelude.{◌≡◌, ◌<◌, ◌≤◌, List, [], ◌∷◌, IsTrue, IsUtf8, length}
+use Rattle.std.specs.Prelude.{◌≡◌, ℕ, ◌<◌, ◌≤◌, List, [], ◌∷◌, None, Ok, IsTrue, IsUtf8, length}
+use Rattle.index_tree.specs.declared.map_query.MapQuery.{MapQuery}
 use Rattle.raven_data.specs.Data.{Data, Entries, object, depth}
-use Rattle.raven_data.specs.Faults.{is_fit, max_id}
+use Rattle.raven_data.specs.Faults.{is_fit, max_id, max_name}
 use Rattle.raven_data.specs.Moments.{moments_end}
 use Rattle.raven_data.specs.Rows.{Row, Body, doc, gone}
 use Rattle.raven_data.specs.Sound.{IsSound}
 use Rattle.raven_data.specs.Written.{text_of}
 use Rattle.raven_model.specs.Commit.{Command, Put, Delete}
 use Rattle.raven_model.specs.Kept.{is_etag, is_stored, max_body}
-use Rattle.raven_model.specs.Machine.{Event, Request, Auto, commands_in}
+use Rattle.raven_model.specs.Machine.{Event, Request, Define, Auto, commands_in}
+use Rattle.raven_model.specs.Mapping.{Definition, Static}
 use Rattle.raven_model.specs.Opening.{is_part}
 use Rattle.raven_model.specs.Script.{Given}
+use Rattle.raven_reading.specs.Says.{Says}
 
 -- ROWS
 
@@ -53,9 +56,19 @@ abbrev pub AreCommands : List Command → Type 0
 AreCommands [] = Unit {0}
 AreCommands (c ∷ cs) = IsCommand c × AreCommands cs
 
--- an index is made for a field whose name can be a part of a path
+-- what the text of a map says without a reduce, under a text that can be the name of an index
+pub record IsByText (name : List ℕ) (d : Definition) : Type 0 where
+  pub fit : IsTrue (is_fit max_name name)
+  pub query : MapQuery
+  pub map : List ℕ
+  pub utf8 : IsUtf8 map
+  pub by_text : d ≡ Static query None map None
+  pub says : Says map (Ok d)
+
+-- An automatic index is made for a field whose name can be a part of a path, and an index of a client by a text.
 abbrev pub IsIndexing : Request → Type 0
 IsIndexing (Auto collection field) = IsUtf8 collection × (IsUtf8 field × IsTrue (is_part field))
+IsIndexing (Define name definition) = IsByText name definition
 IsIndexing other = Unit {0}
 
 pub record IsEvent (e : Event) : Type 0 where
@@ -72,4 +85,4 @@ AreEvents (e ∷ es) = IsEvent e × AreEvents es
 -- each line comes at a moment before the end
 abbrev pub AreTimely : List Given → Type 0
 AreTimely [] = Unit {0}
-AreTimely (g ∷ more) = (g.1.now < moments_end) × AreTimely more
+AreTimely (g ∷ more) = (g.circumstance.now < moments_end) × AreTimely more

@@ -1,26 +1,12 @@
--- The machine that the rows of a store open.
-use Rattle.std.specs.Prelude.{◌≡◌, List, [], Option, None, if◌then◌else◌}
-use Rattle.std.specs.List.{filter_map}
-use Rattle.std.specs.Option.{option_map}
+-- What opens from the rows of a database is that database again.
+use Rattle.std.specs.Prelude.{◌≡◌, List, [], Ok}
 use Rattle.raven_data.specs.Folding.{folded}
-use Rattle.raven_data.specs.Rows.{Row}
+use Rattle.raven_data.specs.Kept.{all_kept}
 use Rattle.raven_model.specs.Commit.{Setting}
 use Rattle.raven_model.specs.Machine.{Machine}
-use Rattle.raven_model.specs.Opening.{definition_in, is_defining, slot_of}
 use Rattle.raven_model.specs.Sound.{Has}
-use Rattle.raven_model.specs.Store.{Store}
-use Rattle.raven_model.specs.World.{Slot, fresh}
-
--- the index of a row, if it is the live row of a definition
-abbrev pub slot_in : Row → Option Slot
-slot_in r = if is_defining r then option_map (slot_of r) (definition_in r) else None
-
--- an index for each live row of a definition, at etag 0 and without documents
-abbrev pub slots_in : List Row → List Slot
-slots_in rows = filter_map slot_in rows
-
-abbrev pub reopened : Setting → Store → Machine
-reopened s S = record { world = record { setting = s; store = S; slots = slots_in S.rows; notes = [] } }
+use Rattle.raven_model.specs.World.{Slot, World, fresh}
+use Rattle.raven_reading.specs.Openings.{IsOpened}
 
 -- among the slots is one with the name, the number and the definition of this one, which has recorded nothing yet
 pub record IsThereAgain (slots : List Slot) (s : Slot) : Type 0 where
@@ -29,3 +15,21 @@ pub record IsThereAgain (slots : List Slot) (s : Slot) : Type 0 where
   pub named : folded slot.name ≡ folded s.name
   pub numbered : slot.number ≡ s.row
   pub anew : slot.version ≡ fresh s.version.definition
+
+-- and this one, of those that are opened, was there, and is not one that was removed
+pub record WasThere (slots : List Slot) (s : Slot) : Type 0 where
+  pub slot : Slot
+  pub there : Has slots slot
+  pub named : folded s.name ≡ folded slot.name
+  pub numbered : s.number ≡ slot.row
+  pub anew : s.version ≡ fresh slot.version.definition
+
+-- what is kept of the world's rows opens a machine with the same store, and with an index for each that there was, and no other
+pub record OpensAgain (s : Setting) (W : World) : Type 0 where
+  pub machine : Machine
+  pub opens : IsOpened s (all_kept W.store.rows) (Ok machine)
+  pub store : machine.world.store ≡ W.store
+  pub setting : machine.world.setting ≡ s
+  pub notes : machine.world.notes ≡ []
+  pub indexes : (x : Slot) → Has W.slots x → IsThereAgain machine.world.slots x
+  pub no_more : (x : Slot) → Has machine.world.slots x → WasThere W.slots x

@@ -1,6 +1,7 @@
 //! What is kept of rows and definitions is read back as them.
 
-ghost use Rattle.std.specs.Prelude.{◌≡◌, ◌≤◌, ℕ, List, [], ◌∷◌, IsTrue, Ok, Some, length};
+ghost use Rattle.std.specs.Prelude.{◌≡◌, ◌≤◌, ℕ, List, [], ◌∷◌, IsTrue, None, Ok, Some, length};
+ghost use Rattle.index_tree.specs.declared.map_query.MapQuery.{MapQuery};
 ghost use Rattle.raven_data.specs.Data.{Data, depth};
 ghost use Rattle.raven_data.specs.Json.{reading};
 ghost use Rattle.raven_data.specs.Kept.{all_kept, kept};
@@ -8,8 +9,8 @@ ghost use Rattle.raven_data.specs.Rows.{Row};
 ghost use Rattle.raven_data.specs.Sound.{IsSound};
 ghost use Rattle.raven_model.specs.Commit.{stored};
 ghost use Rattle.raven_model.specs.Kept.{row_in, rows_in};
-ghost use Rattle.raven_model.specs.Mapping.{Auto};
-ghost use Rattle.raven_model.specs.Opening.{definition_read, is_part};
+ghost use Rattle.raven_model.specs.Mapping.{Auto, Static};
+ghost use Rattle.raven_model.specs.Opening.{AutoForm, StaticForm, body_form, is_part};
 ghost use Rattle.raven_model.specs.Store.{IsStore, Store};
 ghost use Rattle.raven_model.specs.World.{row_body};
 ghost use Rattle.raven_reopening.specs.Form.{AreInForm, IsInForm};
@@ -24,10 +25,12 @@ pub fn stores_open_again()
     ensures { (S : Store) (max : ℕ) → IsStore S → AreInForm S.rows → length S.rows ≤ max → rows_in max (all_kept S.rows) ≡ Ok S.rows }
 {}
 
-/// The definition of an automatic index of one field is read back from the body that the server keeps of it.
+/// The definition of an automatic index of one field is read back from the body that the server keeps of it, and so is the text of one by a
+/// text without a reduce.
 pub fn definitions_are_read_back()
-    ensures { (collection field : List ℕ) → IsTrue (is_part field) →
-        definition_read (stored (row_body (Auto collection ((field ∷ []) ∷ [])))) ≡ Some (Auto collection ((field ∷ []) ∷ [])) }
+    ensures automatic { (collection field : List ℕ) → IsTrue (is_part field) →
+        body_form (stored (row_body (Auto collection ((field ∷ []) ∷ [])))) ≡ AutoForm (Auto collection ((field ∷ []) ∷ [])) }
+    ensures by_text { (query : MapQuery) (text : List ℕ) → body_form (stored (row_body (Static query None text None))) ≡ StaticForm text }
 {}
 
 /// What is read of JSON bytes is sound: its numbers have 64 bits, its texts are UTF-8, its members rise. And it is at most a hundred deep.

@@ -3,7 +3,7 @@ use Rattle.std.proofs.Common.{◌≡◌, ℕ, List, ◌++◌, ◌∷◌, [], Boo
 use Rattle.std.proofs.lemmas.List.{append-nil}
 use Rattle.raven_data.specs.Data.{Entries, object, text, items_of, flag}
 use Rattle.raven_data.specs.Written.{quoted, text_of, items_text, entries_text}
-use Rattle.raven_model.specs.Replies.{Bulk, Found, Pumped, Pumping, Result, number, pumping_data, result_data, reply_data}
+use Rattle.raven_model.specs.Replies.{Bulk, Found, Indexes, Listing, Pumped, Pumping, Result, listing_data, number, pumping_data, result_data, reply_data}
 
 pub printed-object : (old : List ℕ) (ms : Entries) → ((old ++ 123 ∷ []) ++ entries_text false ms) ++ 125 ∷ [] ≡ old ++ text_of (object ms)
 printed-object old ms = simp (append_assoc)
@@ -14,6 +14,9 @@ printed-member old name value = simp (append_assoc)
 pub printed-Pumped : (old : List ℕ) (pumped : List Pumping) → ((old ++ codes "{\"Pumped\":[") ++ items_text false (items_of (map pumping_data pumped))) ++ codes "]}" ≡ old ++ text_of (reply_data (Pumped pumped))
 printed-Pumped old pumped = simp (append_assoc, append-nil)
 
+pub printed-Indexes : (old : List ℕ) (results : List Listing) → ((old ++ codes "{\"Results\":[") ++ items_text false (items_of (map listing_data results))) ++ codes "]}" ≡ old ++ text_of (reply_data (Indexes results))
+printed-Indexes old results = simp (append_assoc, append-nil)
+
 pub printed-Bulk : (old : List ℕ) (results : List Result) → ((old ++ codes "{\"Results\":[") ++ items_text false (items_of (map result_data results))) ++ codes "]}" ≡ old ++ text_of (reply_data (Bulk results))
 printed-Bulk old results = simp (append_assoc, append-nil)
 
@@ -22,4 +25,4 @@ pub printed-Found : (old : List ℕ) (ids : List (List ℕ)) (etag : ℕ) (is_st
     ≡ old ++ text_of (reply_data (Found ids etag is_stale))
 printed-Found old ids etag is_stale = simp (append_assoc, append-nil)
 
-pub ruleset printed = (printed-object, printed-member, printed-Pumped, printed-Bulk, printed-Found)
+pub ruleset printed = (printed-object, printed-member, printed-Pumped, printed-Indexes, printed-Bulk, printed-Found)

@@ -1,6 +1,7 @@
 -- What stands at a member of a reply.
 use Rattle.raven_data.specs.Data.{Data, flag, text}
 use Rattle.raven_model.specs.Replies.{number}
+use Rattle.raven_value.specs.View.{data_of}
 use Rattle.raven_reply.specs.declared.text.Piece.{Piece}
 use Rattle.raven_reply.specs.declared.text.Piece.TheVariants as p
 
@@ -8,3 +9,4 @@ abbrev pub piece_data : Piece → Data
 piece_data (p.Text words) = text words.now
 piece_data (p.Number n) = number n
 piece_data (p.Flag b) = flag b
+piece_data (p.Json value) = data_of value.now

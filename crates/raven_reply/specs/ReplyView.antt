@@ -1,6 +1,7 @@
 -- A `Reply` of the program, and what it is.
 use Rattle.std.specs.Prelude.{map}
 use Rattle.raven_model.specs.Replies as is
+use Rattle.index_lang.specs.RefusalView.{refusal_view}
 use Rattle.raven_value.specs.View.{data_of}
 use Rattle.raven_reply.specs.declared.reply.BulkResult.{BulkResult}
 use Rattle.raven_reply.specs.declared.reply.BulkResult.TheVariants as b
@@ -17,9 +18,11 @@ reply_view (r.Deleted deleted id) = is.Deleted deleted id
 reply_view (r.Bulk results) = is.Bulk (map result_view results)
 reply_view (r.Document document) = is.Document (data_of document)
 reply_view (r.Index name) = is.Index name
+reply_view (r.Removed name) = is.Removed name
 reply_view (r.Pumped pumped) = is.Pumped pumped
 reply_view (r.Found ids etag is_stale) = is.Found ids etag is_stale
 reply_view (r.Stale etag is_stale newest) = is.Stale etag is_stale newest
+reply_view (r.Indexes results) = is.Indexes results
 reply_view (r.Stats documents indexes tombstones last) = is.Stats documents indexes tombstones last
 reply_view r.UnknownLine = is.UnknownLine
 reply_view r.NotJson = is.NotJson
@@ -31,6 +34,10 @@ reply_view (r.Control at) = is.Control at
 reply_view (r.BadMember name) = is.BadMember name
 reply_view (r.NoDocument id) = is.NoDocument id
 reply_view (r.NoIndex name) = is.NoIndex name
+reply_view (r.Lang part at kind) = is.Lang (refusal_view part at kind)
+reply_view r.ReservedName = is.ReservedName
+reply_view (r.NameTooLong len) = is.NameTooLong len
+reply_view r.TooManyIndexes = is.TooManyIndexes
 reply_view (r.ReservedId at) = is.ReservedId at
 reply_view (r.TooLarge at len) = is.TooLarge at len
 reply_view (r.CollectionChanged at from) = is.CollectionChanged at from

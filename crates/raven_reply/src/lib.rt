@@ -6,7 +6,7 @@ mod reply;
 mod text;
 
 pub use moment::moment_text;
-pub use reply::{BulkResult, BulkResults, Pumping, Pumpings, Reply};
+pub use reply::{BulkResult, BulkResults, Listing, Listings, Pumping, Pumpings, Reply};
 pub use text::reply_text;
 
 #[cfg(test)]

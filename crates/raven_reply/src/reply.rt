@@ -1,4 +1,5 @@
 //! Replies.
+use index_lang::{LangKind, Part};
 use raven_base::Sequence;
 use raven_value::{Id, Ids, Name, Text, Value};
 use std::marker::Model;
@@ -24,6 +25,43 @@ impl Model for Pumping {
 
 /// Batches in the order of the numbers of their indexes.
 pub type Pumpings = Sequence<Pumping>;
+
+/// What is told of an index.
+#[derive(Debug, Drop)]
+pub struct Listing {
+    /// What it was defined by.
+    pub definition: Value,
+
+    /// How many entries it has.
+    pub entries: u64,
+
+    /// How many of the documents that it has recorded its map fails at.
+    pub errors: u64,
+
+    /// How far it has come.
+    pub etag: u64,
+
+    /// Whether it lags.
+    pub is_stale: bool,
+
+    /// The name that it serves.
+    pub name: Name,
+}
+
+impl Model for Listing {
+    ghost use Rattle.raven_model.specs.Replies as replies;
+    ghost use Rattle.raven_model.specs.Codes.{listing_code};
+    ghost use Rattle.raven_value.specs.View.{data_of};
+
+    ghost Value = { replies.Listing };
+
+    ghost coded = { listing_code };
+
+    ghost view = { λ a. record { definition = data_of a.definition; entries = a.entries; errors = a.errors; etag = a.etag; is_stale = a.is_stale; name = a.name } };
+}
+
+/// Indexes in the order of their numbers.
+pub type Listings = Sequence<Listing>;
 
 /// What one command of a transaction did.
 #[derive(Debug, Drop)]
@@ -68,7 +106,12 @@ pub enum Reply {
         name: Name,
     },
 
-    /// One batch for each index.
+    /// The index of this name is removed.
+    Removed {
+        name: Name,
+    },
+
+    /// One batch for each index, or for the one that was named.
     Pumped {
         pumped: Pumpings,
     },
@@ -85,6 +128,11 @@ pub enum Reply {
         index_etag: u64,
         is_stale: bool,
         newest: u64,
+    },
+
+    /// Each live index, by number.
+    Indexes {
+        results: Listings,
     },
 
     /// How much the database has. The definitions of indexes are neither documents nor tombstones here.
@@ -107,15 +155,15 @@ pub enum Reply {
     /// The JSON is more than 100 deep.
     TooDeep,
 
-    /// The id has no bytes.
+    /// The id or the name has no bytes.
     Empty,
 
-    /// The id has so many bytes.
+    /// The id or the name has so many bytes.
     TooLong {
         len: u64,
     },
 
-    /// The id has a control character at this byte.
+    /// The id or the name has a control character at this byte.
     Control {
         at: u64,
     },
@@ -134,6 +182,24 @@ pub enum Reply {
     NoIndex {
         name: Text,
     },
+
+    /// A text of the definition is refused: which, for the byte at this place, and why.
+    Lang {
+        part: Part,
+        at: u64,
+        kind: LangKind,
+    },
+
+    /// The name is one of those that the server gives.
+    ReservedName,
+
+    /// The name of the definition has so many bytes.
+    NameTooLong {
+        len: u64,
+    },
+
+    /// There are as many indexes as may be.
+    TooManyIndexes,
 
     /// The id or the collection is the server's.
     ReservedId {

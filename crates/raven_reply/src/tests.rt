@@ -1,5 +1,6 @@
 //! What no clause says: that memory suffices, and each reply and some moments as they are to be printed.
-use crate::{BulkResult, Pumping, Reply, moment_text, reply_text};
+use crate::{BulkResult, Listing, Pumping, Reply, moment_text, reply_text};
+use index_lang::{LangKind, Part};
 use raven_base::Sequence;
 use raven_json::read;
 use raven_value::{Id, Name, Text};
@@ -116,6 +117,52 @@ fn prints_what_was_done(rt: HostRuntime) -> Result<(), Fail> {
 }
 
 #[test]
+fn prints_indexes(rt: HostRuntime) -> Result<(), Fail> {
+    let alloc = rt.alloc();
+    let auto = Listing {
+        definition: read(
+            alloc,
+            b"{\"Collection\":\"Users\",\"Fields\":[[\"Name\"]],\"Kind\":\"auto\"}",
+        )?,
+        entries: 12,
+        errors: 0,
+        etag: 41,
+        is_stale: false,
+        name: name(alloc, "Auto/Users/ByName")?,
+    };
+    let named = Listing {
+        definition: read(alloc, b"null")?,
+        entries: 0,
+        errors: 7,
+        etag: 9_007_199_254_740_991,
+        is_stale: true,
+        name: name(alloc, "a\"b")?,
+    };
+    let indexes = Reply::Indexes {
+        results: Sequence::of(vec![in alloc; auto, named]?),
+    };
+    let none = Reply::Indexes {
+        results: Sequence::new(alloc),
+    };
+    let removed = Reply::Removed {
+        name: name(alloc, "Orders/ByTotal")?,
+    };
+    let cases = [
+        (
+            indexes,
+            "{\"Results\":[{\"Definition\":{\"Collection\":\"Users\",\"Fields\":[[\"Name\"]],\"Kind\":\"auto\"},\"Entries\":12,\"Errors\":0,\"Etag\":41,\"IsStale\":false,\"Name\":\"Auto/Users/ByName\"},{\"Definition\":null,\"Entries\":0,\"Errors\":7,\"Etag\":9007199254740991,\"IsStale\":true,\"Name\":\"a\\\"b\"}]}",
+        ),
+        (none, "{\"Results\":[]}"),
+        (removed, "{\"Removed\":\"Orders/ByTotal\"}"),
+    ];
+    for (reply, wanted) in &cases {
+        let bytes = reply_text(alloc, reply)?;
+        assert_eq!(rt; String::from_utf8(bytes)?.as_str(), *wanted);
+    }
+    Ok(())
+}
+
+#[test]
 fn prints_refusals(rt: HostRuntime) -> Result<(), Fail> {
     let alloc = rt.alloc();
     let bad_member = Reply::BadMember {
@@ -150,6 +197,28 @@ fn prints_refusals(rt: HostRuntime) -> Result<(), Fail> {
         (bad_member, "{\"Error\":\"BadMember\",\"Name\":\"body\"}"),
         (no_document, "{\"Error\":\"NoDocument\",\"Id\":\"users/2\"}"),
         (no_index, "{\"Error\":\"NoIndex\",\"Name\":\"Auto/C/ByF\"}"),
+        (
+            Reply::Lang {
+                part: Part::Map,
+                at: 34,
+                kind: LangKind::UnknownName,
+            },
+            "{\"At\":34,\"Error\":\"UnknownName\",\"Part\":\"Map\"}",
+        ),
+        (
+            Reply::Lang {
+                part: Part::Reduce,
+                at: 0,
+                kind: LangKind::FieldsDiffer,
+            },
+            "{\"At\":0,\"Error\":\"FieldsDiffer\",\"Part\":\"Reduce\"}",
+        ),
+        (Reply::ReservedName, "{\"Error\":\"ReservedName\"}"),
+        (
+            Reply::NameTooLong { len: 201 },
+            "{\"Error\":\"NameTooLong\",\"Len\":201}",
+        ),
+        (Reply::TooManyIndexes, "{\"Error\":\"TooManyIndexes\"}"),
         (
             Reply::ReservedId { at: 2 },
             "{\"At\":2,\"Error\":\"ReservedId\"}",

@@ -2,12 +2,15 @@
 ghost use Rattle.std.specs.Prelude.{◌≡◌, ◌++◌, ◌∷◌, [], IfOk, OnOk, false, map};
 ghost use Rattle.raven_data.specs.Data.{entries_of, items_of, object, text as spec_text};
 ghost use Rattle.raven_data.specs.Written.{entries_text, items_text, quoted, text_of};
-ghost use Rattle.raven_model.specs.Replies.{Bulk, Conflict, Deleted, Found as FoundIds, Index, Pumped as PumpedAll, Put as PutOne, Stale, Stats, error, error_at, pumping_data, reply_data, result_data};
+ghost use Rattle.raven_model.specs.Replies.{Bulk, Conflict, Deleted, Found as FoundIds, Index, Indexes as IndexesAll, Lang as LangOf, Pumped as PumpedAll, Put as PutOne, Removed, Stale, Stats, error, error_at, listing_data, pumping_data, reply_data, result_data};
+ghost use Rattle.raven_model.specs.Language.{kind_name as spec_kind_name, part_name as spec_part_name};
+ghost use Rattle.index_lang.specs.RefusalView.{kind_view, part_view, refusal_view};
 ghost use Rattle.raven_value.specs.View.{data_of};
 ghost use Rattle.raven_reply.specs.Pieces.{piece_data};
 ghost use Rattle.raven_reply.specs.ReplyView.{reply_view, result_view};
 
-use crate::reply::{BulkResult, Pumping, Reply};
+use crate::reply::{BulkResult, Listing, Pumping, Reply};
+use index_lang::{LangKind, Part};
 use raven_base::NoMemory;
 use raven_json::{write, write_text};
 use raven_value::{Id, Value};
@@ -19,6 +22,7 @@ pub enum Piece<'a> {
     Text(&'a str),
     Number(u64),
     Flag(bool),
+    Json(&'a Value),
 }
 
 fn write_bytes(out: &mut Vec<u8>, bytes: &[u8]) -> Result<(), NoMemory>
@@ -28,6 +32,13 @@ fn write_bytes(out: &mut Vec<u8>, bytes: &[u8]) -> Result<(), NoMemory>
     Ok(())
 }
 
+fn write_document(alloc: Global, out: &mut Vec<u8>, document: &Value) -> Result<(), NoMemory>
+    ensures { OnOk result (out.new.items ≡ out.old.items ++ text_of (data_of document.now)) }
+{
+    let text = write(alloc, document)?;
+    write_bytes(out, &text)
+}
+
 fn write_piece(alloc: Global, out: &mut Vec<u8>, piece: &Piece) -> Result<(), NoMemory>
     ensures { OnOk result (out.new.items ≡ out.old.items ++ text_of (piece_data piece.now)) }
 {
@@ -35,6 +46,7 @@ fn write_piece(alloc: Global, out: &mut Vec<u8>, piece: &Piece) -> Result<(), No
         Piece::Text(text) => write_text(out, text),
         Piece::Number(number) => write_bytes(out, number.to_string(alloc)?.as_bytes()),
         Piece::Flag(flag) => write_bytes(out, if *flag { b"true" } else { b"false" }),
+        Piece::Json(value) => write_document(alloc, out, value),
     }
 }
 
@@ -89,6 +101,23 @@ fn write_pumping(alloc: Global, out: &mut Vec<u8>, pumping: &Pumping) -> Result<
     )
 }
 
+fn write_listing(alloc: Global, out: &mut Vec<u8>, listing: &Listing) -> Result<(), NoMemory>
+    ensures { OnOk result (out.new.items ≡ out.old.items ++ text_of (listing_data listing.now)) }
+{
+    write_object(
+        alloc,
+        out,
+        &[
+            ("Definition", Piece::Json(&listing.definition)),
+            ("Entries", Piece::Number(listing.entries)),
+            ("Errors", Piece::Number(listing.errors)),
+            ("Etag", Piece::Number(listing.etag)),
+            ("IsStale", Piece::Flag(listing.is_stale)),
+            ("Name", Piece::Text(listing.name.as_str())),
+        ],
+    )
+}
+
 fn write_result(alloc: Global, out: &mut Vec<u8>, done: &BulkResult) -> Result<(), NoMemory>
     ensures { OnOk result (out.new.items ≡ out.old.items ++ text_of (result_data (result_view done.now))) }
 {
@@ -114,6 +143,48 @@ fn write_result(alloc: Global, out: &mut Vec<u8>, done: &BulkResult) -> Result<(
     }
 }
 
+fn part_name(part: Part) -> &'static str
+    ensures { result.now ≡ spec_part_name (part_view part) }
+{
+    match part {
+        Part::Map => "Map",
+        Part::Reduce => "Reduce",
+    }
+}
+
+fn kind_name(kind: LangKind) -> &'static str
+    ensures { result.now ≡ spec_kind_name (kind_view kind) }
+{
+    match kind {
+        LangKind::Unexpected => "Unexpected",
+        LangKind::UnknownName => "UnknownName",
+        LangKind::DuplicateField => "DuplicateField",
+        LangKind::FieldsDiffer => "FieldsDiffer",
+        LangKind::NotReducible => "NotReducible",
+        LangKind::TooLarge => "TooLarge",
+    }
+}
+
+fn write_lang(
+    alloc: Global,
+    out: &mut Vec<u8>,
+    part: Part,
+    at: u64,
+    kind: LangKind,
+) -> Result<(), NoMemory>
+    ensures { OnOk result (out.new.items ≡ out.old.items ++ text_of (reply_data (LangOf (refusal_view part at kind)))) }
+{
+    write_object(
+        alloc,
+        out,
+        &[
+            ("At", Piece::Number(at)),
+            ("Error", Piece::Text(kind_name(kind))),
+            ("Part", Piece::Text(part_name(part))),
+        ],
+    )
+}
+
 fn write_ids(out: &mut Vec<u8>, ids: &[Id]) -> Result<(), NoMemory>
     ensures { OnOk result (out.new.items ≡ out.old.items ++ items_text false (items_of (map spec_text ids.now))) }
 {
@@ -137,6 +208,20 @@ fn write_pumpings(alloc: Global, out: &mut Vec<u8>, pumpings: &[Pumping]) -> Res
             write_bytes(out, b",")?;
         }
         write_pumping(alloc, out, pumping)?;
+        later = true;
+    }
+    Ok(())
+}
+
+fn write_listings(alloc: Global, out: &mut Vec<u8>, listings: &[Listing]) -> Result<(), NoMemory>
+    ensures { OnOk result (out.new.items ≡ out.old.items ++ items_text false (items_of (map listing_data listings.now))) }
+{
+    let mut later = false;
+    for listing in listings {
+        if later {
+            write_bytes(out, b",")?;
+        }
+        write_listing(alloc, out, listing)?;
         later = true;
     }
     Ok(())
@@ -182,6 +267,15 @@ fn write_pumped(alloc: Global, out: &mut Vec<u8>, pumped: &[Pumping]) -> Result<
 {
     write_bytes(out, b"{\"Pumped\":[")?;
     write_pumpings(alloc, out, pumped)?;
+    write_bytes(out, b"]}")
+}
+
+#[tactic(auto, using(crate::proofs::Printed::printed))]
+fn write_indexes(alloc: Global, out: &mut Vec<u8>, results: &[Listing]) -> Result<(), NoMemory>
+    ensures { OnOk result (out.new.items ≡ out.old.items ++ text_of (reply_data (IndexesAll results.now))) }
+{
+    write_bytes(out, b"{\"Results\":[")?;
+    write_listings(alloc, out, results)?;
     write_bytes(out, b"]}")
 }
 
@@ -343,11 +437,10 @@ fn write_index(alloc: Global, out: &mut Vec<u8>, name: &str) -> Result<(), NoMem
     write_object(alloc, out, &[("Index", Piece::Text(name))])
 }
 
-fn write_document(alloc: Global, out: &mut Vec<u8>, document: &Value) -> Result<(), NoMemory>
-    ensures { OnOk result (out.new.items ≡ out.old.items ++ text_of (data_of document.now)) }
+fn write_removed(alloc: Global, out: &mut Vec<u8>, name: &str) -> Result<(), NoMemory>
+    ensures { OnOk result (out.new.items ≡ out.old.items ++ text_of (reply_data (Removed name.now))) }
 {
-    let text = write(alloc, document)?;
-    write_bytes(out, &text)
+    write_object(alloc, out, &[("Removed", Piece::Text(name))])
 }
 
 /// The reply as JSON behind what stands in `out`, without a line end.
@@ -362,6 +455,7 @@ fn write_reply(alloc: Global, out: &mut Vec<u8>, reply: &Reply) -> Result<(), No
         Reply::Bulk { results } => write_bulk(alloc, out, results.as_slice()),
         Reply::Document { document } => write_document(alloc, out, document),
         Reply::Index { name } => write_index(alloc, out, name.as_str()),
+        Reply::Removed { name } => write_removed(alloc, out, name.as_str()),
         Reply::Pumped { pumped } => write_pumped(alloc, out, pumped.as_slice()),
         Reply::Found {
             ids,
@@ -373,6 +467,7 @@ fn write_reply(alloc: Global, out: &mut Vec<u8>, reply: &Reply) -> Result<(), No
             is_stale,
             newest,
         } => write_stale(alloc, out, *index_etag, *is_stale, *newest),
+        Reply::Indexes { results } => write_indexes(alloc, out, results.as_slice()),
         Reply::Stats {
             count_of_documents,
             count_of_indexes,
@@ -406,6 +501,12 @@ fn write_reply(alloc: Global, out: &mut Vec<u8>, reply: &Reply) -> Result<(), No
         Reply::NoIndex { name } => {
             write_error_with(alloc, out, "NoIndex", "Name", Piece::Text(name.as_str()))
         }
+        Reply::Lang { part, at, kind } => write_lang(alloc, out, *part, *at, *kind),
+        Reply::ReservedName => write_error(alloc, out, "ReservedName"),
+        Reply::NameTooLong { len } => {
+            write_error_with(alloc, out, "NameTooLong", "Len", Piece::Number(*len))
+        }
+        Reply::TooManyIndexes => write_error(alloc, out, "TooManyIndexes"),
         Reply::ReservedId { at } => write_error_at(alloc, out, u64::from(*at), "ReservedId"),
         Reply::TooLarge { at, len } => {
             write_error_at_with(alloc, out, *at, "TooLarge", "Len", Piece::Number(*len))

@@ -6,7 +6,7 @@ use Rattle.raven_model.specs.Script as read
 use Rattle.raven_data.specs.Data.{Data, array, items_of, list_of}
 use Rattle.raven_model.specs.Commit.{Command}
 use Rattle.raven_model.specs.Script.{then_read, command_read, commands_read, list_member}
-use Rattle.raven_script.specs.RequestView.{IsBadId, IsBadMember, Refuses}
+use Rattle.raven_script.specs.RequestView.{IsBadId, IsBadMember, IsBadName, Refuses}
 use Rattle.raven_script.specs.declared.request.ReadRefusal.{ReadRefusal}
 use Rattle.raven_script.specs.declared.request.ReadRefusal.TheVariants as refusal
 
@@ -21,7 +21,13 @@ refused_on (refusal.BadId why) r f h = bad (fault_in why) h
     bad : (fault : Option Fault) → IsBadId fault r → IsBadId fault (then_read r f)
     bad None h = h
     bad (Some fault) h = ap (λ x. then_read x f) h
+refused_on (refusal.BadName why) r f h = bad (fault_in why) h
+  where
+    bad : (fault : Option Fault) → IsBadName fault r → IsBadName fault (then_read r f)
+    bad None h = h
+    bad (Some fault) h = ap (λ x. then_read x f) h
 refused_on (refusal.BadMember name) r f h = ap (λ x. then_read x f) h
+refused_on (refusal.BadDefinition part at kind) r f h = ap (λ x. then_read x f) h
 refused_on refusal.NoMemory r f h = tt
 
 -- and what reads on from a value is what is read then
@@ -40,7 +46,9 @@ bad_member name refusal.NotJson r h e = absurd h
 bad_member name refusal.NumberNotWhole r h e = absurd h
 bad_member name refusal.TooDeep r h e = absurd h
 bad_member name (refusal.BadId why) r h e = absurd h
+bad_member name (refusal.BadName why) r h e = absurd h
 bad_member name (refusal.BadMember told) r h e = e ∙ ap (λ n. Err (read.BadMember n)) (sym h)
+bad_member name (refusal.BadDefinition part at kind) r h e = absurd h
 bad_member name refusal.NoMemory r h e = tt
 
 pub list_of-items_of : (ds : List Data) → list_of (items_of ds) ≡ ds

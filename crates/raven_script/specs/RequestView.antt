@@ -7,6 +7,8 @@ use Rattle.raven_value.specs.View.{data_of}
 use Rattle.raven_model.specs.Machine as is
 use Rattle.raven_model.specs.Script as read
 use Rattle.doc_txn.specs.CommandView.{command_view, expect_view}
+use Rattle.index_lang.specs.DefinitionView.{definition_view}
+use Rattle.index_lang.specs.RefusalView.{refusal_view}
 use Rattle.raven_script.specs.declared.request.Request.{Request}
 use Rattle.raven_script.specs.declared.request.Request.TheVariants as r
 use Rattle.raven_script.specs.declared.request.Line.{Line}
@@ -19,10 +21,13 @@ request_view (r.Put id expected body) = is.Put id (expect_view expected) (data_o
 request_view (r.Delete id expected) = is.Delete id (expect_view expected)
 request_view (r.Bulk commands) = is.Bulk (map command_view commands)
 request_view (r.Get id) = is.Get id
+request_view (r.Define definition) = is.Define definition.value.name (definition_view definition.value.body)
+request_view (r.Remove name) = is.Remove name
 request_view (r.Auto collection field) = is.Auto collection field
 request_view (r.Find index field words) = is.Find index field words
-request_view (r.Pump max) = is.Pump max
+request_view (r.Pump max index) = is.Pump max index
 request_view (r.Stale name cutoff) = is.Stale name cutoff
+request_view r.Indexes = is.Indexes
 request_view r.Stats = is.Stats
 
 abbrev pub line_view : Line → read.Line
@@ -33,6 +38,11 @@ abbrev pub IsBadId : {A : Type 0} → Option Fault → Result A read.ReadRefusal
 IsBadId None reading = ⊥
 IsBadId (Some fault) reading = reading ≡ Err (read.BadId fault)
 
+-- and the same of a name
+abbrev pub IsBadName : {A : Type 0} → Option Fault → Result A read.ReadRefusal → Type 0
+IsBadName None reading = ⊥
+IsBadName (Some fault) reading = reading ≡ Err (read.BadName fault)
+
 -- each refusal is that of what is read; want of memory alone may come anywhere
 abbrev pub Refuses : {A : Type 0} → ReadRefusal → Result A read.ReadRefusal → Type 0
 Refuses refusal.UnknownLine reading = reading ≡ Err read.UnknownLine
@@ -40,7 +50,9 @@ Refuses refusal.NotJson reading = reading ≡ Err (read.BadJson not_json)
 Refuses refusal.NumberNotWhole reading = reading ≡ Err (read.BadJson number_not_whole)
 Refuses refusal.TooDeep reading = reading ≡ Err (read.BadJson too_deep)
 Refuses (refusal.BadId why) reading = IsBadId (fault_in why) reading
+Refuses (refusal.BadName why) reading = IsBadName (fault_in why) reading
 Refuses (refusal.BadMember name) reading = reading ≡ Err (read.BadMember name)
+Refuses (refusal.BadDefinition part at kind) reading = reading ≡ Err (read.BadDefinition (refusal_view part at kind))
 Refuses refusal.NoMemory reading = Unit {0}
 
 -- it tells of this member

@@ -23,16 +23,14 @@ pub fn id_of(alloc: Global, text: &str) -> Result<Id, ReadRefusal>
     }
 }
 
-/// The name of this text. A text that can be no name makes the line unknown.
+/// The name of this text.
 pub fn name_of(alloc: Global, text: &str) -> Result<Name, ReadRefusal>
     ensures { Reads (λ name. name) result (name_read text.now) }
 {
     match Name::new(alloc, text) {
         Ok(name) => Ok(name),
         Err(IdRefusal::NoMemory) => Err(ReadRefusal::NoMemory),
-        Err(IdRefusal::Empty | IdRefusal::TooLong { .. } | IdRefusal::Control { .. }) => {
-            Err(ReadRefusal::UnknownLine)
-        }
+        Err(refusal) => Err(ReadRefusal::BadName(refusal)),
     }
 }
 

@@ -15,8 +15,8 @@ use raven_base::NoMemory;
 use raven_value::{Id, Members, Text, Value};
 use std::alloc::Global;
 
-// The member of this name.
-fn member_of<'a>(
+/// The member of this name.
+pub fn member_of<'a>(
     alloc: Global,
     members: &'a Members,
     name: &str,

@@ -1,12 +1,14 @@
 //! What a line asks.
-ghost use Rattle.std.specs.Prelude.{◌≡◌, None, option_map};
-ghost use Rattle.raven_model.specs.Script.{auto_of as spec_auto_of, by_word as spec_by_word, delete_if_of as spec_delete_if_of, find_of as spec_find_of, get_of as spec_get_of, line_of, pump_of as spec_pump_of, put_if_of as spec_put_if_of, put_of as spec_put_of, request_of as spec_request_of, stale_of as spec_stale_of};
+ghost use Rattle.std.specs.Prelude.{◌≡◌, None, Some, [], option_map};
+ghost use Rattle.raven_model.specs.Script.{asked_of, auto_of as spec_auto_of, by_word as spec_by_word, delete_if_of as spec_delete_if_of, drop_of as spec_drop_of, find_of as spec_find_of, get_of as spec_get_of, line_of, max_read, pump_of as spec_pump_of, pump_read, put_if_of as spec_put_if_of, put_of as spec_put_of, request_of as spec_request_of, stale_of as spec_stale_of};
+ghost use Rattle.raven_script.specs.LineView.{Answers, asked_behind};
 ghost use Rattle.raven_script.specs.RequestView.{Reads, line_view, request_view};
 
 use crate::body::{delete_of, id_of, name_of, put_of};
 use crate::commands::bulk_of;
+use crate::definition::index;
 use crate::request::{Line, ReadRefusal, Request};
-use crate::words::{is_collection, is_field, number_of, parts};
+use crate::words::{is_collection, is_field, number_of, parts, word_and_rest};
 use doc_txn::Expect;
 use raven_value::Text;
 use std::alloc::Global;
@@ -81,12 +83,52 @@ fn auto(alloc: Global, more: &str) -> Result<Request, ReadRefusal>
     })
 }
 
-fn pump(more: &str) -> Result<Request, ReadRefusal>
+// How many rows a batch may take.
+fn max_of(text: &str) -> Result<u32, ReadRefusal>
+    ensures { Reads (λ max. max) result (max_read text.now) }
+{
+    match number_of(text.as_bytes()) {
+        Some(max) if max >= 1 && max <= MAX_BATCH => Ok(max as u32),
+        _ => Err(ReadRefusal::UnknownLine),
+    }
+}
+
+// Each index is brought on.
+#[tactic(auto, using(crate::proofs::Readings::readings))]
+fn pump_all(more: &str) -> Result<Request, ReadRefusal>
+    ensures { Reads request_view result (pump_read more.now None) }
+{
+    match max_of(more) {
+        Ok(max) => Ok(Request::Pump { max, index: None }),
+        Err(refusal) => Err(refusal),
+    }
+}
+
+// One index is brought on. The number is read before the name.
+#[tactic(auto, using(crate::proofs::Readings::readings))]
+fn pump_one(alloc: Global, max: &str, index: &str) -> Result<Request, ReadRefusal>
+    ensures { Reads request_view result (pump_read [] (Some (max.now, index.now))) }
+{
+    let max = match max_of(max) {
+        Ok(max) => max,
+        Err(refusal) => return Err(refusal),
+    };
+    match name_of(alloc, index) {
+        Ok(name) => Ok(Request::Pump {
+            max,
+            index: Some(name),
+        }),
+        Err(refusal) => Err(refusal),
+    }
+}
+
+#[tactic(auto, using(crate::proofs::PumpLemmas::pumps))]
+fn pump(alloc: Global, more: &str) -> Result<Request, ReadRefusal>
     ensures { Reads request_view result (spec_pump_of more.now) }
 {
-    match number_of(more.as_bytes()) {
-        Some(max) if max >= 1 && max <= MAX_BATCH => Ok(Request::Pump { max: max as u32 }),
-        _ => Err(ReadRefusal::UnknownLine),
+    match word_and_rest(more) {
+        Some((max, index)) => pump_one(alloc, max, index),
+        None => pump_all(more),
     }
 }
 
@@ -108,6 +150,16 @@ fn find(alloc: Global, more: &str) -> Result<Request, ReadRefusal>
             field: Text::of(alloc, field)?,
             text: Text::of(alloc, words)?,
         }),
+        Err(refusal) => Err(refusal),
+    }
+}
+
+#[tactic(auto, using(crate::proofs::Readings::readings))]
+fn drop_index(alloc: Global, more: &str) -> Result<Request, ReadRefusal>
+    ensures { Reads request_view result (spec_drop_of more.now) }
+{
+    match name_of(alloc, more) {
+        Ok(name) => Ok(Request::Remove { name }),
         Err(refusal) => Err(refusal),
     }
 }
@@ -137,10 +189,12 @@ fn by_word(alloc: Global, word: &str, more: &str) -> Result<Request, ReadRefusal
         bulk_of(alloc, more)
     } else if word == "GET" {
         get(alloc, more)
+    } else if word == "DROP" {
+        drop_index(alloc, more)
     } else if word == "AUTO" {
         auto(alloc, more)
     } else if word == "PUMP" {
-        pump(more)
+        pump(alloc, more)
     } else if word == "FIND" {
         find(alloc, more)
     } else if word == "STALE" {
@@ -157,14 +211,17 @@ fn request_of(alloc: Global, text: &str) -> Result<Request, ReadRefusal>
     if text == "STATS" {
         return Ok(Request::Stats);
     }
+    if text == "INDEXES" {
+        return Ok(Request::Indexes);
+    }
     match parts(text) {
         Ok((word, more)) => by_word(alloc, word, more),
         Err(refusal) => Err(refusal),
     }
 }
 
-/// What a line of a script asks: nothing, exactly where it has no bytes.
-pub fn line(alloc: Global, bytes: &[u8]) -> Result<Option<Line>, ReadRefusal>
+// What a line asks that holds no text of a definition.
+fn plain_line(alloc: Global, bytes: &[u8]) -> Result<Option<Line>, ReadRefusal>
     ensures { Reads (λ found. option_map line_view found) result (line_of bytes.now) }
 {
     if bytes.is_empty() {
@@ -176,5 +233,29 @@ pub fn line(alloc: Global, bytes: &[u8]) -> Result<Option<Line>, ReadRefusal>
     match request_of(alloc, text) {
         Ok(request) => Ok(Some(Line::Do(request))),
         Err(refusal) => Err(refusal),
+    }
+}
+
+// What stands behind the word `INDEX`, if the line begins with it.
+#[tactic(auto, using(crate::proofs::Asking::asking))]
+fn behind_index(bytes: &[u8]) -> Option<&str>
+    ensures { asked_of bytes.now ≡ asked_behind bytes.now (option_map (λ t. t.now) result) }
+{
+    let Ok(text) = str::from_utf8(bytes) else {
+        return None;
+    };
+    let (word, rest) = word_and_rest(text)?;
+    if word == "INDEX" { Some(rest) } else { None }
+}
+
+/// What a line of a script asks: nothing, exactly where it has no bytes. Where it defines an index, its definition is what the text of its map says, or it
+/// is refused as the text is.
+#[tactic(auto, using(crate::proofs::Answering::answering))]
+pub fn line(alloc: Global, bytes: &[u8]) -> Result<Option<Line>, ReadRefusal>
+    ensures { Answers (asked_of bytes.now) result }
+{
+    match behind_index(bytes) {
+        Some(rest) => index(alloc, rest),
+        None => plain_line(alloc, bytes),
     }
 }

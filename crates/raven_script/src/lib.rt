@@ -3,6 +3,7 @@
 
 mod body;
 mod commands;
+mod definition;
 mod forms;
 mod request;
 mod words;

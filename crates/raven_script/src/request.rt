@@ -3,8 +3,10 @@ ghost use Rattle.std.specs.Prelude.{◌≡◌};
 ghost use Rattle.raven_script.specs.declared.request.ReadRefusal.TheVariants.{NoMemory as OutOfMemory};
 
 use doc_txn::{Commands, Expect};
+use index_lang::{Definition, LangKind, Part};
 use raven_base::NoMemory;
 use raven_value::{Id, IdRefusal, Name, Text, Value};
+use std::sync::Arc;
 use thiserror::Error;
 
 /// A request to the database.
@@ -40,6 +42,18 @@ pub enum Request {
         id: Id,
     },
 
+    /// Define an index.
+    Define {
+        /// Its name, and what it says.
+        definition: Arc<Definition>,
+    },
+
+    /// Remove the index of this name.
+    Remove {
+        /// The name of the index.
+        name: Name,
+    },
+
     /// Pick the automatic index of a collection by one field, or make one.
     Auto {
         /// The collection that is indexed.
@@ -58,10 +72,12 @@ pub enum Request {
         text: Text,
     },
 
-    /// Bring each index on by one batch.
+    /// Bring each index, or the one that is named, on by one batch.
     Pump {
         /// How many rows a batch may take, from 1 to 65,536.
         max: u32,
+        /// The name of the index, where only one is brought on.
+        index: Option<Name>,
     },
 
     /// Tell how far an index is.
@@ -71,6 +87,9 @@ pub enum Request {
         /// The greatest etag that counts, where there is one.
         cutoff: Option<u64>,
     },
+
+    /// Tell of each index.
+    Indexes,
 
     /// Tell how much the database has.
     Stats,
@@ -106,11 +125,26 @@ pub enum ReadRefusal {
     #[error("the text can be no id: {0}")]
     BadId(IdRefusal),
 
+    /// The text can be no name. Want of memory is never told so.
+    #[error("the text can be no name: {0}")]
+    BadName(IdRefusal),
+
     /// This member is missing or of another kind; `body` is the whole.
     #[error("the member {name:?} is missing or of another kind")]
     BadMember {
         /// The name of the member.
         name: Text,
+    },
+
+    /// A text of a definition is refused, for the byte at this place.
+    #[error("the definition is refused at byte {at}")]
+    BadDefinition {
+        /// Which text.
+        part: Part,
+        /// The place of the byte, counted from 0.
+        at: usize,
+        /// Why.
+        kind: LangKind,
     },
 
     /// No memory was found.

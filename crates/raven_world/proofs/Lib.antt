@@ -2,3 +2,4 @@ pub mod Clean
 pub mod Steps
 pub mod Pairs
 pub mod Openings
+pub mod Choices

@@ -1,33 +1,27 @@
 -- How a world is opened by one row after another.
-use Rattle.std.proofs.Common.{◌≡◌, ◌<◌, ◌≤◌, ◌+◌, ℕ, suc, List, [], ◌∷◌, ◌++◌, length, Bool, true, false, cond, not, ◌&&◌, ◌||◌, Option, Some, None, Result, Ok, Err, map, drop, refl, sym, ap, ◌∙◌, arith, codes, get_or, IsUtf8}
+use Rattle.std.proofs.Common.{◌≡◌, ◌<◌, ◌≤◌, ◌+◌, ℕ, suc, List, [], ◌∷◌, ◌++◌, length, Bool, true, false, cond, not, ◌&&◌, ◌||◌, Option, Some, None, Result, Ok, Err, map, drop, refl, sym, ap, ◌∙◌, arith, codes, get_or, IfOk, IsUtf8, ◌⊎◌, inl, inr}
 use Rattle.std.proofs.lemmas.Grind.{common_steps}
 use Rattle.std.specs.Prelude.{◌==◌, nat_lt, nat_eq, is_none, option_map, if◌then◌else◌}
 use Rattle.std.specs.List.{position_from, starts_with}
 use Rattle.std.specs.Str.{bytes_eq, IsCharBoundary}
 use Rattle.std.proofs.lemmas.Str.{IsCharBoundary-after_ascii}
+use Rattle.std.proofs.lemmas.List.{append_assoc, append-nil, drop_more, length-append, map-append}
 use Rattle.std.specs.Char.{to_ascii_lowercase}
-use Rattle.raven_model.specs.Commit.{is_index_id}
-use Rattle.raven_data.specs.Data.{Data, array, object, pairs_of, entries_of, items_of}
 use Rattle.raven_data.specs.Faults.{Fault, empty, too_long, control, fault_of, is_control, is_fit, max_name}
 use Rattle.raven_data.specs.Folding.{folded}
-use Rattle.raven_data.specs.Members.{member}
-use Rattle.raven_data.specs.Rising.{Pairs}
 use Rattle.raven_data.specs.Rows.{Row, is_document}
-use Rattle.raven_value.specs.View.{data_of, pair_of}
-use Rattle.raven_value.specs.declared.text.Text.{Text}
-use Rattle.raven_value.specs.declared.value.Value.{Value}
-use Rattle.raven_model.specs.Commit.{Setting}
-use Rattle.raven_model.specs.Opening.{auto_read, definition_read, definition_in, is_auto_name, is_defining, is_filed, is_too_many, name_in, and_then, opened, opened_with, or_bad, slot_of, slots_after, slots_from, slots_with, with_slot}
-use Rattle.raven_model.specs.Mapping.{Definition}
-use Rattle.raven_model.specs.World.{Slot, fresh}
-use Rattle.raven_model.specs.Store.{Store}
+use Rattle.raven_model.specs.Commit.{Setting, is_index_id}
 use Rattle.raven_model.specs.Machine.{Machine}
-use Rattle.std.proofs.lemmas.List.{drop_more}
+use Rattle.raven_model.specs.Mapping.{Definition, Static, Auto}
+use Rattle.raven_model.specs.Opening.{ReadRow, and_then, is_defining, is_filed, is_too_many, may_be_named, name_in, opened, opened_with, or_bad, rows_of, slot_of, slots_after, slots_from, slots_with, with_slot}
+use Rattle.raven_model.specs.Store.{Store}
+use Rattle.raven_model.specs.World.{Slot, fresh}
+use Rattle.raven_reading.specs.Openings.{AreReadRows, EndsAt, IsReadRow, OpensAs}
 use Rattle.doc_store.specs.Opening.{Tells, first_bad}
 use Rattle.doc_store.specs.declared.opening.OpenFault.{OpenFault}
 use Rattle.doc_store.specs.declared.opening.OpenFault.TheVariants.{KeptBad, NoMemory}
-use Rattle.raven_world.specs.Opened.{bad_row}
-use Rattle.raven_world.specs.Reading.{is_bare, only_item}
+use Rattle.raven_world.specs.Kinds.{begins_as}
+use Rattle.raven_world.specs.Opened.{HasRead, TellsBadRow, read_as}
 use Rattle.raven_world.specs.Told.{machine_of}
 
 -- NAMES
@@ -55,62 +49,23 @@ never_right : (a b : Bool) → b ≡ false → (a && b) ≡ false
 never_right true b h = h
 never_right false b h = refl
 
-pub long-name : (s : List ℕ) → 200 < length s → is_auto_name s ≡ false
-long-name s many = never_left (is_fit 200 s) _ (long-fault (length s) (length s == 0) _ (grind (arith, common_steps)))
+by_kind : (d : Definition) (s : List ℕ) → may_be_named d s ≡ (is_fit 200 s && begins_as d s)
+by_kind (Static m r t u) s = refl
+by_kind (Auto collection fields) s = refl
 
-pub other-name : (s : List ℕ) → starts_with nat_eq (folded s) (codes "auto/") ≡ false → is_auto_name s ≡ false
-other-name s h = never_right (is_fit 200 s) _ h
+pub long-name : (d : Definition) (s : List ℕ) → 200 < length s → may_be_named d s ≡ false
+long-name d s many = by_kind d s ∙ never_left (is_fit 200 s) _ (long-fault (length s) (length s == 0) _ (grind (arith, common_steps)))
 
-pub unfit-name : (s : List ℕ) (fault : Fault) → length s ≤ 200 → Some fault ≡ fault_of max_name s → is_auto_name s ≡ false
-unfit-name s fault few h = never_left (is_fit 200 s) _ (ap is_none (short-fault s few ∙ sym h))
+pub other-name : (d : Definition) (s : List ℕ) → begins_as d s ≡ false → may_be_named d s ≡ false
+other-name d s h = by_kind d s ∙ never_right (is_fit 200 s) _ h
 
-pub fit-name : (s : List ℕ) → length s ≤ 200 → None ≡ fault_of max_name s → starts_with nat_eq (folded s) (codes "auto/") ≡ true → is_auto_name s ≡ true
-fit-name s few fit starts = both (is_fit 200 s) _ (ap is_none (short-fault s few ∙ sym fit)) starts
+pub unfit-name : (d : Definition) (s : List ℕ) (fault : Fault) → length s ≤ 200 → Some fault ≡ fault_of max_name s → may_be_named d s ≡ false
+unfit-name d s fault few h = by_kind d s ∙ never_left (is_fit 200 s) _ (ap is_none (short-fault s few ∙ sym h))
+
+pub fit-name : (d : Definition) (s : List ℕ) → length s ≤ 200 → None ≡ fault_of max_name s → begins_as d s ≡ true → may_be_named d s ≡ true
+fit-name d s few fit starts = by_kind d s ∙ both (is_fit 200 s) _ (ap is_none (short-fault s few ∙ sym fit)) starts
 
 pub ruleset names = (long-name, other-name, unfit-name, fit-name)
-
--- THE DEFINITION IN A BODY
-
-bare : (ps : List (Text × Value)) → (length ps == 0) ≡ is_bare (Some (object (entries_of (map pair_of ps))))
-bare [] = refl
-bare (p ∷ ps) = let some : (length (p ∷ ps) == 0) ≡ false = grind (arith, common_steps) in some
-
-pub bare-members : (ps : List (Text × Value)) (ms : Pairs) (b : Bool) → map pair_of ps ≡ ms → b ≡ (length ps == 0) → b ≡ is_bare (Some (object (entries_of ms)))
-bare-members ps ms b is h = h ∙ bare ps ∙ ap (λ xs. is_bare (Some (object (entries_of xs)))) is
-
-fewer : (vs : List Value) → length vs < 1 → (let x : Option Data = None in x) ≡ only_item (Some (array (items_of (map data_of vs))))
-fewer [] h = refl
-fewer (v ∷ vs) h = absurd (omega arith)
-
-more : (vs : List Value) → (length vs < 2 → ⊥) → (let x : Option Data = None in x) ≡ only_item (Some (array (items_of (map data_of vs))))
-more [] h = refl
-more (v ∷ []) h = absurd (h (omega arith))
-more (v ∷ w ∷ vs) h = refl
-
-pub fewer-items : (vs : List Value) (ds : List Data) → map data_of vs ≡ ds → length vs < 1 → None ≡ only_item (Some (array (items_of ds)))
-fewer-items vs ds is h = fewer vs h ∙ ap (λ xs. only_item (Some (array (items_of xs)))) is
-
-pub more-items : (vs : List Value) (ds : List Data) → map data_of vs ≡ ds → (length vs < 2 → ⊥) → None ≡ only_item (Some (array (items_of ds)))
-more-items vs ds is h = more vs h ∙ ap (λ xs. only_item (Some (array (items_of xs)))) is
-
-as_many : (ps : List (Text × Value)) → length (pairs_of (entries_of (map pair_of ps))) ≡ length ps
-as_many [] = refl
-as_many (p ∷ ps) = ap suc (as_many ps)
-
-abbrev four : Pairs → Option Definition
-four ms = auto_read (member (codes "@metadata") (entries_of ms)) (member (codes "Collection") (entries_of ms)) (member (codes "Fields") (entries_of ms)) (member (codes "Kind") (entries_of ms))
-
-members_read : (ps : List (Text × Value)) (ms : Pairs) → map pair_of ps ≡ ms → (if length ps == 4 then four ms else None) ≡ definition_read (object (entries_of ms))
-members_read ps ms is = ap (λ n. if n == 4 then four ms else None) (sym (as_many ps) ∙ ap (λ xs. length (pairs_of (entries_of xs))) is)
-
-pub body-other : (ps : List (Text × Value)) (ms : Pairs) → map pair_of ps ≡ ms → (length ps ≡ 4 → ⊥) → None ≡ definition_read (object (entries_of ms))
-body-other ps ms is h = let other : (length ps == 4) ≡ false = grind (arith, common_steps) in ap (λ b. if b then four ms else None) (sym other) ∙ members_read ps ms is
-
-pub body-four : (ps : List (Text × Value)) (ms : Pairs) → map pair_of ps ≡ ms → length ps ≡ 4
-    → auto_read (member (codes "@metadata") (entries_of ms)) (member (codes "Collection") (entries_of ms)) (member (codes "Fields") (entries_of ms)) (member (codes "Kind") (entries_of ms)) ≡ definition_read (object (entries_of ms))
-body-four ps ms is h = ap (λ n. if n == 4 then four ms else None) (sym h) ∙ members_read ps ms is
-
-pub ruleset bodies = (bare-members, fewer-items, more-items, body-other, body-four)
 
 -- THE NAME IN AN ID
 
@@ -134,21 +89,19 @@ index-boundary id h u = let whole = ends_whole (codes "@index") id h in IsCharBo
 
 -- THE INDEX OF A ROW
 
-abbrev named : List ℕ → Option (List ℕ)
-named name = if is_auto_name name then Some name else None
+abbrev named : Definition → List ℕ → Option (List ℕ)
+named d name = if may_be_named d name then Some name else None
 
-pub slot-none : (slots : List Slot) (r : Row) (o : Option Definition) (d : Definition) (name : List ℕ) → o ≡ Some d → name ≡ name_in r → None ≡ named name → None ≡ with_slot slots r o
-slot-none slots r o d name is own h =
-    by (is_auto_name (name_in r)) (h ∙ ap named own) ∙ ap (with_slot slots r) (sym is)
+pub slot-none : (slots : List Slot) (r : Row) (d : Definition) (name : List ℕ) → name ≡ name_in r → None ≡ named d name → None ≡ with_slot slots r (Some d)
+slot-none slots r d name own h = by (may_be_named d (name_in r)) (h ∙ ap (named d) own)
   where
     by : (fits : Bool) → (let x : Option (List ℕ) = None in x) ≡ (if fits then Some (name_in r) else None) → None ≡ (if fits then Some (slots ++ slot_of r d ∷ []) else None)
     by true g = absurd cc
     by false g = refl
 
-pub slot-some : (slots : List Slot) (r : Row) (o : Option Definition) (d : Definition) (name got : List ℕ) (slot : Slot) → o ≡ Some d → name ≡ name_in r → Some got ≡ named name
-    → slot ≡ record { number = r.etag; name = got; version = fresh d; row = r.etag } → Some (slots ++ slot ∷ []) ≡ with_slot slots r o
-slot-some slots r o d name got slot is own h made =
-    by (is_auto_name (name_in r)) (h ∙ ap named own) ∙ ap (with_slot slots r) (sym is)
+pub slot-some : (slots : List Slot) (r : Row) (d : Definition) (name got : List ℕ) (slot : Slot) → name ≡ name_in r → Some got ≡ named d name
+    → slot ≡ record { number = r.etag; name = got; version = fresh d; row = r.etag } → Some (slots ++ slot ∷ []) ≡ with_slot slots r (Some d)
+slot-some slots r d name got slot own h made = by (may_be_named d (name_in r)) (h ∙ ap (named d) own)
   where
     by : (fits : Bool) → Some got ≡ (if fits then Some (name_in r) else None) → Some (slots ++ slot ∷ []) ≡ (if fits then Some (slots ++ slot_of r d ∷ []) else None)
     by true g = let same : got ≡ name_in r = cc in ap (λ x. Some (slots ++ x ∷ [])) (made ∙ ap (λ n. let s : Slot = record { number = r.etag; name = n; version = fresh d; row = r.etag } in s) same)
@@ -170,20 +123,20 @@ neither true b x h g = absurd cc
 neither false true x h g = absurd cc
 neither false false x h g = refl
 
-pub too-many : (s : Setting) (count : ℕ) (slots : List Slot) (r : Row) → is_too_many s count slots r ≡ true → None ≡ slots_after s count slots r
-too-many s count slots r h = either (is_too_many s count slots r) (not (is_filed r)) (slots_with slots r) h
+pub too-many : (s : Setting) (count : ℕ) (slots : List Slot) (x : ReadRow) → is_too_many s count slots x.row ≡ true → None ≡ slots_after s count slots x
+too-many s count slots x h = either (is_too_many s count slots x.row) (not (is_filed x.row)) (slots_with slots x) h
 
-pub unfiled : (s : Setting) (count : ℕ) (slots : List Slot) (r : Row) → is_filed r ≡ false → None ≡ slots_after s count slots r
-unfiled s count slots r h = or_other (is_too_many s count slots r) (not (is_filed r)) (slots_with slots r) (ap not h)
+pub unfiled : (s : Setting) (count : ℕ) (slots : List Slot) (x : ReadRow) → is_filed x.row ≡ false → None ≡ slots_after s count slots x
+unfiled s count slots x h = or_other (is_too_many s count slots x.row) (not (is_filed x.row)) (slots_with slots x) (ap not h)
 
-good : (s : Setting) (count : ℕ) (slots : List Slot) (r : Row) → is_too_many s count slots r ≡ false → is_filed r ≡ true → slots_with slots r ≡ slots_after s count slots r
-good s count slots r few filed = neither (is_too_many s count slots r) (not (is_filed r)) (slots_with slots r) few (ap not filed)
+good : (s : Setting) (count : ℕ) (slots : List Slot) (x : ReadRow) → is_too_many s count slots x.row ≡ false → is_filed x.row ≡ true → slots_with slots x ≡ slots_after s count slots x
+good s count slots x few filed = neither (is_too_many s count slots x.row) (not (is_filed x.row)) (slots_with slots x) few (ap not filed)
 
-pub plain : (s : Setting) (count : ℕ) (slots : List Slot) (r : Row) → is_too_many s count slots r ≡ false → is_filed r ≡ true → is_defining r ≡ false → Some slots ≡ slots_after s count slots r
-plain s count slots r few filed h = ap (λ b. if b then with_slot slots r (definition_in r) else Some slots) (sym h) ∙ good s count slots r few filed
+pub plain : (s : Setting) (count : ℕ) (slots : List Slot) (x : ReadRow) → is_too_many s count slots x.row ≡ false → is_filed x.row ≡ true → is_defining x.row ≡ false → Some slots ≡ slots_after s count slots x
+plain s count slots x few filed h = ap (λ b. if b then with_slot slots x.row x.definition else Some slots) (sym h) ∙ good s count slots x few filed
 
-pub defines : (s : Setting) (count : ℕ) (slots : List Slot) (r : Row) → is_too_many s count slots r ≡ false → is_filed r ≡ true → is_defining r ≡ true → with_slot slots r (definition_in r) ≡ slots_after s count slots r
-defines s count slots r few filed h = ap (λ b. if b then with_slot slots r (definition_in r) else Some slots) (sym h) ∙ good s count slots r few filed
+pub defines : (s : Setting) (count : ℕ) (slots : List Slot) (x : ReadRow) → is_too_many s count slots x.row ≡ false → is_filed x.row ≡ true → is_defining x.row ≡ true → with_slot slots x.row x.definition ≡ slots_after s count slots x
+defines s count slots x few filed h = ap (λ b. if b then with_slot slots x.row x.definition else Some slots) (sym h) ∙ good s count slots x few filed
 
 pub filed-index : (r : Row) → is_filed r ≡ true → is_defining r ≡ true → is_index_id r.id ≡ true
 filed-index r filed defining =
@@ -194,33 +147,92 @@ pub ruleset takes = (too-many, unfiled, plain, defines, filed-index)
 
 -- ALL ROWS
 
-pub slots-next : (s : Setting) (count : ℕ) (slots new : List Slot) (r : Row) (rows : List Row) (told : Result (List Slot) ℕ) → count < length rows → get_or rows count r ≡ r
-    → Some new ≡ slots_after s count slots r → slots_from s count slots (drop count rows) ≡ told → slots_from s (count + 1) new (drop (count + 1) rows) ≡ told
-slots-next s count slots new r rows told lt is taken was =
-    ap (λ o. and_then (or_bad r.etag o) (λ more. slots_from s (count + 1) more (drop (count + 1) rows))) taken
-    ∙ ap (slots_from s count slots) (sym (drop_more rows count r lt ∙ ap (λ x. x ∷ drop (count + 1) rows) is))
-    ∙ was
+-- one row more
+one_more : (s : Setting) (count : ℕ) (slots mid : List Slot) (xs : List ReadRow) (x : ReadRow) → slots_from s count slots xs ≡ Ok mid
+    → slots_from s count slots (xs ++ x ∷ []) ≡ and_then (or_bad x.row.etag (slots_after s (count + length xs) mid x)) (λ more. Ok more)
+one_more s count slots mid [] x h =
+    let own : slots ≡ mid = cc in
+    let none : count ≡ count + 0 = omega arith in
+    λ i. and_then (or_bad x.row.etag (slots_after s (none i) (own i) x)) (λ more. Ok more)
+one_more s count slots mid (y ∷ xs) x h = by (or_bad y.row.etag (slots_after s count slots y)) h (λ more g. one_more s (count + 1) more mid xs x g)
+  where
+    by : (one : Result (List Slot) ℕ) → and_then one (λ more. slots_from s (count + 1) more xs) ≡ Ok mid
+        → ((more : List Slot) → slots_from s (count + 1) more xs ≡ Ok mid
+        → slots_from s (count + 1) more (xs ++ x ∷ []) ≡ and_then (or_bad x.row.etag (slots_after s ((count + 1) + length xs) mid x)) (λ more. Ok more))
+        → and_then one (λ more. slots_from s (count + 1) more (xs ++ x ∷ [])) ≡ and_then (or_bad x.row.etag (slots_after s (count + suc (length xs)) mid x)) (λ more. Ok more)
+    by (Err etag) g on = absurd cc
+    by (Ok more) g on =
+        let place : (count + 1) + length xs ≡ count + suc (length xs) = omega arith in
+        on more g ∙ ap (λ n. and_then (or_bad x.row.etag (slots_after s n mid x)) (λ more. Ok more)) place
 
-pub slots-bad : (s : Setting) (count : ℕ) (slots : List Slot) (r : Row) (rows : List Row) (told : Result (List Slot) ℕ) → count < length rows → get_or rows count r ≡ r
-    → None ≡ slots_after s count slots r → slots_from s count slots (drop count rows) ≡ told → told ≡ Err r.etag
-slots-bad s count slots r rows told lt is taken was =
-    sym (
-    ap (λ o. and_then (or_bad r.etag o) (λ more. slots_from s (count + 1) more (drop (count + 1) rows))) taken
-    ∙ ap (slots_from s count slots) (sym (drop_more rows count r lt ∙ ap (λ x. x ∷ drop (count + 1) rows) is))
-    ∙ was
-    )
+behind : (xs : List ReadRow) (x : ReadRow) (rows : List Row) (count : ℕ) → count < length rows → get_or rows count x.row ≡ x.row → rows_of xs ++ drop count rows ≡ rows → rows_of (xs ++ x ∷ []) ++ drop (count + 1) rows ≡ rows
+behind xs x rows count lt is own =
+    ap (λ ys. ys ++ drop (count + 1) rows) (map-append (λ (y : ReadRow). y.row) xs (x ∷ []))
+    ∙ append_assoc (rows_of xs) (x.row ∷ []) (drop (count + 1) rows)
+    ∙ ap (λ ys. rows_of xs ++ ys) (sym (drop_more rows count x.row lt ∙ ap (λ y. y ∷ drop (count + 1) rows) is))
+    ∙ own
+
+right_behind : (xs : List ReadRow) (x : ReadRow) → AreReadRows xs → IsReadRow x → AreReadRows (xs ++ x ∷ [])
+right_behind [] x h g = (g, tt)
+right_behind (y ∷ xs) x h g = (h.0, right_behind xs x h.1 g)
+
+taken_here : (s : Setting) (slots : List Slot) (xs : List ReadRow) (x : ReadRow) (count : ℕ) → length xs ≡ count → slots_from s 0 [] xs ≡ Ok slots
+    → slots_from s 0 [] (xs ++ x ∷ []) ≡ and_then (or_bad x.row.etag (slots_after s count slots x)) (λ more. Ok more)
+taken_here s slots xs x count own h =
+    let place : 0 + length xs ≡ count = (let front : 0 + length xs ≡ length xs = omega arith in front ∙ own) in
+    one_more s 0 [] slots xs x h ∙ ap (λ n. and_then (or_bad x.row.etag (slots_after s n slots x)) (λ more. Ok more)) place
+
+pub none-read : (s : Setting) (rows : List Row) → HasRead s rows 0 []
+none-read s rows = record { read = []; rows = refl; count = refl; right = tt; slots = refl }
+
+pub one-read : (s : Setting) (rows : List Row) (count : ℕ) (slots new : List Slot) (x : ReadRow) → count < length rows → get_or rows count x.row ≡ x.row → IsReadRow x → Some new ≡ slots_after s count slots x
+    → HasRead s rows count slots → HasRead s rows (count + 1) new
+one-read s rows count slots new x lt is right taken h = record {
+  read = h.read ++ x ∷ [];
+  rows = behind h.read x rows count lt is h.rows;
+  count = length-append h.read (x ∷ []) ∙ ap (λ n. n + 1) h.count;
+  right = right_behind h.read x h.right right;
+  slots = taken_here s slots h.read x count h.count h.slots ∙ ap (λ o. and_then (or_bad x.row.etag o) (λ more. Ok more)) (sym taken);
+}
+
+pub ends-here : (s : Setting) (rows : List Row) (count : ℕ) (slots : List Slot) (x : ReadRow) → count < length rows → get_or rows count x.row ≡ x.row → IsReadRow x → None ≡ slots_after s count slots x
+    → HasRead s rows count slots → EndsAt s rows x.row.etag
+ends-here s rows count slots x lt is right taken h = record {
+  read = h.read ++ x ∷ [];
+  unread = drop (count + 1) rows;
+  rows = behind h.read x rows count lt is h.rows;
+  right = right_behind h.read x h.right right;
+  bad = ap (opened_with s (rows_of (h.read ++ x ∷ []))) (taken_here s slots h.read x count h.count h.slots ∙ ap (λ o. and_then (or_bad x.row.etag o) (λ more. Ok more)) (sym taken));
+}
 
 -- THE WORLD
 
-pub bad-first : (fault : OpenFault) (bad : Option ℕ) (told : Result Machine ℕ) → Tells fault bad → Tells fault (bad_row bad told)
-bad-first (KeptBad etag) bad told h = ap (λ b. bad_row b told) h
-bad-first NoMemory bad told h = tt
+pub bad-first : (s : Setting) (rows : List Row) (fault : OpenFault) → Tells fault (first_bad [] rows) → TellsBadRow s rows fault
+bad-first s rows (KeptBad etag) h = inl h
+bad-first s rows NoMemory h = tt
 
-pub bad-later : (s : Setting) (rows : List Row) (etag : ℕ) → first_bad [] rows ≡ None → slots_from s 0 [] rows ≡ Err etag → bad_row (first_bad [] rows) (opened s rows) ≡ Some etag
-bad-later s rows etag sound h = ap (λ b. bad_row b (opened s rows)) sound ∙ ap (λ told. bad_row None (opened_with s rows told)) h
+pub bad-later : (s : Setting) (rows : List Row) (etag : ℕ) → first_bad [] rows ≡ None → EndsAt s rows etag → TellsBadRow s rows (KeptBad etag)
+bad-later s rows etag sound h = inr (sound, h)
 
-pub opens : (s : Setting) (rows : List Row) (store : Store) (slots : List Slot) → store ≡ record { rows = rows } → slots_from s 0 [] rows ≡ Ok slots
-    → opened s rows ≡ Ok (machine_of (record { setting = s; store = store; slots = slots; notes = [] }))
-opens s rows store slots is h = ap (opened_with s rows) h ∙ ap (λ (S : Store). Ok (machine_of (record { setting = s; store = S; slots = slots; notes = [] }))) (sym is)
+none_left : (rows : List Row) → drop (length rows) rows ≡ []
+none_left rows = grind (arith, common_steps)
 
-pub ruleset opening = (slots-next, slots-bad, bad-first, bad-later, opens)
+pub opens : (s : Setting) (rows : List Row) (count : ℕ) (store : Store) (slots : List Slot) → count ≡ length rows → store ≡ record { rows = rows } → HasRead s rows count slots
+    → OpensAs s rows (machine_of (record { setting = s; store = store; slots = slots; notes = [] }))
+opens s rows count store slots all is h =
+    let whole : rows_of h.read ≡ rows = sym (append-nil (rows_of h.read)) ∙ ap (λ ys. rows_of h.read ++ ys) (sym (ap (λ n. drop n rows) all ∙ none_left rows)) ∙ h.rows in
+    record {
+      read = h.read;
+      rows = whole;
+      right = h.right;
+      opened = ap (opened_with s (rows_of h.read)) h.slots
+          ∙ (λ i. Ok (let m : Machine = machine_of (record { setting = s; store = record { rows = whole i }; slots = slots; notes = [] }) in m))
+          ∙ ap (λ (S : Store). Ok (machine_of (record { setting = s; store = S; slots = slots; notes = [] }))) (sym is);
+    }
+
+pub ruleset opening = (none-read, one-read, ends-here, bad-first, bad-later, opens)
+
+-- what holds of a result holds of it in other words
+pub if-ok : {T E : Type 0} (r : Result T E) (P Q : T → Type 0) → ((t : T) → P t → Q t) → IfOk r P → IfOk r Q
+if-ok (Ok t) P Q f h = f t h
+if-ok (Err e) P Q f h = tt

@@ -1,15 +1,18 @@
 -- The changes that a world makes.
-use Rattle.std.proofs.Common.{◌≡◌, ◌<◌, ◌+◌, ◌^◌, ℕ, List, [], ◌∷◌, ◌++◌, length, Bool, true, false, cond, ◌||◌, nat_le, Option, Some, None, is_some, Ok, Err, refl, sym, ap, ◌∙◌, arith}
+use Rattle.std.proofs.Common.{◌≡◌, ◌<◌, ◌+◌, ◌^◌, ℕ, List, [], ◌∷◌, ◌++◌, length, Bool, true, false, cond, nat_le, Option, Some, None, is_some, Ok, Err, refl, sym, ap, ◌∙◌, arith}
 use Rattle.std.proofs.lemmas.Grind.{common_steps}
+use Rattle.std.specs.Prelude.{filter, not, nat_lt}
 use Rattle.raven_model.specs.Store.{Store, last}
 use Rattle.raven_data.specs.Rows.{Row}
-use Rattle.raven_model.specs.Commit.{Client, Server, Command, Put, AnyVector, Refused, Written, commit, etags_taken}
-use Rattle.raven_model.specs.Replies.{Reply, UnknownLine, Result as Done}
+use Rattle.raven_model.specs.Commit.{Client, Server, Command, Delete, AnyVector, Refused, Written, commit, etags_taken}
+use Rattle.raven_model.specs.Replies.{Reply, Index, Removed, NoIndex, UnknownLine, Result as Done}
+use Rattle.raven_model.specs.Replies.{TooManyIndexes as TooMany}
+use Rattle.raven_model.specs.Replies as told
 use Rattle.raven_model.specs.Mapping.{Definition}
-use Rattle.raven_model.specs.Optimiser.{Shape, Make, pick, name_of}
-use Rattle.raven_model.specs.World.{World, Slot, NameServes, TooManyIndexes, added, fresh, index_id, row_body, serving}
-use Rattle.raven_model.specs.Machine.{Change, Auto as AutoOne, in_world, no_change, one_field, defined, refused_at, results_of, rewrote, use_or_make, wrote, write, change_of}
-use Rattle.raven_world.specs.NewName.{new_name_of}
+use Rattle.raven_model.specs.Definitions.{same_definition}
+use Rattle.raven_model.specs.Optimiser.{Make, pick, name_of}
+use Rattle.raven_model.specs.World.{World, Slot, NameServes, NameTooLong, ReservedName, TooManyIndexes, added, added_if_room, define_at, index_id, is_named, is_reserved_name, removed, serving, unless_refused}
+use Rattle.raven_model.specs.Machine.{Change, Define, Remove, Auto as AutoOne, in_world, no_change, one_field, refused_at, reslotted, results_of, rewrote, use_or_make, wrote, write, change_of}
 use Rattle.raven_world.specs.Told.{machine_of}
 
 -- WRITES
@@ -29,78 +32,98 @@ write-done W reply now commands w told etags is taken tells =
 
 pub ruleset writes = (write-refused, write-done)
 
--- A NEW INDEX
+-- CHANGES OF SLOTS
 
-pub defined-refused : (W : World) (now : ℕ) (name : List ℕ) (d : Definition) (commands : List Command) (refused : Refused) (told : Reply) → commands ≡ Put (index_id name) AnyVector (row_body d) ∷ []
-    → commit W.setting Server now commands W.store ≡ Err refused → told ≡ refused_at refused.at refused.kind
-    → no_change (machine_of W) told ≡ defined (machine_of W) now name (Ok (added W name d))
-defined-refused W now name d commands refused told own is tells =
-    ap (no_change (machine_of W)) tells
-    ∙ ap (rewrote (machine_of W) name (added W name d).slots) (sym is ∙ ap (λ cs. commit W.setting Server now cs W.store) own)
+pub rewrote-refused : (W : World) (now : ℕ) (reply : Reply) (slots : List Slot) (commands : List Command) (refused : Refused) (told : Reply) → commit W.setting Server now commands W.store ≡ Err refused
+    → told ≡ refused_at refused.at refused.kind → no_change (machine_of W) told ≡ rewrote (machine_of W) reply slots (commit W.setting Server now commands W.store)
+rewrote-refused W now reply slots commands refused told is tells = ap (no_change (machine_of W)) tells ∙ ap (rewrote (machine_of W) reply slots) (sym is)
 
-pub defined-done : (W : World) (now : ℕ) (name : List ℕ) (d : Definition) (commands : List Command) (store : Store) (rows : List Row) (slot : Slot) → commands ≡ Put (index_id name) AnyVector (row_body d) ∷ []
-    → (let w : Written = record { store = store; rows = rows } in commit W.setting Server now commands W.store ≡ Ok w)
-    → slot ≡ record { number = last W.store + 1; name = name; version = fresh d; row = last W.store + 1 }
-    → (let c : Change = record { reply = Reply.Index slot.name; machine = machine_of (in_world W store (W.slots ++ slot ∷ [])); rows = rows } in c)
-    ≡ defined (machine_of W) now name (Ok (added W name d))
-defined-done W now name d commands store rows slot own is means =
-    ap told means ∙ ap (rewrote (machine_of W) name (added W name d).slots) (sym is ∙ ap (λ cs. commit W.setting Server now cs W.store) own)
-  where
-    told : Slot → Change
-    told s = record { reply = Reply.Index s.name; machine = machine_of (in_world W store (W.slots ++ s ∷ [])); rows = rows }
+pub rewrote-done : (W : World) (now : ℕ) (reply : Reply) (slots : List Slot) (commands : List Command) (store : Store) (rows : List Row) → (let w : Written = record { store = store; rows = rows } in commit W.setting Server now commands W.store ≡ Ok w)
+    → (let c : Change = record { reply = reply; machine = machine_of (in_world W store slots); rows = rows } in c) ≡ rewrote (machine_of W) reply slots (commit W.setting Server now commands W.store)
+rewrote-done W now reply slots commands store rows is = ap (rewrote (machine_of W) reply slots) (sym is)
 
-pub ruleset definitions = (defined-refused, defined-done)
+pub ruleset definitions = (rewrote-refused, rewrote-done)
 
--- what a definition answers where no index may be made, and where one may
-none_made : (W : World) (now : ℕ) (name : List ℕ) (d : Definition) (many serves : Bool) → (let x : Option (List ℕ) = cond (many || serves) None (Some name) in x) ≡ None
-    → no_change (machine_of W) UnknownLine ≡ defined (machine_of W) now name (cond serves (Err NameServes) (cond many (Err TooManyIndexes) (Ok (added W name d))))
-none_made W now name d true true h = refl
-none_made W now name d true false h = refl
-none_made W now name d false true h = refl
-none_made W now name d false false h = absurd cc
+-- A NEW AUTOMATIC INDEX
 
-one_made : (W : World) (now : ℕ) (name new : List ℕ) (d : Definition) (many serves : Bool) → (let x : Option (List ℕ) = cond (many || serves) None (Some name) in x) ≡ Some new
-    → defined (machine_of W) now new (Ok (added W new d)) ≡ defined (machine_of W) now name (cond serves (Err NameServes) (cond many (Err TooManyIndexes) (Ok (added W name d))))
-one_made W now name new d true true h = absurd cc
-one_made W now name new d true false h = absurd cc
-one_made W now name new d false true h = absurd cc
-one_made W now name new d false false h = let same : new ≡ name = cc in ap (λ n. defined (machine_of W) now n (Ok (added W n d))) same
+module _ (W : World) (now : ℕ) (collection field : List ℕ) where
+  abbrev name : List ℕ
+  name = name_of W.slots (last W.store + 1) (one_field collection field)
 
-pub make-refused : (W : World) (now : ℕ) (collection field : List ℕ) → pick (one_field collection field) W.store W.slots ≡ Make (one_field collection field)
-    → new_name_of W (one_field collection field) ≡ None → no_change (machine_of W) UnknownLine ≡ change_of (machine_of W) now (AutoOne collection field)
-make-refused W now collection field p h =
-    let name = name_of W.slots (last W.store + 1) (one_field collection field) in
-    none_made W now name (Definition.Auto collection ((field ∷ []) ∷ [])) (nat_le W.setting.max_slots (length W.slots)) (is_some (serving W.slots name)) h
-    ∙ ap (use_or_make (machine_of W) now) (sym p)
+  abbrev own : Definition
+  own = Definition.Auto collection ((field ∷ []) ∷ [])
 
-pub make-defined : (W : World) (now : ℕ) (collection field new : List ℕ) → pick (one_field collection field) W.store W.slots ≡ Make (one_field collection field)
-    → new_name_of W (one_field collection field) ≡ Some new
-    → defined (machine_of W) now new (Ok (added W new (Definition.Auto collection ((field ∷ []) ∷ [])))) ≡ change_of (machine_of W) now (AutoOne collection field)
-make-defined W now collection field new p h =
-    let name = name_of W.slots (last W.store + 1) (one_field collection field) in
-    one_made W now name new (Definition.Auto collection ((field ∷ []) ∷ [])) (nat_le W.setting.max_slots (length W.slots)) (is_some (serving W.slots name)) h
-    ∙ ap (use_or_make (machine_of W) now) (sym p)
+  -- what is answered where there are as many indexes as may be, or not, and where the name serves, or not
+  abbrev made : Bool → Bool → Change
+  made many serves = reslotted (machine_of W) now Index name (cond many (Err TooManyIndexes) (cond serves (Err NameServes) (Ok (added W name own))))
+
+  picked : pick (one_field collection field) W.store W.slots ≡ Make (one_field collection field)
+      → made (nat_le W.setting.max_slots (length W.slots)) (is_some (serving W.slots name)) ≡ change_of (machine_of W) now (AutoOne collection field)
+  picked p = ap (use_or_make (machine_of W) now) (sym p)
+
+  pub make-many : pick (one_field collection field) W.store W.slots ≡ Make (one_field collection field) → nat_le W.setting.max_slots (length W.slots) ≡ true
+      → no_change (machine_of W) TooMany ≡ change_of (machine_of W) now (AutoOne collection field)
+  make-many p many = ap (λ b. made b (is_some (serving W.slots name))) (sym many) ∙ picked p
+
+  pub make-serves : pick (one_field collection field) W.store W.slots ≡ Make (one_field collection field) → nat_le W.setting.max_slots (length W.slots) ≡ false
+      → is_some (serving W.slots name) ≡ true → no_change (machine_of W) UnknownLine ≡ change_of (machine_of W) now (AutoOne collection field)
+  make-serves p few serves = (λ i. made ((sym few) i) ((sym serves) i)) ∙ picked p
+
+  pub make-added : pick (one_field collection field) W.store W.slots ≡ Make (one_field collection field) → nat_le W.setting.max_slots (length W.slots) ≡ false
+      → is_some (serving W.slots name) ≡ false → reslotted (machine_of W) now Index name (Ok (added W name own)) ≡ change_of (machine_of W) now (AutoOne collection field)
+  make-added p few free = (λ i. made ((sym few) i) ((sym free) i)) ∙ picked p
+
+-- an index that is told the name and the definition
+pub make-told : (W : World) (now : ℕ) (collection field told : List ℕ) (d : Definition) → pick (one_field collection field) W.store W.slots ≡ Make (one_field collection field)
+    → nat_le W.setting.max_slots (length W.slots) ≡ false → told ≡ name_of W.slots (last W.store + 1) (one_field collection field) → is_some (serving W.slots told) ≡ false
+    → d ≡ Definition.Auto collection ((field ∷ []) ∷ []) → reslotted (machine_of W) now Index told (Ok (added W told d)) ≡ change_of (machine_of W) now (AutoOne collection field)
+make-told W now collection field told d p few is free own =
+    (λ i. reslotted (machine_of W) now Index (is i) (Ok (added W (is i) (own i))))
+    ∙ make-added W now collection field p few (ap (λ n. is_some (serving W.slots n)) (sym is) ∙ free)
+
+-- AN INDEX THAT A CLIENT DEFINES
+
+module _ (W : World) (now : ℕ) (name : List ℕ) (d : Definition) where
+  abbrev asked : Bool → Bool → Option Slot → Change
+  asked reserved long found =
+      reslotted (machine_of W) now Index name (unless_refused (cond reserved (Some ReservedName) (cond long (Some (NameTooLong (length name))) None)) (define_at W name d found))
+
+  pub define-reserved : is_reserved_name name ≡ true → no_change (machine_of W) told.ReservedName ≡ change_of (machine_of W) now (Define name d)
+  define-reserved h = λ i. asked ((sym h) i) (nat_lt 200 (length name)) (serving W.slots name)
+
+  pub define-long : is_reserved_name name ≡ false → nat_lt 200 (length name) ≡ true → no_change (machine_of W) (told.NameTooLong (length name)) ≡ change_of (machine_of W) now (Define name d)
+  define-long h long = λ i. asked ((sym h) i) ((sym long) i) (serving W.slots name)
+
+  pub define-new : is_reserved_name name ≡ false → nat_lt 200 (length name) ≡ false → serving W.slots name ≡ None
+      → reslotted (machine_of W) now Index name (added_if_room W name d) ≡ change_of (machine_of W) now (Define name d)
+  define-new h short none = λ i. asked ((sym h) i) ((sym short) i) ((sym none) i)
+
+  served : (s : Slot) → is_reserved_name name ≡ false → nat_lt 200 (length name) ≡ false → serving W.slots name ≡ Some s
+      → reslotted (machine_of W) now Index name (define_at W name d (Some s)) ≡ change_of (machine_of W) now (Define name d)
+  served s h short found = λ i. asked ((sym h) i) ((sym short) i) ((sym found) i)
+
+  pub define-again : (s : Slot) → is_reserved_name name ≡ false → nat_lt 200 (length name) ≡ false → serving W.slots name ≡ Some s → same_definition d s.version.definition ≡ true
+      → no_change (machine_of W) (Index s.name) ≡ change_of (machine_of W) now (Define name d)
+  define-again s h short found same =
+      ap (λ b. reslotted (machine_of W) now Index name (cond b (Ok (record { slots = W.slots; commands = []; name = s.name })) (Err NameServes))) (sym same)
+      ∙ served s h short found
+
+  pub define-other : (s : Slot) → is_reserved_name name ≡ false → nat_lt 200 (length name) ≡ false → serving W.slots name ≡ Some s → same_definition d s.version.definition ≡ false
+      → no_change (machine_of W) UnknownLine ≡ change_of (machine_of W) now (Define name d)
+  define-other s h short found other =
+      ap (λ b. reslotted (machine_of W) now Index name (cond b (Ok (record { slots = W.slots; commands = []; name = s.name })) (Err NameServes))) (sym other)
+      ∙ served s h short found
+
+-- AN INDEX THAT IS REMOVED
+
+pub remove-none : (W : World) (now : ℕ) (name : List ℕ) → serving W.slots name ≡ None → no_change (machine_of W) (NoIndex name) ≡ change_of (machine_of W) now (Remove name)
+remove-none W now name none = ap (λ o. reslotted (machine_of W) now Removed name (removed W name o)) (sym none)
+
+pub remove-some : (W : World) (now : ℕ) (name : List ℕ) (s : Slot) → serving W.slots name ≡ Some s
+    → rewrote (machine_of W) (Removed s.name) (filter (λ t. not (is_named name t)) W.slots) (commit W.setting Server now (Delete (index_id s.name) AnyVector ∷ []) W.store) ≡ change_of (machine_of W) now (Remove name)
+remove-some W now name s found = ap (λ o. reslotted (machine_of W) now Removed name (removed W name o)) (sym found)
 
 -- THE NAME OF A NEW INDEX
 
 pub few_slots : (most slots : ℕ) → nat_le most slots ≡ false → most < 2 ^ 32 → slots < 2 ^ 32
 few_slots most slots h lt = grind (arith, common_steps)
-
-pub new-name-none : (W : World) (shape : Shape) (name : List ℕ) → name ≡ name_of W.slots (last W.store + 1) shape → is_some (serving W.slots name) ≡ true → (let x : Option (List ℕ) = None in x) ≡ new_name_of W shape
-new-name-none W shape name is serves =
-    by (nat_le W.setting.max_slots (length W.slots)) (is_some (serving W.slots (name_of W.slots (last W.store + 1) shape))) (ap (λ n. is_some (serving W.slots n)) (sym is) ∙ serves)
-  where
-    by : (many serves : Bool) → serves ≡ true → (let x : Option (List ℕ) = None in x) ≡ cond (many || serves) None (Some (name_of W.slots (last W.store + 1) shape))
-    by true serves h = refl
-    by false true h = refl
-    by false false h = absurd cc
-
-pub new-name-some : (W : World) (shape : Shape) (name : List ℕ) → nat_le W.setting.max_slots (length W.slots) ≡ false → name ≡ name_of W.slots (last W.store + 1) shape → is_some (serving W.slots name) ≡ false
-    → Some name ≡ new_name_of W shape
-new-name-some W shape name few is serves =
-    by (nat_le W.setting.max_slots (length W.slots)) (is_some (serving W.slots (name_of W.slots (last W.store + 1) shape))) few (ap (λ n. is_some (serving W.slots n)) (sym is) ∙ serves)
-  where
-    by : (many serves : Bool) → many ≡ false → serves ≡ false → Some name ≡ cond (many || serves) None (Some (name_of W.slots (last W.store + 1) shape))
-    by true serves g h = absurd cc
-    by false true g h = absurd cc
-    by false false g h = ap Some is

@@ -1,7 +1,6 @@
 pub mod ChoiceView
 pub mod Told
 pub mod Roomy
-pub mod NewName
 pub mod Transacts
-pub mod Reading
+pub mod Kinds
 pub mod Opened

@@ -1,9 +1,38 @@
--- Which row stands against opening a world.
-use Rattle.std.specs.Prelude.{ℕ, Option, Some, None, Result, Ok, Err}
-use Rattle.raven_model.specs.Machine.{Machine}
+-- Which row stands against opening a world, and what is taken of one.
+use Rattle.std.specs.Prelude.{◌≡◌, ℕ, List, [], ◌++◌, ◌⊎◌, Bool, Option, Some, None, Ok, drop, length, if◌then◌else◌}
+use Rattle.raven_data.specs.Rows.{Row}
+use Rattle.raven_model.specs.Commit.{Setting}
+use Rattle.raven_model.specs.Mapping.{Definition}
+use Rattle.raven_model.specs.Opening.{ReadRow, rows_of, slots_after, slots_from}
+use Rattle.raven_model.specs.World.{Slot}
+use Rattle.raven_reading.specs.Openings.{AreReadRows, EndsAt, IsReadRow}
+use Rattle.doc_store.specs.Opening.{first_bad}
+use Rattle.doc_store.specs.declared.opening.OpenFault.{OpenFault}
+use Rattle.doc_store.specs.declared.opening.OpenFault.TheVariants.{KeptBad, NoMemory}
+use Rattle.doc_txn.specs.SettingView.{setting_of}
+use Rattle.doc_txn.specs.declared.limits.Limits.{Limits}
 
--- the first row that a store does not take; and where it takes all, the first that is of no form
-abbrev pub bad_row : Option ℕ → Result Machine ℕ → Option ℕ
-bad_row (Some etag) told = Some etag
-bad_row None (Err etag) = Some etag
-bad_row None (Ok machine) = None
+-- it is the first that a store does not take; or a store takes all, and it is the first that is of no form
+abbrev pub IsBadRow : Setting → List Row → ℕ → Type 0
+IsBadRow s rows etag = (first_bad [] rows ≡ Some etag) ⊎ ((first_bad [] rows ≡ None) × EndsAt s rows etag)
+
+abbrev pub TellsBadRow : Setting → List Row → OpenFault → Type 0
+TellsBadRow s rows (KeptBad etag) = IsBadRow s rows etag
+TellsBadRow s rows NoMemory = Unit {0}
+
+abbrev pub read_as : Row → Option Definition → ReadRow
+read_as r d = record { row = r; definition = d }
+
+-- what is read of the row makes these slots of those, if it is good
+pub record TakesRow (limits : Limits) (count : ℕ) (old new : List Slot) (r : Row) (is_good : Bool) : Type 0 where
+  pub definition : Option Definition
+  pub right : IsReadRow (read_as r definition)
+  pub taken : (base : List ℕ) → (if is_good then Some new else None) ≡ slots_after (setting_of base limits) count old (read_as r definition)
+
+-- so many rows were read, and are those of these slots
+pub record HasRead (s : Setting) (all : List Row) (many : ℕ) (found : List Slot) : Type 0 where
+  pub read : List ReadRow
+  pub rows : rows_of read ++ drop many all ≡ all
+  pub count : length read ≡ many
+  pub right : AreReadRows read
+  pub slots : slots_from s 0 [] read ≡ Ok found

@@ -1,18 +1,22 @@
 //! Answers that change nothing.
-ghost use Rattle.std.specs.Prelude.{◌≡◌, IfOk, OnOk, length, option_map};
+ghost use Rattle.std.specs.Prelude.{◌≡◌, IfOk, OnOk, length, map, option_map};
 ghost use Rattle.raven_data.specs.Data.{entries_of, object, text as spec_text};
 ghost use Rattle.raven_data.specs.Rising.{put};
 ghost use Rattle.raven_value.specs.View.{data_of};
-ghost use Rattle.raven_model.specs.Machine.{answer_get, answer_stale, answer_stats, members_of, shown as spec_shown, shown_metadata as spec_shown_metadata};
+ghost use Rattle.raven_model.specs.Machine.{answer_get, answer_indexes, answer_stale, answer_stats, listing as spec_listing, members_of, shown as spec_shown, shown_metadata as spec_shown_metadata};
 ghost use Rattle.raven_model.specs.World.{serving as spec_serving};
+ghost use Rattle.raven_model.specs.Replies.{NoIndex as NoIndexOf};
 ghost use Rattle.raven_reply.specs.ReplyView.{reply_view};
 
+use crate::choice::is_stale;
 use crate::slot::{Slot, serving};
 use crate::world::World;
 use crate::write::spelling;
+use doc_store::Store;
 use doc_txn::{BaseId, vector};
+use index_lang::definition_value;
 use raven_base::NoMemory;
-use raven_reply::{Reply, moment_text};
+use raven_reply::{Listing, Listings, Reply, moment_text};
 use raven_value::{Body, Id, Members, Name, Row, Text, Value};
 use std::alloc::Global;
 
@@ -87,6 +91,40 @@ fn shown(alloc: Global, base: &BaseId, row: &Row, document: &Value) -> Result<Va
     }
 }
 
+// What is told of an index.
+fn listing(alloc: Global, store: &Store, slot: &Slot) -> Result<Listing, NoMemory>
+    ensures { IfOk result (λ listing. listing ≡ spec_listing store.now slot.now) }
+{
+    let version = &slot.version;
+    Ok(Listing {
+        definition: definition_value(alloc, version.definition())?,
+        entries: version.entries() as u64,
+        errors: version.errors() as u64,
+        etag: version.etag(),
+        is_stale: is_stale(alloc, store, version)?,
+        name: slot.name.clone()?,
+    })
+}
+
+fn listings(alloc: Global, store: &Store, slots: &[Slot]) -> Result<Vec<Listing>, NoMemory>
+    ensures { IfOk result (λ listings. listings.items ≡ map (spec_listing store.now) slots.now) }
+{
+    let mut listings = Vec::with_capacity(alloc, slots.len())?;
+    for slot in slots {
+        listings.push(listing(alloc, store, slot)?)?;
+    }
+    Ok(listings)
+}
+
+/// The reply where no index serves the name.
+pub fn no_index(alloc: Global, name: &Name) -> Result<Reply, NoMemory>
+    ensures { IfOk result (λ reply. reply_view reply ≡ NoIndexOf name.now) }
+{
+    Ok(Reply::NoIndex {
+        name: Text::of(alloc, name.as_str())?,
+    })
+}
+
 impl World {
     /// The document of an id.
     pub fn get(&self, alloc: Global, id: &Id) -> Result<Reply, NoMemory>
@@ -107,9 +145,7 @@ impl World {
         ensures { IfOk result (λ reply. reply_view reply ≡ answer_stale self.now name.now cutoff (spec_serving self.now.slots name.now)) }
     {
         let Some(slot) = serving(&self.slots, name.as_str()) else {
-            return Ok(Reply::NoIndex {
-                name: Text::of(alloc, name.as_str())?,
-            });
+            return no_index(alloc, name);
         };
         let scope = slot.version.scope(alloc)?;
         let newest = self.store.newest(&scope, cutoff);
@@ -119,6 +155,14 @@ impl World {
             is_stale: index_etag < newest,
             newest,
         })
+    }
+
+    /// What each index is and how far it has come, by number.
+    pub fn indexes(&self, alloc: Global) -> Result<Reply, NoMemory>
+        ensures { IfOk result (λ reply. reply_view reply ≡ answer_indexes self.now) }
+    {
+        let results = Listings::of(listings(alloc, &self.store, &self.slots)?);
+        Ok(Reply::Indexes { results })
     }
 
     /// How much the database has.

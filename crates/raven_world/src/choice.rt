@@ -1,17 +1,18 @@
 //! Which automatic index answers a query.
-ghost use Rattle.std.specs.Prelude.{◌≡◌, [], ◌∷◌, IfOk, None, filter, option_copied};
+ghost use Rattle.std.specs.Prelude.{◌≡◌, [], ◌∷◌, IfOk, MatchOption, None, Some, filter, option_copied};
 ghost use Rattle.std.specs.Cmp.Lexicographic.{pointwise};
 ghost use Rattle.std.specs.List.{list_any};
 ghost use Rattle.std.specs.Str.{bytes_eq};
 ghost use Rattle.raven_model.specs.Index.{stale};
 ghost use Rattle.raven_model.specs.Machine.{one_field};
-ghost use Rattle.raven_model.specs.Optimiser.{beats, best, covers, has_path, is_of, pick as spec_pick, slot_shape, width};
+ghost use Rattle.raven_model.specs.Optimiser.{beats, best, better, covers, has_path, is_of, pick as spec_pick, slot_shape, width};
 ghost use Rattle.raven_model.specs.World.{reads};
 ghost use Rattle.raven_world.specs.ChoiceView.{choice_view};
 
 use crate::slot::Slot;
 use doc_store::Store;
-use index_version::{Definition, IndexVersion};
+use index_lang::DefBody;
+use index_version::IndexVersion;
 use raven_base::NoMemory;
 use raven_value::{Path, Paths, Text};
 use std::alloc::Global;
@@ -37,13 +38,15 @@ pub fn is_stale(alloc: Global, store: &Store, version: &IndexVersion) -> Result<
     Ok(version.etag() < store.newest(&scope, None))
 }
 
-fn shape_of(slot: &Slot) -> (&Text, &Paths)
-    ensures collection { result.0.now ≡ (slot_shape slot.now).collection }
-    ensures fields { result.1.now ≡ (slot_shape slot.now).fields }
+// The collection and the fields of an automatic index, and nothing of another.
+fn shape_of(slot: &Slot) -> Option<(&Text, &Paths)>
+    ensures { MatchOption result (slot_shape slot.now ≡ None) (λ shape. slot_shape slot.now ≡ Some (record { collection = shape.0.now; fields = shape.1.now })) }
 {
     let version = &slot.version;
-    let Definition::Auto { collection, fields } = &**version.definition();
-    (collection, fields)
+    match &version.definition().body {
+        DefBody::Auto { collection, fields } => Some((collection, fields)),
+        DefBody::Static { .. } => None,
+    }
 }
 
 fn is_part(path: &Path, field: &Text) -> bool
@@ -64,22 +67,28 @@ fn has_field(fields: &[Path], field: &Text) -> bool
 fn covers_field(slot: &Slot, collection: &Text, field: &Text) -> bool
     ensures { result ≡ covers (slot_shape slot.now) (one_field collection.now field.now) }
 {
-    let (own, fields) = shape_of(slot);
-    own == collection && has_field(fields.as_slice(), field)
+    match shape_of(slot) {
+        Some((own, fields)) => own == collection && has_field(fields.as_slice(), field),
+        None => false,
+    }
 }
 
 fn is_of_collection(slot: &Slot, collection: &Text) -> bool
     ensures { result ≡ is_of collection.now slot.now }
 {
-    let (own, _) = shape_of(slot);
-    own == collection
+    match shape_of(slot) {
+        Some((own, _)) => own == collection,
+        None => false,
+    }
 }
 
 fn width_of(slot: &Slot) -> usize
     ensures { result ≡ width slot.now }
 {
-    let (_, fields) = shape_of(slot);
-    fields.len()
+    match shape_of(slot) {
+        Some((_, fields)) => fields.len(),
+        None => 0,
+    }
 }
 
 fn is_better(alloc: Global, store: &Store, a: &Slot, b: &Slot) -> Result<bool, NoMemory>
@@ -90,7 +99,26 @@ fn is_better(alloc: Global, store: &Store, a: &Slot, b: &Slot) -> Result<bool, N
     Ok((a_fresh && !b_fresh) || ((a_fresh || !b_fresh) && width_of(a) < width_of(b)))
 }
 
-// The best of those that have the field: the first that no later one beats.
+// Of an index and the best of those behind it: the first that no later one beats.
+fn better_of<'a>(
+    alloc: Global,
+    store: &Store,
+    slot: &'a Slot,
+    later: Option<&'a Slot>,
+) -> Result<&'a Slot, NoMemory>
+    ensures { IfOk result (λ best. Some best.now ≡ better store.now slot.now (option_copied later.entry)) }
+{
+    let Some(other) = later else {
+        return Ok(slot);
+    };
+    if is_better(alloc, store, other, slot)? {
+        Ok(other)
+    } else {
+        Ok(slot)
+    }
+}
+
+// The best of those that have the field.
 fn best_of<'a>(
     alloc: Global,
     store: &Store,
@@ -104,16 +132,10 @@ fn best_of<'a>(
         return Ok(None);
     };
     let later = best_of(alloc, store, more, collection, field)?;
-    if !covers_field(slot, collection, field) {
-        return Ok(later);
-    }
-    let Some(other) = later else {
-        return Ok(Some(slot));
-    };
-    if is_better(alloc, store, other, slot)? {
-        Ok(Some(other))
+    if covers_field(slot, collection, field) {
+        Ok(Some(better_of(alloc, store, slot, later)?))
     } else {
-        Ok(Some(slot))
+        Ok(later)
     }
 }
 

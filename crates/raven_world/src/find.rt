@@ -6,6 +6,7 @@ ghost use Rattle.raven_model.specs.Replies.{Found as FoundIds};
 ghost use Rattle.raven_model.specs.World.{serving as spec_serving};
 ghost use Rattle.raven_reply.specs.ReplyView.{reply_view};
 
+use crate::answer::no_index;
 use crate::choice::is_stale;
 use crate::slot::{Slot, serving};
 use crate::world::World;
@@ -47,9 +48,7 @@ impl World {
     {
         match serving(&self.slots, index.as_str()) {
             Some(slot) => found(alloc, &self.store, slot, field, words),
-            None => Ok(Reply::NoIndex {
-                name: Text::of(alloc, index.as_str())?,
-            }),
+            None => no_index(alloc, index),
         }
     }
 }

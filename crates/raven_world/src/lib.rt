@@ -3,18 +3,20 @@
 
 mod answer;
 mod choice;
+mod define;
 mod find;
 mod make;
 mod naming;
 mod opening;
 mod pump;
-mod reading;
 mod slot;
 mod world;
 mod write;
 
 pub use doc_store::OpenFault;
-pub use raven_reply::{BulkResult, BulkResults, Pumping, Pumpings, Reply, reply_text};
+pub use raven_reply::{
+    BulkResult, BulkResults, Listing, Listings, Pumping, Pumpings, Reply, reply_text,
+};
 pub use world::{Answered, Change, World, WorldFault};
 
 #[cfg(test)]

@@ -1,17 +1,21 @@
 //! What an automatic index is called.
 ghost use Rattle.std.specs.Prelude.{◌≡◌, ◌++◌, ◌<◌, ◌^◌, IfOk, None, Some, codes, decimal, if◌then◌else◌, is_some, length, string_bytes};
 ghost use Rattle.raven_model.specs.Machine.{one_field};
-ghost use Rattle.raven_model.specs.Opening.{is_auto_name};
+ghost use Rattle.raven_model.specs.Opening.{may_be_named};
+ghost use Rattle.index_lang.specs.DefinitionView.{definition_view};
+ghost use Rattle.raven_world.specs.Kinds.{begins_as};
 ghost use Rattle.raven_model.specs.Optimiser.{first_free as spec_first_free, name_of, plain_name as spec_plain_name};
 ghost use Rattle.raven_value.specs.Refusal.{fault_in};
-ghost use Rattle.raven_model.specs.World.{index_id as spec_index_id, serving as spec_serving};
+ghost use Rattle.raven_model.specs.World.{index_id as spec_index_id, is_reserved_name as spec_is_reserved_name, serving as spec_serving};
 
 use crate::slot::{Slot, serving};
+use index_lang::DefBody;
 use raven_base::NoMemory;
 use raven_value::{Id, IdRefusal, Name, Text, starts_folded};
 use std::alloc::Global;
 
-const LONGEST: usize = 200;
+/// The longest name of a definition, in bytes.
+pub(crate) const LONGEST: usize = 200;
 
 /// Whether some slot serves the name.
 pub fn is_served(slots: &[Slot], name: &str) -> bool
@@ -98,18 +102,28 @@ fn numbered_name(alloc: Global, slots: &[Slot], number: u64) -> Result<Name, NoM
     }
 }
 
-/// The name of an automatic index, where a text can be one.
+/// The name of an index, where a text can be one: of an automatic index it begins with `Auto/`, and of another with nothing that is the server's.
 #[tactic(auto, using(crate::proofs::Openings::names))]
-pub fn read_auto_name(alloc: Global, text: &str) -> Result<Option<Name>, NoMemory>
-    ensures { IfOk result (λ name. name ≡ if is_auto_name text.now then Some text.now else None) }
+pub fn read_name(alloc: Global, body: &DefBody, text: &str) -> Result<Option<Name>, NoMemory>
+    ensures { IfOk result (λ name. name ≡ if may_be_named (definition_view body.now) text.now then Some text.now else None) }
 {
-    if text.len() > LONGEST || !starts_folded(text.as_bytes(), b"auto/") {
+    if text.len() > LONGEST || !is_of_kind(body, text) {
         return Ok(None);
     }
     match Name::new(alloc, text) {
         Ok(name) => Ok(Some(name)),
         Err(IdRefusal::NoMemory) => Err(NoMemory),
         Err(_) => Ok(None),
+    }
+}
+
+// Whether a name begins as one of its kind.
+fn is_of_kind(body: &DefBody, name: &str) -> bool
+    ensures { result ≡ begins_as (definition_view body.now) name.now }
+{
+    match body {
+        DefBody::Auto { .. } => starts_folded(name.as_bytes(), b"auto/"),
+        DefBody::Static { .. } => !is_reserved_name(name),
     }
 }
 
@@ -133,4 +147,11 @@ pub fn index_id(alloc: Global, name: &Name) -> Result<Id, NoMemory>
         Ok(id) => Ok(id),
         Err(refusal) => Err(memory_alone(refusal)),
     }
+}
+
+/// Whether only the server gives such names.
+pub fn is_reserved_name(name: &str) -> bool
+    ensures { result ≡ spec_is_reserved_name name.now }
+{
+    starts_folded(name.as_bytes(), b"auto/") || starts_folded(name.as_bytes(), b"replacementof/")
 }

@@ -1,23 +1,26 @@
 //! The world of rows that were kept.
-ghost use Rattle.std.specs.Prelude.{◌≡◌, ◌<◌, ◌^◌, ℕ, List, [], ◌++◌, ◌∷◌, IfErr, IfOk, IsTrue, None, Ok, Some, drop, if◌then◌else◌, length, option_map};
-ghost use Rattle.doc_store.specs.Opening.{Tells, first_bad};
+ghost use Rattle.std.specs.Prelude.{◌≡◌, ◌<◌, ◌^◌, ℕ, List, [], ◌++◌, ◌∷◌, IfErr, IfOk, IsTrue, None, Some, drop, if◌then◌else◌, length, option_map};
+ghost use Rattle.doc_store.specs.Opening.{first_bad};
 ghost use Rattle.doc_txn.specs.SettingView.{setting_of};
 ghost use Rattle.raven_model.specs.Commit.{is_index_id as spec_is_index_id};
-ghost use Rattle.raven_model.specs.Opening.{definition_in as spec_definition_in, is_defining as spec_is_defining, is_filed as spec_is_filed, is_too_many as spec_is_too_many, opened, slots_after, with_slot};
-ghost use Rattle.index_version.specs.DefinitionView.{definition_view};
-ghost use Rattle.raven_world.specs.Opened.{bad_row};
+ghost use Rattle.raven_model.specs.Opening.{is_defining as spec_is_defining, is_filed as spec_is_filed, is_too_many as spec_is_too_many, with_slot};
+ghost use Rattle.index_lang.specs.DefinitionView.{definition_view};
+ghost use Rattle.raven_reading.specs.Openings.{IsReadRow, OpensAs};
+ghost use Rattle.raven_world.specs.Opened.{TakesRow, TellsBadRow, read_as};
 ghost use Rattle.raven_world.specs.Told.{machine_of};
 
-use crate::naming::read_auto_name;
-use crate::reading::definition_of;
+use crate::naming::read_name;
 use crate::slot::{Slot, fresh_slot};
 use crate::world::World;
 use doc_store::{OpenFault, Store};
 use doc_txn::{BaseId, Limits};
-use index_version::{Definition, is_document};
+use index_lang::{DefBody, Definition};
+use index_version::is_document;
 use raven_base::NoMemory;
+use raven_reading::definition_of;
 use raven_value::{Body, Id, Row, Rows, starts_folded};
 use std::alloc::Global;
+use std::sync::Arc;
 
 /// How many bytes stand before the name in the id of the row of a definition.
 const FRONT: usize = 7;
@@ -50,9 +53,13 @@ fn is_too_many(limits: &Limits, count: usize, slots: &[Slot], row: &Row) -> bool
     limits.rows as usize <= count || (is_defining(row) && limits.slots as usize <= slots.len())
 }
 
-fn definition_in(alloc: Global, row: &Row) -> Result<Option<Definition>, NoMemory>
-    ensures { IfOk result (λ definition. option_map definition_view definition ≡ spec_definition_in row.now) }
+// The definition that is read of a row, if it is the live row of one.
+fn definition_in(alloc: Global, row: &Row) -> Result<Option<DefBody>, NoMemory>
+    ensures { IfOk result (λ body. IsReadRow (read_as row.now (option_map definition_view body))) }
 {
+    if !is_defining(row) {
+        return Ok(None);
+    }
     match &row.body {
         Body::Doc(document) => definition_of(alloc, document.value()),
         Body::Gone => Ok(None),
@@ -67,23 +74,46 @@ fn name_in(id: &Id) -> &str
     &id.as_str()[FRONT..]
 }
 
-// The index of the row of a definition, and nothing where it is of no form.
-fn slot_in(alloc: Global, row: &Row) -> Result<Option<Slot>, NoMemory>
+// The index of the row of this definition, and nothing where it cannot have its name.
+fn slot_of(alloc: Global, row: &Row, body: DefBody) -> Result<Option<Slot>, NoMemory>
     requires { IsTrue (spec_is_index_id row.now.id) }
-    ensures { IfOk result (λ slot. (slots : List Slot) → option_map (λ s. slots ++ s ∷ []) slot ≡ with_slot slots row.now (spec_definition_in row.now)) }
+    ensures { IfOk result (λ slot. (slots : List Slot) → option_map (λ s. slots ++ s ∷ []) slot ≡ with_slot slots row.now (Some (definition_view body))) }
 {
-    let Some(definition) = definition_in(alloc, row)? else {
+    let Some(name) = read_name(alloc, &body, name_in(&row.id))? else {
         return Ok(None);
     };
-    match read_auto_name(alloc, name_in(&row.id))? {
-        Some(name) => Ok(Some(fresh_slot(alloc, row.etag, name, definition)?)),
-        None => Ok(None),
+    let definition = Definition {
+        name: name.clone()?,
+        body,
+    };
+    let definition = Arc::new(alloc, definition)?;
+    Ok(Some(fresh_slot(alloc, row.etag, name, definition)?))
+}
+
+// Adds the index of a row of a definition. It is false where there is none, and nothing is added then.
+fn take_index(
+    alloc: Global,
+    slots: &mut Vec<Slot>,
+    row: &Row,
+    body: Option<DefBody>,
+) -> Result<bool, NoMemory>
+    requires { IsTrue (spec_is_index_id row.now.id) }
+    ensures { IfOk result (λ is_good. (if is_good then Some slots.new.items else None) ≡ with_slot slots.old.items row.now (option_map definition_view body)) }
+{
+    let Some(body) = body else {
+        return Ok(false);
+    };
+    match slot_of(alloc, row, body)? {
+        Some(slot) => {
+            slots.push(slot)?;
+            Ok(true)
+        }
+        None => Ok(false),
     }
 }
 
 // Adds the index of a row that stands behind so many others, if it is the live row of a definition. It is false where the row
 // is bad, and nothing is added then.
-#[tactic(auto, using(crate::proofs::Openings::takes))]
 fn take_row(
     alloc: Global,
     limits: &Limits,
@@ -91,21 +121,16 @@ fn take_row(
     slots: &mut Vec<Slot>,
     row: &Row,
 ) -> Result<bool, NoMemory>
-    ensures { IfOk result (λ is_good. (base : List ℕ) → (if is_good then Some slots.new.items else None) ≡ slots_after (setting_of base limits.now) count slots.old.items row.now) }
+    ensures { IfOk result (λ is_good. TakesRow limits.now count slots.old.items slots.new.items row.now is_good) }
 {
+    let body = definition_in(alloc, row)?;
     if is_too_many(limits, count, slots, row) || !is_filed(row) {
         return Ok(false);
     }
     if !is_defining(row) {
         return Ok(true);
     }
-    match slot_in(alloc, row)? {
-        Some(slot) => {
-            slots.push(slot)?;
-            Ok(true)
-        }
-        None => Ok(false),
-    }
+    take_index(alloc, slots, row, body)
 }
 
 impl World {
@@ -115,8 +140,9 @@ impl World {
     /// A row is bad where `Store::open` refuses it. Where it refuses none, a row is bad where there are as many rows before it
     /// as may be; where it is the live row of a definition, and there are as many indexes before it as may be; where its id
     /// begins with `@index/`, without regard to case, and its collection is another than `@indexes`, or the other way round;
-    /// and where it is the live row of a definition, and its body is not that of an automatic index of one field, or the rest
-    /// of its id is not the name of such an index. Of several the first is told.
+    /// and where it is the live row of a definition, and its body is neither that of an automatic index of one field nor that
+    /// of a map by a text of the language, or the rest of its id cannot be the name of such an index. Of several the first is
+    /// told.
     #[tactic(auto, using(crate::proofs::Openings::opening))]
     pub fn open(
         alloc: Global,
@@ -126,8 +152,8 @@ impl World {
     ) -> Result<World, OpenFault>
         requires few { length rows.now < 2 ^ 32 }
         ensures sound { IfOk result (λ _. first_bad [] rows.now ≡ None) }
-        ensures opened { IfOk result (λ world. opened (setting_of base limits) rows.now ≡ Ok (machine_of world)) }
-        ensures fault { IfErr result (λ fault. Tells fault (bad_row (first_bad [] rows.now) (opened (setting_of base limits) rows.now))) }
+        ensures opened { IfOk result (λ world. OpensAs (setting_of base limits) rows.now (machine_of world)) }
+        ensures fault { IfErr result (TellsBadRow (setting_of base limits) rows.now) }
     {
         let store = match Store::open(alloc, rows) {
             Ok(store) => store,

@@ -1,16 +1,18 @@
-//! One batch for each index.
-ghost use Rattle.std.specs.Prelude.{◌≡◌, IfOk, map};
-ghost use Rattle.raven_model.specs.Machine.{brought_on as spec_brought_on, pump, pumping};
-ghost use Rattle.raven_world.specs.Told.{change_view, machine_of};
+//! One batch for each index, or for one.
+ghost use Rattle.std.specs.Prelude.{◌≡◌, ◌∷◌, [], IfOk, IfSome, map};
+ghost use Rattle.raven_model.specs.Machine.{brought_on as spec_brought_on, brought_on_if as spec_brought_on_if, pump, pump_at, pumping};
+ghost use Rattle.raven_model.specs.World.{serving as spec_serving};
+ghost use Rattle.raven_world.specs.Told.{change_view, machine_of, told};
 
-use crate::slot::Slot;
-use crate::world::{Change, World};
+use crate::answer::no_index;
+use crate::slot::{Slot, is_named, serving};
+use crate::world::{Change, World, WorldFault};
 use doc_store::Store;
 use index_batch::next;
 use index_version::IndexVersion;
 use raven_base::NoMemory;
 use raven_reply::{Pumping, Pumpings, Reply};
-use raven_value::Rows;
+use raven_value::{Name, Rows};
 use std::alloc::Global;
 use std::sync::Arc;
 
@@ -64,17 +66,77 @@ fn all_brought_on(
     Ok((new, pumped))
 }
 
+fn brought_on_if(
+    alloc: Global,
+    store: &Store,
+    max: u32,
+    name: &Name,
+    slot: &Slot,
+) -> Result<Slot, NoMemory>
+    ensures { IfOk result (λ new. new ≡ spec_brought_on_if store.now max name.now slot.now) }
+{
+    if is_named(slot, name.as_str()) {
+        brought_on(alloc, store, max, slot)
+    } else {
+        Ok(slot.clone()?)
+    }
+}
+
+fn one_brought_on(
+    alloc: Global,
+    store: &Store,
+    max: u32,
+    name: &Name,
+    slots: &[Slot],
+) -> Result<Vec<Slot>, NoMemory>
+    ensures { IfOk result (λ new. new.items ≡ map (spec_brought_on_if store.now max name.now) slots.now) }
+{
+    let mut new = Vec::with_capacity(alloc, slots.len())?;
+    for slot in slots {
+        new.push(brought_on_if(alloc, store, max, name, slot)?)?;
+    }
+    Ok(new)
+}
+
+// What a batch does to one slot, told as a list.
+fn pumping_alone(alloc: Global, store: &Store, max: u32, slot: &Slot) -> Result<Pumpings, NoMemory>
+    ensures { IfOk result (λ pumped. pumped ≡ pumping store.now max slot.now ∷ []) }
+{
+    let brought = brought_on(alloc, store, max, slot)?;
+    let mut pumped = Pumpings::new(alloc);
+    pumped.push(pumping_of(slot, &brought)?)?;
+    Ok(pumped)
+}
+
 impl World {
     /// Brings each index on by one batch of at most `max` rows.
     pub fn pump(&self, alloc: Global, max: u32) -> Result<Change, NoMemory>
         ensures { IfOk result (λ change. change_view change ≡ pump (machine_of self.now) max) }
     {
         let (slots, pumped) = all_brought_on(alloc, &self.store, max, &self.slots)?;
-        let world = self.with(self.store.clone()?, slots)?;
+        let world = self.with_slots(slots)?;
         let reply = Reply::Pumped {
             pumped: Pumpings::of(pumped),
         };
         let rows = Rows::new(alloc);
         Ok(Change { world, rows, reply })
+    }
+
+    /// Brings the index of this name on by one batch of at most `max` rows.
+    pub fn pump_one(&self, alloc: Global, max: u32, name: &Name) -> Result<Change, WorldFault>
+        ensures { IfSome (told self.now result) (λ change. change ≡ pump_at (machine_of self.now) max name.now (spec_serving self.now.slots name.now)) }
+    {
+        let Some(slot) = serving(&self.slots, name.as_str()) else {
+            return Err(WorldFault::Refused(no_index(alloc, name)?));
+        };
+        let pumped = pumping_alone(alloc, &self.store, max, slot)?;
+        let slots = one_brought_on(alloc, &self.store, max, name, &self.slots)?;
+        let world = self.with_slots(slots)?;
+        let rows = Rows::new(alloc);
+        Ok(Change {
+            world,
+            rows,
+            reply: Reply::Pumped { pumped },
+        })
     }
 }

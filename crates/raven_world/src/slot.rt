@@ -1,10 +1,10 @@
 //! Live indexes.
-ghost use Rattle.std.specs.Prelude.{◌≡◌, IfOk, option_copied};
-ghost use Rattle.raven_data.specs.Folding.{folded, same_key};
-ghost use Rattle.raven_model.specs.World.{fresh, serving as spec_serving};
-ghost use Rattle.index_version.specs.DefinitionView.{definition_view};
+ghost use Rattle.std.specs.Prelude.{◌≡◌, IfOk, filter, not, option_copied};
+ghost use Rattle.raven_model.specs.World.{fresh, is_named as spec_is_named, serving as spec_serving};
+ghost use Rattle.index_lang.specs.DefinitionView.{definition_view};
 
-use index_version::{Definition, IndexVersion};
+use index_lang::Definition;
+use index_version::IndexVersion;
 use raven_base::NoMemory;
 use raven_value::Name;
 use std::alloc::{AllocError, Global};
@@ -56,11 +56,10 @@ pub fn fresh_slot(
     alloc: Global,
     row: u64,
     name: Name,
-    definition: Definition,
+    definition: Arc<Definition>,
 ) -> Result<Slot, NoMemory>
-    ensures { IfOk result (λ slot. slot ≡ record { number = row; name = name; version = fresh (definition_view definition); row = row }) }
+    ensures { IfOk result (λ slot. slot ≡ record { number = row; name = name; version = fresh (definition_view definition.value.body); row = row }) }
 {
-    let definition = Arc::new(alloc, definition)?;
     let version = Arc::new(alloc, IndexVersion::fresh(alloc, definition)?)?;
     Ok(Slot {
         number: row,
@@ -70,8 +69,9 @@ pub fn fresh_slot(
     })
 }
 
-fn is_named(slot: &Slot, name: &str) -> bool
-    ensures { result ≡ same_key (folded name.now) (folded slot.now.name) }
+/// Whether the slot serves the name, which is compared without regard to case.
+pub fn is_named(slot: &Slot, name: &str) -> bool
+    ensures { result ≡ spec_is_named name.now slot.now }
 {
     name.eq_ignore_ascii_case(slot.name.as_str())
 }
@@ -95,6 +95,19 @@ pub fn copies(alloc: Global, slots: &[Slot]) -> Result<Vec<Slot>, NoMemory>
     let mut new = Vec::with_capacity(alloc, slots.len())?;
     for slot in slots {
         new.push(slot.clone()?)?;
+    }
+    Ok(new)
+}
+
+/// Copies of the slots that do not serve the name.
+pub fn others(alloc: Global, slots: &[Slot], name: &Name) -> Result<Vec<Slot>, NoMemory>
+    ensures { IfOk result (λ new. new.items ≡ filter (λ slot. not (spec_is_named name.now slot)) slots.now) }
+{
+    let mut new = Vec::new(alloc);
+    for slot in slots {
+        if !is_named(slot, name.as_str()) {
+            new.push(slot.clone()?)?;
+        }
     }
     Ok(new)
 }

@@ -1,10 +1,12 @@
 //! The world.
 ghost use Rattle.std.specs.Prelude.{◌≡◌, IfOk};
-ghost use Rattle.raven_model.specs.Machine.{in_world, start};
+ghost use Rattle.raven_model.specs.Machine.{in_world, no_change, start};
 ghost use Rattle.raven_model.specs.Words.{program};
+ghost use Rattle.raven_reply.specs.ReplyView.{reply_view};
+ghost use Rattle.raven_world.specs.Told.{change_view, machine_of};
 ghost use Rattle.raven_world.specs.declared.world.WorldFault.TheVariants.{NoMemory as OutOfMemory};
 
-use crate::slot::Slot;
+use crate::slot::{Slot, copies};
 use doc_store::Store;
 use doc_txn::{BaseId, Limits};
 use raven_base::NoMemory;
@@ -98,5 +100,21 @@ impl World {
             base: self.base.clone()?,
             limits: self.limits,
         })
+    }
+
+    /// The world with these slots over its store.
+    pub(crate) fn with_slots(&self, slots: Vec<Slot>) -> Result<World, NoMemory>
+        ensures { IfOk result (λ world. world ≡ in_world self.now self.now.store slots.items) }
+    {
+        self.with(self.store.clone()?, slots)
+    }
+
+    /// The same world, with a reply.
+    pub(crate) fn unchanged(&self, alloc: Global, reply: Reply) -> Result<Change, NoMemory>
+        ensures { IfOk result (λ change. change_view change ≡ no_change (machine_of self.now) (reply_view reply)) }
+    {
+        let world = self.with_slots(copies(alloc, &self.slots)?)?;
+        let rows = Rows::new(alloc);
+        Ok(Change { world, rows, reply })
     }
 }

@@ -1,7 +1,8 @@
 use Rattle.std.proofs.Common.{cond, ◌∙◌, ap, Some}
 use Rattle.raven_model.specs.Index.{taken, note_rows}
 use Rattle.raven_model.specs.Store.{last, last_of}
-use Rattle.index_version.specs.DefinitionView.{definition_view}
+use Rattle.index_lang.specs.declared.definition.Definition.{Definition}
+use Rattle.index_lang.specs.DefinitionView.{definition_view}
 use Rattle.index_batch.proofs.Batches.{batch-none, batch-some}
 use Rattle.index_batch.proofs.batch.next.Goals as goal
 
@@ -16,7 +17,7 @@ returns c =
     let v = c.args.version.now in
     let S = c.args.store.now in
     ap Some (c.in_ok-next.ensures ∙ λ i. record {
-      definition = (ap definition_view c.in_ok-share.ensures ∙ c.definition.ensures) i;
+      definition = (ap (λ (d : Definition). definition_view d.body) c.in_ok-share.ensures ∙ c.definition.ensures) i;
       etag = c.etag_after-etag.result;
       table = (c.in_ok-table.ensures ∙ λ j. note_rows (c.table.ensures j) (c.as_slice-2.ensures j)) i;
     })

@@ -1,4 +1,5 @@
-use Rattle.std.proofs.Common.{Ok, ap, sym, ◌∙◌}
+use Rattle.std.proofs.Common.{subst, sym}
+use Rattle.raven_reading.specs.Openings.{OpensAs}
 use Rattle.raven_model.specs.Options.{setting_with}
 use Rattle.raven_console.proofs.Opened.{keeps_from, opens}
 use Rattle.raven_console.proofs.opening.open_from.Goals as goal
@@ -7,4 +8,4 @@ pub returns-in-Ok-open-clause-keeps : goal.returns-in-Ok-open-clause-keeps
 returns-in-Ok-open-clause-keeps g c =
     keeps_from (setting_with c.args.base) (g.K.Keeper.held c.args.keeper.now) (g.K.Keeper.held c.load_all.new.keeper) c.of.result c.load_all.ensures.same
     (opens c.args.base c.program-limits.result (g.K.Keeper.held c.args.keeper.now) c.in-Ok.rows c.of.result c.program-limits.ensures c.in-Ok.ensures.ok
-    (c.in-Ok-open.ensures.opened ∙ ap Ok (sym c.of.ensures)))
+    (subst (OpensAs _ _) (sym c.of.ensures) c.in-Ok-open.ensures.opened))

@@ -1,8 +1,5 @@
-use Rattle.raven_reopening.proofs.AgainLemmas.{run-opens, run-there}
+use Rattle.raven_reopening.proofs.BackLemmas.{run-opens}
 use Rattle.raven_reopening.proofs.runs.a_run_opens_again.Goals as goal
 
-pub returns-clause-opens : goal.returns-clause-opens
-returns-clause-opens c = run-opens
-
-pub returns-clause-indexes : goal.returns-clause-indexes
-returns-clause-indexes c = run-there
+pub returns : goal.returns
+returns c = run-opens

@@ -1,9 +1,22 @@
-use Rattle.std.proofs.Common.{◌∙◌, sym}
-use Rattle.raven_world.proofs.Steps.{make-refused, make-defined}
+use Rattle.std.proofs.Common.{◌≡◌, ◌∙◌, IfSome, Ok, ap, is_some, subst, sym}
+use Rattle.raven_model.specs.Machine.{reslotted}
+use Rattle.raven_model.specs.Replies.{Index}
+use Rattle.raven_model.specs.World.{World, added, serving}
+use Rattle.index_lang.specs.DefinitionView.{definition_view}
+use Rattle.index_lang.specs.declared.definition.Definition.{Definition}
+use Rattle.raven_world.specs.Told.{machine_of, told}
+use Rattle.raven_world.proofs.Steps.{make-told}
 use Rattle.raven_world.proofs.world.World.make.Goals as goal
 
-pub returns-in-None : goal.returns-in-None
-returns-in-None c = make-refused c.args.self.now c.args.now c.args.collection.now c.args.field.now c.requires (sym c.in_ok-name.ensures ∙ c.in-None.is)
-
-pub returns-in-Some : goal.returns-in-Some
-returns-in-Some c = let m = make-defined c.args.self.now c.args.now c.args.collection.now c.args.field.now c.in-Some.name c.requires (sym c.in_ok-name.ensures ∙ c.in-Some.is) in rw (← m) c.define.ensures
+pub returns : goal.returns
+returns c =
+    let W = c.args.self.now in
+    let own = ap (λ (V : World). V.slots) c.self.view_is in
+    let few = sym c.is_crowded.ensures ∙ c.if-is_crowded.false in
+    let free = (λ i. is_some (serving ((sym (c.deref.ensures.value ∙ own)) i) ((sym c.as_str.ensures.spelling) i))) ∙ sym c.is_served.ensures ∙ c.if-is_served.false in
+    let named = ap (λ (d : Definition). d.name) c.in_ok-shared.ensures ∙ c.in_ok-definition.ensures.name in
+    let body = ap (λ (d : Definition). definition_view d.body) c.in_ok-shared.ensures ∙ c.in_ok-definition.ensures.body in
+    subst (λ x. IfSome (told W c.add.result) (λ change. change ≡ x))
+    ((λ i. reslotted (machine_of W) c.args.now Index (named i) (Ok (added W (named i) (definition_view c.in_ok-shared.field-0.value.body))))
+    ∙ make-told W c.args.now c.args.collection.now c.args.field.now c.in_ok-name.name (definition_view c.in_ok-shared.field-0.value.body) c.requires few c.in_ok-name.ensures free body)
+    c.add.ensures

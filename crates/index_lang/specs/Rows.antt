@@ -1,0 +1,9 @@
+-- Members that are put into others.
+use Rattle.std.specs.Prelude.{ℕ, List, [], ◌∷◌}
+use Rattle.raven_data.specs.Data.{Data}
+use Rattle.raven_data.specs.Rising.{Pairs, put}
+
+-- one after another
+abbrev pub put_members : List (List ℕ × Data) → Pairs → Pairs
+put_members [] members = members
+put_members (m ∷ more) members = put_members more (put m.0 m.1 members)

@@ -1,0 +1,129 @@
+//! What is kept of a definition, and shown of it.
+ghost use Rattle.std.specs.Prelude.{◌≡◌, ◌∷◌, [], IfOk, OnOk, codes};
+ghost use Rattle.raven_data.specs.Data.{array, entry, items_of, no_entries, object, text as spec_text};
+ghost use Rattle.raven_data.specs.Rising.{put};
+ghost use Rattle.raven_value.specs.View.{data_of};
+ghost use Rattle.raven_model.specs.Mapping as is;
+ghost use Rattle.raven_model.specs.World as world;
+ghost use Rattle.index_lang.specs.DefinitionView.{definition_view};
+ghost use Rattle.index_lang.specs.Rows.{put_members};
+
+use crate::definition::{DefBody, Definition};
+use raven_base::NoMemory;
+use raven_value::{Members, Path, Text, Value, Values};
+use std::alloc::Global;
+
+fn put_member(
+    alloc: Global,
+    members: &mut Members,
+    name: &str,
+    value: Value,
+) -> Result<(), NoMemory>
+    ensures { OnOk result (members.new ≡ put name.now (data_of value) members.old) }
+{
+    members.put(Text::of(alloc, name)?, value)
+}
+
+fn put_text(alloc: Global, members: &mut Members, name: &str, text: &str) -> Result<(), NoMemory>
+    ensures { OnOk result (members.new ≡ put name.now (spec_text text.now) members.old) }
+{
+    let value = Value::Text(Text::of(alloc, text)?);
+    put_member(alloc, members, name, value)
+}
+
+fn texts_value(alloc: Global, texts: &[Text]) -> Result<Value, NoMemory>
+    ensures { IfOk result (λ value. data_of value ≡ world.text_list texts.now) }
+{
+    let mut values = Values::new(alloc);
+    for text in texts {
+        values.push(Value::Text(text.clone()?))?;
+    }
+    Ok(Value::List(values))
+}
+
+fn paths_value(alloc: Global, paths: &[Path]) -> Result<Value, NoMemory>
+    ensures { IfOk result (λ value. data_of value ≡ world.path_list paths.now) }
+{
+    let mut values = Values::new(alloc);
+    for path in paths {
+        values.push(texts_value(alloc, path.as_slice())?)?;
+    }
+    Ok(Value::List(values))
+}
+
+fn text_or_null(text: &Option<Text>) -> Result<Value, NoMemory>
+    ensures { IfOk result (λ value. data_of value ≡ world.text_or_null text.now) }
+{
+    match text {
+        Some(text) => Ok(Value::Text(text.clone()?)),
+        None => Ok(Value::Null),
+    }
+}
+
+fn metadata_value(alloc: Global) -> Result<Value, NoMemory>
+    ensures { IfOk result (λ value. data_of value ≡ object (entry (codes "@collection") (spec_text (codes "@indexes")) no_entries)) }
+{
+    let mut metadata = Members::new(alloc);
+    put_text(alloc, &mut metadata, "@collection", "@indexes")?;
+    Ok(Value::Map(metadata))
+}
+
+fn put_static(
+    alloc: Global,
+    members: &mut Members,
+    map: &Text,
+    reduce: &Option<Text>,
+) -> Result<(), NoMemory>
+    ensures { OnOk result (members.new ≡ put (codes "Reduce") (world.text_or_null reduce.now) (put (codes "Map") (spec_text map.now) (put (codes "Kind") (spec_text (codes "static")) members.old))) }
+{
+    put_text(alloc, members, "Kind", "static")?;
+    put_text(alloc, members, "Map", map.as_str())?;
+    put_member(alloc, members, "Reduce", text_or_null(reduce)?)
+}
+
+fn put_auto(
+    alloc: Global,
+    members: &mut Members,
+    collection: &Text,
+    fields: &[Path],
+) -> Result<(), NoMemory>
+    ensures { OnOk result (members.new ≡ put (codes "Kind") (spec_text (codes "auto")) (put (codes "Fields") (world.path_list fields.now) (put (codes "Collection") (spec_text collection.now) members.old))) }
+{
+    put_text(alloc, members, "Collection", collection.as_str())?;
+    put_member(alloc, members, "Fields", paths_value(alloc, fields)?)?;
+    put_text(alloc, members, "Kind", "auto")
+}
+
+fn put_body(alloc: Global, members: &mut Members, body: &DefBody) -> Result<(), NoMemory>
+    ensures { OnOk result (members.new ≡ put_members (world.definition_members (definition_view body.now)) members.old) }
+{
+    match body {
+        DefBody::Static {
+            map_text,
+            reduce_text,
+            ..
+        } => put_static(alloc, members, map_text, reduce_text),
+        DefBody::Auto { collection, fields } => {
+            put_auto(alloc, members, collection, fields.as_slice())
+        }
+    }
+}
+
+/// What is shown of a definition.
+pub fn definition_value(alloc: Global, definition: &Definition) -> Result<Value, NoMemory>
+    ensures { IfOk result (λ value. data_of value ≡ world.definition_data (definition_view definition.now.body)) }
+{
+    let mut members = Members::new(alloc);
+    put_body(alloc, &mut members, &definition.body)?;
+    Ok(Value::Map(members))
+}
+
+/// The body by which a definition is put into the collection `@indexes`.
+pub fn row_body(alloc: Global, definition: &Definition) -> Result<Value, NoMemory>
+    ensures { IfOk result (λ value. data_of value ≡ world.row_body (definition_view definition.now.body)) }
+{
+    let mut members = Members::new(alloc);
+    put_member(alloc, &mut members, "@metadata", metadata_value(alloc)?)?;
+    put_body(alloc, &mut members, &definition.body)?;
+    Ok(Value::Map(members))
+}

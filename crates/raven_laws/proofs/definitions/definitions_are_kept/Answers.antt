@@ -1,0 +1,5 @@
+use Rattle.raven_laws.proofs.DefinitionLemmas.{define-answered}
+use Rattle.raven_laws.proofs.definitions.definitions_are_kept.Goals as goal
+
+pub returns : goal.returns
+returns c = define-answered

@@ -1,0 +1,4 @@
+pub mod Says
+pub mod Lines
+pub mod Openings
+pub mod Bodies

@@ -1,0 +1,31 @@
+//! The laws of what is read, each the contract of a function without a body.
+
+ghost use Rattle.std.specs.Prelude.{◌≡◌, ℕ, List, Ok, Result};
+ghost use Rattle.raven_data.specs.Kept.{KeptRow};
+ghost use Rattle.raven_data.specs.Rows.{Row};
+ghost use Rattle.raven_model.specs.Commit.{Setting};
+ghost use Rattle.raven_model.specs.Kept.{OpenedFrom};
+ghost use Rattle.raven_model.specs.Language.{LangRefusal};
+ghost use Rattle.raven_model.specs.Machine.{Machine};
+ghost use Rattle.raven_model.specs.Mapping.{Definition};
+ghost use Rattle.raven_model.specs.Script.{LineRead};
+ghost use Rattle.raven_reading.specs.Lines.{IsLine};
+ghost use Rattle.raven_reading.specs.Openings.{IsOpened, Opens};
+ghost use Rattle.raven_reading.specs.Says.{Says};
+
+/// A text says one definition, or is refused for one cause, and not both.
+pub fn texts_say_one_thing()
+    ensures { (map : List ℕ) (a b : Result Definition LangRefusal) → Says map a → Says map b → a ≡ b }
+{}
+
+/// A line comes to one thing.
+pub fn lines_come_to_one_thing()
+    ensures { (line : List ℕ) (a b : LineRead) → IsLine line a → IsLine line b → a ≡ b }
+{}
+
+/// What a keeper holds opens to one database, or one row is told as the first that is of no form, and not both.
+pub fn rows_open_one_way()
+    ensures rows { (s : Setting) (rows : List Row) (a b : Result Machine ℕ) → Opens s rows a → Opens s rows b → a ≡ b }
+    ensures held { (s : Setting) (held : List KeptRow) (a b : Result Machine ℕ) → IsOpened s held a → IsOpened s held b → a ≡ b }
+    ensures some { (s : Setting) (held : List KeptRow) (M : Machine) → IsOpened s held (Ok M) → OpenedFrom s held M }
+{}

@@ -1,0 +1,93 @@
+-- What is answered of lines.
+use Rattle.std.proofs.Common.{◌≡◌, ℕ, List, Option, Some, None, Result, Ok, Err, refl, sym, ap, ◌∙◌, subst}
+use Rattle.std.specs.Prelude.{option_map}
+use Rattle.index_lang.specs.DefinitionView.{definition_view}
+use Rattle.index_lang.specs.Parse.{IsParsed}
+use Rattle.index_lang.specs.RefusalView.{refusal_view}
+use Rattle.index_lang.specs.declared.definition.Definition as program
+use Rattle.index_lang.specs.declared.refusal.Part.{Part}
+use Rattle.index_lang.specs.declared.refusal.LangKind.{LangKind}
+use Rattle.index_lang.specs.declared.refusal.LangRefusal.TheVariants.{At}
+use Rattle.raven_model.specs.Machine.{Define}
+use Rattle.raven_model.specs.Script.{Asked, Defining, Do, LineRead, Plain, asked_of, asked_to_define, defined_by}
+use Rattle.raven_model.specs.Script as read
+use Rattle.raven_reading.specs.Lines.{Comes}
+use Rattle.raven_script.specs.LineView.{Answers, IsReading}
+use Rattle.raven_value.specs.Refusal.{fault_in}
+use Rattle.raven_value.specs.declared.fault.IdRefusal.{IdRefusal}
+use Rattle.raven_data.specs.Faults.{Fault}
+use Rattle.raven_script.specs.RequestView.{IsBadId, IsBadName, Reads, Refuses, line_view}
+use Rattle.raven_script.proofs.Readings.{refused_on}
+use Rattle.raven_script.specs.declared.request.Line.{Line}
+use Rattle.raven_script.specs.declared.request.ReadRefusal.{ReadRefusal}
+use Rattle.raven_script.specs.declared.request.ReadRefusal.TheVariants as refusal
+
+-- a reading is an answer, also of want of memory
+reading : (asked : Asked) (result : Result (Option Line) ReadRefusal) → IsReading asked result → Answers asked result
+reading asked (Ok found) h = h
+reading asked (Err refusal.UnknownLine) h = h
+reading asked (Err refusal.NotJson) h = h
+reading asked (Err refusal.NumberNotWhole) h = h
+reading asked (Err refusal.TooDeep) h = h
+reading asked (Err (refusal.BadId why)) h = h
+reading asked (Err (refusal.BadName why)) h = h
+reading asked (Err (refusal.BadMember name)) h = h
+reading asked (Err (refusal.BadDefinition part at kind)) h = h
+reading asked (Err refusal.NoMemory) h = tt
+
+-- a line in which no text of a definition is read
+pub answers-plain : (told : LineRead) (result : Result (Option Line) ReadRefusal) → Reads (option_map line_view) result told → Answers (Plain told) result
+answers-plain told result h = reading (Plain told) result (record { read = told; comes = refl; told = h })
+
+-- what is read is not refused
+module _ (asked : Asked) (texts : List ℕ × List ℕ) where
+  no_id : (why : IdRefusal) (fault : Option Fault) → IsBadId fault (let r : Result (List ℕ × List ℕ) read.ReadRefusal = Ok texts in r) → Answers asked (Err (refusal.BadId why))
+  no_id why None h = absurd h
+  no_id why (Some fault) h = absurd cc
+
+  no_name : (why : IdRefusal) (fault : Option Fault) → IsBadName fault (let r : Result (List ℕ × List ℕ) read.ReadRefusal = Ok texts in r) → Answers asked (Err (refusal.BadName why))
+  no_name why None h = absurd h
+  no_name why (Some fault) h = absurd cc
+
+  not_refused : (why : ReadRefusal) → Refuses why (let r : Result (List ℕ × List ℕ) read.ReadRefusal = Ok texts in r) → Answers asked (Err why)
+  not_refused refusal.UnknownLine h = absurd cc
+  not_refused refusal.NotJson h = absurd cc
+  not_refused refusal.NumberNotWhole h = absurd cc
+  not_refused refusal.TooDeep h = absurd cc
+  not_refused (refusal.BadId why) h = no_id why (fault_in why) h
+  not_refused (refusal.BadName why) h = no_name why (fault_in why) h
+  not_refused (refusal.BadMember name) h = absurd cc
+  not_refused (refusal.BadDefinition part at kind) h = absurd cc
+  not_refused refusal.NoMemory h = tt
+
+-- the texts of the definition are not found
+pub answers-unread : (texts : Result (List ℕ × List ℕ) read.ReadRefusal) (why : ReadRefusal) → Refuses why texts → Answers (asked_to_define texts) (Err why)
+answers-unread (Ok texts) why h = not_refused (Defining texts.0 texts.1) texts why h
+answers-unread (Err told) why h = answers-plain (Err told) (Err why) (refused_on why (Err told) (λ texts. Ok None) h)
+
+-- the text says a definition
+pub answers-defined : (name map : List ℕ) (definition : program.Definition) (found : Option Line) → IsParsed name map None (Ok definition) → option_map line_view found ≡ Some (Do (Define name (definition_view definition.body)))
+    → Answers (Defining name map) (Ok found)
+answers-defined name map definition found parsed is = record {
+  read = defined_by name (Ok (definition_view definition.body));
+  comes = record { answer = Ok (definition_view definition.body); says = record { name = name; definition = definition; given = parsed; seen = refl }; read = refl };
+  told = ap Ok (sym is);
+}
+
+-- the text is refused
+pub answers-refused : (name map : List ℕ) (part : Part) (at : ℕ) (kind : LangKind) → IsParsed name map None (Err (At part at kind)) → Answers (Defining name map) (Err (refusal.BadDefinition part at kind))
+answers-refused name map part at kind parsed = record {
+  read = Err (read.BadDefinition (refusal_view part at kind));
+  comes = record { answer = Err (refusal_view part at kind); says = record { name = name; part = part; at = at; kind = kind; given = parsed; seen = refl }; read = refl };
+  told = refl;
+}
+
+-- the texts of the definition are found
+pub answers-read : (name map : List ℕ) (texts : Result (List ℕ × List ℕ) read.ReadRefusal) (result : Result (Option Line) ReadRefusal) → texts ≡ Ok (name, map) → Answers (Defining name map) result → Answers (asked_to_define texts) result
+answers-read name map texts result is h = subst (λ t. Answers (asked_to_define t) result) (sym is) h
+
+-- the line is one whose first word is `INDEX`, or it is none
+pub answers-asked : (line : List ℕ) (asked : Asked) (result : Result (Option Line) ReadRefusal) → asked_of line ≡ asked → Answers asked result → Answers (asked_of line) result
+answers-asked line asked result is h = subst (λ a. Answers a result) (sym is) h
+
+pub ruleset answering = (answers-plain, answers-unread, answers-defined, answers-refused, answers-read, answers-asked)

@@ -1,0 +1,24 @@
+-- What is answered of a line that may hold the text of a definition.
+use Rattle.std.specs.Prelude.{◌≡◌, ℕ, List, Option, Some, None, option_map, Result, Ok, Err}
+use Rattle.raven_model.specs.Script.{Asked, LineRead, Plain, asked_of, asked_to_define, index_of, line_of}
+use Rattle.raven_reading.specs.Lines.{Comes}
+use Rattle.raven_script.specs.RequestView.{Reads, line_view}
+use Rattle.raven_script.specs.declared.request.Line.{Line}
+use Rattle.raven_script.specs.declared.request.ReadRefusal.{ReadRefusal}
+use Rattle.raven_script.specs.declared.request.ReadRefusal.TheVariants as refusal
+
+-- one of the things to which the line comes is what was read, or its refusal
+pub record IsReading (asked : Asked) (result : Result (Option Line) ReadRefusal) : Type 0 where
+  pub read : LineRead
+  pub comes : Comes asked read
+  pub told : Reads (option_map line_view) result read
+
+-- want of memory says nothing
+abbrev pub Answers : Asked → Result (Option Line) ReadRefusal → Type 0
+Answers asked (Err refusal.NoMemory) = Unit {0}
+Answers asked result = IsReading asked result
+
+-- what a line asks, by what stands behind its word `INDEX`, if it is such a line
+abbrev pub asked_behind : List ℕ → Option (List ℕ) → Asked
+asked_behind line None = Plain (line_of line)
+asked_behind line (Some rest) = asked_to_define (index_of rest)

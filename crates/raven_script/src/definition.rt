@@ -1,0 +1,147 @@
+//! The definition of an index, in JSON.
+ghost use Rattle.std.specs.Prelude.{◌≡◌, IfOk, option_map};
+ghost use Rattle.raven_data.specs.Data.{entries_of};
+ghost use Rattle.raven_value.specs.View.{data_of};
+ghost use Rattle.raven_model.specs.Script.{Defining, asked_to_define, index_of as spec_index_of, map_member as spec_map_member, name_member as spec_name_member, reduce_member as spec_reduce_member, texts_in as spec_texts_in, texts_of_body as spec_texts_of_body};
+ghost use Rattle.raven_data.specs.Members.{member};
+ghost use Rattle.std.specs.Prelude.{Some, codes};
+ghost use Rattle.raven_script.specs.LineView.{Answers};
+ghost use Rattle.raven_script.specs.RequestView.{Reads};
+
+use crate::body::{bad_member, json_of, name_of};
+use crate::commands::member_of;
+use crate::request::{Line, ReadRefusal, Request};
+use index_lang::{Definition, LangRefusal, parse};
+use raven_base::NoMemory;
+use raven_reading::{only_item, text_in};
+use raven_value::{Members, Name, Text, Value};
+use std::alloc::Global;
+use std::sync::Arc;
+
+#[tactic(auto, using(crate::proofs::Readings::members))]
+fn name_member(alloc: Global, value: Option<&Value>) -> Result<Name, ReadRefusal>
+    ensures { Reads (λ name. name) result (spec_name_member (option_map (λ v. data_of v.now) value.entry)) }
+{
+    match value {
+        Some(Value::Text(text)) => name_of(alloc, text.as_str()),
+        _ => Err(bad_member(alloc, "Name")),
+    }
+}
+
+fn copy(text: &Text) -> Result<Text, NoMemory>
+    ensures { IfOk result (λ copy. copy ≡ text.now) }
+{
+    Ok(text.clone()?)
+}
+
+fn share(alloc: Global, definition: Definition) -> Result<Arc<Definition>, NoMemory>
+    ensures { IfOk result (λ shared. shared.value ≡ definition) }
+{
+    Ok(Arc::new(alloc, definition)?)
+}
+
+// The text of a list of one.
+#[tactic(auto, using(crate::proofs::Maps::maps))]
+fn only_text(alloc: Global, maps: &Value, map: Option<&Value>) -> Result<Text, ReadRefusal>
+    ensures { Reads (λ text. text) result (spec_map_member (Some (data_of maps.now)) (option_map (λ v. data_of v.now) map.entry)) }
+{
+    match text_in(only_item(Some(maps))) {
+        Some(text) => Ok(copy(text)?),
+        None => Err(bad_member(alloc, "Maps")),
+    }
+}
+
+#[tactic(auto, using(crate::proofs::Readings::members))]
+fn map_member(alloc: Global, maps: Option<&Value>, map: Option<&Value>) -> Result<Text, ReadRefusal>
+    ensures { Reads (λ text. text) result (spec_map_member (option_map (λ v. data_of v.now) maps.entry) (option_map (λ v. data_of v.now) map.entry)) }
+{
+    if let Some(maps) = maps {
+        return only_text(alloc, maps, map);
+    }
+    match map {
+        Some(Value::Text(text)) => Ok(copy(text)?),
+        Some(_) => Err(bad_member(alloc, "Map")),
+        None => Err(bad_member(alloc, "Maps")),
+    }
+}
+
+// That there is no reduce. Definitions with one are not built yet.
+#[tactic(auto, using(crate::proofs::Readings::members))]
+fn no_reduce(alloc: Global, reduce: Option<&Value>) -> Result<(), ReadRefusal>
+    ensures { Reads (λ u. u) result (spec_reduce_member (option_map (λ v. data_of v.now) reduce.entry) tt) }
+{
+    match reduce {
+        None | Some(Value::Null) => Ok(()),
+        Some(Value::Text(_)) => Err(ReadRefusal::UnknownLine),
+        Some(_) => Err(bad_member(alloc, "Reduce")),
+    }
+}
+
+#[tactic(auto, using(crate::proofs::Readings::readings))]
+fn texts_in(alloc: Global, members: &Members) -> Result<(Name, Text), ReadRefusal>
+    ensures { Reads (λ texts. (texts.0, texts.1)) result (spec_texts_in (entries_of members.now)) }
+{
+    let name = match name_member(alloc, member_of(alloc, members, "Name")?) {
+        Ok(name) => name,
+        Err(refusal) => return Err(refusal),
+    };
+    let maps = member_of(alloc, members, "Maps")?;
+    let map = match map_member(alloc, maps, member_of(alloc, members, "Map")?) {
+        Ok(map) => map,
+        Err(refusal) => return Err(refusal),
+    };
+    match no_reduce(alloc, member_of(alloc, members, "Reduce")?) {
+        Ok(()) => Ok((name, map)),
+        Err(refusal) => Err(refusal),
+    }
+}
+
+#[tactic(auto, using(crate::proofs::Readings::members))]
+fn texts_of_body(alloc: Global, value: &Value) -> Result<(Name, Text), ReadRefusal>
+    ensures { Reads (λ texts. (texts.0, texts.1)) result (spec_texts_of_body (data_of value.now)) }
+{
+    match value {
+        Value::Map(members) => texts_in(alloc, members),
+        _ => Err(bad_member(alloc, "body")),
+    }
+}
+
+// The name of the index and the text of its map.
+#[tactic(auto, using(crate::proofs::Readings::readings))]
+fn texts_of(alloc: Global, text: &str) -> Result<(Name, Text), ReadRefusal>
+    ensures { Reads (λ texts. (texts.0, texts.1)) result (spec_index_of text.now) }
+{
+    let value = match json_of(alloc, text) {
+        Ok(value) => value,
+        Err(refusal) => return Err(refusal),
+    };
+    texts_of_body(alloc, &value)
+}
+
+// What the text of a map says.
+#[tactic(auto, using(crate::proofs::Answering::answering))]
+fn defined(alloc: Global, name: Name, map: &Text) -> Result<Option<Line>, ReadRefusal>
+    ensures { Answers (Defining name map.now) result }
+{
+    match parse(alloc, name, map.as_str(), None) {
+        Ok(definition) => {
+            let definition = share(alloc, definition)?;
+            Ok(Some(Line::Do(Request::Define { definition })))
+        }
+        Err(LangRefusal::At { part, at, kind }) => {
+            Err(ReadRefusal::BadDefinition { part, at, kind })
+        }
+        Err(LangRefusal::NoMemory) => Err(ReadRefusal::NoMemory),
+    }
+}
+
+/// What is asked by this JSON of a definition.
+#[tactic(auto, using(crate::proofs::Answering::answering))]
+pub fn index(alloc: Global, text: &str) -> Result<Option<Line>, ReadRefusal>
+    ensures { Answers (asked_to_define (spec_index_of text.now)) result }
+{
+    match texts_of(alloc, text) {
+        Ok((name, map)) => defined(alloc, name, &map),
+        Err(refusal) => Err(refusal),
+    }
+}
