@@ -22,11 +22,12 @@ done
 cp "$here/main.txt" "$scratch/crates/index_bench/src/main.rt"
 echo "index_bench: $needed $ported anyhow" >> "$scratch/crates.txt"
 [ -d "$scratch/.git" ] || git init -q "$scratch"
-(cd "$scratch/crates/index_bench" && rt run -- parse 100 > "$scratch/build.log" 2>&1) || { tail -20 "$scratch/build.log"; exit 1; }
+(cd "$scratch/crates/index_bench" && rt run -- parse mixed > "$scratch/build.log" 2>&1) || { tail -20 "$scratch/build.log"; exit 1; }
 bench=$scratch/crates/index_bench/out/index_bench
 echo "processors: $(nproc), $(sed -n 's/^model name[^:]*: //p' /proc/cpuinfo | head -1)"
-"$bench" parse 100
-"$bench" parse 60000
+for kind in mixed sums long; do
+    "$bench" parse "$kind"
+done
 for map in names prices months; do
     "$bench" map "$map" 10000
 done
