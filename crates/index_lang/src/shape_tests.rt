@@ -77,30 +77,65 @@ fn parsed(alloc: Global, map: &str, reduce: Option<&str>) -> Result<Definition, 
     }
 }
 
-fn two_fields(alloc: Global) -> Result<Definition, Fail> {
+fn two_paths(alloc: Global) -> Result<Paths, Fail> {
     let mut longer = Path::of(alloc, Text::of(alloc, "b")?)?;
     longer.push(Text::of(alloc, "c")?)?;
     let mut paths = Paths::new(alloc);
     paths.push(Path::of(alloc, Text::of(alloc, "a")?)?)?;
     paths.push(longer)?;
-    Ok(Definition {
-        name: Name::new(alloc, "N")?,
-        body: DefBody::Auto {
-            collection: Text::of(alloc, "Users")?,
-            fields: paths,
-        },
-    })
+    Ok(paths)
+}
+
+fn automatic(name: Name, collection: Text, fields: Paths) -> Definition {
+    Definition {
+        name,
+        body: DefBody::Auto { collection, fields },
+    }
+}
+
+fn two_fields(alloc: Global) -> Result<Definition, Fail> {
+    let paths = two_paths(alloc)?;
+    let collection = Text::of(alloc, "Users")?;
+    Ok(automatic(Name::new(alloc, "N")?, collection, paths))
 }
 
 fn one_field(alloc: Global, field: &str) -> Result<Definition, Fail> {
     let collection = Text::of(alloc, "Users")?;
-    let field = Text::of(alloc, field)?;
-    Ok(auto_definition(
-        alloc,
-        Name::new(alloc, field.as_str())?,
-        &collection,
-        &field,
-    )?)
+    let text = Text::of(alloc, field)?;
+    let name = Name::new(alloc, field)?;
+    Ok(auto_definition(alloc, name, &collection, &text)?)
+}
+
+fn is_kept_as(
+    alloc: Global,
+    definition: &Definition,
+    shown: &Value,
+    row: &Value,
+) -> Result<bool, Fail> {
+    Ok(definition_value(alloc, definition)? == *shown && row_body(alloc, definition)? == *row)
+}
+
+fn is_static_kept(alloc: Global, reduce: Option<&str>) -> Result<bool, Fail> {
+    let shown = static_value(alloc, Members::new(alloc), reduce)?;
+    let row = static_value(alloc, with_metadata(alloc)?, reduce)?;
+    let definition = parsed(alloc, MAP, reduce)?;
+    is_kept_as(alloc, &definition, &shown, &row)
+}
+
+fn are_fields_kept(alloc: Global) -> Result<bool, Fail> {
+    let shown = auto_value(alloc, Members::new(alloc))?;
+    let row = auto_value(alloc, with_metadata(alloc)?)?;
+    let definition = two_fields(alloc)?;
+    is_kept_as(alloc, &definition, &shown, &row)
+}
+
+#[test]
+fn definitions_are_kept_as_what_they_say(rt: HostRuntime) -> Result<(), Fail> {
+    let alloc = rt.alloc();
+    assert_eq!(rt; is_static_kept(alloc, None)?, true);
+    assert_eq!(rt; is_static_kept(alloc, Some(REDUCE))?, true);
+    assert_eq!(rt; are_fields_kept(alloc)?, true);
+    Ok(())
 }
 
 fn words(alloc: Global, texts: &Texts) -> Result<String, Fail> {
@@ -112,83 +147,59 @@ fn words(alloc: Global, texts: &Texts) -> Result<String, Fail> {
     Ok(words)
 }
 
-#[test]
-fn static_definitions_are_kept_as_their_texts(rt: HostRuntime) -> Result<(), Fail> {
-    let alloc = rt.alloc();
-    for reduce in [None, Some(REDUCE)] {
-        let definition = parsed(alloc, MAP, reduce)?;
-        assert_eq!(rt;
-            definition_value(alloc, &definition)?,
-            static_value(alloc, Members::new(alloc), reduce)?
-        );
-        assert_eq!(rt;
-            row_body(alloc, &definition)?,
-            static_value(alloc, with_metadata(alloc)?, reduce)?
-        );
-    }
-    Ok(())
+// The collections that are read, and the fields that are given.
+fn told(alloc: Global, definition: &Definition) -> Result<String, Fail> {
+    let read = words(alloc, &scope(alloc, definition)?)?;
+    let given = words(alloc, &fields(alloc, definition)?)?;
+    Ok(format!(in alloc; "{read} {given}")?)
 }
 
-#[test]
-fn automatic_definitions_are_kept_as_their_fields(rt: HostRuntime) -> Result<(), Fail> {
-    let alloc = rt.alloc();
+fn static_told(alloc: Global) -> Result<String, Fail> {
+    let definition = parsed(alloc, MAP, None)?;
+    told(alloc, &definition)
+}
+
+fn fields_told(alloc: Global) -> Result<String, Fail> {
     let definition = two_fields(alloc)?;
-    assert_eq!(rt;
-        definition_value(alloc, &definition)?,
-        auto_value(alloc, Members::new(alloc))?
-    );
-    assert_eq!(rt;
-        row_body(alloc, &definition)?,
-        auto_value(alloc, with_metadata(alloc)?)?
-    );
-    Ok(())
+    told(alloc, &definition)
 }
 
 #[test]
 fn what_is_read_and_given(rt: HostRuntime) -> Result<(), Fail> {
     let alloc = rt.alloc();
-    let cases = [
-        (
-            parsed(alloc, MAP, None)?,
-            "Orders;Companies;",
-            "A;Company;Total;",
-        ),
-        (two_fields(alloc)?, "Users;", "a;b.c;"),
-        (one_field(alloc, "Name")?, "Users;", "Name;"),
-    ];
-    for (definition, read, given) in cases {
-        assert_eq!(rt; words(alloc, &scope(alloc, &definition)?)?.as_str(), read);
-        assert_eq!(rt; words(alloc, &fields(alloc, &definition)?)?.as_str(), given);
-    }
+    assert_eq!(rt;
+        static_told(alloc)?.as_str(),
+        "Orders;Companies; A;Company;Total;"
+    );
+    assert_eq!(rt; fields_told(alloc)?.as_str(), "Users; a;b.c;");
     Ok(())
+}
+
+fn same_static(alloc: Global, map: &str, reduce: Option<&str>) -> Result<bool, Fail> {
+    let one = parsed(alloc, MAP, None)?;
+    let other = parsed(alloc, map, reduce)?;
+    Ok(same(&one, &other))
+}
+
+fn same_fields(alloc: Global, field: &str) -> Result<bool, Fail> {
+    let one = one_field(alloc, "a")?;
+    let other = one_field(alloc, field)?;
+    Ok(same(&one, &other))
+}
+
+fn same_kinds(alloc: Global) -> Result<bool, Fail> {
+    let one = one_field(alloc, "a")?;
+    let other = parsed(alloc, MAP, None)?;
+    Ok(same(&one, &other) || same(&other, &one))
 }
 
 #[test]
 fn definitions_are_the_same_where_they_say_the_same(rt: HostRuntime) -> Result<(), Fail> {
     let alloc = rt.alloc();
-    let cases = [
-        (
-            parsed(alloc, MAP, None)?,
-            parsed(alloc, SPACED, None)?,
-            true,
-        ),
-        (
-            parsed(alloc, MAP, None)?,
-            parsed(alloc, MAP, Some(REDUCE))?,
-            false,
-        ),
-        (
-            parsed(alloc, MAP, None)?,
-            one_field(alloc, "Company")?,
-            false,
-        ),
-        (one_field(alloc, "a")?, one_field(alloc, "a")?, true),
-        (one_field(alloc, "a")?, one_field(alloc, "A")?, false),
-        (one_field(alloc, "a")?, two_fields(alloc)?, false),
-    ];
-    for (one, other, expected) in cases {
-        assert_eq!(rt; same(&one, &other), expected);
-        assert_eq!(rt; same(&other, &one), expected);
-    }
+    assert_eq!(rt; same_static(alloc, SPACED, None)?, true);
+    assert_eq!(rt; same_static(alloc, MAP, Some(REDUCE))?, false);
+    assert_eq!(rt; same_fields(alloc, "a")?, true);
+    assert_eq!(rt; same_fields(alloc, "A")?, false);
+    assert_eq!(rt; same_kinds(alloc)?, false);
     Ok(())
 }
