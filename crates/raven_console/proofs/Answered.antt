@@ -1,15 +1,12 @@
 -- What is written for a line, and what it leaves, by what it comes to.
-use Rattle.std.proofs.Common.{◌≡◌, ℕ, List, [], Bool, true, Option, Some, None, Result, Ok, Err, refl, sym, ap, ◌∙◌, subst}
+use Rattle.std.proofs.Common.{◌≡◌, ℕ, List, [], Bool, true, Option, Some, None, Result, Ok, Err, IfOk, refl, sym, ap, ◌∙◌, subst}
 use Rattle.std.specs.Prelude.{option_map}
 use Rattle.raven_data.specs.Faults.{Fault}
 use Rattle.raven_data.specs.Rows.{Row}
 use Rattle.raven_model.specs.Machine.{Machine, Request, change_of, step}
 use Rattle.raven_model.specs.Replies.{Reply, printed}
-use Rattle.raven_model.specs.Script.{Circumstance, Do, LineRead, ReadRefusal, asked_of, after_line, fault_reply, left_by, refusal_reply, reply_to, written_for}
-use Rattle.raven_model.specs.Script as read
+use Rattle.raven_model.specs.Script.{BadId, BadName, Circumstance, Do, LineRead, ReadRefusal, asked_of, after_line, fault_reply, left_by, refusal_reply, reply_to, written_for}
 use Rattle.raven_reading.specs.Lines.{IsLine}
-use Rattle.raven_value.specs.Refusal.{fault_in}
-use Rattle.raven_value.specs.declared.refusal.IdRefusal.{IdRefusal}
 use Rattle.raven_script.specs.LineView.{Answers, IsReading}
 use Rattle.raven_script.specs.RequestView.{IsBadId, IsBadName, line_view}
 use Rattle.raven_script.specs.declared.request.Line.{Line}
@@ -21,13 +18,18 @@ use Rattle.raven_console.specs.Outside.{KeeperState, Asked, circumstance, given,
 pub refused_line : (line : List ℕ) (read : LineRead) (refusal : ReadRefusal) (reply : Reply) → IsLine line read → read ≡ Err refusal → reply ≡ refusal_reply refusal → IsRefusedLine line reply
 refused_line line read refusal reply said is told = record { refusal = refusal; said = subst (IsLine line) is said; told = told }
 
-pub refused_id : (line : List ℕ) (read : LineRead) (fault : Option Fault) (reply : Reply) → IsLine line read → IsBadId fault read → ((f : Fault) → fault ≡ Some f → reply ≡ fault_reply f) → IsRefusedLine line reply
-refused_id line read None reply said h told = absurd h
-refused_id line read (Some f) reply said h told = refused_line line read (read.BadId f) reply said h (told f refl)
+pub refused_id : (line : List ℕ) (got : LineRead) (fault : Option Fault) (reply : Reply) → IsLine line got → IsBadId fault got → ((f : Fault) → fault ≡ Some f → reply ≡ fault_reply f) → IsRefusedLine line reply
+refused_id line got None reply said h told = absurd h
+refused_id line got (Some f) reply said h told = refused_line line got (BadId f) reply said h (told f refl)
 
-pub refused_name : (line : List ℕ) (read : LineRead) (fault : Option Fault) (reply : Reply) → IsLine line read → IsBadName fault read → ((f : Fault) → fault ≡ Some f → reply ≡ fault_reply f) → IsRefusedLine line reply
-refused_name line read None reply said h told = absurd h
-refused_name line read (Some f) reply said h told = refused_line line read (read.BadName f) reply said h (told f refl)
+pub refused_name : (line : List ℕ) (got : LineRead) (fault : Option Fault) (reply : Reply) → IsLine line got → IsBadName fault got → ((f : Fault) → fault ≡ Some f → reply ≡ fault_reply f) → IsRefusedLine line reply
+refused_name line got None reply said h told = absurd h
+refused_name line got (Some f) reply said h told = refused_line line got (BadName f) reply said h (told f refl)
+
+-- what holds of a result holds of it in other words
+pub if_ok : {T E : Type 0} (r : Result T E) (P Q : T → Type 0) → ((t : T) → P t → Q t) → IfOk r P → IfOk r Q
+if_ok (Ok t) P Q f h = f t h
+if_ok (Err e) P Q f h = tt
 
 -- ANSWERS
 

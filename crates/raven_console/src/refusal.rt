@@ -35,7 +35,8 @@ pub fn reply_to_refusal(refusal: ReadRefusal) -> Result<Reply, NoMemory>
         ReadRefusal::NotJson => Ok(Reply::NotJson),
         ReadRefusal::NumberNotWhole => Ok(Reply::NumberNotWhole),
         ReadRefusal::TooDeep => Ok(Reply::TooDeep),
-        ReadRefusal::BadId(refusal) | ReadRefusal::BadName(refusal) => reply_to_fault(refusal),
+        ReadRefusal::BadId(refusal) => reply_to_fault(refusal),
+        ReadRefusal::BadName(refusal) => reply_to_fault(refusal),
         ReadRefusal::BadMember { name } => Ok(Reply::BadMember { name }),
         ReadRefusal::BadDefinition { part, at, kind } => Ok(Reply::Lang {
             part,
