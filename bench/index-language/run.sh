@@ -5,9 +5,9 @@ set -eu
 here=$(cd "$(dirname "$0")" && pwd)
 top=$(cd "$here/../.." && pwd)
 scratch=${1:-$(mktemp -d /tmp/index_bench.XXXXXX)}
-needed="raven_base raven_data raven_value raven_json raven_model exact_parse index_tokens index_tree index_grammar index_parser reduce_grammar reduce_parser map_meaning index_lang map_stage"
+needed="raven_base raven_steps raven_data raven_value raven_json raven_model exact_parse index_tokens index_tree index_grammar index_parser reduce_grammar reduce_parser map_meaning index_lang map_stage"
 ported="serde_json json jiff_core jiff_fmt thiserror"
-mkdir -p "$scratch/crates/index_bench/src"
+mkdir -p "$scratch/crates/index_bench/src" "$scratch/crates/index_bench/proofs/time_mapping"
 : > "$scratch/crates.txt"
 for crate in $needed; do
     mkdir -p "$scratch/crates/$crate"
@@ -20,6 +20,7 @@ for crate in $needed; do
     grep "^$crate:" "$top/crates.txt" >> "$scratch/crates.txt"
 done
 cp "$here/main.txt" "$scratch/crates/index_bench/src/main.rt"
+cp "$here/time_mapping.antt.txt" "$scratch/crates/index_bench/proofs/time_mapping/Invariants.antt"
 echo "index_bench: $needed $ported anyhow" >> "$scratch/crates.txt"
 [ -d "$scratch/.git" ] || git init -q "$scratch"
 (cd "$scratch/crates/index_bench" && rt run -- parse mixed > "$scratch/build.log" 2>&1) || { tail -20 "$scratch/build.log"; exit 1; }

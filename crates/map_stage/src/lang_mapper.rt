@@ -7,8 +7,10 @@ use crate::lookup::Lookup;
 use crate::mapper::{Mapped, Mapper};
 use index_tree::MapQuery;
 use raven_base::NoMemory;
+use raven_steps::Steps;
 use raven_value::{Ids, Row};
 use std::alloc::Global;
+use std::sync::ledger::Ledger;
 
 /// The map that a query means.
 #[derive(Clone, Copy, Debug)]
@@ -19,7 +21,14 @@ pub struct LangMapper<'q> {
 impl<'q> Mapper for LangMapper<'q> {
     ghost meaning = { λ m d find. meaning.meaning m.query.now d find };
 
-    fn map<T: Lookup>(&self, alloc: Global, doc: &Row, rows: &T) -> Result<Mapped, NoMemory> {
+    fn map<T: Lookup, L: Ledger>(
+        &self,
+        alloc: Global,
+        doc: &Row,
+        rows: &T,
+        steps: &mut Steps<L>,
+    ) -> Result<Mapped, NoMemory> {
+        steps.map_done();
         let mut loads = Ids::new(alloc);
         let outcome = outcome_of(alloc, self.query, doc, rows, &mut loads)?;
         Ok(Mapped { outcome, loads })

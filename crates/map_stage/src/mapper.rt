@@ -3,12 +3,15 @@ ghost use Rattle.std.specs.Prelude.{◌≡◌, List, ℕ, IfOk};
 ghost use Rattle.raven_data.specs.Rows as is;
 ghost use Rattle.map_meaning.specs.Asking as asking;
 ghost use Rattle.map_meaning.specs.Meaning as meaning;
+ghost use Rattle.raven_steps.specs.Counts.{one_map_more};
 ghost use Rattle.map_stage.specs.MappedView.{mapped_view};
 
 use crate::lookup::Lookup;
 use raven_base::{NoMemory, Sequence};
+use raven_steps::Steps;
 use raven_value::{Ids, Row, Scalar, Text};
 use std::alloc::Global;
+use std::sync::ledger::Ledger;
 
 /// The fields of an entry with their names, in the order of the map's members.
 pub type Entry = Sequence<(Text, Scalar)>;
@@ -39,8 +42,17 @@ pub trait Mapper {
     ghost meaning: { Self → is.Row → asking.Lookup → meaning.Mapped };
 
     /// The result for a document. What is not a document is taken as null.
-    fn map<T: Lookup>(&self, alloc: Global, doc: &Row, rows: &T) -> Result<Mapped, NoMemory>
-        ensures { IfOk result (λ mapped. mapped_view mapped ≡ meaning self.now doc.now (T.rows rows.now)) };
+    ///
+    /// Each call counts one map, whatever comes of it, also where no memory was found. It does not count the rows that are looked up.
+    fn map<T: Lookup, L: Ledger>(
+        &self,
+        alloc: Global,
+        doc: &Row,
+        rows: &T,
+        steps: &mut Steps<L>,
+    ) -> Result<Mapped, NoMemory>
+        ensures mapped { IfOk result (λ mapped. mapped_view mapped ≡ meaning self.now doc.now (T.rows rows.now)) }
+        ensures counted { steps.new ≡ one_map_more steps.old };
 
     /// It hangs on the document and on what the lookups give, and on nothing else.
     ghost local: { (m : Self) (d : is.Row) (find other : asking.Lookup) → asking.AgreeAt (meaning m d find).loads find other → meaning m d other ≡ meaning m d find };

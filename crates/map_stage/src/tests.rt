@@ -1,4 +1,5 @@
 //! That what is defined is what is meant: operators, dates, conditions and loads, with results from the rules.
+ghost use Rattle.std.specs.Prelude.{◌≡◌, ◌≤◌};
 ghost use Rattle.std.specs.List.{find};
 ghost use Rattle.raven_data.specs.Folding.{folded, same_key};
 
@@ -7,8 +8,11 @@ use index_tree::{
     BinaryOp, Clause, Clauses, Expr, ExprKind, MapMember, MapMembers, MapQuery, UnaryOp,
 };
 use raven_base::NoMemory;
+use raven_steps::Steps;
 use raven_value::{Body, Document, Id, Members, Row, Scalar, Text, Value, Values};
 use std::alloc::Global;
+use std::marker::Brand;
+use std::sync::ledger::{Blank, Ledger};
 use std::test::Fail;
 
 #[derive(Drop)]
@@ -226,6 +230,21 @@ fn shown(alloc: Global, mapped: &Mapped) -> Result<String, NoMemory> {
     Ok(shown)
 }
 
+// What the query gives for the document. Nobody reads the counter.
+fn mapped<L: Ledger>(
+    alloc: Global,
+    query: &MapQuery,
+    doc: &Row,
+    table: &Table,
+    blank: Blank,
+) -> Result<Mapped, NoMemory>
+    requires name { blank.name ≡ L.name }
+    requires parts { blank.parts ≡ L.parts }
+    requires enough { 3 ≤ blank.parts }
+{
+    LangMapper { query }.map(alloc, doc, table, &mut Steps::<L>::new(blank))
+}
+
 fn result(alloc: Global, clauses: Clauses, value: Expr) -> Result<String, Fail> {
     let mut members = MapMembers::new(alloc);
     members.push(MapMember {
@@ -243,7 +262,7 @@ fn result(alloc: Global, clauses: Clauses, value: Expr) -> Result<String, Fail> 
     };
     table.rows.push(row(alloc, "companies/1", "Companies")?)?;
     let order = row(alloc, "orders/1", "Orders")?;
-    let mapped = LangMapper { query: &query }.map(alloc, &order, &table)?;
+    let mapped = mapped::<Brand>(alloc, &query, &order, &table, Blank::new(3))?;
     Ok(shown(alloc, &mapped)?)
 }
 
