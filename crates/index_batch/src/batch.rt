@@ -1,13 +1,21 @@
 //! Batches: how an index is brought on.
-ghost use Rattle.std.specs.Prelude.{◌≡◌, IfOk, cond};
-ghost use Rattle.raven_model.specs.Store.{last, last_of};
-ghost use Rattle.raven_model.specs.World.{batch};
+ghost use Rattle.std.specs.Prelude.{◌≡◌, IfOk, IfSome, cond, length};
+ghost use Rattle.raven_model.specs.Index.{note_rows, taken};
+ghost use Rattle.raven_model.specs.Mapping.{mapper_of, touched};
+ghost use Rattle.raven_model.specs.Sound.{Fits};
+ghost use Rattle.raven_model.specs.Store.{IsStore, last, last_of};
+ghost use Rattle.raven_model.specs.World.{batch, reads};
+ghost use Rattle.index_version.specs.Meaning.{Means};
+ghost use Rattle.index_version.specs.Renewed.{MapsAtMost, documents_among};
 
 use doc_store::{Store, last_etag};
-use index_version::{IndexVersion, share};
+use index_version::IndexVersion;
+use map_stage::Mapper;
 use raven_base::NoMemory;
+use raven_steps::Steps;
 use raven_value::Row;
 use std::alloc::Global;
+use std::sync::ledger::Ledger;
 
 fn etag_after(taken: &[Row], more: bool, store: &Store) -> u64
     ensures { result ≡ cond more (last_of 0 taken.now) (last store.now) }
@@ -17,13 +25,22 @@ fn etag_after(taken: &[Row], more: bool, store: &Store) -> u64
 
 /// The version after the first `max` rows that it has not seen, and nothing where there is none.
 /// Its etag is that of the last of them where more remain, and else the store's last.
-pub fn next(
+///
+/// The map is asked for the documents that these rows touch, each at most once, and for no others.
+pub fn next<M: Mapper, L: Ledger>(
     alloc: Global,
     version: &IndexVersion,
     store: &Store,
+    mapper: &M,
     max: u32,
+    steps: &mut Steps<L>,
 ) -> Result<Option<IndexVersion>, NoMemory>
-    ensures { IfOk result (λ next. next ≡ batch version.now store.now max) }
+    requires sound { IsStore store.now }
+    requires fits { Fits store.now version.now }
+    requires means { Means (M.meaning mapper.now) version.now.definition }
+    ensures next { IfOk result (λ next. next ≡ batch version.now store.now max) }
+    ensures fits { IfOk result (λ next. IfSome next (λ new. Fits store.now new)) }
+    ensures maps { let rows = taken (reads version.now) version.now.etag store.now max in MapsAtMost (length (documents_among (note_rows version.now.table rows) (touched (mapper_of version.now.definition) version.now.table rows))) steps.old steps.new }
 {
     let scope = version.scope(alloc)?;
     let (taken, more) = store.rows_after(alloc, version.etag(), &scope, max)?;
@@ -31,7 +48,6 @@ pub fn next(
         return Ok(None);
     }
     let etag = etag_after(taken.as_slice(), more, store);
-    let table = version.table().after(alloc, taken.as_slice())?;
-    let next = IndexVersion::over(alloc, share(version.definition())?, etag, table)?;
+    let next = version.after(alloc, taken.as_slice(), etag, mapper, steps)?;
     Ok(Some(next))
 }

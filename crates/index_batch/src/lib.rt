@@ -4,3 +4,6 @@
 mod batch;
 
 pub use batch::next;
+
+#[cfg(test)]
+mod tests;

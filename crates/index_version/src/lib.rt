@@ -1,12 +1,16 @@
-//! An index as far as it has come: its definition, the documents that it has recorded, and the entries that its map gives.
+//! An index as far as it has come: its definition, the documents that it has recorded, and what its map gives for each.
 #![tactic(auto)]
 
-mod entry;
+mod given;
+mod kept;
 mod mapping;
+mod renewal;
 mod sharing;
 mod table;
+mod touched;
 mod version;
 
+pub use mapping::DefinitionMapper;
 pub use sharing::share;
 pub use table::{Table, is_document};
 pub use version::IndexVersion;

@@ -1,10 +1,17 @@
 //! That memory suffices for an index, over documents whose entries are worked out by hand from the rules of the language.
-use crate::{IndexVersion, Table};
+ghost use Rattle.std.specs.Prelude.{◌≡◌, ◌≤◌};
+ghost use Rattle.std.specs.FinMap.{empty};
+
+use crate::{DefinitionMapper, IndexVersion};
 use index_lang::{Definition, auto_definition, parse};
+use raven_base::NoMemory;
 use raven_json::read;
+use raven_steps::Steps;
 use raven_value::{Body, Document, Id, Ids, Name, Row, Rows, Text};
 use std::alloc::Global;
+use std::marker::Brand;
 use std::sync::Arc;
+use std::sync::ledger::{Blank, Ledger};
 use std::test::Fail;
 
 // The ids are not in order here, and the last row takes a document out.
@@ -56,17 +63,38 @@ fn row(alloc: Global, etag: u64, id: &str, collection: &str, json: &str) -> Resu
     })
 }
 
-fn table(alloc: Global) -> Result<Table, Fail> {
+fn rows(alloc: Global) -> Result<Rows, Fail> {
     let mut rows = Rows::new(alloc);
     for (id, collection, json) in DOCUMENTS {
         rows.push(row(alloc, 1, id, collection, json)?)?;
     }
-    Ok(Table::new(alloc).after(alloc, rows.as_slice())?)
+    Ok(rows)
+}
+
+// The version that has taken all rows at once.
+fn over_all<L: Ledger>(
+    alloc: Global,
+    version: &IndexVersion,
+    rows: &Rows,
+    blank: Blank,
+) -> Result<IndexVersion, NoMemory>
+    requires new { version.now.table ≡ empty }
+    requires name { blank.name ≡ L.name }
+    requires parts { blank.parts ≡ L.parts }
+    requires enough { 3 ≤ blank.parts }
+{
+    let mapper = DefinitionMapper {
+        definition: version.definition(),
+    };
+    let mut steps = Steps::<L>::new(blank);
+    version.after(alloc, rows.as_slice(), 9, &mapper, &mut steps)
 }
 
 fn version(alloc: Global, definition: Definition) -> Result<IndexVersion, Fail> {
     let definition = Arc::new(alloc, definition)?;
-    Ok(IndexVersion::over(alloc, definition, 9, table(alloc)?)?)
+    let fresh = IndexVersion::fresh(alloc, definition)?;
+    let rows = rows(alloc)?;
+    Ok(over_all::<Brand>(alloc, &fresh, &rows, Blank::new(3))?)
 }
 
 fn static_version(alloc: Global, map: &str) -> Result<IndexVersion, Fail> {

@@ -1,37 +1,45 @@
 //! How far an index has come.
 ghost use Rattle.std.specs.Prelude.{◌≡◌, IfOk, length};
-ghost use Rattle.std.specs.FinMap.{empty};
-ghost use Rattle.raven_model.specs.Machine.{found, found_in};
-ghost use Rattle.raven_model.specs.Mapping.{failures, mapper_of, scratch};
+ghost use Rattle.raven_model.specs.Index.{note_rows};
+ghost use Rattle.raven_model.specs.Machine.{found_in};
+ghost use Rattle.raven_model.specs.Mapping.{failures, mapper_of, scratch, touched};
 ghost use Rattle.raven_model.specs.World.{fresh, reads};
 ghost use Rattle.index_lang.specs.DefinitionView.{definition_view};
+ghost use Rattle.index_version.specs.Meaning.{Means};
+ghost use Rattle.index_version.specs.Renewed.{GiveTheSame, MapsAtMost, documents_among};
 
-use crate::entry::Entry;
-use crate::mapping::{Results, results_of};
+use crate::kept::Kept;
+use crate::mapping::mapped_collection;
+use crate::renewal::renewed;
+use crate::sharing::share;
 use crate::table::Table;
+use crate::touched::touched_ids;
 use index_lang::{Definition, scope};
+use map_stage::Mapper;
 use raven_base::NoMemory;
-use raven_value::{Id, Ids, Scope};
+use raven_steps::Steps;
+use raven_value::{Ids, Row, Scope};
 use std::alloc::Global;
 use std::marker::Model;
 use std::sync::Arc;
+use std::sync::ledger::Ledger;
 
 /// An index as far as it has come, seen by contracts as its definition, its etag and the documents that it has recorded.
-/// The entries that it keeps are those that its map gives over these documents from scratch, and the errors those that fail there.
+/// Its entries are those that its map gives over these documents from scratch, and its errors those that fail there.
 #[derive(Drop)]
 pub struct IndexVersion {
     definition: Arc<Definition>,
     etag: u64,
     table: Table,
-    entries: Vec<Entry>,
-    errors: usize,
+    kept: Kept,
 }
 
 impl Model for IndexVersion {
-    ghost use Rattle.std.specs.Prelude.{◌≡◌};
     ghost use Rattle.raven_model.specs.World as world;
     ghost use Rattle.raven_model.specs.Codes.{version_code};
-    ghost use Rattle.raven_model.specs.Mapping.{failures, mapper_of, scratch};
+    ghost use Rattle.raven_model.specs.Mapping.{mapper_of};
+    ghost use Rattle.index_version.specs.Folded.{by_folded};
+    ghost use Rattle.index_version.specs.Kept.{AreKept};
 
     ghost Value = { world.Version };
 
@@ -41,34 +49,52 @@ impl Model for IndexVersion {
 
     ghost view = { λ a. record { definition = definition_view a.definition.value.body; etag = a.etag; table = a.table } };
 
-    ghost invariant = { λ a. (a.entries.items ≡ scratch (mapper_of (definition_view a.definition.value.body)) a.table) × (a.errors ≡ failures (mapper_of (definition_view a.definition.value.body)) a.table) };
+    ghost invariant = { λ a. AreKept (mapper_of (definition_view a.definition.value.body)) a.table (by_folded a.kept.given) a.kept.referrers };
 }
 
 impl IndexVersion {
-    /// The index that has recorded these documents up to an etag, whose map is asked of each of them.
-    pub fn over(
-        alloc: Global,
-        definition: Arc<Definition>,
-        etag: u64,
-        table: Table,
-    ) -> Result<IndexVersion, NoMemory>
-        ensures { IfOk result (λ version. version ≡ record { definition = definition_view definition.value.body; etag = etag; table = table }) }
-    {
-        let Results { entries, errors } = results_of(alloc, &definition, &table)?;
-        Ok(IndexVersion {
-            definition,
-            etag,
-            table,
-            entries,
-            errors,
-        })
-    }
-
     /// An index that has recorded nothing yet.
     pub fn fresh(alloc: Global, definition: Arc<Definition>) -> Result<IndexVersion, NoMemory>
         ensures { IfOk result (λ version. version ≡ fresh (definition_view definition.value.body)) }
     {
-        IndexVersion::over(alloc, definition, 0, Table::new(alloc))
+        Ok(IndexVersion {
+            definition,
+            etag: 0,
+            table: Table::new(alloc)?,
+            kept: Kept::new(alloc)?,
+        })
+    }
+
+    /// The index once it has taken these rows, at an etag.
+    ///
+    /// The map is asked for the documents that these rows touch, each at most once, and for no others: for those that are taken,
+    /// and for those that have looked a taken id up. Time and memory grow with the number of these, times the logarithm of the
+    /// number of documents.
+    pub fn after<M: Mapper, L: Ledger>(
+        &self,
+        alloc: Global,
+        taken: &[Row],
+        etag: u64,
+        mapper: &M,
+        steps: &mut Steps<L>,
+    ) -> Result<IndexVersion, NoMemory>
+        requires means { Means (M.meaning mapper.now) self.now.definition }
+        requires others { GiveTheSame (mapper_of self.now.definition) self.now.table (note_rows self.now.table taken.now) (touched (mapper_of self.now.definition) self.now.table taken.now) }
+        ensures version { IfOk result (λ version. version ≡ record self.now { etag = etag; table = note_rows self.now.table taken.now }) }
+        ensures maps { MapsAtMost (length (documents_among (note_rows self.now.table taken.now) (touched (mapper_of self.now.definition) self.now.table taken.now))) steps.old steps.new }
+    {
+        let definition = &self.definition;
+        let collection = mapped_collection(definition);
+        let ids = touched_ids(alloc, &self.kept.referrers, taken, collection)?;
+        let table = self.table.after(alloc, taken)?;
+        let ids = ids.as_slice();
+        let kept = renewed(alloc, &self.kept, ids, &table, definition, mapper, steps)?;
+        Ok(IndexVersion {
+            definition: share(definition)?,
+            etag,
+            table,
+            kept,
+        })
     }
 
     /// The etag up to which it has recorded what it reads.
@@ -99,36 +125,24 @@ impl IndexVersion {
         scope(alloc, &self.definition)
     }
 
-    /// How many entries it keeps.
-    pub fn entries(&self) -> usize
+    /// How many entries it keeps. It walks over what the map has given.
+    pub fn entries(&self) -> u64
         ensures { result ≡ length (scratch (mapper_of self.now.definition) self.now.table) }
     {
-        self.entries.len()
+        self.kept.entries()
     }
 
-    /// How many of its documents have no entry because their map failed.
-    pub fn errors(&self) -> usize
+    /// How many of its documents have no entry because their map failed. It walks over what the map has given.
+    pub fn errors(&self) -> u64
         ensures { result ≡ failures (mapper_of self.now.definition) self.now.table }
     {
-        self.errors
+        self.kept.errors()
     }
 
-    /// The ids of the entries whose field of that name is that text, without regard to case.
+    /// The ids of the entries whose field of that name is that text, without regard to case. It walks over what the map has given.
     pub fn find(&self, alloc: Global, field: &str, words: &str) -> Result<Ids, NoMemory>
         ensures { IfOk result (λ ids. ids ≡ found_in (mapper_of self.now.definition) self.now.table field.now words.now) }
     {
-        Ok(Ids::of(ids_with(alloc, &self.entries, field, words)?))
+        Ok(self.kept.find(alloc, field, words)?)
     }
-}
-
-fn ids_with(alloc: Global, entries: &[Entry], field: &str, words: &str) -> Result<Vec<Id>, NoMemory>
-    ensures { IfOk result (λ ids. ids.items ≡ found entries.now field.now words.now) }
-{
-    let mut ids = Vec::new(alloc);
-    for entry in entries {
-        if entry.has_words(field, words) {
-            ids.push(entry.id().clone()?)?;
-        }
-    }
-    Ok(ids)
 }

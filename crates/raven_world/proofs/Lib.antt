@@ -1,5 +1,6 @@
 pub mod Clean
 pub mod Steps
+pub mod Keeping
 pub mod Pairs
 pub mod Openings
 pub mod Choices

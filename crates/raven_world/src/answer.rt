@@ -98,8 +98,8 @@ fn listing(alloc: Global, store: &Store, slot: &Slot) -> Result<Listing, NoMemor
     let version = &slot.version;
     Ok(Listing {
         definition: definition_value(alloc, version.definition())?,
-        entries: version.entries() as u64,
-        errors: version.errors() as u64,
+        entries: version.entries(),
+        errors: version.errors(),
         etag: version.etag(),
         is_stale: is_stale(alloc, store, version)?,
         name: slot.name.clone()?,

@@ -3,6 +3,7 @@ ghost use Rattle.std.specs.Prelude.{◌≡◌, IfOk};
 ghost use Rattle.raven_model.specs.Machine.{in_world, no_change, start};
 ghost use Rattle.raven_model.specs.Words.{program};
 ghost use Rattle.raven_reply.specs.ReplyView.{reply_view};
+ghost use Rattle.raven_world.specs.KeepsUp.{KeepsUp};
 ghost use Rattle.raven_world.specs.Told.{change_view, machine_of};
 ghost use Rattle.raven_world.specs.declared.world.WorldFault.TheVariants.{NoMemory as OutOfMemory};
 
@@ -37,8 +38,10 @@ impl Model for World {
     ghost view = { λ a. record { setting = setting_of a.base a.limits; store = a.store; slots = a.slots.items; notes = [] } };
 
     ghost use Rattle.raven_world.specs.Roomy.{IsRoomy};
+    ghost use Rattle.raven_world.specs.KeepsUp.{KeepsUp};
 
-    ghost invariant = { λ a. IsRoomy a.store a.limits.rows a.limits.slots };
+    // The next version of an index is made of one that fits the store.
+    ghost invariant = { λ a. record { roomy : IsRoomy a.store a.limits.rows a.limits.slots; keeps : KeepsUp a.store a.slots.items } };
 }
 
 /// A new world, the rows that its keeper is to take, and the reply to what was asked.
@@ -90,8 +93,9 @@ impl World {
         })
     }
 
-    /// The world with this store and these slots.
+    /// The world with this store and these slots, which keep up with it.
     pub(crate) fn with(&self, store: Store, slots: Vec<Slot>) -> Result<World, NoMemory>
+        requires { KeepsUp store slots.items }
         ensures { IfOk result (λ world. world ≡ in_world self.now store slots.items) }
     {
         Ok(World {
@@ -102,8 +106,9 @@ impl World {
         })
     }
 
-    /// The world with these slots over its store.
+    /// The world with these slots over its store, which keep up with it.
     pub(crate) fn with_slots(&self, slots: Vec<Slot>) -> Result<World, NoMemory>
+        requires { KeepsUp self.now.store slots.items }
         ensures { IfOk result (λ world. world ≡ in_world self.now self.now.store slots.items) }
     {
         self.with(self.store.clone()?, slots)

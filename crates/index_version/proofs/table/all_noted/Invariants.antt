@@ -1,6 +1,7 @@
 use Rattle.std.proofs.Common.{◌≡◌, drop}
-use Rattle.raven_laws.specs.Keyed.{noted_lists}
+use Rattle.raven_model.specs.Index.{note_rows}
+use Rattle.index_version.specs.Folded.{by_folded}
 use Rattle.index_version.proofs.table.all_noted.Given as goal
 
 abbrev pub invariant-loop-row : goal.invariant-loop-row
-invariant-loop-row l = noted_lists (drop l.row-index l.taken) l.new.items ≡ noted_lists l.taken l.rows
+invariant-loop-row l = note_rows (by_folded l.new) (drop l.row-index l.taken) ≡ note_rows (by_folded l.rows) l.taken

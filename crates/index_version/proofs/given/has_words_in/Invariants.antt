@@ -1,0 +1,7 @@
+use Rattle.std.proofs.Common.{◌≡◌, drop}
+use Rattle.raven_model.specs.Machine.{has_words}
+use Rattle.map_stage.specs.MappedView.{fields_of}
+use Rattle.index_version.proofs.given.has_words_in.Given as goal
+
+abbrev pub invariant-loop-field : goal.invariant-loop-field
+invariant-loop-field l = has_words l.name l.words (fields_of (drop l.field-index l.fields)) ≡ has_words l.name l.words (fields_of l.fields)

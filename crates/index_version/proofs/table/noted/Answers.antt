@@ -1,0 +1,21 @@
+use Rattle.std.proofs.Common.{◌∙◌, ap, sym}
+use Rattle.std.specs.BTreeMap.{insert_entry, is_at}
+use Rattle.std.specs.Map.{remove_entry}
+use Rattle.raven_data.specs.Rows.{Row}
+use Rattle.reference_track.specs.Sets.{id_cmp}
+use Rattle.index_version.proofs.TableLemmas.{noted_document, noted_tombstone}
+use Rattle.index_version.proofs.table.noted.Goals as goal
+
+pub returns-in_ok-with : goal.returns-in_ok-with
+returns-in_ok-with c =
+    let r : Row = c.args.row.now in
+    noted_document c.args.rows.now c.in_ok-with.field-0 r (sym c.is_document.ensures ∙ c.if-is_document.true)
+    (c.in_ok-with.ensures.pairs
+    ∙ ap (λ id. insert_entry id_cmp c.args.rows.now id c.in_ok-shared.shared) (c.in_ok-clone-2.ensures.cases ∙ ap (λ (x : Row). x.id) c.row.view_is)
+    ∙ ap (λ v. insert_entry id_cmp c.args.rows.now r.id v) (c.in_ok-shared.ensures ∙ c.in_ok-clone.ensures.cases))
+
+pub returns-in_ok-without : goal.returns-in_ok-without
+returns-in_ok-without c =
+    let r : Row = c.args.row.now in
+    noted_tombstone c.args.rows.now c.in_ok-without.field-0 r c.in_ok-without.ensures.rising (sym c.is_document.ensures ∙ c.if-is_document.false)
+    (c.in_ok-without.ensures.pairs ∙ ap (λ id. remove_entry (is_at (id_cmp id)) c.args.rows.now) (ap (λ (x : Row). x.id) c.row.view_is))

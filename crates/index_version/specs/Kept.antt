@@ -1,0 +1,60 @@
+-- What an index keeps of what its map has given.
+use Rattle.std.specs.Prelude.{◌≡◌, ℕ, List, Bool, true, false, Option, Some, None, if◌then◌else◌, refl}
+use Rattle.std.specs.Coded.{Coded, coded×, code_by}
+use Rattle.std.specs.FinMap.{FinMap, get}
+use Rattle.std.specs.List.{list_any}
+use Rattle.std.specs.Option.{option_and_then}
+use Rattle.raven_data.specs.Codes.{text_code}
+use Rattle.raven_data.specs.Folding.{folded, key_cmp, same_key}
+use Rattle.raven_data.specs.Rows.{Row, key}
+use Rattle.raven_model.specs.Index.{Table}
+use Rattle.raven_model.specs.Machine.{has_words}
+use Rattle.raven_model.specs.Mapping.{Fields, Outcome, Entry, NoEntry, Failed, Mapped, Mapper, is_mapped, entry_of}
+use Rattle.reference_track.specs.Tracks.{Track, is_pair}
+use Rattle.index_version.specs.Codes.{mapped_code}
+
+-- the id of a document, and what the map gives for it
+pub record Given : Type 0 where
+  pub id : List ℕ
+  pub mapped : Mapped
+
+abbrev pub given_code : Coded Given
+given_code = code_by (List ℕ × Mapped) (coded× text_code mapped_code) (λ g. (g.id, g.mapped)) (λ p. record { id = p.0; mapped = p.1 }) (λ _. refl)
+
+-- what the map gives for a document, if it is of the collection that is mapped
+abbrev pub given_of : Mapper → Table → Row → Option Given
+given_of m T d = if is_mapped m d then Some (record { id = d.id; mapped = m.meaning d T }) else None
+
+-- what the map gives for a folded id, over the table alone
+abbrev pub given_at : Mapper → Table → List ℕ → Option Given
+given_at m T q = option_and_then (given_of m T) (get T q)
+
+abbrev pub has_entry : Outcome → Bool
+has_entry (Entry fields) = true
+has_entry NoEntry = false
+has_entry Failed = false
+
+-- it has an entry whose field is that text, without regard to case
+abbrev pub outcome_has_words : List ℕ → List ℕ → Outcome → Bool
+outcome_has_words name words (Entry fields) = has_words name words fields
+outcome_has_words name words NoEntry = false
+outcome_has_words name words Failed = false
+
+-- the entry of a document, if it has one
+abbrev pub entry_given : Given → Option (List ℕ × Fields)
+entry_given g = entry_of g.id g.mapped.outcome
+
+-- each row stands under its own folded id
+abbrev pub IsFiled : Table → Type 0
+IsFiled T = (q : List ℕ) (t : Row) → get T q ≡ Some t → q ≡ key t
+
+-- the id is one of those that were looked up
+abbrev pub is_loaded : List ℕ → Option Given → Bool
+is_loaded q None = false
+is_loaded q (Some g) = list_any (same_key q) g.mapped.loads
+
+-- what the map gives for the documents of a table, and which ids it looks up for which, is kept
+pub record AreKept (m : Mapper) (T : Table) (given : FinMap key_cmp Given) (loads : Track) : Type 0 where
+  pub filed : IsFiled T
+  pub results : (q : List ℕ) → get given q ≡ given_at m T q
+  pub pairs : (x y : List ℕ) → is_pair x y loads ≡ is_loaded (folded y) (get given (folded x))

@@ -1,0 +1,32 @@
+-- What is mapped again when an index takes rows, and how often the map is asked.
+use Rattle.std.specs.Prelude.{◌≡◌, ℕ, ◌+◌, ◌≤◌, List, false, cond, is_some, filter}
+use Rattle.std.specs.FinMap.{FinMap, get}
+use Rattle.std.specs.List.{list_any}
+use Rattle.raven_data.specs.Folding.{folded, key_cmp, same_key}
+use Rattle.raven_model.specs.Index.{Table}
+use Rattle.raven_model.specs.Mapping.{Mapper}
+use Rattle.raven_steps.specs.Counts.{Counts}
+use Rattle.reference_track.specs.Tracks.{Track, is_pair}
+use Rattle.index_version.specs.Kept.{Given, given_at, is_loaded}
+
+-- of these folded ids the results are those over the table, and of all others those from before
+abbrev pub AreRenewed : Mapper → Table → List (List ℕ) → FinMap key_cmp Given → FinMap key_cmp Given → Type 0
+AreRenewed m T ids before after = (q : List ℕ) → get after q ≡ cond (list_any (same_key q) ids) (given_at m T q) (get before q)
+
+-- of these folded ids the pairs are those of their loads over the table, and of all others those from before
+abbrev pub ArePaired : Mapper → Table → List (List ℕ) → Track → Track → Type 0
+ArePaired m T ids before after = (x y : List ℕ) → is_pair x y after ≡ cond (list_any (same_key (folded x)) ids) (is_loaded (folded y) (given_at m T (folded x))) (is_pair x y before)
+
+-- the map gives the same over both tables for all ids but these
+abbrev pub GiveTheSame : Mapper → Table → Table → List (List ℕ) → Type 0
+GiveTheSame m before after ids = (q : List ℕ) → list_any (same_key q) ids ≡ false → given_at m after q ≡ given_at m before q
+
+-- those of the folded ids that have a document
+abbrev pub documents_among : Table → List (List ℕ) → List (List ℕ)
+documents_among T ids = filter (λ q. is_some (get T q)) ids
+
+-- at most so many documents were mapped, and nothing else that is counted was done
+pub record MapsAtMost (most : ℕ) (before after : Counts) : Type 0 where
+  pub maps : after.maps ≤ before.maps + most
+  pub merges : after.merges ≡ before.merges
+  pub reads : after.reads ≡ before.reads

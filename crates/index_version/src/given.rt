@@ -1,0 +1,109 @@
+//! What the map of an index has given for a document.
+ghost use Rattle.std.specs.Prelude.{◌≡◌, false, map};
+ghost use Rattle.raven_data.specs.Folding.{folded};
+ghost use Rattle.raven_data.specs.Scalars.{holds, Is, words as spec_words};
+ghost use Rattle.raven_model.specs.Machine.{has_words};
+ghost use Rattle.raven_model.specs.Mapping.{has_failed};
+ghost use Rattle.raven_value.specs.ScalarView.{scalar_view};
+ghost use Rattle.map_stage.specs.MappedView.{fields_of, mapped_view, outcome_view};
+ghost use Rattle.index_version.specs.Kept.{has_entry, outcome_has_words};
+
+use map_stage::{Mapped, Outcome};
+use raven_value::{Id, Ids, Scalar, Text};
+use std::marker::Model;
+
+/// The id of a document, and what the map gave for it.
+#[derive(Drop)]
+pub struct Given {
+    id: Id,
+    mapped: Mapped,
+}
+
+impl Model for Given {
+    ghost use Rattle.std.specs.Prelude.{refl};
+    ghost use Rattle.std.specs.Coded.{coded×, code_by};
+    ghost use Rattle.raven_data.specs.Codes.{text_code};
+    ghost use Rattle.index_version.specs.Codes.{mapped_code};
+    ghost use Rattle.index_version.specs.Kept as kept;
+
+    ghost Value = { kept.Given };
+
+    ghost coded = { kept.given_code };
+
+    ghost use Rattle.map_stage.specs.MappedView.{mapped_view};
+
+    ghost view = { λ a. record { id = a.id; mapped = mapped_view a.mapped } };
+}
+
+impl Given {
+    /// What the map gave for the document of this id.
+    pub fn of(id: Id, mapped: Mapped) -> Given
+        ensures { result ≡ record { id = id; mapped = mapped_view mapped } }
+    {
+        Given { id, mapped }
+    }
+
+    /// The id of the document.
+    pub fn id(&self) -> &Id
+        ensures { result.now ≡ self.now.id }
+    {
+        &self.id
+    }
+
+    /// The ids that were looked up for it.
+    pub fn loads(&self) -> &Ids
+        ensures { map folded result.now ≡ self.now.mapped.loads }
+    {
+        &self.mapped.loads
+    }
+
+    /// Whether it has an entry.
+    pub fn has_entry(&self) -> bool
+        ensures { result ≡ has_entry self.now.mapped.outcome }
+    {
+        matches!(self.mapped.outcome, Outcome::Entry(_))
+    }
+
+    /// Whether its entry could not be computed.
+    pub fn has_failed(&self) -> bool
+        ensures { result ≡ has_failed self.now.mapped.outcome }
+    {
+        matches!(self.mapped.outcome, Outcome::Failed)
+    }
+
+    /// Whether it has an entry whose field of that name is that text, without regard to case.
+    pub fn has_words(&self, field: &str, words: &str) -> bool
+        ensures { result ≡ outcome_has_words field.now words.now self.now.mapped.outcome }
+    {
+        outcome_has_words(&self.mapped.outcome, field, words)
+    }
+}
+
+fn outcome_has_words(outcome: &Outcome, field: &str, words: &str) -> bool
+    ensures { result ≡ outcome_has_words field.now words.now (outcome_view outcome.now) }
+{
+    match outcome {
+        Outcome::Entry(fields) => has_words_in(fields.as_slice(), field, words),
+        _ => false,
+    }
+}
+
+fn has_words_in(fields: &[(Text, Scalar)], name: &str, words: &str) -> bool
+    ensures { result ≡ has_words name.now words.now (fields_of fields.now) }
+{
+    for field in fields {
+        if name == field.0.as_str() {
+            return is_words(&field.1, words);
+        }
+    }
+    false
+}
+
+fn is_words(value: &Scalar, words: &str) -> bool
+    ensures { result ≡ holds (Is (spec_words words.now)) false (scalar_view value.now) }
+{
+    match value {
+        Scalar::Text(text) => text.as_str().eq_ignore_ascii_case(words),
+        _ => false,
+    }
+}

@@ -1,0 +1,136 @@
+//! What an index keeps beside its documents.
+ghost use Rattle.std.specs.Prelude.{◌≡◌, ℕ, List, None, Some, IfOk, false, length, cond, map};
+ghost use Rattle.std.specs.FinMap.{empty, get};
+ghost use Rattle.std.specs.List.{count_by, filter_map};
+ghost use Rattle.raven_data.specs.Folding.{folded, same_key};
+ghost use Rattle.raven_model.specs.Machine.{found};
+ghost use Rattle.raven_model.specs.Mapping.{has_failed};
+ghost use Rattle.std.specs.Map.{values_of};
+ghost use Rattle.paged_map.specs.Pairs.{IsRising};
+ghost use Rattle.reference_track.specs.Sets.{id_cmp, is_id};
+ghost use Rattle.reference_track.specs.Tracks.{is_pair};
+ghost use Rattle.index_version.specs.Folded.{by_folded};
+ghost use Rattle.index_version.specs.Kept.{entry_given, is_loaded};
+
+use crate::given::Given;
+use crate::sharing::Shared;
+use paged_map::PagedMap;
+use raven_base::NoMemory;
+use raven_value::{Id, Ids};
+use reference_track::Referrers;
+use std::alloc::Global;
+
+/// What the map has given for each document that it maps, under the ids of these, and which of them load which ids.
+///
+/// A change makes new ones and leaves the old ones, with which they share most of what they keep.
+#[derive(Drop)]
+pub struct Kept {
+    pub given: PagedMap<Id, Shared<Given>>,
+    pub referrers: Referrers,
+}
+
+impl Kept {
+    /// Nothing.
+    pub fn new(alloc: Global) -> Result<Kept, NoMemory>
+        ensures results { IfOk result (λ kept. by_folded kept.given ≡ empty) }
+        ensures pairs { IfOk result (λ kept. (x y : List ℕ) → is_pair x y kept.referrers ≡ false) }
+    {
+        Ok(Kept {
+            given: PagedMap::new(alloc)?,
+            referrers: Referrers::new(alloc)?,
+        })
+    }
+
+    /// The same once more.
+    pub fn copy(&self) -> Result<Kept, NoMemory>
+        ensures { IfOk result (λ kept. kept ≡ self.now) }
+    {
+        Ok(Kept {
+            given: self.given.clone()?,
+            referrers: self.referrers.clone()?,
+        })
+    }
+
+    /// With what the map gives for the document of an id, or without it where it gives nothing.
+    pub fn with(&self, alloc: Global, id: &Id, given: Option<Given>) -> Result<Kept, NoMemory>
+        ensures results { IfOk result (λ kept. (q : List ℕ) → get (by_folded kept.given) q ≡ cond (same_key q (folded id.now)) given (get (by_folded self.now.given) q)) }
+        ensures pairs { IfOk result (λ kept. (x y : List ℕ) → is_pair x y kept.referrers ≡ cond (is_id x id.now) (is_loaded (folded y) given) (is_pair x y self.now.referrers)) }
+    {
+        match given {
+            Some(given) => self.with_given(alloc, id, given),
+            None => self.without(alloc, id),
+        }
+    }
+
+    fn with_given(&self, alloc: Global, id: &Id, given: Given) -> Result<Kept, NoMemory>
+        ensures results { IfOk result (λ kept. (q : List ℕ) → get (by_folded kept.given) q ≡ cond (same_key q (folded id.now)) (Some given) (get (by_folded self.now.given) q)) }
+        ensures pairs { IfOk result (λ kept. (x y : List ℕ) → is_pair x y kept.referrers ≡ cond (is_id x id.now) (is_loaded (folded y) (Some given)) (is_pair x y self.now.referrers)) }
+    {
+        let referrers = self.referrers.replace(alloc, id, given.loads().as_slice())?;
+        let shared = Shared::of(alloc, given)?;
+        Ok(Kept {
+            given: self.given.with(alloc, id.clone()?, shared)?,
+            referrers,
+        })
+    }
+
+    fn without(&self, alloc: Global, id: &Id) -> Result<Kept, NoMemory>
+        ensures results { IfOk result (λ kept. (q : List ℕ) → get (by_folded kept.given) q ≡ cond (same_key q (folded id.now)) None (get (by_folded self.now.given) q)) }
+        ensures pairs { IfOk result (λ kept. (x y : List ℕ) → is_pair x y kept.referrers ≡ cond (is_id x id.now) false (is_pair x y self.now.referrers)) }
+    {
+        Ok(Kept {
+            given: self.given.without(alloc, id)?,
+            referrers: self.referrers.replace(alloc, id, &[])?,
+        })
+    }
+
+    /// How many entries there are.
+    #[tactic(auto, using(crate::proofs::Walking::entries_step))]
+    pub fn entries(&self) -> u64
+        ensures count { result ≡ length (filter_map entry_given (values_of self.now.given)) }
+        ensures rising { IsRising id_cmp self.now.given }
+    {
+        // The number of all bounds that of some.
+        let _all = self.given.len();
+        let mut entries = 0;
+        for pair in self.given.iter() {
+            if pair.1.get().has_entry() {
+                entries += 1;
+            }
+        }
+        entries
+    }
+
+    /// How many documents failed.
+    #[tactic(auto, using(crate::proofs::Walking::errors_step))]
+    pub fn errors(&self) -> u64
+        ensures count { result ≡ count_by (λ g. has_failed g.mapped.outcome) (values_of self.now.given) }
+        ensures rising { IsRising id_cmp self.now.given }
+    {
+        // The number of all bounds that of some.
+        let _all = self.given.len();
+        let mut errors = 0;
+        for pair in self.given.iter() {
+            if pair.1.get().has_failed() {
+                errors += 1;
+            }
+        }
+        errors
+    }
+
+    /// The ids of the entries whose field of that name is that text, without regard to case.
+    #[tactic(auto, using(crate::proofs::Walking::find_step))]
+    pub fn find(&self, alloc: Global, field: &str, words: &str) -> Result<Ids, NoMemory>
+        ensures ids { IfOk result (λ ids. ids ≡ found (filter_map entry_given (values_of self.now.given)) field.now words.now) }
+        ensures rising { IsRising id_cmp self.now.given }
+    {
+        let mut ids = Ids::new(alloc);
+        for pair in self.given.iter() {
+            let given = pair.1.get();
+            if given.has_words(field, words) {
+                ids.push(given.id().clone()?)?;
+            }
+        }
+        Ok(ids)
+    }
+}

@@ -1,0 +1,14 @@
+use Rattle.std.proofs.Common.{◌∙◌, ap, subst, sym}
+use Rattle.raven_model.specs.World.{Version}
+use Rattle.index_lang.specs.DefinitionView.{definition_view}
+use Rattle.index_lang.specs.declared.definition.Definition.{Definition}
+use Rattle.index_version.specs.Meaning.{Means, found_meaning}
+use Rattle.index_version.proofs.Meanings.{definition_means}
+use Rattle.raven_world.proofs.pump.next_batch.Goals as goal
+
+pub next-requires-clause-means : goal.next-requires-clause-means
+next-requires-clause-means g c =
+    let own = definition_view c.deref-2.result.now.body in
+    subst (Means (found_meaning own))
+    (ap (λ (d : Definition). definition_view d.body) c.deref-2.ensures ∙ c.definition.ensures ∙ ap (λ (v : Version). v.definition) (c.deref.ensures ∙ sym c.deref-3.ensures))
+    (definition_means own)
