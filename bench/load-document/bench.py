@@ -8,7 +8,7 @@ PROGRAM is the built program, by default that of crates/raven. The two tables th
 - batches that take so many orders which were written again, each of which loads a company, over indexes of several sizes;
 - a company that is written again, and the batch that takes it and maps all orders again that load it.
 
-The time of a batch is the difference of two runs of the same lines, one with the PUMP lines of these batches and one without
+Times are those of the processor. The time of a batch is the difference of two runs of the same lines, one with the PUMP lines of these batches and one without
 them, divided by their number. So reading the script, filling, the first batch over all documents and the writes do not count.
 There are so many batches that the difference is long enough to tell, or as many as fit into a script. Then each run is made
 several times, and the quickest of each kind counts.
@@ -29,7 +29,6 @@ import random
 import subprocess
 import sys
 import tempfile
-import time
 
 TOP = pathlib.Path(__file__).resolve().parents[2]
 sys.dont_write_bytecode = True
@@ -156,17 +155,18 @@ class WrittenCompany(Orders):
 
 
 def run(program, script):
-    """What was written, and the seconds on the clock."""
-    with tempfile.TemporaryFile() as given, tempfile.TemporaryFile() as taken:
+    """What was written, and the seconds that the processor took for it, which other work on the machine hardly changes."""
+    with tempfile.TemporaryFile() as given, tempfile.TemporaryFile() as taken, tempfile.TemporaryFile() as told:
         given.write(script)
         given.seek(0)
-        began = time.monotonic()
-        ended = subprocess.run([program, "run"], stdin=given, stdout=taken, stderr=subprocess.PIPE)
-        seconds = time.monotonic() - began
+        started = subprocess.Popen([program, "run"], stdin=given, stdout=taken, stderr=told)
+        _, status, used = os.wait4(started.pid, 0)
+        started.returncode = os.waitstatus_to_exitcode(status)
         taken.seek(0)
-        if ended.returncode:
-            raise Wrong(f"status {ended.returncode}, {ended.stderr[-200:]!r}")
-        return taken.read(), seconds
+        told.seek(0)
+        if started.returncode:
+            raise Wrong(f"status {started.returncode}, {told.read()[-200:]!r}")
+        return taken.read(), used.ru_utime + used.ru_stime
 
 
 def seconds_of(program, orders, rounds, pumped):
