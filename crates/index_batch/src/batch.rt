@@ -1,9 +1,8 @@
 //! Batches: how an index is brought on.
-ghost use Rattle.std.specs.Prelude.{◌≡◌, IfOk, IfSome, cond, length};
+ghost use Rattle.std.specs.Prelude.{◌≡◌, IfOk, cond, length};
 ghost use Rattle.raven_model.specs.Index.{note_rows, taken};
 ghost use Rattle.raven_model.specs.Mapping.{mapper_of, touched};
-ghost use Rattle.raven_model.specs.Sound.{Fits};
-ghost use Rattle.raven_model.specs.Store.{IsStore, last, last_of};
+ghost use Rattle.raven_model.specs.Store.{last, last_of};
 ghost use Rattle.raven_model.specs.World.{batch, reads};
 ghost use Rattle.index_version.specs.Meaning.{Means};
 ghost use Rattle.index_version.specs.Renewed.{MapsAtMost, documents_among};
@@ -35,11 +34,8 @@ pub fn next<M: Mapper, L: Ledger>(
     max: u32,
     steps: &mut Steps<L>,
 ) -> Result<Option<IndexVersion>, NoMemory>
-    requires sound { IsStore store.now }
-    requires fits { Fits store.now version.now }
     requires means { Means (M.meaning mapper.now) version.now.definition }
     ensures next { IfOk result (λ next. next ≡ batch version.now store.now max) }
-    ensures fits { IfOk result (λ next. IfSome next (λ new. Fits store.now new)) }
     ensures maps { let rows = taken (reads version.now) version.now.etag store.now max in MapsAtMost (length (documents_among (note_rows version.now.table rows) (touched (mapper_of version.now.definition) version.now.table rows))) steps.old steps.new }
 {
     let scope = version.scope(alloc)?;

@@ -1,7 +1,5 @@
 //! How often a map is asked: over documents that load others, with a mapper that counts its own calls.
-ghost use Rattle.std.specs.Prelude.{◌≡◌, ◌≤◌, ◌<◌, ◌^◌, IfOk, IfSome, length};
-ghost use Rattle.raven_model.specs.Sound.{Fits};
-ghost use Rattle.raven_model.specs.Store.{IsStore};
+ghost use Rattle.std.specs.Prelude.{◌≡◌, ◌≤◌, ◌<◌, ◌^◌, length};
 ghost use Rattle.index_lang.specs.DefinitionView.{definition_view};
 ghost use Rattle.index_version.specs.Meaning.{found_local, found_meaning};
 
@@ -84,7 +82,6 @@ fn rows(alloc: Global) -> Result<Rows, Fail> {
 
 fn opened(alloc: Global, rows: &Rows) -> Result<Store, Fail>
     requires few { length rows.now < 2 ^ 32 }
-    ensures { IfOk result (λ store. IsStore store) }
 {
     match Store::open(alloc, rows) {
         Ok(store) => Ok(store),
@@ -92,9 +89,7 @@ fn opened(alloc: Global, rows: &Rows) -> Result<Store, Fail>
     }
 }
 
-fn store(alloc: Global) -> Result<Store, Fail>
-    ensures { IfOk result (λ store. IsStore store) }
-{
+fn store(alloc: Global) -> Result<Store, Fail> {
     let rows = rows(alloc)?;
     if rows.len() != 8 {
         return Err(Fail::new("there are not eight rows"));
@@ -117,12 +112,9 @@ fn brought<L: Ledger>(
     calls: &Cell<u64>,
     blank: Blank,
 ) -> Result<Option<IndexVersion>, NoMemory>
-    requires sound { IsStore store.now }
-    requires fits { Fits store.now version.now }
     requires name { blank.name ≡ L.name }
     requires parts { blank.parts ≡ L.parts }
     requires enough { 3 ≤ blank.parts }
-    ensures { IfOk result (λ next. IfSome next (λ new. Fits store.now new)) }
 {
     let mapper = CountingMapper {
         mapper: DefinitionMapper {
@@ -135,10 +127,7 @@ fn brought<L: Ledger>(
 }
 
 // How often the map is asked in each batch, until there is none.
-fn calls_told(alloc: Global, fresh: IndexVersion, store: &Store, max: u32) -> Result<String, Fail>
-    requires sound { IsStore store.now }
-    requires fits { Fits store.now fresh }
-{
+fn calls_told(alloc: Global, fresh: IndexVersion, store: &Store, max: u32) -> Result<String, Fail> {
     let calls = Cell::new(0);
     let mut told = String::new(alloc);
     let mut version = fresh;
@@ -153,9 +142,7 @@ fn calls_told(alloc: Global, fresh: IndexVersion, store: &Store, max: u32) -> Re
     Ok(told)
 }
 
-fn calls_from_scratch(alloc: Global, store: &Store, max: u32) -> Result<String, Fail>
-    requires { IsStore store.now }
-{
+fn calls_from_scratch(alloc: Global, store: &Store, max: u32) -> Result<String, Fail> {
     let fresh = IndexVersion::fresh(alloc, definition(alloc)?)?;
     calls_told(alloc, fresh, store, max)
 }

@@ -14,7 +14,7 @@ use Rattle.raven_laws.proofs.StoreLemmas.{same_means, same_row}
 use Rattle.reference_track.specs.Tracks.{Track, is_pair}
 use Rattle.reference_track.specs.Sets.{is_id}
 use Rattle.index_version.specs.Kept.{AreKept, Given, IsFiled, entry_given, given_at, given_of, is_loaded}
-use Rattle.index_version.specs.Renewed.{ArePaired, AreRenewed, GiveTheSame, documents_among}
+use Rattle.index_version.specs.Renewed.{ArePaired, AreRenewed, mapped_among}
 use Rattle.index_version.proofs.Ordered.{values_derived}
 
 -- EACH ROW UNDER ITS OWN ID
@@ -106,31 +106,31 @@ paired_more m T ids i L H N so_far next = λ x y.
 pub folded_more : (ids : List (List ℕ)) (i : ℕ) (d : List ℕ) → i < length ids → map folded (take (i + 1) ids) ≡ map folded (take i ids) ++ folded (get_or ids i d) ∷ []
 folded_more ids i d lt = ap (map folded) (take_more ids i d lt) ∙ map-append folded (take i ids) (get_or ids i d ∷ [])
 
--- the documents among the ids that are left
-pub documents_left : (T : Table) (ids : List (List ℕ)) (i : ℕ) (d : List ℕ) → i < length ids
-    → length (documents_among T (map folded (drop i ids))) ≡ cond (is_some (get T (folded (get_or ids i d)))) 1 0 + length (documents_among T (map folded (drop (i + 1) ids)))
-documents_left T ids i d lt =
-    ap (λ xs. length (documents_among T (map folded xs))) (drop_more ids i d lt)
-    ∙ elim (is_some (get T (folded (get_or ids i d)))) as (λ b. length (cond b (folded (get_or ids i d) ∷ documents_among T (map folded (drop (i + 1) ids))) (documents_among T (map folded (drop (i + 1) ids)))) ≡ cond b 1 0 + length (documents_among T (map folded (drop (i + 1) ids)))) [
+-- the mapped documents among the ids that are left
+pub mapped_left : (m : Mapper) (T : Table) (ids : List (List ℕ)) (i : ℕ) (d : List ℕ) → i < length ids
+    → length (mapped_among m T (map folded (drop i ids))) ≡ cond (is_some (given_at m T (folded (get_or ids i d)))) 1 0 + length (mapped_among m T (map folded (drop (i + 1) ids)))
+mapped_left m T ids i d lt =
+    ap (λ xs. length (mapped_among m T (map folded xs))) (drop_more ids i d lt)
+    ∙ elim (is_some (given_at m T (folded (get_or ids i d)))) as (λ b. length (cond b (folded (get_or ids i d) ∷ mapped_among m T (map folded (drop (i + 1) ids))) (mapped_among m T (map folded (drop (i + 1) ids)))) ≡ cond b 1 0 + length (mapped_among m T (map folded (drop (i + 1) ids)))) [
       | true ↦ omega arith
       | false ↦ omega arith
     ]
 
 -- ALL IS KEPT AGAIN
 
-pub kept_again : (m : Mapper) (T N : Table) (G H : FinMap key_cmp Given) (L M : Track) (touched ids : List (List ℕ)) → AreKept m T G L → IsFiled N → GiveTheSame m T N touched
-    → ((q : List ℕ) → list_any (same_key q) ids ≡ list_any (same_key q) touched) → AreRenewed m N ids G H → ArePaired m N ids L M → AreKept m N H M
-kept_again m T N G H L M touched ids kept filed others same renewed paired = record {
+pub kept_again : (m : Mapper) (T N : Table) (G H : FinMap key_cmp Given) (L M : Track) (ids : List (List ℕ)) → AreKept m T G L → IsFiled N
+    → ((q : List ℕ) → list_any (same_key q) ids ≡ false → given_at m N q ≡ given_at m T q) → AreRenewed m N ids G H → ArePaired m N ids L M → AreKept m N H M
+kept_again m T N G H L M ids kept filed others renewed paired = record {
   filed = filed;
   results = at;
   pairs = λ x y. paired x y ∙ elim (list_any (same_key (folded x)) ids) as (λ b. list_any (same_key (folded x)) ids ≡ b → cond b (is_loaded (folded y) (given_at m N (folded x))) (is_pair x y L) ≡ is_loaded (folded y) (get H (folded x))) [
     | true ↦ λ e. ap (is_loaded (folded y)) (sym (at (folded x)))
-    | false ↦ λ e. kept.pairs x y ∙ ap (is_loaded (folded y)) (kept.results (folded x) ∙ sym (others (folded x) (sym (same (folded x)) ∙ e)) ∙ sym (at (folded x)))
+    | false ↦ λ e. kept.pairs x y ∙ ap (is_loaded (folded y)) (kept.results (folded x) ∙ sym (others (folded x) e) ∙ sym (at (folded x)))
   ] refl;
 }
   where
     at : (q : List ℕ) → get H q ≡ given_at m N q
     at q = renewed q ∙ elim (list_any (same_key q) ids) as (λ b. list_any (same_key q) ids ≡ b → cond b (given_at m N q) (get G q) ≡ given_at m N q) [
       | true ↦ λ e. refl
-      | false ↦ λ e. kept.results q ∙ sym (others q (sym (same q) ∙ e))
+      | false ↦ λ e. kept.results q ∙ sym (others q e)
     ] refl

@@ -1,6 +1,7 @@
 pub mod FoldedMaps
 pub mod Ordered
 pub mod Keeping
+pub mod Untouched
 pub mod Touching
 pub mod TableLemmas
 pub mod Taking

@@ -6,24 +6,24 @@ use Rattle.std.specs.Char.{to_ascii_lowercase}
 use Rattle.std.proofs.lemmas.Bool.Decides.{nat_tests}
 use Rattle.std.specs.FinMap.{FinMap, get, entries, values, find as entry_at, get-entries}
 use Rattle.std.specs.List.{list_any}
+use Rattle.std.specs.Option.{option_and_then}
 use Rattle.std.specs.Map.{values_of}
-use Rattle.std.specs.Str.{bytes_eq}
 use Rattle.std.proofs.lemmas.List.Folds.{list_any-append}
 use Rattle.raven_data.specs.Folding.{folded, key_cmp, same_key}
 use Rattle.raven_data.specs.Rows.{Row, key}
-use Rattle.raven_model.specs.Store.{row_at}
 use Rattle.raven_model.specs.Index.{Table, note_rows}
 use Rattle.raven_model.specs.Mapping.{Mapper, is_mapped, is_taken, loads_taken, touched}
 use Rattle.raven_laws.proofs.IndexLemmas.{tied}
 use Rattle.raven_laws.proofs.KeyedLemmas.{differ_less}
-use Rattle.raven_laws.proofs.StoreLemmas.{same_itself, same_means}
+use Rattle.raven_laws.proofs.StoreLemmas.{either_false, same_itself, same_means}
 use Rattle.paged_map.specs.Pairs.{IsRising}
 use Rattle.reference_track.specs.Sets.{AreInOrder, IsBelowAll, is_one_of}
-use Rattle.raven_steps.specs.Counts.{Counts}
 use Rattle.reference_track.specs.Tracks.{Track, is_pair}
 use Rattle.index_version.specs.Kept.{AreKept, Given, IsFiled, given_at, given_of, is_loaded}
-use Rattle.index_version.specs.Renewed.{MapsAtMost, documents_among}
+use Rattle.index_version.specs.Renewed.{documents_among, mapped_among}
+use Rattle.index_version.proofs.Keeping.{filed_rows}
 use Rattle.index_version.proofs.Ordered.{entries_rise, none_past}
+use Rattle.index_version.proofs.Untouched.{gives_none, gives_same, swapped, taken_unmapped}
 
 -- FOLDED IDS
 
@@ -47,13 +47,6 @@ none_unfolded q (y ∷ ids) h = elim (same_key q (folded y)) as (λ b. same_key 
       absurd (let t = subst (λ k. same_key q k ≡ true) own (same_itself q) in cc)
   | false ↦ λ e. none_unfolded q ids h
 ] refl
-
-keys_folded : (rows : List Row) → map key rows ≡ map folded (map (λ (r : Row). r.id) rows)
-keys_folded [] = refl
-keys_folded (r ∷ rows) = ap (λ more. key r ∷ more) (keys_folded rows)
-
-none_key : (q : List ℕ) (rows : List Row) → same_key q (folded q) ≡ false → list_any (same_key q) (map key rows) ≡ false
-none_key q rows h = ap (list_any (same_key q)) (keys_folded rows) ∙ none_unfolded q (map (λ (r : Row). r.id) rows) h
 
 -- DOCUMENTS THAT LOAD A TAKEN ID
 
@@ -99,46 +92,6 @@ any_value : (test : Row → Bool) (q : List ℕ) (T : Table) → IsFiled T → l
 any_value test q T filed =
     any_entry test q (entries T) (entries_rise T) (λ k t h. filed k t (get-entries T k ∙ h)) ∙ ap (holds_at test) (sym (get-entries T q))
 
-same_turned : (a b : List ℕ) → same_key a b ≡ same_key b a
-same_turned a b = elim (same_key a b) as (λ x. same_key a b ≡ x → x ≡ same_key b a) [
-  | true ↦ λ e. sym (subst (λ k. same_key k a ≡ true) (same_means a b e) (same_itself a))
-  | false ↦ λ e. elim (same_key b a) as (λ x. same_key b a ≡ x → false ≡ x) [
-    | true ↦ λ f. absurd (let t = subst (λ k. same_key k b ≡ true) (same_means b a f) (same_itself b) in cc)
-    | false ↦ λ f. refl
-  ] refl
-] refl
-
--- an id is taken where it is that of a row
-taken_is : (q : List ℕ) (rows : List Row) → is_some (row_at q rows) ≡ list_any (λ r. same_key q (key r)) rows
-taken_is q [] = refl
-taken_is q (r ∷ rows) = elim (same_key q (key r)) as (λ b. is_some (cond b (Some r) (row_at q rows)) ≡ (b || list_any (λ x. same_key q (key x)) rows)) [ true ↦ refl | false ↦ taken_is q rows ]
-
-none_there : {X : Type 0} (xs : List X) → list_any (λ (x : X). false) xs ≡ false
-none_there [] = refl
-none_there (x ∷ xs) = none_there xs
-
-either : {X : Type 0} (p q : X → Bool) (xs : List X) → list_any (λ x. p x || q x) xs ≡ (list_any p xs || list_any q xs)
-either p q [] = refl
-either p q (x ∷ xs) = ap (λ b. (p x || q x) || b) (either p q xs) ∙ arranged (p x) (q x) (list_any p xs) (list_any q xs)
-  where
-    arranged : (a b c d : Bool) → ((a || b) || (c || d)) ≡ ((a || c) || (b || d))
-    arranged true b c d = refl
-    arranged false true true d = refl
-    arranged false true false d = refl
-    arranged false false c d = refl
-
--- one of the loads is taken where one of the taken rows is loaded
-swapped : (loads : List (List ℕ)) (rows : List Row) → list_any (is_taken rows) loads ≡ list_any (λ r. list_any (same_key (key r)) loads) rows
-swapped [] rows = sym (none_there rows)
-swapped (l ∷ loads) rows =
-    (λ i. taken_is l rows i || swapped loads rows i)
-    ∙ ap (λ b. b || list_any (λ r. list_any (same_key (key r)) loads) rows) (turned rows)
-    ∙ sym (either (λ r. same_key (key r) l) (λ r. list_any (same_key (key r)) loads) rows)
-  where
-    turned : (rs : List Row) → list_any (λ r. same_key l (key r)) rs ≡ list_any (λ r. same_key (key r) l) rs
-    turned [] = refl
-    turned (r ∷ rs) = λ i. same_turned l (key r) i || turned rs i
-
 loads_false : (rows : List Row) → list_any (λ (r : Row). is_loaded (key r) None) rows ≡ false
 loads_false [] = refl
 loads_false (r ∷ rows) = loads_false rows
@@ -174,26 +127,53 @@ any_pair : (m : Mapper) (T : Table) (G : FinMap key_cmp Given) (L : Track) (x : 
 any_pair m T G L x [] kept = refl
 any_pair m T G L x (r ∷ rows) kept = λ i. (kept.pairs x r.id ∙ ap (is_loaded (key r)) (kept.results (folded x))) i || any_pair m T G L x rows kept i
 
-touched_id : (m : Mapper) (T : Table) (G : FinMap key_cmp Given) (L : Track) (rows : List Row) (ids : List (List ℕ)) → AreKept m T G L
-    → ((x : List ℕ) → is_one_of x ids ≡ (list_any (same_key (folded x)) (map key (filter (λ r. bytes_eq r.collection m.collection) rows)) || not (is_taken rows (folded x)) && list_any (λ r. is_pair x r.id L) rows))
-    → (x : List ℕ) → list_any (same_key (folded x)) (map folded ids) ≡ list_any (same_key (folded x)) (touched m T rows)
-touched_id m T G L rows ids kept is x =
-    sym (one_of_folded x ids) ∙ is x
-    ∙ ap (λ b. list_any (same_key (folded x)) (map key (filter (is_mapped m) rows)) || not (is_taken rows (folded x)) && b) (any_pair m T G L x rows kept)
-    ∙ ap (λ b. list_any (same_key (folded x)) (map key (filter (is_mapped m) rows)) || b) (sym (any_value (λ d. is_mapped m d && loads_taken m T rows d && not (is_taken rows (key d))) (folded x) T kept.filed ∙ loading m T rows (folded x) kept.filed))
-    ∙ sym (list_any-append (same_key (folded x)) (map key (filter (is_mapped m) rows)) (map key (filter (λ d. is_mapped m d && loads_taken m T rows d && not (is_taken rows (key d))) (values T))))
+-- WHICH IDS ARE TOUCHED
 
--- the ids that were found are those that the rows touch
-pub touched_same : (m : Mapper) (T : Table) (G : FinMap key_cmp Given) (L : Track) (rows : List Row) (ids : List (List ℕ)) → AreKept m T G L
-    → ((x : List ℕ) → is_one_of x ids ≡ (list_any (same_key (folded x)) (map key (filter (λ r. bytes_eq r.collection m.collection) rows)) || not (is_taken rows (folded x)) && list_any (λ r. is_pair x r.id L) rows))
-    → (q : List ℕ) → list_any (same_key q) (map folded ids) ≡ list_any (same_key q) (touched m T rows)
-touched_same m T G L rows ids kept is q =
-    elim (same_key q (folded q)) as (λ b. same_key q (folded q) ≡ b → list_any (same_key q) (map folded ids) ≡ list_any (same_key q) (touched m T rows)) [
-      | true ↦ λ e. subst (λ k. list_any (same_key k) (map folded ids) ≡ list_any (same_key k) (touched m T rows)) (sym (same_means q (folded q) e)) (touched_id m T G L rows ids kept is q)
-      | false ↦ λ e. none_unfolded q ids e
-          ∙ sym (list_any-append (same_key q) (map key (filter (is_mapped m) rows)) (map key (filter test (values T)))
-          ∙ (λ i. none_key q (filter (is_mapped m) rows) e i || none_key q (filter test (values T)) e i))
-    ] refl
+-- the ids are those that were taken, and those that load one of them
+abbrev pub AreTouched : Track → List Row → List (List ℕ) → Type 0
+AreTouched L rows ids = (x : List ℕ) → is_one_of x ids ≡ (is_taken rows (folded x) || list_any (λ r. is_pair x r.id L) rows)
+
+reached : (m : Mapper) (T : Table) (G : FinMap key_cmp Given) (L : Track) (rows : List Row) (ids : List (List ℕ)) → AreKept m T G L → AreTouched L rows ids
+    → (q : List ℕ) → q ≡ folded q → list_any (same_key q) (map folded ids) ≡ (is_taken rows q || list_any (λ r. is_loaded (key r) (given_at m T q)) rows)
+reached m T G L rows ids kept are q own =
+    subst (λ k. list_any (same_key k) (map folded ids) ≡ (is_taken rows k || list_any (λ r. is_loaded (key r) (given_at m T k)) rows)) (sym own)
+    (sym (one_of_folded q ids) ∙ are q ∙ ap (λ b. is_taken rows (folded q) || b) (any_pair m T G L q rows kept))
+
+-- what is no folded form has no row
+unfiled : (m : Mapper) (T : Table) (q : List ℕ) → same_key q (folded q) ≡ false → IsFiled T → given_at m T q ≡ None
+unfiled m T q h filed = elim (get T q) as (λ o. get T q ≡ o → option_and_then (given_of m T) o ≡ None) [
+  | None ↦ λ e. refl
+  | Some t ↦ λ e. let own : q ≡ folded q = filed q t e ∙ sym (folded_once t.id) ∙ ap folded (sym (filed q t e)) in
+      absurd (let same = subst (λ k. same_key q k ≡ true) own (same_itself q) in cc)
+] refl
+
+-- all other ids are given as before
+pub others_same : (m : Mapper) (T : Table) (G : FinMap key_cmp Given) (L : Track) (rows : List Row) (ids : List (List ℕ)) → AreKept m T G L → AreTouched L rows ids
+    → (q : List ℕ) → list_any (same_key q) (map folded ids) ≡ false → given_at m (note_rows T rows) q ≡ given_at m T q
+others_same m T G L rows ids kept are q out = elim (same_key q (folded q)) as (λ b. same_key q (folded q) ≡ b → given_at m (note_rows T rows) q ≡ given_at m T q) [
+  | true ↦ λ e.
+      let none = either_false (is_taken rows q) (list_any (λ r. is_loaded (key r) (given_at m T q)) rows) (sym (reached m T G L rows ids kept are q (same_means q (folded q) e)) ∙ out) in
+      gives_same m T rows q none.0 none.1
+  | false ↦ λ e. unfiled m (note_rows T rows) q e (filed_rows T rows kept.filed) ∙ sym (unfiled m T q e kept.filed)
+] refl
+
+covered : (mapped taken loads : Bool) → (taken ≡ true → mapped ≡ false → ⊥) → (taken || loads) ≡ true → (mapped || not taken && loads) ≡ true
+covered true taken loads f h = refl
+covered false true loads f h = absurd (f refl refl)
+covered false false loads f h = h
+
+-- those of them that are mapped afterwards are touched
+pub mapped_touched : (m : Mapper) (T : Table) (G : FinMap key_cmp Given) (L : Track) (rows : List Row) (ids : List (List ℕ)) → AreKept m T G L → AreTouched L rows ids
+    → (q : List ℕ) → is_some (given_at m (note_rows T rows) q) ≡ true → list_any (same_key q) (map folded ids) ≡ true → list_any (same_key q) (touched m T rows) ≡ true
+mapped_touched m T G L rows ids kept are q some h = elim (same_key q (folded q)) as (λ b. same_key q (folded q) ≡ b → list_any (same_key q) (touched m T rows) ≡ true) [
+  | true ↦ λ e.
+      list_any-append (same_key q) (map key (filter (is_mapped m) rows)) (map key (filter test (values T)))
+      ∙ ap (λ b. list_any (same_key q) (map key (filter (is_mapped m) rows)) || b) (any_value test q T kept.filed ∙ loading m T rows q kept.filed)
+      ∙ covered (list_any (same_key q) (map key (filter (is_mapped m) rows))) (is_taken rows q) (list_any (λ r. is_loaded (key r) (given_at m T q)) rows)
+      (λ taken none. let nothing : given_at m (note_rows T rows) q ≡ None = gives_none m (note_rows T rows) (get (note_rows T rows) q) (taken_unmapped m T rows q taken none) in cc)
+      (sym (reached m T G L rows ids kept are q (same_means q (folded q) e)) ∙ h)
+  | false ↦ λ e. absurd (let none = none_unfolded q ids e in cc)
+] refl
   where
     test : Row → Bool
     test d = is_mapped m d && loads_taken m T rows d && not (is_taken rows (key d))
@@ -241,16 +221,17 @@ still_there q x (y ∷ ys) n h = elim (same_key x y) as (λ b. same_key x y ≡ 
   | false ↦ λ e. elim (same_key q y) as (λ b. (b || list_any (same_key q) ys) ≡ true → (b || list_any (same_key q) (beside x ys)) ≡ true) [ true ↦ λ g. refl | false ↦ λ g. still_there q x ys n g ] h
 ] refl
 
-few : (p : List ℕ → Bool) (xs ys : List (List ℕ)) → AreOnce xs → ((q : List ℕ) → list_any (same_key q) xs ≡ true → list_any (same_key q) ys ≡ true) → length (filter p xs) ≤ length (filter p ys)
+few : (p : List ℕ → Bool) (xs ys : List (List ℕ)) → AreOnce xs → ((q : List ℕ) → p q ≡ true → list_any (same_key q) xs ≡ true → list_any (same_key q) ys ≡ true) → length (filter p xs) ≤ length (filter p ys)
 few p [] ys o all = omega arith
 few p (x ∷ xs) ys o all =
-    let rest : length (filter p xs) ≤ length (filter p (beside x ys)) = few p xs (beside x ys) o.1 (λ q h. still_there q x ys (other q h) (all q (there q h))) in
-    let here : list_any (same_key x) ys ≡ true = all x (ap (λ b. b || list_any (same_key x) xs) (same_itself x)) in
-    let less = subst (λ b. length (filter p (beside x ys)) + cond (p x && b) 1 0 ≤ length (filter p ys)) here (fewer p x ys) in
-    elim (p x) as (λ b. length (filter p (beside x ys)) + cond (b && true) 1 0 ≤ length (filter p ys) → length (cond b (x ∷ filter p xs) (filter p xs)) ≤ length (filter p ys)) [
-      | true ↦ λ g. omega (arith, rest, g)
-      | false ↦ λ g. omega (arith, rest, g)
-    ] less
+    let rest : length (filter p xs) ≤ length (filter p (beside x ys)) = few p xs (beside x ys) o.1 (λ q is h. still_there q x ys (other q h) (all q is (there q h))) in
+    elim (p x) as (λ b. p x ≡ b → length (filter p (beside x ys)) + cond (b && list_any (same_key x) ys) 1 0 ≤ length (filter p ys) → length (cond b (x ∷ filter p xs) (filter p xs)) ≤ length (filter p ys)) [
+      | true ↦ λ is g.
+          let here : list_any (same_key x) ys ≡ true = all x is (ap (λ b. b || list_any (same_key x) xs) (same_itself x)) in
+          let less : length (filter p (beside x ys)) + 1 ≤ length (filter p ys) = subst (λ b. length (filter p (beside x ys)) + cond b 1 0 ≤ length (filter p ys)) here g in
+          omega (arith, rest, less)
+      | false ↦ λ is g. omega (arith, rest, g)
+    ] refl (fewer p x ys)
   where
     other : (q : List ℕ) → list_any (same_key q) xs ≡ true → same_key q x ≡ false
     other q h = elim (same_key q x) as (λ b. same_key q x ≡ b → b ≡ false) [
@@ -261,26 +242,24 @@ few p (x ∷ xs) ys o all =
     there : (q : List ℕ) → list_any (same_key q) xs ≡ true → (same_key q x || list_any (same_key q) xs) ≡ true
     there q h = elim (same_key q x) as (λ b. (b || list_any (same_key q) xs) ≡ true) [ true ↦ refl | false ↦ h ]
 
--- ids that are touched, each once, have no more documents than all that are touched
-pub few_documents : (T : Table) (ids touched : List (List ℕ)) → AreInOrder ids → ((q : List ℕ) → list_any (same_key q) (map folded ids) ≡ list_any (same_key q) touched)
-    → length (documents_among T (map folded ids)) ≤ length (documents_among T touched)
-few_documents T ids touched order same = few (λ q. is_some (get T q)) (map folded ids) touched (once ids order) (λ q h. sym (same q) ∙ h)
+-- what is mapped is a document
+mapped_few : (m : Mapper) (N : Table) (ids : List (List ℕ)) → length (mapped_among m N ids) ≤ length (documents_among N ids)
+mapped_few m N [] = omega arith
+mapped_few m N (q ∷ ids) =
+    let rest = mapped_few m N ids in
+    elim (get N q) as (λ o. length (cond (is_some (option_and_then (given_of m N) o)) (q ∷ mapped_among m N ids) (mapped_among m N ids)) ≤ length (cond (is_some o) (q ∷ documents_among N ids) (documents_among N ids))) [
+      | None ↦ rest
+      | Some d ↦ elim (is_mapped m d) as (λ b. length (cond (is_some (let given : Option Given = cond b (Some (record { id = d.id; mapped = m.meaning d N })) None in given)) (q ∷ mapped_among m N ids) (mapped_among m N ids)) ≤ length (q ∷ documents_among N ids)) [
+        | true ↦ omega (arith, rest)
+        | false ↦ omega (arith, rest)
+      ]
+    ]
 
--- WHAT A VERSION KEEPS
-
--- the ids that were found for a collection are those that the rows touch
-pub ids_touched : (m : Mapper) (T : Table) (G : FinMap key_cmp Given) (L : Track) (rows : List Row) (ids items : List (List ℕ)) (collection : List ℕ) → AreKept m T G L → collection ≡ m.collection → items ≡ ids
-    → ((x : List ℕ) → is_one_of x ids ≡ (list_any (same_key (folded x)) (map key (filter (λ r. bytes_eq r.collection collection) rows)) || not (is_taken rows (folded x)) && list_any (λ r. is_pair x r.id L) rows))
-    → (q : List ℕ) → list_any (same_key q) (map folded items) ≡ list_any (same_key q) (touched m T rows)
-ids_touched m T G L rows ids items collection kept of listed is q =
-    ap (λ xs. list_any (same_key q) (map folded xs)) listed
-    ∙ touched_same m T G L rows ids kept (λ x. is x ∙ ap (λ c. list_any (same_key (folded x)) (map key (filter (λ r. bytes_eq r.collection c) rows)) || not (is_taken rows (folded x)) && list_any (λ r. is_pair x r.id L) rows) of) q
-
--- no more documents were mapped than are touched
-pub maps_within : (m : Mapper) (T N : Table) (rows : List Row) (ids items : List (List ℕ)) (before after : Counts) → N ≡ note_rows T rows → items ≡ ids → AreInOrder ids
-    → ((q : List ℕ) → list_any (same_key q) (map folded items) ≡ list_any (same_key q) (touched m T rows)) → MapsAtMost (length (documents_among N (map folded items))) before after
-    → MapsAtMost (length (documents_among (note_rows T rows) (touched m T rows))) before after
-maps_within m T N rows ids items before after noted listed order same most =
-    let few : length (documents_among N (map folded items)) ≤ length (documents_among N (touched m T rows)) = few_documents N items (touched m T rows) (subst AreInOrder (sym listed) order) same in
-    let new : length (documents_among N (touched m T rows)) ≡ length (documents_among (note_rows T rows) (touched m T rows)) = ap (λ (M : Table). length (documents_among M (touched m T rows))) noted in
-    record { maps = omega (arith, most.maps, few, new); merges = most.merges; reads = most.reads }
+-- no more of them are mapped than there are documents among those that are touched
+pub few_mapped : (m : Mapper) (T : Table) (G : FinMap key_cmp Given) (L : Track) (rows : List Row) (ids : List (List ℕ)) → AreKept m T G L → AreTouched L rows ids → AreInOrder ids
+    → length (mapped_among m (note_rows T rows) (map folded ids)) ≤ length (documents_among (note_rows T rows) (touched m T rows))
+few_mapped m T G L rows ids kept are order =
+    let few_ids : length (mapped_among m (note_rows T rows) (map folded ids)) ≤ length (mapped_among m (note_rows T rows) (touched m T rows)) =
+    few (λ q. is_some (given_at m (note_rows T rows) q)) (map folded ids) (touched m T rows) (once ids order) (mapped_touched m T G L rows ids kept are) in
+    let few_documents = mapped_few m (note_rows T rows) (touched m T rows) in
+    omega (arith, few_ids, few_documents)

@@ -1,5 +1,5 @@
 -- What is mapped again when an index takes rows, and how often the map is asked.
-use Rattle.std.specs.Prelude.{◌≡◌, ℕ, ◌+◌, ◌≤◌, List, false, cond, is_some, filter}
+use Rattle.std.specs.Prelude.{◌≡◌, ℕ, ◌+◌, ◌≤◌, List, cond, is_some, filter}
 use Rattle.std.specs.FinMap.{FinMap, get}
 use Rattle.std.specs.List.{list_any}
 use Rattle.raven_data.specs.Folding.{folded, key_cmp, same_key}
@@ -17,9 +17,9 @@ AreRenewed m T ids before after = (q : List ℕ) → get after q ≡ cond (list_
 abbrev pub ArePaired : Mapper → Table → List (List ℕ) → Track → Track → Type 0
 ArePaired m T ids before after = (x y : List ℕ) → is_pair x y after ≡ cond (list_any (same_key (folded x)) ids) (is_loaded (folded y) (given_at m T (folded x))) (is_pair x y before)
 
--- the map gives the same over both tables for all ids but these
-abbrev pub GiveTheSame : Mapper → Table → Table → List (List ℕ) → Type 0
-GiveTheSame m before after ids = (q : List ℕ) → list_any (same_key q) ids ≡ false → given_at m after q ≡ given_at m before q
+-- those of the folded ids for which the map gives something
+abbrev pub mapped_among : Mapper → Table → List (List ℕ) → List (List ℕ)
+mapped_among m T ids = filter (λ q. is_some (given_at m T q)) ids
 
 -- those of the folded ids that have a document
 abbrev pub documents_among : Table → List (List ℕ) → List (List ℕ)

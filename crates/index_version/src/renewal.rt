@@ -1,13 +1,12 @@
 //! What is mapped again.
 ghost use Rattle.std.specs.Prelude.{◌≡◌, IfOk, cond, is_some, length, map};
-ghost use Rattle.std.specs.FinMap.{get};
 ghost use Rattle.raven_data.specs.Folding.{folded};
 ghost use Rattle.raven_model.specs.Mapping.{mapper_of};
 ghost use Rattle.index_lang.specs.DefinitionView.{definition_view};
 ghost use Rattle.index_version.specs.Folded.{by_folded};
 ghost use Rattle.index_version.specs.Kept.{given_at};
 ghost use Rattle.index_version.specs.Meaning.{Means};
-ghost use Rattle.index_version.specs.Renewed.{ArePaired, AreRenewed, MapsAtMost, documents_among};
+ghost use Rattle.index_version.specs.Renewed.{ArePaired, AreRenewed, MapsAtMost, mapped_among};
 
 use crate::given::Given;
 use crate::kept::Kept;
@@ -21,7 +20,7 @@ use raven_value::Id;
 use std::alloc::Global;
 use std::sync::ledger::Ledger;
 
-/// What the map gives for the document of an id, if the table has one and it is mapped. The map is asked once at most.
+/// What the map gives for the document of an id, if the table has one and it is mapped. Else the map is not asked.
 fn given_at<M: Mapper, L: Ledger>(
     alloc: Global,
     id: &Id,
@@ -32,7 +31,7 @@ fn given_at<M: Mapper, L: Ledger>(
 ) -> Result<Option<Given>, NoMemory>
     requires means { Means (M.meaning mapper.now) (definition_view definition.now.body) }
     ensures given { IfOk result (λ given. given ≡ given_at (mapper_of (definition_view definition.now.body)) table.now (folded id.now)) }
-    ensures maps { MapsAtMost (cond (is_some (get table.now (folded id.now))) 1 0) steps.old steps.new }
+    ensures maps { MapsAtMost (cond (is_some (given_at (mapper_of (definition_view definition.now.body)) table.now (folded id.now))) 1 0) steps.old steps.new }
 {
     let Some(row) = table.find(id) else {
         return Ok(None);
@@ -44,7 +43,8 @@ fn given_at<M: Mapper, L: Ledger>(
     Ok(Some(Given::of(row.id.clone()?, mapped)))
 }
 
-/// What is kept once these ids are mapped again, over a table, and no others.
+/// What is kept once these ids are looked at again, over a table, and no others. The map is asked for those of them that are
+/// mapped there.
 pub fn renewed<M: Mapper, L: Ledger>(
     alloc: Global,
     kept: &Kept,
@@ -57,7 +57,7 @@ pub fn renewed<M: Mapper, L: Ledger>(
     requires means { Means (M.meaning mapper.now) (definition_view definition.now.body) }
     ensures results { IfOk result (λ new. AreRenewed (mapper_of (definition_view definition.now.body)) table.now (map folded ids.now) (by_folded kept.now.given) (by_folded new.given)) }
     ensures pairs { IfOk result (λ new. ArePaired (mapper_of (definition_view definition.now.body)) table.now (map folded ids.now) kept.now.referrers new.referrers) }
-    ensures maps { MapsAtMost (length (documents_among table.now (map folded ids.now))) steps.old steps.new }
+    ensures maps { MapsAtMost (length (mapped_among (mapper_of (definition_view definition.now.body)) table.now (map folded ids.now))) steps.old steps.new }
 {
     let mut new = kept.copy()?;
     for id in ids {

@@ -1,6 +1,5 @@
 //! That memory suffices for an index, over documents whose entries are worked out by hand from the rules of the language.
 ghost use Rattle.std.specs.Prelude.{◌≡◌, ◌≤◌};
-ghost use Rattle.std.specs.FinMap.{empty};
 
 use crate::{DefinitionMapper, IndexVersion};
 use index_lang::{Definition, auto_definition, parse};
@@ -78,7 +77,6 @@ fn over_all<L: Ledger>(
     rows: &Rows,
     blank: Blank,
 ) -> Result<IndexVersion, NoMemory>
-    requires new { version.now.table ≡ empty }
     requires name { blank.name ≡ L.name }
     requires parts { blank.parts ≡ L.parts }
     requires enough { 3 ≤ blank.parts }

@@ -1,31 +1,23 @@
-//! Which documents are to be mapped again.
-ghost use Rattle.std.specs.Prelude.{◌≡◌, ◌||◌, ◌&&◌, ℕ, List, IfOk, filter, map, not};
+//! Which ids a batch touches.
+ghost use Rattle.std.specs.Prelude.{◌≡◌, ◌||◌, ℕ, List, IfOk};
 ghost use Rattle.std.specs.List.{list_any};
-ghost use Rattle.std.specs.Str.{bytes_eq};
-ghost use Rattle.raven_data.specs.Folding.{folded, same_key};
-ghost use Rattle.raven_data.specs.Rows.{key};
+ghost use Rattle.raven_data.specs.Folding.{folded};
 ghost use Rattle.raven_model.specs.Mapping.{is_taken};
 ghost use Rattle.reference_track.specs.Sets.{AreInOrder, is_one_of};
 ghost use Rattle.reference_track.specs.Tracks.{is_pair};
 
 use raven_base::NoMemory;
-use raven_value::{Id, Ids, Row, Text};
+use raven_value::{Id, Ids, Row};
 use reference_track::{IdSet, Referrers};
 use std::alloc::Global;
 
-/// The ids of the taken rows that are mapped, and the other ids that load one of the taken ids, each once.
-pub fn touched_ids(
-    alloc: Global,
-    referrers: &Referrers,
-    taken: &[Row],
-    collection: &Text,
-) -> Result<Ids, NoMemory>
-    ensures ids { IfOk result (λ ids. (x : List ℕ) → is_one_of x ids ≡ list_any (same_key (folded x)) (map key (filter (λ r. bytes_eq r.collection collection.now) taken.now)) || not (is_taken taken.now (folded x)) && list_any (λ r. is_pair x r.id referrers.now) taken.now) }
+/// The taken ids, of whatever collection, and those that load one of them, each once.
+pub fn touched_ids(alloc: Global, referrers: &Referrers, taken: &[Row]) -> Result<Ids, NoMemory>
+    ensures ids { IfOk result (λ ids. (x : List ℕ) → is_one_of x ids ≡ is_taken taken.now (folded x) || list_any (λ r. is_pair x r.id referrers.now) taken.now) }
     ensures once { IfOk result (λ ids. AreInOrder ids) }
 {
     let loading = all_loading(alloc, referrers, taken)?;
-    let others = without_taken(alloc, loading, taken)?;
-    with_mapped(alloc, others, taken, collection)?.ids(alloc)
+    with_taken(alloc, loading, taken)?.ids(alloc)
 }
 
 fn all_loading(alloc: Global, referrers: &Referrers, taken: &[Row]) -> Result<IdSet, NoMemory>
@@ -49,29 +41,12 @@ fn with_all(alloc: Global, set: IdSet, ids: &[Id]) -> Result<IdSet, NoMemory>
     Ok(new)
 }
 
-fn without_taken(alloc: Global, set: IdSet, taken: &[Row]) -> Result<IdSet, NoMemory>
-    ensures { IfOk result (λ new. (x : List ℕ) → is_one_of x new ≡ not (is_taken taken.now (folded x)) && is_one_of x set) }
+fn with_taken(alloc: Global, set: IdSet, taken: &[Row]) -> Result<IdSet, NoMemory>
+    ensures { IfOk result (λ new. (x : List ℕ) → is_one_of x new ≡ is_taken taken.now (folded x) || is_one_of x set) }
 {
     let mut new = set;
     for row in taken {
-        new = new.without(alloc, &row.id)?;
-    }
-    Ok(new)
-}
-
-fn with_mapped(
-    alloc: Global,
-    set: IdSet,
-    taken: &[Row],
-    collection: &Text,
-) -> Result<IdSet, NoMemory>
-    ensures { IfOk result (λ new. (x : List ℕ) → is_one_of x new ≡ list_any (same_key (folded x)) (map key (filter (λ r. bytes_eq r.collection collection.now) taken.now)) || is_one_of x set) }
-{
-    let mut new = set;
-    for row in taken {
-        if row.collection == *collection {
-            new = new.with(alloc, &row.id)?;
-        }
+        new = new.with(alloc, &row.id)?;
     }
     Ok(new)
 }

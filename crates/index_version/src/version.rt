@@ -6,10 +6,9 @@ ghost use Rattle.raven_model.specs.Mapping.{failures, mapper_of, scratch, touche
 ghost use Rattle.raven_model.specs.World.{fresh, reads};
 ghost use Rattle.index_lang.specs.DefinitionView.{definition_view};
 ghost use Rattle.index_version.specs.Meaning.{Means};
-ghost use Rattle.index_version.specs.Renewed.{GiveTheSame, MapsAtMost, documents_among};
+ghost use Rattle.index_version.specs.Renewed.{MapsAtMost, documents_among};
 
 use crate::kept::Kept;
-use crate::mapping::mapped_collection;
 use crate::renewal::renewed;
 use crate::sharing::share;
 use crate::table::Table;
@@ -79,13 +78,11 @@ impl IndexVersion {
         steps: &mut Steps<L>,
     ) -> Result<IndexVersion, NoMemory>
         requires means { Means (M.meaning mapper.now) self.now.definition }
-        requires others { GiveTheSame (mapper_of self.now.definition) self.now.table (note_rows self.now.table taken.now) (touched (mapper_of self.now.definition) self.now.table taken.now) }
         ensures version { IfOk result (λ version. version ≡ record self.now { etag = etag; table = note_rows self.now.table taken.now }) }
         ensures maps { MapsAtMost (length (documents_among (note_rows self.now.table taken.now) (touched (mapper_of self.now.definition) self.now.table taken.now))) steps.old steps.new }
     {
         let definition = &self.definition;
-        let collection = mapped_collection(definition);
-        let ids = touched_ids(alloc, &self.kept.referrers, taken, collection)?;
+        let ids = touched_ids(alloc, &self.kept.referrers, taken)?;
         let table = self.table.after(alloc, taken)?;
         let ids = ids.as_slice();
         let kept = renewed(alloc, &self.kept, ids, &table, definition, mapper, steps)?;

@@ -1,6 +1,5 @@
 pub mod Clean
 pub mod Steps
-pub mod Keeping
 pub mod Pairs
 pub mod Openings
 pub mod Choices

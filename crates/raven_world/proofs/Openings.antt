@@ -1,5 +1,5 @@
 -- How a world is opened by one row after another.
-use Rattle.std.proofs.Common.{◌≡◌, ◌<◌, ◌≤◌, ◌+◌, ℕ, suc, List, [], ◌∷◌, ◌++◌, length, Bool, true, false, cond, not, ◌&&◌, ◌||◌, Option, Some, None, Result, Ok, Err, drop, refl, sym, ap, ◌∙◌, subst, arith, codes, get_or, IfOk, IsUtf8, inl, inr}
+use Rattle.std.proofs.Common.{◌≡◌, ◌<◌, ◌≤◌, ◌+◌, ℕ, suc, List, [], ◌∷◌, ◌++◌, length, Bool, true, false, cond, not, ◌&&◌, ◌||◌, Option, Some, None, Result, Ok, Err, drop, refl, sym, ap, ◌∙◌, arith, codes, get_or, IfOk, IsUtf8, inl, inr}
 use Rattle.std.proofs.lemmas.Grind.{common_steps}
 use Rattle.std.specs.Prelude.{◌==◌, nat_lt, nat_eq, is_none, option_map, if◌then◌else◌}
 use Rattle.std.specs.List.{position_from, starts_with}
@@ -17,16 +17,12 @@ use Rattle.raven_model.specs.Opening.{ReadRow, and_then, is_defining, is_filed, 
 use Rattle.raven_model.specs.Store.{Store}
 use Rattle.raven_model.specs.World.{Slot, fresh}
 use Rattle.raven_reading.specs.Openings.{AreReadRows, EndsAt, IsReadRow, OpensAs}
-use Rattle.raven_laws.proofs.OpenLemmas.{taken-of, with_slot-is}
-use Rattle.index_batch.proofs.Opened.{opens_sound}
 use Rattle.doc_store.specs.Opening.{Tells, first_bad}
 use Rattle.doc_store.specs.declared.opening.OpenFault.{OpenFault}
 use Rattle.doc_store.specs.declared.opening.OpenFault.TheVariants.{KeptBad, NoMemory}
-use Rattle.raven_world.specs.KeepsUp.{KeepsUp}
 use Rattle.raven_world.specs.Kinds.{begins_as}
 use Rattle.raven_world.specs.Opened.{HasRead, TellsBadRow}
 use Rattle.raven_world.specs.Told.{machine_of}
-use Rattle.raven_world.proofs.Keeping.{keeps-new, keeps-none}
 
 -- NAMES
 
@@ -235,28 +231,6 @@ opens s rows count store slots all is h =
     }
 
 pub ruleset opening = (none-read, one-read, ends-here, bad-first, bad-later, opens)
-
--- THE INDEXES KEEP UP
-
--- the slots of one row more have recorded nothing yet, or are those from before
-keeps_after : (S : Store) (s : Setting) (count : ℕ) (slots more : List Slot) (x : ReadRow) → KeepsUp S slots → slots_after s count slots x ≡ Some more → KeepsUp S more
-keeps_after S s count slots more x k h =
-    elim (is_defining x.row) as (λ b. cond b (with_slot slots x.row x.definition) (Some slots) ≡ Some more → KeepsUp S more) [
-      | true ↦ λ g. let w = with_slot-is slots x.row x.definition more g in subst (KeepsUp S) w.brought (keeps-new S slots (slot_of x.row w.definition) w.definition k refl)
-      | false ↦ λ g. let same : slots ≡ more = cc in subst (KeepsUp S) same k
-    ] (taken-of s count slots x more h).rest
-
-keeps_from : (S : Store) (s : Setting) (count : ℕ) (slots all : List Slot) (xs : List ReadRow) → KeepsUp S slots → slots_from s count slots xs ≡ Ok all → KeepsUp S all
-keeps_from S s count slots all [] k h = let same : slots ≡ all = cc in subst (KeepsUp S) same k
-keeps_from S s count slots all (x ∷ xs) k h =
-    elim (slots_after s count slots x) as (λ o. slots_after s count slots x ≡ o → and_then (or_bad x.row.etag o) (λ more. slots_from s (count + 1) more xs) ≡ Ok all → KeepsUp S all) [
-      | None ↦ λ e g. absurd cc
-      | Some more ↦ λ e g. keeps_from S s (count + 1) more all xs (keeps_after S s count slots more x k e) g
-    ] refl h
-
-pub keeps-opened : (s : Setting) (rows : List Row) (count : ℕ) (store : Store) (slots : List Slot) → store ≡ record { rows = rows } → first_bad [] rows ≡ None → HasRead s rows count slots → KeepsUp store slots
-keeps-opened s rows count store slots is sound h =
-    keeps_from store s 0 [] slots h.read (keeps-none store (opens_sound store rows is sound)) h.slots
 
 -- what holds of a result holds of it in other words
 pub if-ok : {T E : Type 0} (r : Result T E) (P Q : T → Type 0) → ((t : T) → P t → Q t) → IfOk r P → IfOk r Q

@@ -4,4 +4,3 @@ pub mod Roomy
 pub mod Transacts
 pub mod Kinds
 pub mod Opened
-pub mod KeepsUp

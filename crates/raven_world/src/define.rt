@@ -8,7 +8,6 @@ ghost use Rattle.raven_model.specs.World.{added, added_if_room, fresh, index_id 
 ghost use Rattle.doc_txn.specs.CommandView.{command_view};
 ghost use Rattle.index_lang.specs.DefinitionView.{definition_view};
 ghost use Rattle.raven_reply.specs.ReplyView.{reply_view};
-ghost use Rattle.raven_world.specs.KeepsUp.{KeepsUp};
 ghost use Rattle.raven_world.specs.Told.{machine_of, told};
 
 use crate::answer::no_index;
@@ -100,7 +99,6 @@ impl World {
         reply: Reply,
         now: u64,
     ) -> Result<Change, WorldFault>
-        requires { KeepsUp self.now.store slots.items }
         ensures { IfSome (told self.now result) (λ change. change ≡ rewrote (machine_of self.now) (reply_view reply) slots.items (spec_commit self.now.setting Server now (map command_view commands.now) self.now.store)) }
     {
         match commit(
@@ -123,8 +121,7 @@ impl World {
 
     // The slots with a new one behind them.
     fn with_new(&self, alloc: Global, definition: Arc<Definition>) -> Result<Vec<Slot>, NoMemory>
-        ensures slots { IfOk result (λ slots. slots.items ≡ self.now.slots ++ record { number = last self.now.store + 1; name = definition.value.name; version = fresh (definition_view definition.value.body); row = last self.now.store + 1 } ∷ []) }
-        ensures keeps { IfOk result (λ slots. KeepsUp self.now.store slots.items) }
+        ensures { IfOk result (λ slots. slots.items ≡ self.now.slots ++ record { number = last self.now.store + 1; name = definition.value.name; version = fresh (definition_view definition.value.body); row = last self.now.store + 1 } ∷ []) }
     {
         let name = definition.name.clone()?;
         let slot = fresh_slot(alloc, self.next_number(), name, definition)?;

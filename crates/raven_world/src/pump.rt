@@ -1,10 +1,7 @@
 //! One batch for each index, or for one.
 ghost use Rattle.std.specs.Prelude.{◌≡◌, ◌≤◌, ◌∷◌, [], IfOk, IfSome, map};
 ghost use Rattle.raven_model.specs.Machine.{brought_on as spec_brought_on, brought_on_if as spec_brought_on_if, pump, pump_at, pumping};
-ghost use Rattle.raven_model.specs.Sound.{Fits};
-ghost use Rattle.raven_model.specs.Store.{IsStore};
 ghost use Rattle.raven_model.specs.World.{batch, serving as spec_serving};
-ghost use Rattle.raven_world.specs.KeepsUp.{KeepsUp};
 ghost use Rattle.raven_world.specs.Told.{change_view, machine_of, told};
 
 use crate::answer::no_index;
@@ -30,8 +27,6 @@ fn next_batch<L: Ledger>(
     slot: &Slot,
     blank: Blank,
 ) -> Result<Option<IndexVersion>, NoMemory>
-    requires sound { IsStore store.now }
-    requires fits { Fits store.now slot.now.version }
     requires name { blank.name ≡ L.name }
     requires parts { blank.parts ≡ L.parts }
     requires enough { 3 ≤ blank.parts }
@@ -46,8 +41,6 @@ fn next_batch<L: Ledger>(
 }
 
 fn brought_on(alloc: Global, store: &Store, max: u32, slot: &Slot) -> Result<Slot, NoMemory>
-    requires sound { IsStore store.now }
-    requires fits { Fits store.now slot.now.version }
     ensures { IfOk result (λ new. new ≡ spec_brought_on store.now max slot.now) }
 {
     let Some(version) = next_batch::<Brand>(alloc, store, max, slot, Blank::new(3))? else {
@@ -84,7 +77,6 @@ fn all_brought_on(
     max: u32,
     slots: &[Slot],
 ) -> Result<(Vec<Slot>, Vec<Pumping>), NoMemory>
-    requires { KeepsUp store.now slots.now }
     ensures slots { IfOk result (λ new. new.0.items ≡ map (spec_brought_on store.now max) slots.now) }
     ensures pumped { IfOk result (λ new. new.1.items ≡ map (pumping store.now max) slots.now) }
 {
@@ -105,8 +97,6 @@ fn brought_on_if(
     name: &Name,
     slot: &Slot,
 ) -> Result<Slot, NoMemory>
-    requires sound { IsStore store.now }
-    requires fits { Fits store.now slot.now.version }
     ensures { IfOk result (λ new. new ≡ spec_brought_on_if store.now max name.now slot.now) }
 {
     if is_named(slot, name.as_str()) {
@@ -123,7 +113,6 @@ fn one_brought_on(
     name: &Name,
     slots: &[Slot],
 ) -> Result<Vec<Slot>, NoMemory>
-    requires { KeepsUp store.now slots.now }
     ensures { IfOk result (λ new. new.items ≡ map (spec_brought_on_if store.now max name.now) slots.now) }
 {
     let mut new = Vec::with_capacity(alloc, slots.len())?;
@@ -135,8 +124,6 @@ fn one_brought_on(
 
 // What a batch does to one slot, told as a list.
 fn pumping_alone(alloc: Global, store: &Store, max: u32, slot: &Slot) -> Result<Pumpings, NoMemory>
-    requires sound { IsStore store.now }
-    requires fits { Fits store.now slot.now.version }
     ensures { IfOk result (λ pumped. pumped ≡ pumping store.now max slot.now ∷ []) }
 {
     let brought = brought_on(alloc, store, max, slot)?;

@@ -3,7 +3,6 @@ ghost use Rattle.std.specs.Prelude.{◌≡◌, IfOk};
 ghost use Rattle.raven_model.specs.Machine.{in_world, no_change, start};
 ghost use Rattle.raven_model.specs.Words.{program};
 ghost use Rattle.raven_reply.specs.ReplyView.{reply_view};
-ghost use Rattle.raven_world.specs.KeepsUp.{KeepsUp};
 ghost use Rattle.raven_world.specs.Told.{change_view, machine_of};
 ghost use Rattle.raven_world.specs.declared.world.WorldFault.TheVariants.{NoMemory as OutOfMemory};
 
@@ -38,10 +37,8 @@ impl Model for World {
     ghost view = { λ a. record { setting = setting_of a.base a.limits; store = a.store; slots = a.slots.items; notes = [] } };
 
     ghost use Rattle.raven_world.specs.Roomy.{IsRoomy};
-    ghost use Rattle.raven_world.specs.KeepsUp.{KeepsUp};
 
-    // The next version of an index is made of one that fits the store.
-    ghost invariant = { λ a. record { roomy : IsRoomy a.store a.limits.rows a.limits.slots; keeps : KeepsUp a.store a.slots.items } };
+    ghost invariant = { λ a. IsRoomy a.store a.limits.rows a.limits.slots };
 }
 
 /// A new world, the rows that its keeper is to take, and the reply to what was asked.
@@ -93,9 +90,8 @@ impl World {
         })
     }
 
-    /// The world with this store and these slots, which keep up with it.
+    /// The world with this store and these slots.
     pub(crate) fn with(&self, store: Store, slots: Vec<Slot>) -> Result<World, NoMemory>
-        requires { KeepsUp store slots.items }
         ensures { IfOk result (λ world. world ≡ in_world self.now store slots.items) }
     {
         Ok(World {
@@ -106,9 +102,8 @@ impl World {
         })
     }
 
-    /// The world with these slots over its store, which keep up with it.
+    /// The world with these slots over its store.
     pub(crate) fn with_slots(&self, slots: Vec<Slot>) -> Result<World, NoMemory>
-        requires { KeepsUp self.now.store slots.items }
         ensures { IfOk result (λ world. world ≡ in_world self.now self.now.store slots.items) }
     {
         self.with(self.store.clone()?, slots)

@@ -6,7 +6,6 @@ ghost use Rattle.raven_model.specs.Replies.{Bulk};
 ghost use Rattle.doc_txn.specs.CommandView.{command_view};
 ghost use Rattle.doc_txn.specs.FaultView.{kind_view};
 ghost use Rattle.raven_reply.specs.ReplyView.{reply_view, result_view};
-ghost use Rattle.raven_world.specs.KeepsUp.{KeepsUp};
 ghost use Rattle.raven_world.specs.Told.{change_view, machine_of, told};
 ghost use Rattle.raven_world.specs.Transacts.{Transacts};
 
@@ -116,8 +115,7 @@ impl World {
         commands: &Commands,
         now: u64,
     ) -> Result<Transaction, WorldFault>
-        ensures transacts { Transacts self.now now (map command_view commands.now) result }
-        ensures keeps { IfOk result (λ done. KeepsUp done.store self.now.slots) }
+        ensures { Transacts self.now now (map command_view commands.now) result }
     {
         match transact(
             alloc,
@@ -152,7 +150,6 @@ impl World {
     }
 
     fn changed(&self, alloc: Global, done: Transaction, reply: Reply) -> Result<Change, NoMemory>
-        requires { KeepsUp done.store self.now.slots }
         ensures { IfOk result (λ change. change_view change ≡ record { reply = reply_view reply; machine = machine_of (in_world self.now done.store self.now.slots); rows = done.rows }) }
     {
         let world = self.with(done.store, copies(alloc, &self.slots)?)?;

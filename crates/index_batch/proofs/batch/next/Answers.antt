@@ -1,11 +1,9 @@
-use Rattle.std.proofs.Common.{cond, length, ◌∙◌, ap, sym, subst, Some}
+use Rattle.std.proofs.Common.{cond, length, ◌∙◌, ap, subst, Some}
 use Rattle.raven_model.specs.Index.{taken, note_rows}
 use Rattle.raven_model.specs.Mapping.{mapper_of, touched}
 use Rattle.raven_model.specs.Store.{last, last_of}
-use Rattle.raven_laws.proofs.SlotLemmas.{batch-Brought}
 use Rattle.index_version.specs.Renewed.{MapsAtMost, documents_among}
 use Rattle.index_batch.proofs.Batches.{batch-none, batch-some}
-use Rattle.index_batch.proofs.Others.{batch_others}
 use Rattle.index_batch.proofs.batch.next.Goals as goal
 
 pub returns-then-is_empty-clause-next : goal.returns-then-is_empty-clause-next
@@ -13,11 +11,6 @@ returns-then-is_empty-clause-next g c =
     let v = c.args.version.now in
     let S = c.args.store.now in
     batch-none v S c.args.max c.in_ok-taken.taken (c.in_ok-taken.ensures.rows ∙ λ i. taken (c.in_ok-scope.ensures i) (c.etag.ensures i) S c.args.max) (c.is_empty.ensures.0 c.if-is_empty.true)
-
-pub after-requires-clause-others : goal.after-requires-clause-others
-after-requires-clause-others g c =
-    batch_others c.args.version.now c.args.store.now c.args.max _ c.requires.sound c.requires.fits
-    (c.as_slice-2.ensures ∙ c.in_ok-taken.ensures.rows ∙ λ i. taken (c.in_ok-scope.ensures i) (c.etag.ensures i) c.args.store.now c.args.max)
 
 pub returns-clause-next : goal.returns-clause-next
 returns-clause-next g c =
@@ -29,9 +22,6 @@ returns-clause-next g c =
     (λ e. let t = c.is_empty.ensures.1 e in cc)
     (rw (c.in_ok-scope.ensures, c.etag.ensures) at c.in_ok-taken.ensures.more)
     (c.etag_after-etag.ensures ∙ ap (λ rows. cond c.in_ok-taken.more (last_of 0 rows) (last S)) c.as_slice.ensures)
-
-pub returns-clause-fits : goal.returns-clause-fits
-returns-clause-fits g c = (batch-Brought c.args.store.now c.args.version.now c.in_ok-next.next c.args.max c.requires.sound c.requires.fits (sym (returns-clause-next g c))).fits
 
 pub returns-clause-maps : goal.returns-clause-maps
 returns-clause-maps g c =

@@ -1,8 +1,4 @@
-use Rattle.raven_model.specs.Sound.{Fits}
 use Rattle.index_batch.proofs.tests.calls_told.Given as goal
 
 abbrev pub ghosts-brought : goal.ghosts-brought
 ghosts-brought a = record { name = a.blank.name; parts = a.blank.parts }
-
-abbrev pub invariant-loop-batch : goal.invariant-loop-batch
-invariant-loop-batch l = Fits l.store l.version

@@ -6,9 +6,9 @@ use Rattle.index_lang.specs.DefinitionView.{definition_view}
 use Rattle.reference_track.specs.Sets.{is_id}
 use Rattle.reference_track.specs.Tracks.{is_pair}
 use Rattle.index_version.specs.Folded.{by_folded}
-use Rattle.index_version.specs.Kept.{is_loaded}
-use Rattle.index_version.specs.Renewed.{ArePaired, AreRenewed, documents_among}
-use Rattle.index_version.proofs.Keeping.{documents_left, folded_more, paired_more, renewed_more}
+use Rattle.index_version.specs.Kept.{given_at, is_loaded}
+use Rattle.index_version.specs.Renewed.{ArePaired, AreRenewed, mapped_among}
+use Rattle.index_version.proofs.Keeping.{mapped_left, folded_more, paired_more, renewed_more}
 use Rattle.index_version.proofs.renewal.renewed.Goals as goal
 
 pub loop-id-preserved : goal.loop-id-preserved
@@ -18,7 +18,7 @@ loop-id-preserved g c =
     let i = c.loop-id.id-index in
     let id = c.id-item.result in
     let more = folded_more c.args.ids.now i id c.loop-id-test.true ∙ ap (λ k. map folded (take i c.args.ids.now) ++ folded k ∷ []) (sym c.id-item.is) in
-    let left = documents_left T c.args.ids.now i id c.loop-id-test.true ∙ ap (λ k. cond (is_some (get T (folded k))) 1 0 + length (documents_among T (map folded (drop (i + 1) c.args.ids.now)))) (sym c.id-item.is) in
+    let left = mapped_left m T c.args.ids.now i id c.loop-id-test.true ∙ ap (λ k. cond (is_some (given_at m T (folded k))) 1 0 + length (mapped_among m T (map folded (drop (i + 1) c.args.ids.now)))) (sym c.id-item.is) in
     let so_far = c.loop-id.invariant.maps in
     let here = c.in_ok-given.ensures.maps.maps in
     record {

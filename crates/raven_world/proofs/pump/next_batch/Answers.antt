@@ -6,9 +6,11 @@ use Rattle.index_version.specs.Meaning.{Means, found_meaning}
 use Rattle.index_version.proofs.Meanings.{definition_means}
 use Rattle.raven_world.proofs.pump.next_batch.Goals as goal
 
-pub next-requires-clause-means : goal.next-requires-clause-means
-next-requires-clause-means g c =
+pub next-requires : goal.next-requires
+next-requires g c =
     let own = definition_view c.deref-2.result.now.body in
-    subst (Means (found_meaning own))
-    (ap (λ (d : Definition). definition_view d.body) c.deref-2.ensures ∙ c.definition.ensures ∙ ap (λ (v : Version). v.definition) (c.deref.ensures ∙ sym c.deref-3.ensures))
-    (definition_means own)
+    record {
+      means = subst (Means (found_meaning own))
+          (ap (λ (d : Definition). definition_view d.body) c.deref-2.ensures ∙ c.definition.ensures ∙ ap (λ (v : Version). v.definition) (c.deref.ensures ∙ sym c.deref-3.ensures))
+          (definition_means own);
+    }

@@ -1,9 +1,9 @@
-use Rattle.std.proofs.Common.{◌<◌, ◌∙◌, List, Some, None, get_or, if◌then◌else◌, inr, length, ap, rules, subst, sym}
+use Rattle.std.proofs.Common.{◌<◌, ◌∙◌, List, Some, None, get_or, if◌then◌else◌, inr, length, ap, subst, sym}
 use Rattle.raven_data.specs.Rows.{Row}
 use Rattle.doc_txn.specs.SettingView.{setting_of}
 use Rattle.raven_reading.specs.Openings.{EndsAt}
 use Rattle.raven_world.specs.Opened.{read_as}
-use Rattle.raven_world.proofs.Openings.{ends-here, keeps-opened, one-read}
+use Rattle.raven_world.proofs.Openings.{ends-here, one-read}
 use Rattle.raven_world.proofs.world.World.open.Goals as goal
 
 pub returns-then-not-branch-clause-fault : goal.returns-then-not-branch-clause-fault
@@ -34,9 +34,3 @@ loop-count-preserved c =
     take.right
     (ap (λ good. if good then Some c.take_row.new.slots.items else None) (sym c.if-not-branch.false) ∙ take.taken c.args.base)
     c.loop-count.invariant
-
-pub invariant_of-result : goal.invariant_of-result
-invariant_of-result c = record {
-  roomy = search rules;
-  keeps = keeps-opened (setting_of c.args.base c.args.limits) c.args.rows.now c.loop-count.count c.in-Ok.store c.loop-count.slots.items c.in-Ok.ensures.opened c.in-Ok.ensures.sound c.loop-count.invariant;
-}

@@ -4,18 +4,9 @@ use Rattle.raven_model.specs.Commit.{AnyVector, Delete, Server, commit}
 use Rattle.raven_model.specs.Machine.{rewrote}
 use Rattle.raven_model.specs.Replies.{Removed}
 use Rattle.raven_model.specs.World.{Slot, World, index_id, is_named, serving}
-use Rattle.raven_world.specs.KeepsUp.{KeepsUp}
 use Rattle.raven_world.specs.Told.{machine_of, told}
-use Rattle.raven_world.proofs.Keeping.{keeps-filter}
 use Rattle.raven_world.proofs.Steps.{remove-some}
 use Rattle.raven_world.proofs.world.World.remove.Goals as goal
-
-pub rewrite-requires : goal.rewrite-requires
-rewrite-requires c =
-    let S = c.self.inside.store in
-    let before = subst (KeepsUp S) (sym c.deref-2.ensures.value) c.self.invariant.keeps in
-    let after = subst (KeepsUp S) (sym c.in_ok-slots.ensures) (keeps-filter S (λ s. not (is_named c.args.name.now s)) c.deref-2.result.now before) in
-    subst (λ (W : World). KeepsUp W.store c.in_ok-slots.slots.items) c.self.view_is after
 
 pub returns : goal.returns
 returns c =

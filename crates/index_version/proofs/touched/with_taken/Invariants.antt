@@ -1,0 +1,8 @@
+use Rattle.std.proofs.Common.{◌≡◌, ◌||◌, ℕ, List, drop}
+use Rattle.raven_data.specs.Folding.{folded}
+use Rattle.raven_model.specs.Mapping.{is_taken}
+use Rattle.reference_track.specs.Sets.{is_one_of}
+use Rattle.index_version.proofs.touched.with_taken.Given as goal
+
+abbrev pub invariant-loop-row : goal.invariant-loop-row
+invariant-loop-row l = (x : List ℕ) → (is_taken (drop l.row-index l.taken) (folded x) || is_one_of x l.new) ≡ (is_taken l.taken (folded x) || is_one_of x l.fn.set)
