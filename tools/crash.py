@@ -3,11 +3,11 @@
 
     tools/crash.py [--program PATH] [--rounds N] [--seed N] [--folder FOLDER]
 
-Each round gives `run --data FILE` a script of writes out of the seed, one line or many, and reads the replies; somewhere
-on the way, or while the file is opened, the program is killed by SIGKILL. Then the same file is opened again, and every
-document, the counts and the indexes are asked for, and one more document is written. What is found has to be what the
-model in `tools/model.py` has after the lines that were answered, or after one line more, which was in flight; that line
-stands whole or not at all.
+Each round gives `run --data FILE` a script of writes out of the seed, of documents and of indexes by field and by text, one
+line or many, and reads the replies; somewhere on the way, or while the file is opened, the program is killed by SIGKILL.
+Then the same file is opened again, and every document, the counts and the indexes are asked for, and one more document is
+written. What is found has to be what the model in `tools/model.py` has after the lines that were answered, or after one line
+more, which was in flight; that line stands whole or not at all.
 
 It prints the rounds, the kills, the writes acknowledged, and how often something was
 
@@ -48,6 +48,13 @@ NAMES = ["Ada", "Grace", "Linus", "Barbara", "Edsger", "Niklaus", "É", "\U0001f
 IDS = [f"{COLLECTIONS[number % 4].strip('@').lower()}/{number}" for number in range(48)]
 COLLECTION_OF = {name: COLLECTIONS[number % 4] for number, name in enumerate(IDS)}
 AUTOS = [f"Auto/{collection}/By{field}" for collection in COLLECTIONS for field in FIELDS]
+# Names that clients give indexes, the last of them the first one spelled anew, and what these may map.
+NAMED = ["Named", "Owners", "Shares", "NAMED"]
+MAPS = [
+    "from u in docs.Users where u.Number >= 500000 select new { u.Name, u.City }",
+    'from o in docs.Orders let u = LoadDocument(o.Owner, "Users") select new { u.Name, Own = u.City == o.City }',
+    "from e in docs.Events select new { e.Name, Share = 1000 / (e.Number % 3) }",
+]
 VECTOR = re.compile(rb'"@change-vector":"A:([0-9]+)-')
 
 
@@ -72,6 +79,7 @@ class Writes:
         size = self.random.choice([0, 3, 40, 40, 300, 3_000]) if self.chance(97) else self.random.choice([20_000, 200_000])
         members = {field: self.random.choice(NAMES) for field in FIELDS if self.chance(60)}
         members["Number"] = self.random.randrange(1_000_000)
+        members["Owner"] = self.random.choice(IDS)
         members["Fill"] = "x" * self.random.randint(0, size)
         if collection != "@empty":
             members["@metadata"] = {"@collection": collection}
@@ -112,15 +120,24 @@ class Writes:
     def auto(self):
         return f"AUTO {self.random.choice(COLLECTIONS)} {self.random.choice(FIELDS)}"
 
+    def define(self):
+        """Mostly a name has one map, so that it is seldom defined otherwise while it serves."""
+        at = self.random.randrange(len(NAMED))
+        text = MAPS[at % len(MAPS)] if self.chance(90) else self.random.choice(MAPS)
+        return "INDEX " + model.write_json({"Name": NAMED[at], "Map": text})
+
+    def drop(self):
+        return f"DROP {self.random.choice(NAMED + AUTOS)}"
+
     def pump(self):
         return f"PUMP {self.random.choice([1, 2, 7, 64])}"
 
     def look(self):
-        return self.random.choice(["STATS", f"GET {self.name()}", f"FIND {self.random.choice(AUTOS)} Name ada"])
+        return self.random.choice(["STATS", f"GET {self.name()}", f"FIND {self.random.choice(AUTOS + NAMED)} Name ada", "INDEXES"])
 
     def script(self):
         kinds = [self.put] * 8 + [self.put_if] * 2 + [self.delete] * 3 + [self.delete_if] + [self.bulk] * 5
-        kinds += [self.auto, self.pump, self.pump, self.look]
+        kinds += [self.auto, self.define, self.drop, self.pump, self.pump, self.look]
         count = 1 if self.chance(25) else self.random.choice([2, 5, 10, 20, 40, 80])
         return [self.random.choice(kinds)().encode() for _ in range(count)]
 
@@ -177,13 +194,14 @@ class Run:
 
 
 def ids_asked():
-    return [*IDS, "nobody/1", *("@index/" + name for name in AUTOS)]
+    return [*IDS, "nobody/1", *("@index/" + name for name in AUTOS + NAMED)]
 
 
 def questions(number):
     """What is asked after a crash, and a document that is written after it."""
     lines = ["STATS", *(f"GET {name}" for name in ids_asked()), "PUMP 65536"]
     lines += [f"FIND {index} {field} ada" for index in AUTOS for field in FIELDS if index.endswith(field)]
+    lines += [*(f"FIND {name} Name ada" for name in NAMED), "INDEXES"]
     lines += [f'PUT {IDS[number % len(IDS)]} {{"Round":{number},"@metadata":{{"@collection":"{COLLECTIONS[number % 4]}"}}}}', "STATS"]
     return [line.encode() for line in lines]
 
