@@ -9,6 +9,3 @@ mod store;
 pub use opening::OpenFault;
 pub use rows::{Counts, last_etag};
 pub use store::Store;
-
-#[cfg(test)]
-mod tests;

@@ -16,6 +16,3 @@ pub use document::{collection_of, is_own, stored};
 pub use fault::{TxnFault, TxnKind};
 pub use limits::Limits;
 pub use transaction::{Etags, Transaction, commit, transact};
-
-#[cfg(test)]
-mod tests;

@@ -24,8 +24,3 @@ pub use reading::{ReadMap, ReadReduce, Trees};
 pub use refusal::{LangKind, LangRefusal, Part};
 pub use rows::{definition_value, row_body};
 pub use shape::{fields, same, scope};
-
-#[cfg(test)]
-mod shape_tests;
-#[cfg(test)]
-mod tests;

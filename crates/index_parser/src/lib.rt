@@ -11,6 +11,3 @@ mod tokens;
 
 pub use reading::read_map;
 pub use refusal::Refusal;
-
-#[cfg(test)]
-mod tests;

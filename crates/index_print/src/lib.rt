@@ -15,6 +15,3 @@ pub use laws::{
 };
 pub use maps::print_map;
 pub use reduces::print_reduce;
-
-#[cfg(test)]
-mod tests;

@@ -12,6 +12,3 @@ mod token;
 pub use reading::tokenise;
 pub use reserved::is_reserved;
 pub use token::{Placed, Token};
-
-#[cfg(test)]
-mod tests;

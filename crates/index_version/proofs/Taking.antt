@@ -7,7 +7,7 @@ use Rattle.raven_data.specs.Rows.{Row}
 use Rattle.raven_model.specs.Index.{Table, note_rows}
 use Rattle.raven_model.specs.Mapping.{Definition, mapper_of, touched}
 use Rattle.raven_model.specs.World.{Version}
-use Rattle.raven_steps.specs.Counts.{Counts}
+use Rattle.raven_base.specs.Counts.{Counts}
 use Rattle.reference_track.specs.Sets.{AreInOrder}
 use Rattle.reference_track.specs.Tracks.{Track}
 use Rattle.index_version.specs.Kept.{AreKept, Given, IsFiled, given_at}

@@ -14,6 +14,3 @@ pub use mapping::DefinitionMapper;
 pub use sharing::share;
 pub use table::{Table, is_document};
 pub use version::IndexVersion;
-
-#[cfg(test)]
-mod tests;

@@ -10,8 +10,7 @@ ghost use Rattle.index_version.specs.Meaning.{found_local, found_meaning};
 
 use index_lang::{DefBody, Definition, joined_name};
 use map_stage::{Entry, LangMapper, Lookup, Mapped, Mapper, Outcome};
-use raven_base::NoMemory;
-use raven_steps::Steps;
+use raven_base::{NoMemory, Steps};
 use raven_value::{Body, Ids, Path, Row, Scalar, Text};
 use std::alloc::Global;
 use std::sync::ledger::Ledger;

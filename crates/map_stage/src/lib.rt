@@ -16,6 +16,3 @@ mod scene;
 pub use lang_mapper::LangMapper;
 pub use lookup::Lookup;
 pub use mapper::{Entry, Mapped, Mapper, Outcome};
-
-#[cfg(test)]
-mod tests;

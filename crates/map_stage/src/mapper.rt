@@ -3,12 +3,11 @@ ghost use Rattle.std.specs.Prelude.{◌≡◌, List, ℕ, IfOk};
 ghost use Rattle.raven_data.specs.Rows as is;
 ghost use Rattle.map_meaning.specs.Asking as asking;
 ghost use Rattle.map_meaning.specs.Meaning as meaning;
-ghost use Rattle.raven_steps.specs.Counts.{one_map_more};
+ghost use Rattle.raven_base.specs.Counts.{one_map_more};
 ghost use Rattle.map_stage.specs.MappedView.{mapped_view};
 
 use crate::lookup::Lookup;
-use raven_base::{NoMemory, Sequence};
-use raven_steps::Steps;
+use raven_base::{NoMemory, Sequence, Steps};
 use raven_value::{Ids, Row, Scalar, Text};
 use std::alloc::Global;
 use std::sync::ledger::Ledger;

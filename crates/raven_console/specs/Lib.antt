@@ -8,3 +8,4 @@ pub mod Ends
 pub mod WordsView
 pub mod Openings
 pub mod Prepared
+pub mod Statuses

@@ -20,6 +20,3 @@ pub use raven_script::{Line, ReadRefusal, Request, line};
 pub use run::{Finish, answer_lines, raven};
 pub use status::Status;
 pub use words::outside;
-
-#[cfg(test)]
-mod tests;

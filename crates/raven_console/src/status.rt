@@ -1,4 +1,5 @@
 //! How the program ends.
+ghost use Rattle.std.specs.Prelude.{◌≡◌};
 
 /// How the program ended.
 #[derive(Clone, Copy, Debug, PartialEq, Eq)]
@@ -29,4 +30,40 @@ pub enum Status {
 
     /// No memory was found. The replies to all earlier lines are whole.
     NoMemory,
+}
+
+impl Status {
+    ghost use Rattle.raven_console.specs.Statuses.{name_of, number_of};
+
+    /// The exit status of the program.
+    pub fn number(self) -> u8
+        ensures { result ≡ number_of self }
+    {
+        match self {
+            Status::Done => 0,
+            Status::Usage => 2,
+            Status::ReadFault => 3,
+            Status::WriteFault => 4,
+            Status::KeptFault => 5,
+            Status::KeptBad { .. } => 6,
+            Status::InputTooLarge => 9,
+            Status::NoMemory => 10,
+        }
+    }
+
+    /// The name of the status, as the program writes it on standard error.
+    pub fn name(self) -> &'static str
+        ensures { result.now ≡ name_of self }
+    {
+        match self {
+            Status::Done => "Done",
+            Status::Usage => "Usage",
+            Status::ReadFault => "ReadFault",
+            Status::WriteFault => "WriteFault",
+            Status::KeptFault => "KeptFault",
+            Status::KeptBad { .. } => "KeptBad",
+            Status::InputTooLarge => "InputTooLarge",
+            Status::NoMemory => "NoMemory",
+        }
+    }
 }

@@ -106,6 +106,3 @@ pub fn outside(alloc: Global, words: &[String]) -> Result<Option<Outside>, NoMem
         None => Ok(None),
     }
 }
-
-#[cfg(test)]
-mod tests;

@@ -10,6 +10,3 @@ mod scan;
 pub use decode::{JsonRefusal, read};
 pub use encode::{write, write_text};
 pub use laws::written_is_read;
-
-#[cfg(test)]
-mod tests;

@@ -15,6 +15,3 @@ pub use mem_keeper::MemKeeper;
 pub use memory::{ByteSink, ByteSource};
 pub use ports::{Failed, Sink, SinkFault, Source};
 pub use still_clock::StillClock;
-
-#[cfg(test)]
-mod tests;

@@ -8,6 +8,3 @@ mod text;
 pub use moment::moment_text;
 pub use reply::{BulkResult, BulkResults, Listing, Listings, Pumping, Pumpings, Reply};
 pub use text::reply_text;
-
-#[cfg(test)]
-mod tests;

@@ -18,6 +18,3 @@ pub use raven_reply::{
     BulkResult, BulkResults, Listing, Listings, Pumping, Pumpings, Reply, reply_text,
 };
 pub use world::{Answered, Change, World, WorldFault};
-
-#[cfg(test)]
-mod tests;

@@ -9,6 +9,3 @@ mod words;
 
 pub use parser::read_reduce;
 pub use stop::Stop;
-
-#[cfg(test)]
-mod tests;
