@@ -10,6 +10,7 @@ use Rattle.raven_laws.proofs.StoreLemmas.{both_true, last_of-put}
 use Rattle.doc_store.specs.Bounds.{IsWithin}
 use Rattle.doc_store.specs.Steps.{MayStand}
 use Rattle.doc_store.proofs.MapLemmas.{none_out}
+use Rattle.raven_ports.proofs.RisingLemmas.{IsPast, last_on, past_on, rises_on}
 use Rattle.raven_ports.specs.Faults.{Rose}
 use Rattle.raven_ports.specs.Plan.{Plan, calls_later, one_later}
 use Rattle.doc_keeper.specs.Loading.{AreCalls, IsCause, IsLoaded, IsPage, Tells}
@@ -123,21 +124,9 @@ behind_most max earlier rows (k ∷ ks) few is =
 
 -- ETAGS
 
--- past the etag, where there is one
-abbrev pub IsPast : Option ℕ → ℕ → Type 0
-IsPast low etag = IfSome low (λ e. e < etag)
-
-past_on : (low : Option ℕ) (mid high : ℕ) → IsPast low mid → mid < high → IsPast low high
-past_on None mid high a b = tt
-past_on (Some e) mid high a b = omega arith
-
 is_past-true : (low : Option ℕ) (k : KeptRow) → IsPast low k.etag → is_past low k ≡ true
 is_past-true None k h = refl
 is_past-true (Some e) k h = lt-ltb e k.etag h
-
-past-is : (low : Option ℕ) (k : KeptRow) → is_past low k ≡ true → IsPast low k.etag
-past-is None k h = tt
-past-is (Some e) k h = ltb-true e k.etag h
 
 -- rows past one etag are past an earlier one
 all_pass : (low : Option ℕ) (mid : ℕ) (ks : List KeptRow) → IsPast low mid → EtagsRise (Some mid) ks → filter (is_past low) ks ≡ ks
@@ -161,21 +150,6 @@ rest_past low [] rest up = pass low rest up
 rest_past low (k ∷ given) rest up =
     ap (λ b. cond b (k ∷ filter (is_past (last_kept (Some k.etag) given)) (given ++ rest)) (filter (is_past (last_kept (Some k.etag) given)) (given ++ rest))) (not_past k.etag k given rest (omega arith) up.1)
     ∙ rest_past (Some k.etag) given rest up.1
-
-rises_on : (low : Option ℕ) (given page : List KeptRow) → EtagsRise low given → EtagsRise (last_kept low given) page → EtagsRise low (given ++ page)
-rises_on low [] page up next = next
-rises_on low (k ∷ given) page up next = (up.0, rises_on (Some k.etag) given page up.1 next)
-
-last_on : (low : Option ℕ) (given page : List KeptRow) → last_kept low (given ++ page) ≡ last_kept (last_kept low given) page
-last_on low [] page = refl
-last_on low (k ∷ given) page = last_on (Some k.etag) given page
-
--- one row more
-pub rises_more : (after last : Option ℕ) (found more : List KeptRow) (k : KeptRow) → EtagsRise after found → last_kept after found ≡ last → is_past last k ≡ true → more ≡ found ++ k ∷ [] → EtagsRise after more
-rises_more after last found more k up at past is = subst (EtagsRise after) (sym is) (rises_on after found (k ∷ []) up (subst (λ e. EtagsRise e (k ∷ [])) (sym at) (past-is last k past, tt)))
-
-pub last_more : (after : Option ℕ) (found more : List KeptRow) (k : KeptRow) → more ≡ found ++ k ∷ [] → last_kept after more ≡ Some k.etag
-last_more after found more k is = ap (last_kept after) is ∙ last_on after found (k ∷ [])
 
 -- PAGES
 

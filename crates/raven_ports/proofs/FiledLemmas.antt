@@ -17,7 +17,8 @@ use Rattle.raven_data.specs.Kept.{KeptRow, EtagsRise, is_past, last_kept, keep, 
 use Rattle.paged_map.specs.Pairs.{AllAnswer}
 use Rattle.paged_map.proofs.Laws.{lookup-insert_entry, insert_last}
 use Rattle.raven_ports.specs.Filed.{rows_in, by_etag, etag_at, AreApart, Shows}
-use Rattle.raven_ports.proofs.KeptLemmas.{IsPast, keep_rises}
+use Rattle.raven_ports.proofs.KeptLemmas.{keep_rises}
+use Rattle.raven_ports.proofs.RisingLemmas.{IsPast}
 
 -- NUMBERS
 

@@ -6,14 +6,7 @@ use Rattle.std.proofs.lemmas.List.Elements.{filter-append}
 use Rattle.raven_data.specs.Folding.{same_key}
 use Rattle.raven_data.specs.Kept.{KeptRow, EtagsRise, is_past, kept_after, last_kept, keep, keep_all, kept_key}
 use Rattle.raven_ports.specs.Filed.{is_among}
-
--- past the etag, where there is one
-abbrev pub IsPast : Option ℕ → ℕ → Type 0
-IsPast low etag = IfSome low (λ e. e < etag)
-
-past_on : (low : Option ℕ) (mid high : ℕ) → IsPast low mid → mid < high → IsPast low high
-past_on None mid high a b = tt
-past_on (Some e) mid high a b = omega arith
+use Rattle.raven_ports.proofs.RisingLemmas.{IsPast, past_on}
 
 lower : (low : Option ℕ) (mid : ℕ) (ks : List KeptRow) → IsPast low mid → EtagsRise (Some mid) ks → EtagsRise low ks
 lower low mid [] a up = tt

@@ -1,8 +1,8 @@
 use Rattle.std.proofs.Common.{◌∙◌, Some, ap, sym, length, arith, ◌∷◌, []}
 use Rattle.std.proofs.lemmas.List.{length-append}
 use Rattle.raven_data.specs.Kept.{KeptRow}
-use Rattle.doc_keeper.proofs.LoadLemmas.{rises_more, last_more}
-use Rattle.doc_keeper.proofs.sql_keeper.take.Goals as goal
+use Rattle.raven_ports.proofs.RisingLemmas.{rises_more, last_more}
+use Rattle.sql_keeper.proofs.keeper.take.Goals as goal
 
 pub loop-preserved : goal.loop-preserved
 loop-preserved g c = record {

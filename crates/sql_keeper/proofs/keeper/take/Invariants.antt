@@ -1,6 +1,6 @@
 use Rattle.std.proofs.Common.{◌≡◌, ◌≤◌, length}
 use Rattle.raven_data.specs.Kept.{EtagsRise, last_kept}
-use Rattle.doc_keeper.proofs.sql_keeper.take.Given as goal
+use Rattle.sql_keeper.proofs.keeper.take.Given as goal
 
 -- the etags rise so far, up to the last
 abbrev pub invariant-loop : goal.invariant-loop

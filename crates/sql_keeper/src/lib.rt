@@ -1,0 +1,9 @@
+//! A keeper of rows in a database of SQLite.
+#![tactic(auto)]
+
+mod keeper;
+
+pub use keeper::SqlKeeper;
+
+#[cfg(test)]
+mod tests;
