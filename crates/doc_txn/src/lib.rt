@@ -10,9 +10,9 @@ mod refusal;
 mod row;
 mod transaction;
 
-pub use base_id::{BaseId, is_base_id, vector};
+pub use base_id::{BaseId, vector};
 pub use command::{Command, Commands, Expect, Writer};
-pub use document::{collection_of, is_own, stored};
+pub use document::{is_own, stored};
 pub use fault::{TxnFault, TxnKind};
 pub use limits::Limits;
 pub use transaction::{Etags, Transaction, commit, transact};

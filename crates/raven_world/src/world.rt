@@ -1,7 +1,6 @@
 //! The world.
 ghost use Rattle.std.specs.Prelude.{◌≡◌, IfOk};
-ghost use Rattle.raven_model.specs.Machine.{in_world, no_change, start};
-ghost use Rattle.raven_model.specs.Words.{program};
+ghost use Rattle.raven_model.specs.Machine.{in_world, no_change};
 ghost use Rattle.raven_reply.specs.ReplyView.{reply_view};
 ghost use Rattle.raven_world.specs.Told.{change_view, machine_of};
 ghost use Rattle.raven_world.specs.declared.world.WorldFault.TheVariants.{NoMemory as OutOfMemory};
@@ -78,18 +77,6 @@ pub enum Answered {
 }
 
 impl World {
-    /// An empty database with the base id of 22 letters `A` and the limits of the program.
-    pub fn empty(alloc: Global) -> Result<World, NoMemory>
-        ensures { IfOk result (λ world. world ≡ (start program).world) }
-    {
-        Ok(World {
-            store: Store::empty(alloc)?,
-            slots: Vec::new(alloc),
-            base: BaseId::program(alloc)?,
-            limits: Limits::program(),
-        })
-    }
-
     /// The world with this store and these slots.
     pub(crate) fn with(&self, store: Store, slots: Vec<Slot>) -> Result<World, NoMemory>
         ensures { IfOk result (λ world. world ≡ in_world self.now store slots.items) }
