@@ -1,9 +1,11 @@
-"""Cases of the language of maps that were worked out by hand. `tools/test_language.py` holds the language against them, and
-`tools/scripts.py` makes scripts of them."""
+"""Cases of the language of definitions that were worked out by hand. `tools/test_language.py` holds the language against them,
+`tools/check-index-cases.py` the table of `crates/index_cases`, and `tools/scripts.py` makes scripts of them."""
 
 import language
 
 BEFORE = "from u in docs.U select new { A = "
+# Before an expression in which `a`, `b` and `c` are bound.
+AROUND = "from a in docs.U let b = 1 let c = 2 select new { X = "
 
 # Texts, the kinds of their tokens, and the places of these.
 TOKENS = [
@@ -117,21 +119,191 @@ REFUSED = [
     (BEFORE + "1" + " + 1" * 256 + " + ; }", 34 + 1 + 4 * 256 + 1, "TooLarge"),
 ]
 
-# Expressions, and how they are printed. `a`, `b` and `c` are bound.
+# Expressions, and how they are printed, behind AROUND.
 PRINTED = [
     ("a-b-c", "(a - b) - c"),
     ("a-(b-c)", "a - (b - c)"),
-    ("- -a", "-(-a)"),
-    ("!a.B", "!a.B"),
-    ("(a ? b : c).D", "(a ? b : c).D"),
-    ("a ? 1 : b ? 2 : 3", "a ? 1 : (b ? 2 : 3)"),
-    ("((a)).B", "a.B"),
+    ("1 + 2 * 3", "1 + (2 * 3)"),
+    ("(1 + 2) * 3", "(1 + 2) * 3"),
+    ("a / b % c * 4", "((a / b) % c) * 4"),
+    ("1 < 2 + 3", "1 < (2 + 3)"),
+    ("1 < 2 <= 3 > 4 >= 5", "(((1 < 2) <= 3) > 4) >= 5"),
+    ("a == b < c != 4", "(a == (b < c)) != 4"),
+    ("a || b && c == 4", "a || (b && (c == 4))"),
+    ("a && b || c", "(a && b) || c"),
     ("a||b&&c==1<2+3*-4", "a || (b && (c == (1 < (2 + (3 * (-4))))))"),
     ("a*b+c>1!=c||b", "((((a * b) + c) > 1) != c) || b"),
+    ("(((a || b) && c) != 4) == 7", "(((a || b) && c) != 4) == 7"),
+    ("- -a", "-(-a)"),
+    ("!!a", "!(!a)"),
+    ("!a.B", "!a.B"),
+    ("(-a).B", "(-a).B"),
+    ("a - -b", "a - (-b)"),
+    ("!a.b && -c * 4", "(!a.b) && ((-c) * 4)"),
+    ("a ? 1 : b ? 2 : 3", "a ? 1 : (b ? 2 : 3)"),
+    ("a ? b ? 1 : 2 : 3", "a ? (b ? 1 : 2) : 3"),
+    ("a || b ? 1 : 2", "(a || b) ? 1 : 2"),
+    ("(a ? b : c) ? 4 : 5", "(a ? b : c) ? 4 : 5"),
+    ("a ? b ? c ? 4 : 5 : 6 ? 7 : 8 : 9", "a ? (b ? (c ? 4 : 5) : (6 ? 7 : 8)) : 9"),
+    ("(a ? b : c).D", "(a ? b : c).D"),
+    ("((a)).B", "a.B"),
+    ("(a + b).C", "(a + b).C"),
+    ("a.from.select", "a.from.select"),
+    ("1.x", "1.x"),
     ("007", "7"),
-    ('"a\\"\\\\\\n\\r\\té"', '"a\\"\\\\\\n\\r\\té"'),
-    ('LoadDocument ( a.B + "/" , "C" ) .D', 'LoadDocument(a.B + "/", "C").D'),
+    ("9223372036854775807", "9223372036854775807"),
+    ("00000000000000000000009223372036854775807", "9223372036854775807"),
     ("true?null:false", "true ? null : false"),
+    ("false == null", "false == null"),
+    ('"x"+true', '"x" + true'),
+    ('""', '""'),
+    ('"a\\"\\\\\\n\\r\\té/"', '"a\\"\\\\\\n\\r\\té/"'),
+    ('"é€𝄞"', '"é€𝄞"'),
+    ('"// no \'end\'"', '"// no \'end\'"'),
+    ('LoadDocument ( a.B + "/" , "C" ) .D', 'LoadDocument(a.B + "/", "C").D'),
+    ('!LoadDocument(a ? b : c, "C\\"")', '!LoadDocument(a ? b : c, "C\\"")'),
+    ('LoadDocument(LoadDocument(a, "").B, "C")', 'LoadDocument(LoadDocument(a, "").B, "C")'),
+]
+
+# The map of the reduces below.
+REDUCED_MAP = "from o in docs.Orders select new { o.Company, Total = o.Cents }"
+FROM = "from r in results group r by r.Company into g select new { "
+
+# Reduces, and how they are printed.
+PRINTED_REDUCES = [
+    (FROM + "Company = g.Key, Total = g.Sum(x => x.Total) }", FROM + "Company = g.Key, Total = g.Sum(x => x.Total) }"),
+    (
+        "from r in results group r by new{r.Company}into g select new{g.Key.Company,Total=g.Min(x=>x.Total),}",
+        FROM + "Company = g.Key, Total = g.Min(x => x.Total) }",
+    ),
+    (
+        "from by1 in results group by1 by new { by1.Total, by1.Company } into all select new { Total = all.Key.Total, all.Key.Company }",
+        "from by1 in results group by1 by new { by1.Total, by1.Company } into all select new { Total = all.Key.Total, Company = all.Key.Company }",
+    ),
+    (
+        "from r in results group r by new { r.Company, r.Company } into g select new { g.Key.Company, Total = g.Max(r1 => r1.Total) }",
+        "from r in results group r by new { r.Company, r.Company } into g select new { Company = g.Key.Company, Total = g.Max(r1 => r1.Total) }",
+    ),
+]
+
+# Reduces, with the part, the place and the kind of their refusal behind REDUCED_MAP.
+REDUCED = [
+    (FROM + "Company = g.Key }", "Reduce", 0, "FieldsDiffer"),
+    (FROM + "Company = g.Key, Total = g.Sum(x => x.Total), Count = g.Sum(x => x.Count) }", "Reduce", 0, "FieldsDiffer"),
+    (FROM + "Company = g.Key, Total = g.Sum(x => x.Cents) }", "Reduce", 76, "NotReducible"),
+    (FROM + "Company = g.Key, Total = g.Key }", "Reduce", 76, "NotReducible"),
+    (FROM + "Company = g.Min(x => x.Company), Total = g.Sum(x => x.Total) }", "Reduce", 29, "NotReducible"),
+    # A member comes before the key, though the key stands first.
+    (FROM + "Total = g.Key, Company = g.Min(x => x.Company) }", "Reduce", 59, "NotReducible"),
+    (
+        "from r in results group r by new { r.Company, r.Total } into g select new { g.Key.Company, Total = g.Max(x => x.Total) }",
+        "Reduce",
+        29,
+        "NotReducible",
+    ),
+    (
+        "from r in results group r by new { r.Company } into g select new { g.Key.Company, g.Key.Total }",
+        "Reduce",
+        82,
+        "NotReducible",
+    ),
+    (FROM + "Company = g.Key, Total = g.Sum(x => y.Total) }", "Reduce", 95, "UnknownName"),
+    (FROM + "Company = g.Key, Total = g.Sum(g => g.Total) }", "Reduce", 90, "UnknownName"),
+    (FROM + "Company = g.Key, Total = g.Sum(r => r.Total) }", "Reduce", 90, "UnknownName"),
+    (FROM + "Company = g.Key, Total = g.Sum(x => g.Total) }", "Reduce", 95, "UnknownName"),
+    ("from r in results group r by q.Company into g select new { Company = g.Key }", "Reduce", 29, "UnknownName"),
+    ("from r in results group r by new { r.Company, g.Total } into g select new { Company = g.Key.Company }", "Reduce", 46, "UnknownName"),
+    ("from r in results group q by q.Company into r select new { Company = r.Key }", "Reduce", 24, "UnknownName"),
+    ("from r in results group r by r.Company into r select new { Company = r.Key }", "Reduce", 44, "UnknownName"),
+    (FROM + "Company = g.Key, Company = g.Key }", "Reduce", 76, "DuplicateField"),
+    (FROM + "Company = r.Key }", "Reduce", 69, "Unexpected"),
+    (FROM + "Company = g.Key, Total }", "Reduce", 82, "Unexpected"),
+    ("", "Reduce", 0, "Unexpected"),
+    ("from r", "Reduce", 6, "Unexpected"),
+    ("From r", "Reduce", 0, "Unexpected"),
+    ("from by in results", "Reduce", 5, "Unexpected"),
+    ("from o in docs.Orders", "Reduce", 10, "Unexpected"),
+    ("from r in results group r by r into g", "Reduce", 31, "Unexpected"),
+    ("from r in results group r by r.A.B into g", "Reduce", 32, "Unexpected"),
+    ("from r in results group r by select.A into g", "Reduce", 29, "Unexpected"),
+    ("from r in results group r by new r.A", "Reduce", 33, "Unexpected"),
+    ("from r in results group r by new {}", "Reduce", 34, "Unexpected"),
+    ("from r in results group r by new {r.A,}", "Reduce", 38, "Unexpected"),
+    ("from r in results group r by new {r.A r.B}", "Reduce", 38, "Unexpected"),
+    ("from r in results group r by r.A, r.B into g", "Reduce", 32, "Unexpected"),
+    ("from r in results group r by r.A into select", "Reduce", 38, "Unexpected"),
+    ("from r in results group r by r.A into g where", "Reduce", 40, "Unexpected"),
+]
+
+# Members of reduces by their keys, with the places and the kinds, counted from the first member.
+KEYED = {
+    "from r in results group r by r.A into g select new {": [
+        ("g=g.Key}", None, "FieldsDiffer"),
+        ("from=g.Max(e=>e.new)}", None, "FieldsDiffer"),
+        ("X=g.Min(e=>f.P)}", 11, "UnknownName"),
+        ("X=g.Sum(e=>e.P),Y=g.Sum(e=>e.Q)}", None, "FieldsDiffer"),
+        ("X=g.Key.A}", 7, "Unexpected"),
+        ("g.Key.A}", 1, "Unexpected"),
+        ("r.Key}", 1, "Unexpected"),
+        ("X=r.Key}", 2, "Unexpected"),
+        ("X=G.Key}", 2, "Unexpected"),
+        ("X=g.key}", 4, "Unexpected"),
+        ("X=g.sum(e=>e.P)}", 4, "Unexpected"),
+        ("X=g.Count(e=>e.P)}", 4, "Unexpected"),
+        ("X=g.Sum(in=>e.P)}", 8, "Unexpected"),
+        ("X=g.Sum(e=>by.P)}", 11, "Unexpected"),
+        ("X=g.Sum(e=>e)}", 12, "Unexpected"),
+        ("X=g.Sum(e=>e.P.Q)}", 14, "Unexpected"),
+        ("X=g.Sum()}", 8, "Unexpected"),
+        ("X=g.Sum.P}", 7, "Unexpected"),
+        ("X=g.Key(e=>e.P)}", 7, "Unexpected"),
+        ("X=g}", 3, "Unexpected"),
+        ("X==g.Key}", 1, "Unexpected"),
+        ("X=1}", 2, "Unexpected"),
+        ("1=g.Key}", 0, "Unexpected"),
+        ("}", 0, "Unexpected"),
+        ("X=g.Key Y=g.Key}", 8, "Unexpected"),
+        ("X=g.Key,,}", 8, "Unexpected"),
+        ("X=g.Key", 7, "Unexpected"),
+        ("X=g.Key}x", 8, "Unexpected"),
+        # Behind 64 members of eight bytes each.
+        ("a=g.Key," * 64 + "}", 8, "DuplicateField"),
+        ("a=g.Key," * 64 + "b=g.Key}", 512, "TooLarge"),
+        ("a=g.Key," * 64 + "b", 512, "TooLarge"),
+        ("a=g.Key," * 64 + "1", 512, "Unexpected"),
+        ("a=g.Key," * 64, 512, "Unexpected"),
+    ],
+    "from r in results group r by new{r.A} into g select new {": [
+        ("X=g.Key,Y=g.Key.A,g.Key.A}", None, "FieldsDiffer"),
+        ("g.Key.Z,}", None, "FieldsDiffer"),
+        ("X=g.Key.in}", None, "FieldsDiffer"),
+        ("g=g.Key}", None, "FieldsDiffer"),
+        ("g.Key}", 5, "Unexpected"),
+        ("g.Sum(e=>e.P)}", 2, "Unexpected"),
+        ("r.Key.A}", 1, "Unexpected"),
+        ("g.Key.A.B}", 7, "Unexpected"),
+    ],
+    "from r in results group r by new{r.A,r.B} into g select new {": [
+        ("X=g.Key.B,g.Key.A}", None, "FieldsDiffer"),
+        ("X=g.Key,}", 7, "Unexpected"),
+        ("X=g.Key}", 7, "Unexpected"),
+    ],
+}
+for _head, _members in KEYED.items():
+    REDUCED += [(_head + text, "Reduce", 0 if at is None else len(_head) + at, kind) for text, at, kind in _members]
+
+# A map and a reduce, each of which is refused by itself.
+BOTH = [
+    ("from o in docs.Orders select new { x.Company, Total = o.Cents }", FROM + "Company = g.Key, Total }", "Reduce", 82, "Unexpected"),
+    ("from o in docs.Orders select new { x.Company, Total = x.Cents }", FROM + "Company = q.Key }", "Reduce", 69, "Unexpected"),
+    ("from o in docs.Orders select { x }", FROM + "Company = q.Key }", "Map", 29, "Unexpected"),
+    ("from o in docs.Orders select new { x.Company }", "from r in results group q by r.A into g select new { A = g.Key }", "Map", 35, "UnknownName"),
+    ("from o in docs.Orders select new { o.A, A = 1 }", "from r in results group q by r.A into g select new { A = g.Key }", "Reduce", 24, "UnknownName"),
+    ("from o in docs.Orders select new { o.A, A = 1 }", "from r in results group r by r.A into g select new { A = g.Key, A = g.Key }", "Map", 40, "DuplicateField"),
+    ("from o in docs.Orders select new { o.A }", "from r in results group r by r.B into g select new { B = g.Key, B = g.Key }", "Reduce", 64, "DuplicateField"),
+    ("from o in docs.Orders select new { o.A }", "from r in results group r by r.B into g select new { C = g.Key }", "Reduce", 0, "FieldsDiffer"),
+    (";", " " * 65_537, "Reduce", 65_536, "TooLarge"),
+    (" " * 65_537, " " * 65_537, "Map", 65_536, "TooLarge"),
 ]
 
 # A document, and what expressions over it give. A member that is a list or an object is null.

@@ -164,9 +164,8 @@ def test_grammar(rounds=400):
 
 
 def test_spellings():
-    whole = "from a in docs.U let b = 1 let c = 2 select new { X = "
     for text, printed in cases.PRINTED:
-        assert language.printed(language.parse(whole + text + " }")) == whole + printed + " }", text
+        assert language.printed(language.parse(cases.AROUND + text + " }")) == cases.AROUND + printed + " }", text
     first = 'from u in docs.Users where u.Age >= 18 select new { u.Name, Old = u.Age > 64 ? "yes" : "no" }'
     spelled = 'from u in docs.Users where u.Age >= 18 select new { Name = u.Name, Old = (u.Age > 64) ? "yes" : "no" }'
     assert language.printed(language.parse(first)) == spelled

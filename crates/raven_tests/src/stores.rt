@@ -1,0 +1,101 @@
+//! Stores.
+use doc_store::Store;
+use doc_txn::{BaseId, Command, Commands, Expect, Limits, TxnFault, TxnKind, Writer, commit};
+use raven_json::read;
+use raven_value::{Body, Id, Row, Rows, Scope, Text};
+use std::alloc::Global;
+use std::test::Fail;
+
+fn row(alloc: Global, etag: u64, id: &str, collection: &str) -> Result<Row, Fail> {
+    Ok(Row {
+        etag,
+        id: Id::new(alloc, id)?,
+        collection: Text::of(alloc, collection)?,
+        body: Body::Gone,
+        changed: 0,
+    })
+}
+
+fn store(alloc: Global) -> Result<Store, Fail> {
+    let mut rows = Rows::new(alloc);
+    rows.push(row(alloc, 2, "Orders/1", "Orders")?)?;
+    rows.push(row(alloc, 3, "users/10", "Users")?)?;
+    rows.push(row(alloc, 4, "users/1", "Users")?)?;
+    if rows.len() > 100 {
+        return Err(Fail::new("too many rows"));
+    }
+    Ok(Store::open(alloc, &rows)?)
+}
+
+// The etags of all rows, in the order of their ids.
+fn etags(alloc: Global) -> Result<Vec<u64>, Fail> {
+    let mut etags = Vec::new(alloc);
+    for row in store(alloc)?.rows(alloc)?.as_slice() {
+        etags.push(row.etag)?;
+    }
+    Ok(etags)
+}
+
+#[test]
+fn rows_are_in_order_of_id(rt: HostRuntime) -> Result<(), Fail> {
+    assert_eq!(rt; etags(rt.alloc())?.as_slice(), [2u64, 4, 3].as_slice());
+    Ok(())
+}
+
+fn newest(alloc: Global, collection: &str, upto: Option<u64>) -> Result<u64, Fail> {
+    let mut scope = Scope::new(alloc);
+    scope.push(Text::of(alloc, collection)?)?;
+    Ok(store(alloc)?.newest(&scope, upto))
+}
+
+#[test]
+fn the_newest_row_of_a_collection_is_up_to_an_etag(rt: HostRuntime) -> Result<(), Fail> {
+    let cases = [
+        ("Users", None, 4),
+        ("Users", Some(4), 4),
+        ("Users", Some(3), 3),
+        ("Users", Some(2), 0),
+        ("Orders", Some(9), 2),
+        ("users", None, 0),
+    ];
+    for (collection, upto, wanted) in cases {
+        assert_eq!(rt; newest(rt.alloc(), collection, upto)?, wanted);
+    }
+    Ok(())
+}
+
+fn puts(alloc: Global, ids: &[&str]) -> Result<Commands, Fail> {
+    let mut commands = Commands::new(alloc);
+    for id in ids {
+        commands.push(Command::Put {
+            id: Id::new(alloc, id)?,
+            expected: Expect::Any,
+            body: read(alloc, b"{}")?,
+        })?;
+    }
+    Ok(commands)
+}
+
+// Why puts of these ids are refused by a store that may have one row.
+fn fault_of(alloc: Global, ids: &[&str]) -> Result<Option<TxnFault>, Fail> {
+    let limits = Limits {
+        rows: 1,
+        slots: 0,
+        notes: 0,
+    };
+    let commands = puts(alloc, ids)?;
+    let base = BaseId::program(alloc)?;
+    let store = Store::empty(alloc)?;
+    Ok(commit(alloc, &store, &commands, Writer::Client, &base, &limits, 0).err())
+}
+
+#[test]
+fn a_full_store_takes_no_new_id(rt: HostRuntime) -> Result<(), Fail> {
+    let wanted = TxnFault::Refused {
+        at: 2,
+        kind: TxnKind::StoreFull { rows: 1 },
+    };
+    assert_eq!(rt; fault_of(rt.alloc(), &["a", "A"])?, None);
+    assert_eq!(rt; fault_of(rt.alloc(), &["a", "A", "b"])?, Some(wanted));
+    Ok(())
+}
