@@ -1,7 +1,7 @@
 //! A keeper in memory, whose calls fail by a list.
 ghost use Rattle.std.specs.Prelude.{◌≡◌, ◌≤◌, ◌↔◌, ◌++◌, [], Some, None, filter, length, not, true, option_map, unwrap_or, IfOk, IfSome, OnErr, OnOk, IsErrOf};
 ghost use Rattle.std.specs.Option.{option_copied};
-ghost use Rattle.raven_data.specs.Kept.{EtagsRise, keep_all, kept_after, kept_key, last_kept};
+ghost use Rattle.raven_data.specs.Kept.{EtagsRise, is_past as spec_is_past, keep_all, kept_after, kept_key, last_kept};
 ghost use Rattle.raven_data.specs.Folding.{same_key};
 ghost use Rattle.raven_ports.specs.Faults.{Rose};
 ghost use Rattle.raven_ports.specs.Filed.{is_among};
@@ -11,7 +11,6 @@ ghost use Rattle.raven_ports.specs.Plan.{is_failing, one_later};
 use crate::calls::Calls;
 use crate::committed::Committed;
 use crate::keeper::{Keeper, KeeperFault, KeptRow, KeptRows};
-use crate::rising::is_past;
 use raven_base::{NoMemory, Numbers, Sequence};
 use std::alloc::Global;
 use std::marker::Model;
@@ -39,6 +38,16 @@ impl Model for MemKeeper {
     ghost view = { λ a. record { rows = a.given.items ++ unwrap_or a.committed []; fails = a.calls.fails; calls = a.calls.count; faults = a.calls.faults } };
 
     ghost invariant = { λ a. EtagsRise None (a.given.items ++ unwrap_or a.committed []) };
+}
+
+/// Whether the row is past this etag. Without one, any row is.
+fn is_past(after: Option<u64>, row: &KeptRow) -> bool
+    ensures { result ≡ spec_is_past after row.now }
+{
+    match after {
+        Some(etag) => etag < row.etag,
+        None => true,
+    }
 }
 
 // Copies of the first rows past an etag, at most so many.
