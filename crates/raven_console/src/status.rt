@@ -30,3 +30,19 @@ pub enum Status {
     /// No memory was found. The replies to all earlier lines are whole.
     NoMemory,
 }
+
+impl Status {
+    /// The name of the status.
+    pub fn name(self) -> &'static str {
+        match self {
+            Status::Done => "Done",
+            Status::Usage => "Usage",
+            Status::ReadFault => "ReadFault",
+            Status::WriteFault => "WriteFault",
+            Status::KeptFault => "KeptFault",
+            Status::KeptBad { .. } => "KeptBad",
+            Status::InputTooLarge => "InputTooLarge",
+            Status::NoMemory => "NoMemory",
+        }
+    }
+}

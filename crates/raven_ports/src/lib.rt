@@ -7,6 +7,7 @@ mod keeper;
 mod mem_keeper;
 mod memory;
 mod ports;
+mod rising;
 mod shared;
 mod still_clock;
 
@@ -14,6 +15,7 @@ pub use keeper::{Clock, Keeper, KeeperFault, KeptRow, KeptRows};
 pub use mem_keeper::MemKeeper;
 pub use memory::{ByteSink, ByteSource};
 pub use ports::{Failed, Sink, SinkFault, Source};
+pub use rising::etags_rise;
 pub use still_clock::StillClock;
 
 #[cfg(test)]
