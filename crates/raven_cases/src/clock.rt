@@ -1,0 +1,55 @@
+//! The clocks that a run may have.
+ghost use Rattle.std.specs.Prelude.{◌≡◌, ◌<◌, None};
+
+use raven_ports::{Clock, StillClock};
+use std::cell::Cell;
+
+/// The last moment that a clock may tell: the last microsecond of the year 9998.
+const LAST_MOMENT: u64 = 253_370_764_799_999_999;
+
+/// The clock of a run.
+#[derive(Drop)]
+pub enum CaseClock {
+    Still(StillClock),
+    Ticking(TickingClock),
+}
+
+impl CaseClock {
+    /// A clock that always tells this moment, if a clock may tell it.
+    pub fn still(moment: u64) -> Option<CaseClock> {
+        if moment <= LAST_MOMENT {
+            Some(CaseClock::Still(StillClock::at(moment)))
+        } else {
+            None
+        }
+    }
+
+    /// A clock that tells this moment first, if a clock may tell it, and then moves on by a step with each call.
+    pub fn ticking(first: u64, step: u64) -> Option<CaseClock> {
+        if first <= LAST_MOMENT {
+            let next = Cell::new(first);
+            Some(CaseClock::Ticking(TickingClock { next, step }))
+        } else {
+            None
+        }
+    }
+}
+
+/// A clock that moves on with each call, up to the last moment.
+#[derive(Drop)]
+pub struct TickingClock {
+    next: Cell<u64>,
+    step: u64,
+}
+
+impl Clock for TickingClock {
+    ghost moment = { λ _. None };
+
+    fn now(&self) -> u64 {
+        let moment = self.next.get().min(LAST_MOMENT);
+        self.next.set(moment.saturating_add(self.step));
+        moment
+    }
+
+    fn nap(&self) {}
+}
