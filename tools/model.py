@@ -6,6 +6,7 @@ than may be. It keeps everything in plain dictionaries and counts anew for each 
 `tools/compare.py` holds the program against it.
 """
 
+import datetime
 import math
 import pathlib
 import re
@@ -26,7 +27,7 @@ MAX_ROWS = 4_000_000
 MAX_ETAG = 9_007_199_254_740_991
 MAX_BATCH = 65_536
 BASE = "A" * 22
-# Each line comes at the same moment here. A program with a clock shows others: `at_no_moment` puts this one in their place.
+# The moment of each line where no clock is given. A program with a clock shows others: `at_no_moment` puts this one in their place.
 MOMENT = "1970-01-01T00:00:00.0000000Z"
 MOMENTS = re.compile(rb'"@last-modified":"([0-9]{4}-[0-9]{2}-[0-9]{2}T[0-9]{2}:[0-9]{2}:[0-9]{2}\.[0-9]{7}Z)"')
 
@@ -40,6 +41,11 @@ def folded(text):
 
 def size(text):
     return len(text.encode())
+
+
+def moment_text(moment):
+    """A moment in microseconds since 1970, as a document shows it."""
+    return (datetime.datetime(1970, 1, 1) + datetime.timedelta(microseconds=moment)).strftime("%Y-%m-%dT%H:%M:%S.%f0Z")
 
 
 def at_no_moment(written):
@@ -314,8 +320,8 @@ def stored(body):
     return {**body, "@metadata": kept}
 
 
-def vector_of(etag):
-    return f"A:{etag}-{BASE}"
+def vector_of(etag, base=BASE):
+    return f"A:{etag}-{base}"
 
 
 # The store
@@ -324,28 +330,35 @@ def vector_of(etag):
 class Row:
     """What stands at an id: a document, or a tombstone, whose body is None."""
 
-    def __init__(self, etag, spelling, collection, body):
+    def __init__(self, etag, spelling, collection, body, changed=0):
         self.etag = etag
         self.spelling = spelling
         self.collection = collection
         self.body = body
+        self.changed = changed  # the moment at which it was written
 
     def is_document(self):
         return self.body is not None
 
-    def shown(self):
+    def shown(self, base=BASE):
         """The document with what the server knows of it."""
-        known = {"@change-vector": vector_of(self.etag), "@collection": self.collection, "@id": self.spelling}
-        return {**self.body, "@metadata": {**self.body["@metadata"], **known, "@last-modified": MOMENT}}
+        known = {"@change-vector": vector_of(self.etag, base), "@collection": self.collection, "@id": self.spelling}
+        known["@last-modified"] = moment_text(self.changed)
+        return {**self.body, "@metadata": {**self.body["@metadata"], **known}}
 
 
 class Store:
-    def __init__(self, rows, last):
+    def __init__(self, rows, last, base=BASE, now=0):
         self.rows = rows  # by folded id, in order of etag
         self.last = last
+        self.base = base
+        self.now = now  # the moment of the line that is answered
 
     def copy(self):
-        return Store(dict(self.rows), self.last)
+        return Store(dict(self.rows), self.last, self.base, self.now)
+
+    def vector(self, etag):
+        return vector_of(etag, self.base)
 
     def row(self, name):
         return self.rows.get(folded(name))
@@ -362,7 +375,7 @@ class Store:
     def write(self, name, collection, body):
         """Puts a row under the next etag, and gives the etag."""
         self.last += 1
-        row = Row(self.last, self.spelling(name), collection, body)
+        row = Row(self.last, self.spelling(name), collection, body, self.now)
         self.rows.pop(folded(name), None)
         self.rows[folded(name)] = row
         return self.last
@@ -399,7 +412,7 @@ def test(store, at, command, by_client):
             raise Refused("TooLarge", At=at, Len=length)
         if row and row.collection != collection_of(command.body):
             raise Refused("CollectionChanged", At=at, From=row.collection)
-    found = vector_of(document.etag) if document else ""
+    found = store.vector(document.etag) if document else ""
     if command.expected not in (None, found):
         raise Refused("Conflict", At=at, Expected=command.expected, Found=found)
     if command.is_put() and not row and len(store.rows) >= MAX_ROWS:
@@ -420,7 +433,7 @@ def result_of(store, command, etag):
     """What the command did, told of the store after the whole transaction."""
     name = store.spelling(command.name)
     if command.is_put():
-        return {"ChangeVector": vector_of(etag), "Id": name, "Type": "PUT"}
+        return {"ChangeVector": store.vector(etag), "Id": name, "Type": "PUT"}
     return {"Deleted": etag is not None, "Id": name, "Type": "DELETE"}
 
 
@@ -514,9 +527,10 @@ class Index:
 
 
 class Database:
-    def __init__(self):
-        self.store = Store({}, 0)
+    def __init__(self, store=None, keeper=None):
+        self.store = store or Store({}, 0)
         self.indexes = []  # in order of their numbers
+        self.keeper = keeper  # is asked for each change with rows, before it is made
 
     # documents
 
@@ -527,6 +541,9 @@ class Database:
         for at, command in enumerate(commands):
             test(store, at, command, by_client)
             etags.append(perform(store, command))
+        written = [row for row in store.rows.values() if row.etag > self.store.last]
+        if written and self.keeper:
+            self.keeper.commit(written)
         self.store = store
         return [result_of(store, command, etag) for command, etag in zip(commands, etags)]
 
@@ -542,7 +559,7 @@ class Database:
         document = self.store.document(name)
         if not document:
             raise Refused("NoDocument", Id=self.store.spelling(name))
-        return document.shown()
+        return document.shown(self.store.base)
 
     def stats(self):
         own = [row for row in self.store.rows.values() if row.collection != "@indexes"]

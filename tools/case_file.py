@@ -1,0 +1,185 @@
+"""The cases of runs in `crates/raven_cases/stdin`: how they are written, and what is printed of them.
+
+A case begins with `== NAME`. These lines stand before its script, in any order:
+
+    words W W ..         the arguments; without the line `run`, and with nothing behind it none at all
+    clock M [+S]         the first call of the clock gives M, and each further one S more; without the line 0
+    reads N .., writes N .., keeps N ..      the calls of the input, of the output and of the keeper that fail
+    row ETAG MOMENT      a row that the keeper holds at the start, with `id`, `collection` and `body` lines behind it
+    rows                 the rows that the keeper is left with are printed too
+
+The script has `> LINE`, a line with its LF; `>N LINE`, N such lines; and `| TEXT`, a piece without one. `again` begins a
+further run over the keeper that was handed back. In values `⟨0d⟩` is a byte, `⟨3*ab⟩` is `ababab`, and `⟨n⟩` is the number of
+the copy of a line that stands several times. Behind the last line of a case empty lines and lines with `#` are passed over.
+"""
+
+import dataclasses
+import re
+
+import keeping
+import model
+import running
+
+MARK = re.compile(r"⟨(?:(?P<bytes>(?:[0-9a-f]{2})+)|(?P<count>[0-9]+)\*(?P<text>[^⟨⟩]*)|(?P<number>n))⟩|[⟨⟩]")
+COPIES = re.compile(r">([1-9][0-9]*) (.*)")
+NUMBERS = re.compile(r"[0-9]+(?: [0-9]+)*", re.ASCII)
+CLOCK = re.compile(r"([0-9]+)(?: \+([0-9]+))?", re.ASCII)
+
+
+class Mistake(Exception):
+    """A line of the file that is of no form."""
+
+    def __init__(self, number, text):
+        super().__init__(f"mistake in line {number}: {text}")
+
+
+@dataclasses.dataclass
+class Run:
+    outside: running.Outside
+    tells_rows: bool = False
+
+
+@dataclasses.dataclass
+class Case:
+    name: str
+    runs: list
+    rows: list = dataclasses.field(default_factory=list)
+    keeps: tuple = ()
+
+
+def written_out(value, number=None):
+    """The bytes that a value stands for."""
+
+    def meant(found):
+        if found["bytes"]:
+            return bytes.fromhex(found["bytes"])
+        if found["count"]:
+            return int(found["count"]) * found["text"].encode()
+        if found["number"] and number is not None:
+            return str(number).encode()
+        raise ValueError(f"a mark that has no meaning: {found.group()}")
+
+    parts, at = [], 0
+    for found in MARK.finditer(value):
+        parts += [value[at : found.start()].encode(), meant(found)]
+        at = found.end()
+    return b"".join([*parts, value[at:].encode()])
+
+
+def numbers_of(value):
+    if not NUMBERS.fullmatch(value):
+        raise ValueError(f"no numbers: {value}")
+    return tuple(map(int, value.split(" ")))
+
+
+def clock_of(value):
+    found = CLOCK.fullmatch(value)
+    if not found:
+        raise ValueError(f"no clock: {value}")
+    return running.Clock(int(found[1]), int(found[2] or 0))
+
+
+class Reader:
+    """Reads the cases line by line."""
+
+    def __init__(self):
+        self.cases = []
+
+    @property
+    def case(self):
+        if not self.cases:
+            raise ValueError("no case has begun")
+        return self.cases[-1]
+
+    @property
+    def outside(self):
+        return self.case.runs[-1].outside
+
+    def line(self, line):
+        if not line or line.startswith("#"):
+            return
+        if line.startswith(("== ", ">", "| ")):
+            return self.part_of_script(line)
+        word, _, value = line.partition(" ")
+        if word in ("rows", "again") and word == line:
+            return self.alone(word)
+        if word in ("id", "collection", "body"):
+            return setattr(self.case.rows[-1], word, written_out(value).decode())
+        if word == "row":
+            return self.row(*numbers_of(value))
+        self.given(word, value)
+
+    def part_of_script(self, line):
+        copies = COPIES.fullmatch(line)
+        if line.startswith("== "):
+            self.cases.append(Case(line[3:], [Run(running.Outside())]))
+        elif copies:
+            lines = [written_out(copies[2], number + 1) + b"\n" for number in range(int(copies[1]))]
+            self.outside.script += b"".join(lines)
+        elif line == ">" or line.startswith("> "):
+            self.outside.script += written_out(line[2:]) + b"\n"
+        elif line.startswith("| "):
+            self.outside.script += written_out(line[2:])
+        else:
+            raise ValueError(f"no line of a script: {line}")
+
+    def alone(self, word):
+        if word == "rows":
+            self.case.runs[-1].tells_rows = True
+        else:
+            self.case.runs.append(Run(running.Outside()))
+
+    def row(self, etag, changed):
+        if len(self.case.runs) > 1 or self.case.rows and self.case.rows[-1].etag >= etag:
+            raise ValueError("the rows that the keeper holds at the start stand before `again`, and their etags rise")
+        self.case.rows.append(keeping.KeptRow(etag, "", "@empty", None, changed))
+
+    def given(self, word, value):
+        if word == "words":
+            self.outside.words = tuple(written_out(value).decode().split(" ")) if value else ()
+        elif word == "clock":
+            self.outside.clock = clock_of(value)
+        elif word in ("reads", "writes"):
+            setattr(self.outside, word, frozenset(numbers_of(value)))
+        elif word == "keeps" and len(self.case.runs) == 1:
+            self.case.keeps = numbers_of(value)
+        else:
+            raise ValueError(f"a line of no form: {word} {value}")
+
+
+def read(text):
+    """The cases of a file, whose lines each end with a LF."""
+    reader = Reader()
+    for number, line in enumerate(text.split("\n")[:-1], 1):
+        try:
+            reader.line(line)
+        except (ValueError, TypeError, IndexError) as fault:
+            raise Mistake(number, fault) from None
+    return reader.cases
+
+
+# What is printed
+
+
+def told_row(row):
+    """A row that the keeper is left with."""
+    id_and_collection = f"{model.quoted(row.id)} {model.quoted(row.collection)}"
+    return f"row {row.etag} {row.changed} {id_and_collection} {'deleted' if row.body is None else row.body}\n"
+
+
+def told_output(written):
+    """Each line that was written, and what stands behind the last of them."""
+    *lines, last = written.decode().split("\n")
+    return "".join(f"> {line}\n" for line in lines) + (f"| {last}\n" if last else "")
+
+
+def told_run(run, keeper):
+    status, written = running.run(run.outside, keeper)
+    rows = "".join(map(told_row, keeper.rows)) if run.tells_rows else ""
+    return f"status {status}\n" + told_output(written) + rows
+
+
+def told(case):
+    """What is printed of a case, by the rules."""
+    keeper = keeping.Keeper(case.rows, case.keeps)
+    return f"== {case.name}\n" + "again\n".join(told_run(run, keeper) for run in case.runs) + "\n"

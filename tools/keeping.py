@@ -1,0 +1,169 @@
+"""Rows as they are kept: a keeper in memory, and the database that the rows of a keeper open."""
+
+import dataclasses
+import typing
+
+import model
+
+# The rows that are loaded by one call.
+PAGE = 1_024
+# Moments are before the year 9999.
+END_OF_MOMENTS = 253_370_764_800_000_000
+
+
+@dataclasses.dataclass
+class KeptRow:
+    etag: int
+    id: str
+    collection: str
+    body: typing.Optional[str]  # None of a tombstone
+    changed: int
+
+
+class Failed(Exception):
+    """A call of the keeper that fails. It changes nothing."""
+
+
+class KeptBad(Exception):
+    """The keeper holds a row that no database can have."""
+
+    def __init__(self, etag):
+        super().__init__(etag)
+        self.etag = etag
+
+
+class Keeper:
+    """Rows in order of etag. Its calls are counted together, from 1; those of some numbers fail."""
+
+    def __init__(self, rows=(), fails=()):
+        self.rows = list(rows)
+        self.fails = frozenset(fails)
+        self.calls = 0
+
+    def call(self):
+        self.calls += 1
+        if self.calls in self.fails:
+            raise Failed
+
+    def load(self, after, most):
+        self.call()
+        return [row for row in self.rows if after is None or row.etag > after][:most]
+
+    def commit(self, rows):
+        """Puts each row in place of the row of its id, or behind the others. A failure is the reply to the line."""
+        try:
+            self.call()
+        except Failed:
+            raise model.Refused("KeeperFault") from None
+        replaced = {model.folded(row.spelling) for row in rows}
+        self.rows = [row for row in self.rows if model.folded(row.id) not in replaced] + [kept(row) for row in rows]
+
+
+def kept(row):
+    body = model.write_json(row.body) if row.is_document() else None
+    return KeptRow(row.etag, row.spelling, row.collection, body, row.changed)
+
+
+# Reading rows
+
+
+def document_of(text):
+    """The document whose text this is, byte for byte, or None."""
+    try:
+        value = model.read_json(text.encode())
+    except model.Refused:
+        return None
+    is_stored = isinstance(value, dict) and isinstance(value.get("@metadata"), dict) and model.stored(value) == value
+    return value if is_stored and model.write_json(value) == text and model.size(text) <= model.MAX_BODY else None
+
+
+def row_of(kept_row):
+    """The row, if it has the form that a row has by itself."""
+    body = None if kept_row.body is None else document_of(kept_row.body)
+    is_good = (
+        1 <= kept_row.etag <= model.MAX_ETAG
+        and not model.fault_of(kept_row.id, model.MAX_ID)
+        and kept_row.collection
+        and (body is None) == (kept_row.body is None)
+        and kept_row.changed < END_OF_MOMENTS
+    )
+    if not is_good:
+        raise KeptBad(kept_row.etag)
+    return model.Row(kept_row.etag, kept_row.id, kept_row.collection, body, kept_row.changed)
+
+
+def pages(keeper):
+    """Page after page, up to an empty one: only that says that the keeper has no more rows."""
+    after = None
+    while page := keeper.load(after, PAGE):
+        yield page
+        after = page[-1].etag
+
+
+def load_all(keeper):
+    """The rows by folded id, each tested by itself and against those before it."""
+    rows, last = {}, 0
+    for kept_row in (kept_row for page in pages(keeper) for kept_row in page):
+        row = row_of(kept_row)
+        if row.etag <= last or model.folded(row.spelling) in rows or len(rows) == model.MAX_ROWS:
+            raise KeptBad(row.etag)
+        rows[model.folded(row.spelling)] = row
+        last = row.etag
+    return rows, last
+
+
+# Definitions
+
+
+def auto_of(body):
+    """An automatic definition of one field."""
+    fields = body["Fields"]
+    is_one = isinstance(fields, list) and len(fields) == 1 and isinstance(fields[0], list) and len(fields[0]) == 1
+    field = fields[0][0] if is_one else None
+    if not isinstance(field, str) or not field or any(mark in field for mark in ".()"):
+        return None
+    return model.Auto(body["Collection"], field) if isinstance(body["Collection"], str) else None
+
+
+def static_of(body):
+    """A definition by the text of a map. Reduces are of a later stage."""
+    if not isinstance(body["Map"], str) or body["Reduce"] is not None:
+        return None
+    try:
+        return model.Static(body["Map"])
+    except model.Refused:
+        return None
+
+
+def definition_of(body):
+    """The definition that the body of its row says, or None."""
+    members, kind = set(body), body.get("Kind")
+    if body["@metadata"] != {}:
+        return None
+    if kind == "auto" and members == {"@metadata", "Collection", "Fields", "Kind"}:
+        return auto_of(body)
+    return static_of(body) if kind == "static" and members == {"@metadata", "Kind", "Map", "Reduce"} else None
+
+
+def index_of(row):
+    """The index of a live row of a definition. Replacements are of a later stage."""
+    name = row.spelling[len("@index/") :]
+    definition = definition_of(row.body)
+    is_named = not model.fault_of(name, model.MAX_NEW_NAME) and not model.folded(name).startswith("replacementof/")
+    if definition is None or not is_named or isinstance(definition, model.Auto) != model.folded(name).startswith("auto/"):
+        raise KeptBad(row.etag)
+    return model.Index(row.etag, name, definition)
+
+
+def opened(keeper, base=model.BASE):
+    """The database of the rows that the keeper has. Each index begins at etag 0."""
+    rows, last = load_all(keeper)
+    database = model.Database(model.Store(rows, last, base), keeper)
+    for key, row in rows.items():
+        if key.startswith("@index/") != (row.collection == "@indexes"):
+            raise KeptBad(row.etag)
+        if row.is_document() and row.collection == "@indexes":
+            if len(database.indexes) == model.MAX_SLOTS:
+                raise KeptBad(row.etag)
+            database.indexes.append(index_of(row))
+    return database

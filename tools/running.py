@@ -1,0 +1,98 @@
+"""A whole run of the program: what it is called with, what is read, opened and written, and how it ends."""
+
+import dataclasses
+import re
+
+import keeping
+import model
+
+BASE = re.compile(r"[A-Za-z0-9]{22}", re.ASCII)
+
+
+class LeftOpen(Exception):
+    """What is asked for hangs on something that the rules leave open, so no case may ask for it."""
+
+
+@dataclasses.dataclass(frozen=True)
+class Clock:
+    """Its first call gives `moment`, and each further one `step` more."""
+
+    moment: int = 0
+    step: int = 0
+
+
+@dataclasses.dataclass
+class Outside:
+    """What a run is given, but for the keeper: numbers of calls that fail, counted from 1."""
+
+    words: tuple = ("run",)
+    clock: Clock = Clock()
+    reads: frozenset = frozenset()
+    writes: frozenset = frozenset()
+    script: bytes = b""
+
+
+def options(words):
+    """The options, or None where the words are not the command and then pairs of a name and a value, no name twice."""
+    if not words or words[0] != "run" or len(words) % 2 == 0:
+        return None
+    names, values = words[1::2], words[2::2]
+    found = dict(zip(names, values))
+    if len(found) < len(names) or not found.keys() <= {"--data", "--id"}:
+        return None
+    if any(not value or value.startswith("-") for value in values):
+        return None
+    return found if BASE.fullmatch(found.get("--id", model.BASE)) else None
+
+
+def is_read(script, fails):
+    """Whether no call fails. How much a call gives is left open: there is at least one for the bytes, and one for the end."""
+    if not fails:
+        return True
+    first = min(fails)
+    if first <= (2 if script else 1):
+        return False
+    if first <= len(script) + 1:
+        raise LeftOpen("how many calls the input takes")
+    return True
+
+
+def moments(clock, lines):
+    """Each line that has bytes, with the moment at which its turn comes."""
+    moment = clock.moment
+    for line in lines:
+        if line:
+            yield line, moment
+            moment += clock.step
+        elif clock.step:
+            raise LeftOpen("whether the clock is asked at an empty line")
+
+
+def answered(database, given):
+    """The status, and the replies: each is one call of the output, and no line behind a failing one is executed."""
+    written = []
+    for line, moment in moments(given.clock, model.lines(given.script)):
+        database.store.now = moment
+        reply = model.write_json(model.answer(database, line)) + "\n"
+        if len(written) + 1 in given.writes:
+            return "WriteFault", b"".join(written)
+        written.append(reply.encode())
+    return "Done", b"".join(written)
+
+
+def run(given, keeper):
+    """The status and what was written. The causes come in this order; the keeper is left as the run leaves it."""
+    found = options(given.words)
+    if found is None:
+        return "Usage", b""
+    if not is_read(given.script, given.reads):
+        return "ReadFault", b""
+    if len(given.script) > model.MAX_SCRIPT:
+        return "InputTooLarge", b""
+    try:
+        database = keeping.opened(keeper, found.get("--id", model.BASE))
+    except keeping.Failed:
+        return "KeptFault", b""
+    except keeping.KeptBad as bad:
+        return f"KeptBad {bad.etag}", b""
+    return answered(database, given)

@@ -1,0 +1,168 @@
+#!/usr/bin/env python3
+"""Tests of the model of whole runs by itself: cases of which all that is printed was worked out by hand.
+
+    tools/test_running.py
+
+It needs no program. It ends with 0 where every test holds, and otherwise at the first assertion that does not.
+"""
+
+import pathlib
+import sys
+
+sys.dont_write_bytecode = True
+sys.path.insert(0, str(pathlib.Path(__file__).resolve().parent))
+import case_file
+import running
+
+KEEPER = """\
+== A commit fails
+keeps 3
+rows
+> PUT a {}
+> PUT b {}
+> GET b
+> PUT b {}
+again
+writes 2
+rows
+> DEL A
+| STATS
+""", """\
+== A commit fails
+status Done
+> {"ChangeVector":"A:1-AAAAAAAAAAAAAAAAAAAAAA","Id":"a"}
+> {"Error":"KeeperFault"}
+> {"Error":"NoDocument","Id":"b"}
+> {"ChangeVector":"A:2-AAAAAAAAAAAAAAAAAAAAAA","Id":"b"}
+row 1 0 "a" "@empty" {"@metadata":{}}
+row 2 0 "b" "@empty" {"@metadata":{}}
+again
+status WriteFault
+> {"Deleted":true,"Id":"a"}
+row 2 0 "b" "@empty" {"@metadata":{}}
+row 3 0 "a" "@empty" deleted
+
+"""
+
+CLOCK = """\
+== The clock ticks
+words run --id ⟨22*b⟩
+clock 1234567890123456 +1000000
+> PUT a {"⟨c3a9⟩":1}
+>2 PUT ⟨n⟩
+> BULK {"Commands":[{"Document":{},"Id":"b","Type":"PUT"}]}
+> GET a
+> GET b
+""", """\
+== The clock ticks
+status Done
+> {"ChangeVector":"A:1-bbbbbbbbbbbbbbbbbbbbbb","Id":"a"}
+> {"Error":"UnknownLine"}
+> {"Error":"UnknownLine"}
+> {"Results":[{"ChangeVector":"A:2-bbbbbbbbbbbbbbbbbbbbbb","Id":"b","Type":"PUT"}]}
+> {"@metadata":{"@change-vector":"A:1-bbbbbbbbbbbbbbbbbbbbbb","@collection":"@empty","@id":"a",\
+"@last-modified":"2009-02-13T23:31:30.1234560Z"},"é":1}
+> {"@metadata":{"@change-vector":"A:2-bbbbbbbbbbbbbbbbbbbbbb","@collection":"@empty","@id":"b",\
+"@last-modified":"2009-02-13T23:31:33.1234560Z"}}
+
+"""
+
+STATUSES = """\
+== Wrong words come first
+words run x
+reads 1
+keeps 1
+> STATS
+again
+words
+again
+reads 2
+> STATS
+again
+> STATS
+== A bad row
+row 0 0
+id a
+row 1 0
+id a
+rows
+> STATS
+== The second of two rows of one id
+row 4 0
+id a
+row 9 0
+id A
+again
+> STATS
+== A definition
+row 3 5
+id @index/auto/x
+collection @indexes
+body {"@metadata":{},"Collection":"C","Fields":[["F"]],"Kind":"auto"}
+> STALE AUTO/X
+""", """\
+== Wrong words come first
+status Usage
+again
+status Usage
+again
+status ReadFault
+again
+status KeptFault
+
+== A bad row
+status KeptBad 0
+row 0 0 "a" "@empty" deleted
+row 1 0 "a" "@empty" deleted
+
+== The second of two rows of one id
+status KeptBad 9
+again
+status KeptBad 9
+
+== A definition
+status Done
+> {"IndexEtag":0,"IsStale":false,"Newest":0}
+
+"""
+
+
+def test_worked_cases():
+    for written, printed in (KEEPER, CLOCK, STATUSES):
+        found = "".join(map(case_file.told, case_file.read(written)))
+        assert found == printed, found
+
+
+def test_mistakes():
+    """A line that is of no form is told by its number."""
+    lines = ["words", "x", ">x", ">0 x", "> ⟨x⟩", "> ⟨n⟩", "> ⟨", "reads", "reads x", "clock +1", "clock 1 2", "row 1", "id a",
+             "rows x", "again 1", "|", "|x", "keeps 1\nagain\nkeeps 2", "again\nrow 1 1", "row 2 0\nrow 2 0"]
+    for line in lines[1:]:
+        try:
+            case_file.read(f"== A\n{line}\n")
+        except case_file.Mistake as mistake:
+            assert f"line {2 + line.count(chr(10))}:" in str(mistake), (line, mistake)
+        else:
+            raise AssertionError(line)
+
+
+def test_what_is_left_open():
+    """Nothing is said of what the rules leave open."""
+    for written in ("== A\nreads 3\n> STATS\n", "== A\nclock 0 +1\n>\n"):
+        try:
+            case_file.told(*case_file.read(written))
+        except running.LeftOpen:
+            continue
+        raise AssertionError(written)
+    assert case_file.told(*case_file.read("== A\nreads 3\n| x\n")).startswith("== A\nstatus Done\n")
+
+
+def main():
+    for name, test in [(name, test) for name, test in globals().items() if name.startswith("test_")]:
+        test()
+        print(f"holds  {name}")
+    return 0
+
+
+if __name__ == "__main__":
+    sys.exit(main())
