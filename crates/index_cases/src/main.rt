@@ -8,7 +8,7 @@
 //! | `same` | whether the last two definitions that were read are the same |
 //! | `reads` | the collections that the last definition reads |
 //! | `fields` | the names of its fields |
-//! | `row` | what is kept of it |
+//! | `row` | the body of the row that is put for it |
 //!
 //! An empty line and one that begins with `#` have no answer; any other line ends the program with an error. In each line `⟨XX⟩` stands for
 //! bytes, two hex digits each, and `⟨N*TEXT⟩` for N copies of the text.
