@@ -1,11 +1,10 @@
 //! Expressions.
-ghost use Rattle.std.specs.Prelude.{◌≡◌, ◌++◌, IfOk, OnOk, string_bytes};
+ghost use Rattle.std.specs.Prelude.{◌≡◌, ◌++◌, OnOk, string_bytes};
 ghost use Rattle.index_print.specs.Print.{sign as spec_sign, mark as spec_mark, is_compound as spec_is_compound, operand, printed};
 
 use crate::quoting::{add, add_quoted};
 use index_tree::{BinaryOp, Expr, ExprKind, UnaryOp};
 use raven_base::NoMemory;
-use raven_value::Text;
 use std::alloc::Global;
 
 fn sign(op: BinaryOp) -> &'static str
@@ -102,14 +101,4 @@ fn add_operand(alloc: Global, out: &mut String, expr: &Expr) -> Result<(), NoMem
     } else {
         add_expression(alloc, out, expr)
     }
-}
-
-/// The canonical spelling of an expression, as a `where` or a member's value has it: an operand stands in parentheses where it is a
-/// conditional or has an operator of its own.
-pub fn print_expression(alloc: Global, expr: &Expr) -> Result<Text, NoMemory>
-    ensures { IfOk result (λ text. text ≡ printed expr.now) }
-{
-    let mut out = String::new(alloc);
-    add_expression(alloc, &mut out, expr)?;
-    Ok(Text::of_string(out))
 }

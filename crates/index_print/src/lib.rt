@@ -7,7 +7,6 @@ mod maps;
 mod quoting;
 mod reduces;
 
-pub use expressions::print_expression;
 pub use laws::{
     printed_expressions_are_spelled, printed_maps_are_read_back, printed_maps_are_spelled,
     printed_reduces_are_read_back, printed_reduces_are_spelled, spelled_expressions_are_spellable,
