@@ -5,6 +5,9 @@ use crate::fault::LineFault;
 use crate::values::number_in;
 use std::alloc::Global;
 
+/// How many copies of a text are added at once if there are many, since millions would take long one by one.
+const BLOCK: u64 = 4096;
+
 /// Adds a value to bytes, with its marks written out. `⟨n⟩` stands for the number, and is a mistake if there is none.
 pub fn write_out(
     alloc: Global,
@@ -44,13 +47,19 @@ fn write_mark(
         return Ok(());
     }
     match mark.split_once('*') {
-        Some((count, text)) => write_copies(out, number_in(count)?, text),
+        Some((count, text)) => write_copies(alloc, out, number_in(count)?, text),
         None => write_hex(out, mark),
     }
 }
 
-fn write_copies(out: &mut Vec<u8>, count: u64, text: &str) -> Result<(), LineFault> {
-    for _ in 0..count {
+fn write_copies(alloc: Global, out: &mut Vec<u8>, count: u64, text: &str) -> Result<(), LineFault> {
+    if count >= BLOCK {
+        let block = text.repeat(alloc, BLOCK as usize)?;
+        for _ in 0..count / BLOCK {
+            out.extend_from_slice(block.as_bytes())?;
+        }
+    }
+    for _ in 0..count % BLOCK {
         out.extend_from_slice(text.as_bytes())?;
     }
     Ok(())
