@@ -30,7 +30,7 @@ class Process(typing.NamedTuple):
 
 
 class Cost:
-    """What was seen of one process of a prover."""
+    """What one process of a prover has cost so far."""
 
     def __init__(self, crate, kind):
         self.crate = crate
@@ -75,7 +75,7 @@ def kind_of(words, folder):
 
 
 def cost_of(pid):
-    """An empty cost of the crate that a prover works on, or None where the process is no prover."""
+    """An empty cost of the crate that a prover works on, or None if the process is no prover."""
     try:
         words = pathlib.Path(f"/proc/{pid}/cmdline").read_bytes().decode(errors="replace").split("\0")
         folder = os.readlink(f"/proc/{pid}/cwd")
