@@ -9,8 +9,8 @@ A case begins with `== NAME`. These lines stand before its script, in any order:
     rows                 the rows that the keeper is left with are printed too
 
 The script has `> LINE`, a line with its LF; `>N LINE`, N such lines; and `| TEXT`, a piece without one. `again` begins a
-further run over the keeper that was handed back. In values `⟨0d⟩` is a byte, `⟨3*ab⟩` is `ababab`, and `⟨n⟩` is the number of
-the copy of a line that stands several times. Behind the last line of a case empty lines and lines with `#` are passed over.
+further run over the keeper that was handed back. In values `⟨0d⟩` is a byte, `⟨3*ab⟩` is `ababab`, and `⟨n⟩` is the number
+of the copy of a line that stands several times. Empty lines, and lines that begin with `#`, are passed over.
 """
 
 import dataclasses

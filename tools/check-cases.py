@@ -4,8 +4,8 @@
     tools/check-cases.py [FOLDER]              reads stdin and stdout of crates/raven_cases, or of this folder
     tools/check-cases.py --write [FOLDER]      writes stdout, as the model computes it from the rules
 
-Each script of examples/ and docs/script.md has to be a case too. A case on which the two differ is printed with its first line
-that differs; the status is then 1.
+Each script of examples/ and docs/script.md has to be a case of raven_cases too. A case on which the two differ is printed with
+its first line that differs; the status is then 1.
 """
 
 import argparse
@@ -15,6 +15,7 @@ import sys
 
 sys.dont_write_bytecode = True
 TOP = pathlib.Path(__file__).resolve().parents[1]
+CASES = TOP / "crates/raven_cases"
 sys.path.insert(0, str(TOP / "tools"))
 import case_file
 import running
@@ -57,13 +58,13 @@ def differing(cases, expected, found):
 def main():
     sys.setrecursionlimit(10_000)
     given = argparse.ArgumentParser(description="Compares what is expected of the cases with the model.")
-    given.add_argument("folder", nargs="?", type=pathlib.Path, default=TOP / "crates/raven_cases")
+    given.add_argument("folder", nargs="?", type=pathlib.Path, default=CASES)
     given.add_argument("--write", action="store_true")
     given = given.parse_args()
     try:
-        cases = case_file.read((given.folder / "stdin").read_text())
+        cases = case_file.read((given.folder / "stdin").read_bytes().decode())
         expected = "".join(map(case_file.printed, cases)).encode()
-    except (case_file.Mistake, running.LeftOpen, OSError) as fault:
+    except (case_file.Mistake, running.LeftOpen, OSError, UnicodeDecodeError) as fault:
         print(fault)
         return 1
     if len({case.name for case in cases}) < len(cases):
@@ -73,7 +74,7 @@ def main():
         (given.folder / "stdout").write_bytes(expected)
     found = differing(cases, expected, (given.folder / "stdout").read_bytes())
     print(f"{found} of {len(cases)} cases differ")
-    lacking = missing(cases)
+    lacking = missing(cases) if given.folder == CASES else []
     for name in lacking:
         print(f"no case: {name}")
     return 1 if found or lacking else 0
