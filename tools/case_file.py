@@ -2,15 +2,15 @@
 
 A case begins with `== NAME`. These lines stand before its script, in any order:
 
-    words W W ..         the arguments; without the line `run`, and with nothing behind it none at all
+    words W W ..         the arguments; without the line `run`, and none at all if nothing stands behind it
     clock M [+S]         the first call of the clock gives M, and each further one S more; without the line 0
     reads N .., writes N .., keeps N ..      the calls of the input, of the output and of the keeper that fail
     row ETAG MOMENT      a row that the keeper holds at the start, with `id`, `collection` and `body` lines behind it
     rows                 the rows that the keeper is left with are printed too
 
 The script has `> LINE`, a line with its LF; `>N LINE`, N such lines; and `| TEXT`, a piece without one. `again` begins a
-further run over the keeper that was handed back. In values `⟨0d⟩` is a byte, `⟨3*ab⟩` is `ababab`, and `⟨n⟩` is the number of
-the copy of a line that stands several times. Behind the last line of a case empty lines and lines with `#` are passed over.
+further run over the keeper that was handed back. In values `⟨0d⟩` is a byte, `⟨3*ab⟩` is `ababab`, and `⟨n⟩` is the number
+of the copy of a line that stands several times. Empty lines, and lines that begin with `#`, are passed over.
 """
 
 import dataclasses
@@ -27,7 +27,7 @@ CLOCK = re.compile(r"([0-9]+)(?: \+([0-9]+))?", re.ASCII)
 
 
 class Mistake(Exception):
-    """A line of the file that is of no form."""
+    """A line of the file that is not valid."""
 
     def __init__(self, number, text):
         super().__init__(f"mistake in line {number}: {text}")
@@ -36,7 +36,7 @@ class Mistake(Exception):
 @dataclasses.dataclass
 class Run:
     outside: running.Outside
-    tells_rows: bool = False
+    shows_rows: bool = False
 
 
 @dataclasses.dataclass
@@ -68,14 +68,14 @@ def written_out(value, number=None):
 
 def numbers_of(value):
     if not NUMBERS.fullmatch(value):
-        raise ValueError(f"no numbers: {value}")
+        raise ValueError(f"not numbers: {value}")
     return tuple(map(int, value.split(" ")))
 
 
 def clock_of(value):
     found = CLOCK.fullmatch(value)
     if not found:
-        raise ValueError(f"no clock: {value}")
+        raise ValueError(f"not a clock: {value}")
     return running.Clock(int(found[1]), int(found[2] or 0))
 
 
@@ -121,11 +121,11 @@ class Reader:
         elif line.startswith("| "):
             self.outside.script += written_out(line[2:])
         else:
-            raise ValueError(f"no line of a script: {line}")
+            raise ValueError(f"not a line of a script: {line}")
 
     def alone(self, word):
         if word == "rows":
-            self.case.runs[-1].tells_rows = True
+            self.case.runs[-1].shows_rows = True
         else:
             self.case.runs.append(Run(running.Outside()))
 
@@ -144,7 +144,7 @@ class Reader:
         elif word == "keeps" and len(self.case.runs) == 1:
             self.case.keeps = numbers_of(value)
         else:
-            raise ValueError(f"a line of no form: {word} {value}")
+            raise ValueError(f"not a line of a case: {word} {value}")
 
 
 def read(text):
@@ -161,25 +161,25 @@ def read(text):
 # What is printed
 
 
-def told_row(row):
+def printed_row(row):
     """A row that the keeper is left with."""
     id_and_collection = f"{model.quoted(row.id)} {model.quoted(row.collection)}"
     return f"row {row.etag} {row.changed} {id_and_collection} {'deleted' if row.body is None else row.body}\n"
 
 
-def told_output(written):
+def printed_output(written):
     """Each line that was written, and what stands behind the last of them."""
     *lines, last = written.decode().split("\n")
     return "".join(f"> {line}\n" for line in lines) + (f"| {last}\n" if last else "")
 
 
-def told_run(run, keeper):
+def printed_run(run, keeper):
     status, written = running.run(run.outside, keeper)
-    rows = "".join(map(told_row, keeper.rows)) if run.tells_rows else ""
-    return f"status {status}\n" + told_output(written) + rows
+    rows = "".join(map(printed_row, keeper.rows)) if run.shows_rows else ""
+    return f"status {status}\n" + printed_output(written) + rows
 
 
-def told(case):
-    """What is printed of a case, by the rules."""
+def printed(case):
+    """What has to be printed of a case, by the rules."""
     keeper = keeping.Keeper(case.rows, case.keeps)
-    return f"== {case.name}\n" + "again\n".join(told_run(run, keeper) for run in case.runs) + "\n"
+    return f"== {case.name}\n" + "again\n".join(printed_run(run, keeper) for run in case.runs) + "\n"

@@ -1,10 +1,11 @@
 #!/usr/bin/env python3
 """Holds the built program against the model, on random scripts: what both write has to be the same, byte for byte.
 
-    tools/compare.py [--program PATH | --try] [--rounds N] [--lines N] [--seed N] [--random]
+    tools/compare.py [--program PATH | --try] [--rounds N] [--lines N] [--seed N] [--random | --outside]
 
 Before the random rounds it tries the statuses, the options, files that are opened again and again, and scripts that stand at
-each limit or are of a case that was worked out by hand; not so with --random. A script on which the two differ is kept in a
+each limit or are of a case that was worked out by hand; with --random the random rounds alone, and with --outside the statuses,
+the options and the files alone. A script on which the two differ is kept in a
 file, whose name is printed beside the first line that differs; the status is then 1. At the end it says how often the random
 scripts reached each kind of reply.
 
@@ -12,7 +13,7 @@ The moments that documents show are the program's own: each has to be that of 19
 that of 1970, which the model writes.
 
 With --try no built program is needed: `rt try` builds it once, proves nothing, and runs all scripts. The statuses and the
-options, and what needs a file, are then left out. Without it, and without a built program, it says `skipped` and ends with 0.
+options, and what needs a file, are then left out.
 """
 
 import argparse
@@ -121,7 +122,7 @@ def statuses(program):
 
 
 def options(program):
-    """How many of the calls with `--id` and `--data` are wrong. None is tried where the program takes no options yet."""
+    """How many of the calls with `--id` and `--data` are wrong."""
     base, other = model.BASE, "0123456789abcdefghiXYZ"
     with tempfile.TemporaryDirectory() as folder:
         kept, text, link = (os.path.join(folder, name) for name in ("kept", "text", "no/file"))
@@ -140,9 +141,6 @@ def options(program):
         wrong = 0
         for words, script, status, written in cases:
             ended = subprocess.run([program, "run", *words], input=script.encode(), capture_output=True, timeout=60)
-            if ended.returncode == 2 and words == cases[0][0]:
-                print("skipped: this program takes no options yet")
-                return 0
             if (ended.returncode, ended.stdout.decode()) != (status, written) or f"raven: {NAMES[status]}" not in ended.stderr.decode():
                 wrong += 1
                 print(f"words {words}: status {ended.returncode} in place of {status}, {ended.stderr!r}, {ended.stdout!r} in place of {written!r}")
@@ -168,6 +166,10 @@ def openings(program, seed, lines):
                     break
                 database = database.opened()
     return wrong
+
+
+def outside(program, seed, lines):
+    return statuses(program) + options(program) + openings(program, seed, lines)
 
 
 def tried(named_scripts):
@@ -220,11 +222,16 @@ def main():
     given.add_argument("--lines", type=int, default=60)
     given.add_argument("--seed", type=int, default=1)
     given.add_argument("--random", action="store_true")
+    given.add_argument("--outside", action="store_true")
     given = given.parse_args()
 
     if not given.is_tried and not os.access(given.program, os.X_OK):
-        print(f"skipped: no program at {given.program}")
-        return 0
+        print(f"no program at {given.program}")
+        return 1
+    if given.outside:
+        found = outside(given.program, given.seed, given.lines)
+        print(f"statuses, options and files: {found} are wrong")
+        return 1 if found else 0
 
     kinds = collections.Counter()
 
@@ -242,7 +249,7 @@ def main():
     else:
         found = 0
         if not given.random:
-            found = statuses(given.program) + options(given.program) + openings(given.program, given.seed, given.lines)
+            found = outside(given.program, given.seed, given.lines)
         found += sum(differs(given.program, script, name) for name, script in named_scripts())
     print("reached: " + ", ".join(f"{kind} {count}" for kind, count in kinds.most_common()))
     before = "" if given.random else "the limits and "

@@ -78,7 +78,7 @@ def document_of(text):
 
 
 def row_of(kept_row):
-    """The row, if it has the form that a row has by itself."""
+    """The row, if it passes the tests of a single row."""
     body = None if kept_row.body is None else document_of(kept_row.body)
     is_good = (
         1 <= kept_row.etag <= model.MAX_ETAG
@@ -93,7 +93,7 @@ def row_of(kept_row):
 
 
 def pages(keeper):
-    """Page after page, up to an empty one: only that says that the keeper has no more rows."""
+    """Page after page, up to an empty one, since only that says that the keeper has no more rows."""
     after = None
     while page := keeper.load(after, PAGE):
         yield page
@@ -136,7 +136,7 @@ def static_of(body):
 
 
 def definition_of(body):
-    """The definition that the body of its row says, or None."""
+    """The definition in the body of its row, or None."""
     members, kind = set(body), body.get("Kind")
     if body["@metadata"] != {}:
         return None

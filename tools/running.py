@@ -10,7 +10,7 @@ BASE = re.compile(r"[A-Za-z0-9]{22}", re.ASCII)
 
 
 class LeftOpen(Exception):
-    """What is asked for hangs on something that the rules leave open, so no case may ask for it."""
+    """The answer depends on something that the rules leave open, so no case may ask for it."""
 
 
 @dataclasses.dataclass(frozen=True)
@@ -23,7 +23,7 @@ class Clock:
 
 @dataclasses.dataclass
 class Outside:
-    """What a run is given, but for the keeper: numbers of calls that fail, counted from 1."""
+    """What a run is given besides the keeper. The calls that fail are counted from 1."""
 
     words: tuple = ("run",)
     clock: Clock = Clock()
@@ -33,7 +33,7 @@ class Outside:
 
 
 def options(words):
-    """The options, or None where the words are not the command and then pairs of a name and a value, no name twice."""
+    """The options, or None if the arguments are not the command and then pairs of a name and a value, no name twice."""
     if not words or words[0] != "run" or len(words) % 2 == 0:
         return None
     names, values = words[1::2], words[2::2]

@@ -129,12 +129,12 @@ status Done
 
 def test_worked_cases():
     for written, printed in (KEEPER, CLOCK, STATUSES):
-        found = "".join(map(case_file.told, case_file.read(written)))
+        found = "".join(map(case_file.printed, case_file.read(written)))
         assert found == printed, found
 
 
 def test_mistakes():
-    """A line that is of no form is told by its number."""
+    """A line that is not valid is reported by its number."""
     lines = ["words", "x", ">x", ">0 x", "> ⟨x⟩", "> ⟨n⟩", "> ⟨", "reads", "reads x", "clock +1", "clock 1 2", "row 1", "id a",
              "rows x", "again 1", "|", "|x", "keeps 1\nagain\nkeeps 2", "again\nrow 1 1", "row 2 0\nrow 2 0"]
     for line in lines[1:]:
@@ -147,14 +147,14 @@ def test_mistakes():
 
 
 def test_what_is_left_open():
-    """Nothing is said of what the rules leave open."""
+    """The model does not answer what the rules leave open."""
     for written in ("== A\nreads 3\n> STATS\n", "== A\nclock 0 +1\n>\n"):
         try:
-            case_file.told(*case_file.read(written))
+            case_file.printed(*case_file.read(written))
         except running.LeftOpen:
             continue
         raise AssertionError(written)
-    assert case_file.told(*case_file.read("== A\nreads 3\n| x\n")).startswith("== A\nstatus Done\n")
+    assert case_file.printed(*case_file.read("== A\nreads 3\n| x\n")).startswith("== A\nstatus Done\n")
 
 
 def main():
