@@ -104,12 +104,57 @@ fn make(rt: &HostRuntime, path: &str, sql: &str) -> Result<(), Fail> {
     Ok(())
 }
 
+fn empty_folder(rt: &HostRuntime, path: &str) -> Result<(), Fail> {
+    let _ = fs::remove_dir_all(rt, path);
+    fs::create_dir(rt, path)?;
+    Ok(())
+}
+
+fn write_text(rt: &HostRuntime, path: &str) -> Result<(), Fail> {
+    let text = b"This is no database, but a text that goes on for a while.";
+    fs::write(rt, path, text)?;
+    Ok(())
+}
+
+// Whether the file is refused.
+fn is_refused(rt: &HostRuntime, path: &str) -> bool {
+    SqlKeeper::in_file(rt, path).is_err()
+}
+
 // Whether the file is refused and left as it was.
 fn is_left(rt: &HostRuntime, path: &str) -> Result<bool, Fail> {
     let before = fs::read(rt, path)?;
-    let refused = SqlKeeper::in_file(rt, path).is_err();
+    let refused = is_refused(rt, path);
     let after = fs::read(rt, path)?;
     Ok(refused && before.as_slice() == after.as_slice())
+}
+
+fn put_two<S: Alter + Drop>(alloc: Global, keeper: &mut SqlKeeper<S>) -> Result<(), Fail> {
+    keeper.commit(&two(alloc, "a", "b")?)?;
+    Ok(())
+}
+
+// Puts two rows into a file, and says whether another keeper is refused meanwhile.
+fn put_in_file(rt: &HostRuntime, path: &str) -> Result<bool, Fail> {
+    let mut keeper = SqlKeeper::in_file(rt, path)?;
+    put_two(rt.alloc(), &mut keeper)?;
+    Ok(is_refused(rt, path))
+}
+
+fn kept_in_file(rt: &HostRuntime, path: &str) -> Result<String, Fail> {
+    let mut keeper = SqlKeeper::in_file(rt, path)?;
+    page(rt.alloc(), &mut keeper, None, 9)
+}
+
+// Commits a row and one whose etag no database takes.
+fn put_too_much<S: Alter + Drop>(
+    alloc: Global,
+    keeper: &mut SqlKeeper<S>,
+) -> Result<Option<KeeperFault>, Fail> {
+    let mut rows = Sequence::new(alloc);
+    rows.push(kept_row(alloc, 1, "a")?)?;
+    rows.push(kept_row(alloc, u64::MAX, "b")?)?;
+    Ok(keeper.commit(&rows).err())
 }
 
 #[test]
@@ -133,54 +178,35 @@ fn a_database_keeps_a_row_for_each_id(rt: HostRuntime) -> Result<(), Fail> {
 fn all_rows_go_in_or_none(rt: HostRuntime) -> Result<(), Fail> {
     let alloc = rt.alloc();
     let mut keeper = SqlKeeper::in_memory(alloc)?;
-    let mut rows = Sequence::new(alloc);
-    rows.push(kept_row(alloc, 1, "a")?)?;
-    rows.push(kept_row(alloc, u64::MAX, "b")?)?;
-    assert_eq!(rt; keeper.commit(&rows), Err(KeeperFault::Failed));
+    assert_eq!(rt;
+        put_too_much(alloc, &mut keeper)?,
+        Some(KeeperFault::Failed)
+    );
     assert_eq!(rt; keeper.faults(), 1);
     assert_eq!(rt; page(alloc, &mut keeper, None, 9)?.as_str(), "");
-    keeper.commit(&two(alloc, "a", "b")?)?;
+    put_two(alloc, &mut keeper)?;
     assert_eq!(rt; page(alloc, &mut keeper, None, 9)?.as_str(), "ab");
     Ok(())
 }
 
 #[test]
 fn a_file_keeps_its_rows_and_has_no_other_table(rt: HostRuntime) -> Result<(), Fail> {
-    let alloc = rt.alloc();
-    let _ = fs::remove_dir_all(&rt, "doc_keeper_rows");
-    fs::create_dir(&rt, "doc_keeper_rows")?;
-    let path = "doc_keeper_rows/a.db";
-    let mut keeper = SqlKeeper::in_file(&rt, path)?;
-    keeper.commit(&two(alloc, "a", "b")?)?;
-    assert!(rt; SqlKeeper::in_file(&rt, path).is_err());
-    drop(keeper);
-    let mut again = SqlKeeper::in_file(&rt, path)?;
-    assert_eq!(rt; page(alloc, &mut again, None, 9)?.as_str(), "ab");
-    drop(again);
+    empty_folder(&rt, "sql_keeper_rows")?;
+    let path = "sql_keeper_rows/a.db";
+    assert!(rt; put_in_file(&rt, path)?);
+    assert_eq!(rt; kept_in_file(&rt, path)?.as_str(), "ab");
     make(&rt, path, "CREATE TABLE other (a INTEGER) STRICT")?;
     assert!(rt; is_left(&rt, path)?);
-    fs::remove_dir_all(&rt, "doc_keeper_rows")?;
     Ok(())
 }
 
 #[test]
 fn a_file_of_another_kind_is_left_as_it_was(rt: HostRuntime) -> Result<(), Fail> {
-    let _ = fs::remove_dir_all(&rt, "doc_keeper_others");
-    fs::create_dir(&rt, "doc_keeper_others")?;
-    let text = "doc_keeper_others/text";
-    fs::write(
-        &rt,
-        text,
-        b"This is no database, but a text that goes on for a while.",
-    )?;
-    assert!(rt; is_left(&rt, text)?);
-    let table = "doc_keeper_others/a.db";
-    make(
-        &rt,
-        table,
-        "CREATE TABLE kept (key TEXT PRIMARY KEY, etag INTEGER) STRICT",
-    )?;
-    assert!(rt; is_left(&rt, table)?);
-    fs::remove_dir_all(&rt, "doc_keeper_others")?;
+    empty_folder(&rt, "sql_keeper_others")?;
+    write_text(&rt, "sql_keeper_others/text")?;
+    assert!(rt; is_left(&rt, "sql_keeper_others/text")?);
+    let table = "CREATE TABLE kept (key TEXT PRIMARY KEY, etag INTEGER) STRICT";
+    make(&rt, "sql_keeper_others/a.db", table)?;
+    assert!(rt; is_left(&rt, "sql_keeper_others/a.db")?);
     Ok(())
 }
