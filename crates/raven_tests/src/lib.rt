@@ -6,6 +6,8 @@ mod pages;
 #[cfg(test)]
 mod replies;
 #[cfg(test)]
+mod sharing;
+#[cfg(test)]
 mod stores;
 #[cfg(test)]
 mod values;
