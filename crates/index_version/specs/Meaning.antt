@@ -5,7 +5,7 @@ use Rattle.raven_data.specs.Rows.{Row}
 use Rattle.map_meaning.specs.Asking.{Lookup, AgreeAt}
 use Rattle.map_meaning.specs.Local.{meaning_local}
 use Rattle.map_meaning.specs.Meaning as query
-use Rattle.raven_model.specs.Index.{Table}
+use Rattle.raven_data.specs.Tables.{Table}
 use Rattle.raven_model.specs.Mapping.{Definition, Static, Auto, Mapped, auto_meaning, mapper_of}
 
 -- over whatever rows are looked up

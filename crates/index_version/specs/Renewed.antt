@@ -3,7 +3,7 @@ use Rattle.std.specs.Prelude.{◌≡◌, ℕ, ◌+◌, ◌≤◌, List, cond, is
 use Rattle.std.specs.FinMap.{FinMap, get}
 use Rattle.std.specs.List.{list_any}
 use Rattle.raven_data.specs.Folding.{folded, key_cmp, same_key}
-use Rattle.raven_model.specs.Index.{Table}
+use Rattle.raven_data.specs.Tables.{Table}
 use Rattle.raven_model.specs.Mapping.{Mapper}
 use Rattle.raven_base.specs.Counts.{Counts}
 use Rattle.reference_track.specs.Tracks.{Track, is_pair}

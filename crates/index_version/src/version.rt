@@ -1,6 +1,6 @@
 //! How far an index has come.
 ghost use Rattle.std.specs.Prelude.{◌≡◌, IfOk, length};
-ghost use Rattle.raven_model.specs.Index.{note_rows};
+ghost use Rattle.raven_data.specs.Tables.{note_rows};
 ghost use Rattle.raven_model.specs.Machine.{found_in};
 ghost use Rattle.raven_model.specs.Mapping.{failures, mapper_of, scratch, touched};
 ghost use Rattle.raven_model.specs.World.{fresh, reads};

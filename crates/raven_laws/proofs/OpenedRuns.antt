@@ -1,7 +1,7 @@
 -- Runs and scripts from a state that kept rows open.
 use Rattle.std.proofs.Common.{List, ◌++◌, sym, ◌∙◌, subst}
 use Rattle.raven_data.specs.Kept.{KeptRow}
-use Rattle.raven_model.specs.Commit.{Setting}
+use Rattle.spec_store.specs.Commit.{Setting}
 use Rattle.raven_model.specs.Machine.{Machine, Event, run}
 use Rattle.raven_model.specs.Script.{Given, after_lines, events_of}
 use Rattle.raven_model.specs.Sound.{Sound, LaterW}

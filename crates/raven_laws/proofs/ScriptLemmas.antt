@@ -1,7 +1,7 @@
 -- A script is a run.
 use Rattle.std.proofs.Common.{◌≡◌, List, [], ◌∷◌, ◌++◌, Some, None, Ok, Err, refl, sym, ◌∙◌, subst}
 use Rattle.std.specs.List.{cons_option}
-use Rattle.raven_model.specs.Commit.{Setting}
+use Rattle.spec_store.specs.Commit.{Setting}
 use Rattle.raven_model.specs.Machine.{Machine, Event, start, run}
 use Rattle.raven_model.specs.Sound.{Sound, LaterW}
 use Rattle.raven_model.specs.Script.{Do, LineRead, Circumstance, Given, event_of, left_by, after_line, after_lines, events_of}

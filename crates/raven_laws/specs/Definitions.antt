@@ -6,9 +6,9 @@ use Rattle.raven_data.specs.Members.{Path}
 use Rattle.raven_data.specs.Rows.{Row}
 use Rattle.index_tree.specs.declared.map_query.MapQuery.{MapQuery}
 use Rattle.index_tree.specs.declared.reduce_query.ReduceQuery.{ReduceQuery}
-use Rattle.raven_model.specs.Store.{row_at, last}
+use Rattle.spec_store.specs.Store.{row_at, last}
 use Rattle.raven_model.specs.Mapping.{Definition, Static, Auto}
-use Rattle.raven_model.specs.Commit.{Command, AnyVector, Server, Refused, commit, document_at, tombstone}
+use Rattle.spec_store.specs.Commit.{Command, AnyVector, Server, Refused, commit, document_at, tombstone}
 use Rattle.raven_model.specs.World.{Slot, index_id, is_named, is_reserved_name, max_index_name, row_body, serving}
 use Rattle.raven_model.specs.Sound.{Has, IsListed}
 use Rattle.raven_model.specs.Replies.{Reply}

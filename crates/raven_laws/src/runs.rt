@@ -1,9 +1,9 @@
 //! What holds after every run: whatever is asked, in whatever order.
 
 ghost use Rattle.std.specs.Prelude.{◌≡◌, ◌↔◌, ◌<◌, ◌≤◌, ◌^◌, ◌+◌, ◌++◌, ℕ, List, Some, None, false, length};
-ghost use Rattle.raven_model.specs.Store.{last};
+ghost use Rattle.spec_store.specs.Store.{last};
 ghost use Rattle.raven_model.specs.Mapping.{Fields, mapper_of, scratch};
-ghost use Rattle.raven_model.specs.Commit.{Setting};
+ghost use Rattle.spec_store.specs.Commit.{Setting};
 ghost use Rattle.raven_model.specs.World.{Slot, World, serving};
 ghost use Rattle.raven_model.specs.Optimiser.{Shape, name_of};
 ghost use Rattle.raven_model.specs.Machine.{Event, is_stale, pump, pumping, run, start};

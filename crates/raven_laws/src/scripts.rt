@@ -1,7 +1,7 @@
 //! What holds after every script: its lines are one run.
 
 ghost use Rattle.std.specs.Prelude.{◌≡◌, ◌++◌, List};
-ghost use Rattle.raven_model.specs.Commit.{Setting};
+ghost use Rattle.spec_store.specs.Commit.{Setting};
 ghost use Rattle.raven_model.specs.Machine.{Machine, run, start};
 ghost use Rattle.raven_model.specs.Script.{Given, after_lines, events_of};
 ghost use Rattle.raven_model.specs.Sound.{LaterW, Sound};

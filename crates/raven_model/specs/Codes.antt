@@ -1,25 +1,18 @@
 -- Codes of what the types of the crates above are seen as.
 use Rattle.std.specs.Prelude.{ℕ, List, Bool, refl}
 use Rattle.std.specs.Coded.{Coded, coded_ℕ, coded_bool, coded_list, coded×, code_by}
-use Rattle.std.specs.FinMap as map
-use Rattle.raven_data.specs.Codes.{text_code, row_code}
+use Rattle.raven_data.specs.Codes.{text_code, table_code}
 use Rattle.raven_data.specs.DataCode.{data_code}
-use Rattle.raven_data.specs.Rows.{Row}
-use Rattle.raven_model.specs.Store.{Store}
+use Rattle.spec_store.specs.Store.{Store}
 use Rattle.raven_data.specs.Data.{Data}
-use Rattle.raven_model.specs.Index.{Table}
+use Rattle.raven_data.specs.Tables.{Table}
 use Rattle.raven_model.specs.Mapping.{Definition}
 use Rattle.raven_model.specs.Definitions.{definition_code}
-use Rattle.raven_model.specs.Commit.{Setting}
+use Rattle.spec_store.specs.Commit.{Setting}
 use Rattle.raven_model.specs.World.{Version, Slot, Note, World}
 use Rattle.raven_model.specs.Replies.{Pumping, Listing}
 use Rattle.raven_model.specs.Machine.{Machine}
-
-abbrev pub store_code : Coded Store
-store_code = code_by (List Row) (coded_list row_code) (λ S. S.rows) (λ rows. record { rows = rows }) (λ _. refl)
-
-abbrev pub table_code : Coded Table
-table_code = map.code text_code row_code
+use Rattle.spec_store.specs.Codes.{store_code, setting_code}
 
 abbrev pub version_code : Coded Version
 version_code = code_by (Definition × (ℕ × Table)) (coded× definition_code (coded× coded_ℕ table_code))
@@ -33,10 +26,6 @@ abbrev pub note_code : Coded Note
 note_code = code_by (ℕ × (List ℕ × (ℕ × (ℕ × (ℕ × ℕ))))) (coded× coded_ℕ (coded× text_code (coded× coded_ℕ (coded× coded_ℕ (coded× coded_ℕ coded_ℕ)))))
     (λ n. (n.etag, (n.name, (n.old, (n.new, (n.index_etag, n.newest))))))
     (λ p. record { etag = p.0; name = p.1.0; old = p.1.1.0; new = p.1.1.1.0; index_etag = p.1.1.1.1.0; newest = p.1.1.1.1.1 }) (λ _. refl)
-
-abbrev pub setting_code : Coded Setting
-setting_code = code_by (List ℕ × (ℕ × (ℕ × ℕ))) (coded× text_code (coded× coded_ℕ (coded× coded_ℕ coded_ℕ)))
-    (λ s. (s.base, (s.max_rows, (s.max_slots, s.max_notes)))) (λ p. record { base = p.0; max_rows = p.1.0; max_slots = p.1.1.0; max_notes = p.1.1.1 }) (λ _. refl)
 
 abbrev pub world_code : Coded World
 world_code = code_by (Setting × (Store × (List Slot × List Note))) (coded× setting_code (coded× store_code (coded× (coded_list slot_code) (coded_list note_code))))

@@ -1,6 +1,3 @@
-pub mod Store
-pub mod Later
-pub mod Commit
 pub mod Index
 pub mod Mapping
 pub mod Definitions
@@ -12,8 +9,6 @@ pub mod Machine
 pub mod Sound
 pub mod Lines
 pub mod Script
-pub mod Words
 pub mod Codes
 pub mod Opening
-pub mod Kept
 pub mod Options

@@ -14,3 +14,7 @@ begins_with b (c ∷ cs) = c == b
 abbrev pub lines : List ℕ → List (List ℕ)
 lines [] = []
 lines (b ∷ bs) = if b == 10 then [] ∷ lines bs else (if (b == 13) && begins_with 10 bs then lines bs else onto b (lines bs))
+
+-- the longest script, in bytes
+abbrev pub max_input : ℕ
+max_input = 16777216

@@ -8,10 +8,11 @@ use Rattle.raven_data.specs.Moments.{moment_text}
 use Rattle.raven_data.specs.Rising.{Pairs, put}
 use Rattle.raven_data.specs.Rows.{Row, doc, gone, is_document}
 use Rattle.raven_data.specs.Scalars.{Scalar, words, Is, holds}
-use Rattle.raven_model.specs.Store.{Store, row_at, last, empty_store}
-use Rattle.raven_model.specs.Index.{Table, stale, newest}
+use Rattle.spec_store.specs.Store.{Store, row_at, last, empty_store}
+use Rattle.raven_data.specs.Tables.{Table}
+use Rattle.spec_store.specs.Stale.{stale, newest}
 use Rattle.raven_model.specs.Mapping.{Definition, Mapper, Fields, failures, mapper_of, scratch}
-use Rattle.raven_model.specs.Commit.{Command, Expect, Client, Server, Setting, Refusal, Written, Refused, commit, vector_of, kept_spelling, etags_taken}
+use Rattle.spec_store.specs.Commit.{Command, Expect, Client, Server, Setting, Refusal, Written, Refused, commit, vector_of, kept_spelling, etags_taken}
 use Rattle.raven_model.specs.Optimiser.{Shape, Choice, Use, Make, Merge, pick, name_of}
 use Rattle.raven_model.specs.Replies.{Reply, Index, Removed, Pumped, Pumping, Listing, Found, NoIndex, UnknownLine}
 use Rattle.raven_model.specs.Replies as told

@@ -15,8 +15,8 @@ use Rattle.map_meaning.specs.Asking.{AgreeAt}
 use Rattle.map_meaning.specs.Local.{meaning_local}
 use Rattle.map_meaning.specs.Meaning as query
 use Rattle.map_meaning.specs.Scope.{loaded_of}
-use Rattle.raven_model.specs.Store.{row_at}
-use Rattle.raven_model.specs.Index.{Table, Scope}
+use Rattle.spec_store.specs.Store.{row_at}
+use Rattle.raven_data.specs.Tables.{Table, Scope}
 pub use Rattle.map_meaning.specs.Meaning.{Fields, Outcome, Entry, NoEntry, Failed, Mapped}
 
 -- the two tables have the same at these ids

@@ -1,5 +1,5 @@
 -- Opening a database from the rows that its keeper has.
-use Rattle.std.specs.Prelude.{ℕ, ◌+◌, List, [], ◌∷◌, ◌++◌, Bool, not, ◌&&◌, ◌||◌, ◌==◌, nat_le, nat_lt, nat_eq, if◌then◌else◌, Option, Some, None, Result, Ok, Err, length, codes, drop, map}
+use Rattle.std.specs.Prelude.{ℕ, ◌+◌, List, [], ◌∷◌, ◌++◌, Bool, not, ◌&&◌, ◌||◌, ◌==◌, nat_le, nat_lt, nat_eq, if◌then◌else◌, Option, Some, None, Result, Ok, Err, length, codes, drop, map, ◌≡◌}
 use Rattle.std.specs.List.{list_any, starts_with}
 use Rattle.std.specs.Str.{bytes_eq}
 use Rattle.raven_data.specs.Data.{Data, null, text, array, object, no_items, item, no_entries, pairs_of}
@@ -7,10 +7,12 @@ use Rattle.raven_data.specs.Faults.{is_fit}
 use Rattle.raven_data.specs.Folding.{folded}
 use Rattle.raven_data.specs.Members.{member}
 use Rattle.raven_data.specs.Rows.{Row, is_document}
-use Rattle.raven_model.specs.Commit.{Setting, is_index_id}
+use Rattle.spec_store.specs.Commit.{Setting, is_index_id}
 use Rattle.raven_model.specs.Mapping.{Definition, Static, Auto}
 use Rattle.raven_model.specs.World.{Slot, fresh, is_reserved_name, max_index_name}
 use Rattle.raven_model.specs.Machine.{Machine}
+use Rattle.raven_data.specs.Kept.{KeptRow}
+use Rattle.spec_store.specs.Kept.{rows_in}
 
 -- THE DEFINITION IN A BODY, as the server keeps it
 
@@ -122,3 +124,9 @@ rows_of xs = map (λ x. x.row) xs
 -- the machine of these rows, which are those of a store; or the etag of the first that is of no form
 abbrev pub opened : Setting → List ReadRow → Result Machine ℕ
 opened s xs = opened_with s (rows_of xs) (slots_from s 0 [] xs)
+
+-- the machine that the held rows open, where this was read of them
+pub record OpenedFrom (s : Setting) (held : List KeptRow) (M : Machine) : Type 0 where
+  pub read : List ReadRow
+  pub rows : rows_in s.max_rows held ≡ Ok (rows_of read)
+  pub opens : opened s read ≡ Ok M

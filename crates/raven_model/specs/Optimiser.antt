@@ -6,8 +6,8 @@ use Rattle.std.specs.Fmt.{decimal}
 use Rattle.std.specs.Cmp.Lexicographic.{pointwise}
 use Rattle.raven_data.specs.Faults.{is_fit}
 use Rattle.raven_data.specs.Members.{Path}
-use Rattle.raven_model.specs.Store.{Store}
-use Rattle.raven_model.specs.Index.{stale}
+use Rattle.spec_store.specs.Store.{Store}
+use Rattle.spec_store.specs.Stale.{stale}
 use Rattle.raven_model.specs.Mapping.{Definition, Static, Auto, joined}
 use Rattle.raven_model.specs.World.{Slot, reads, serving}
 

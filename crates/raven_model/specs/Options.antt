@@ -1,12 +1,11 @@
 -- The words that the program is called with: a command, and then pairs of a name and a value.
-use Rattle.std.specs.Prelude.{ℕ, List, [], ◌∷◌, Bool, true, false, not, ◌&&◌, ◌==◌, if◌then◌else◌, Option, Some, None, length, codes}
+use Rattle.std.specs.Prelude.{ℕ, List, [], ◌∷◌, Bool, true, false, not, ◌&&◌, if◌then◌else◌, Option, Some, None, codes}
 use Rattle.std.specs.Option.{option_map}
 use Rattle.std.specs.List.{list_all, list_any}
-use Rattle.std.specs.Char.{is_ascii_alphanumeric}
 use Rattle.std.specs.Str.{bytes_eq}
-use Rattle.raven_model.specs.Commit.{Setting}
+use Rattle.spec_store.specs.Commit.{Setting}
 use Rattle.raven_model.specs.Lines.{begins_with}
-use Rattle.raven_model.specs.Words.{base_id, program}
+use Rattle.spec_store.specs.Limits.{base_id, program, is_base_id}
 
 -- PAIRS
 
@@ -50,10 +49,6 @@ pub record Options : Type 0 where
 
 abbrev pub run_names : List (List ℕ)
 run_names = codes "--data" ∷ codes "--id" ∷ []
-
--- 22 ASCII letters or digits
-abbrev pub is_base_id : List ℕ → Bool
-is_base_id text = length text == 22 && list_all is_ascii_alphanumeric text
 
 abbrev pub base_in : Option (List ℕ) → Option (List ℕ)
 base_in None = Some base_id

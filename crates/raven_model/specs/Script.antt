@@ -7,7 +7,7 @@ use Rattle.raven_data.specs.Data as json
 use Rattle.raven_data.specs.Faults.{Fault, empty, too_long, control, fault_of, max_id, max_name}
 use Rattle.raven_data.specs.Json.{JsonRefusal, not_json, number_not_whole, too_deep, reading}
 use Rattle.raven_data.specs.Members.{member}
-use Rattle.raven_model.specs.Commit.{Command, Expect, AnyVector, Vector}
+use Rattle.spec_store.specs.Commit.{Command, Expect, AnyVector, Vector}
 use Rattle.raven_model.specs.Language.{LangRefusal}
 use Rattle.raven_model.specs.Mapping.{Definition}
 use Rattle.raven_model.specs.Replies.{Reply, printed}

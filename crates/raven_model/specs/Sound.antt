@@ -2,11 +2,11 @@
 use Rattle.std.specs.Prelude.{◌≡◌, ℕ, ◌≤◌, ◌<◌, List, [], ◌∷◌, ◌++◌, length, Some, ◌⊎◌, IsTrue, codes}
 use Rattle.raven_data.specs.Folding.{folded}
 use Rattle.raven_data.specs.Rows.{Row, doc, is_document}
-use Rattle.raven_model.specs.Store.{row_at, Store, last, IsStore}
-use Rattle.raven_model.specs.Later.{Later}
+use Rattle.spec_store.specs.Store.{row_at, Store, last, IsStore}
+use Rattle.spec_store.specs.Later.{Later}
 use Rattle.raven_model.specs.Index.{Agrees}
 use Rattle.raven_model.specs.World.{Version, Slot, Note, World, reads, index_id, row_body}
-use Rattle.raven_model.specs.Commit.{stored}
+use Rattle.spec_store.specs.Commit.{stored}
 
 -- the list has the element
 abbrev pub Has : {X : Type 0} → List X → X → Type 0

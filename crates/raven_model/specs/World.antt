@@ -6,11 +6,13 @@ use Rattle.raven_data.specs.Data.{Data, null, text, array, object, items_of, ent
 use Rattle.raven_data.specs.Folding.{folded, same_key}
 use Rattle.raven_data.specs.Members.{Path}
 use Rattle.raven_data.specs.Rows.{Row}
-use Rattle.raven_model.specs.Store.{Store, last}
-use Rattle.raven_model.specs.Index.{Table, Scope, taken, note_rows, etag_of_batch}
+use Rattle.spec_store.specs.Store.{Store, last}
+use Rattle.raven_data.specs.Tables.{Table, Scope, note_rows}
+use Rattle.spec_store.specs.Stale.{taken}
+use Rattle.raven_model.specs.Index.{etag_of_batch}
 use Rattle.raven_model.specs.Mapping.{Definition, Static, Auto, mapper_of, scope_of}
 use Rattle.raven_model.specs.Definitions.{same_definition}
-use Rattle.raven_model.specs.Commit.{Command, Put, Delete, AnyVector, Setting}
+use Rattle.spec_store.specs.Commit.{Command, Put, Delete, AnyVector, Setting}
 
 -- an index as far as it has come: it has recorded this table up to this etag
 pub record Version : Type 0 where

@@ -2,8 +2,8 @@
 use Rattle.std.specs.Prelude.{◌≡◌, ℕ, List, [], ◌∷◌, ◌++◌, Bool, true, false, Option, Some, None, Result, Ok, Err}
 use Rattle.raven_data.specs.Kept.{KeptRow}
 use Rattle.raven_data.specs.Rows.{Row, Body, doc, gone}
-use Rattle.raven_model.specs.Commit.{Setting}
-use Rattle.raven_model.specs.Kept.{rows_in}
+use Rattle.spec_store.specs.Commit.{Setting}
+use Rattle.spec_store.specs.Kept.{rows_in}
 use Rattle.raven_model.specs.Language.{LangRefusal}
 use Rattle.raven_model.specs.Machine.{Machine}
 use Rattle.raven_model.specs.Mapping.{Definition}

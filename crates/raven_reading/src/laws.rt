@@ -3,8 +3,8 @@
 ghost use Rattle.std.specs.Prelude.{◌≡◌, ℕ, List, Ok, Result};
 ghost use Rattle.raven_data.specs.Kept.{KeptRow};
 ghost use Rattle.raven_data.specs.Rows.{Row};
-ghost use Rattle.raven_model.specs.Commit.{Setting};
-ghost use Rattle.raven_model.specs.Kept.{OpenedFrom};
+ghost use Rattle.spec_store.specs.Commit.{Setting};
+ghost use Rattle.raven_model.specs.Opening.{OpenedFrom};
 ghost use Rattle.raven_model.specs.Language.{LangRefusal};
 ghost use Rattle.raven_model.specs.Machine.{Machine};
 ghost use Rattle.raven_model.specs.Mapping.{Definition};

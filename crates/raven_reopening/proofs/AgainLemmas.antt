@@ -3,11 +3,11 @@ use Rattle.std.proofs.Common.{◌≡◌, ℕ, ◌+◌, ◌<◌, List, [], ◌∷
 use Rattle.std.proofs.lemmas.Bool.{ltb-false}
 use Rattle.std.specs.List.{list_any}
 use Rattle.raven_data.specs.Moments.{moments_end}
-use Rattle.raven_model.specs.Store.{last}
+use Rattle.spec_store.specs.Store.{last}
 use Rattle.raven_model.specs.Mapping.{Definition, Auto}
 use Rattle.raven_model.specs.Definitions.{same_definition}
 use Rattle.raven_model.specs.Opening.{is_auto_name}
-use Rattle.raven_model.specs.Commit.{Command, AnyVector, Client, Server, Refused, Written, commit}
+use Rattle.spec_store.specs.Commit.{Command, AnyVector, Client, Server, Refused, Written, commit}
 use Rattle.raven_model.specs.Optimiser.{Shape, Make, Merge, best, chosen, covers, is_of, name_of, slot_shape}
 use Rattle.raven_model.specs.Replies as told
 use Rattle.raven_model.specs.World.{Slot, index_id, row_body, serving, SlotRefusal, added, define_at, is_named, is_reserved_name, removed, unless_refused}

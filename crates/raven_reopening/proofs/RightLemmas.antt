@@ -2,12 +2,12 @@
 use Rattle.std.proofs.Common.{◌≡◌, ℕ, ◌≤◌, List, [], ◌∷◌, Bool, true, false, if◌then◌else◌, length, filter, map, Some, None, Ok, refl, sym, ◌∙◌, subst, inl, inr}
 use Rattle.raven_data.specs.Faults.{max_name}
 use Rattle.raven_data.specs.Rows.{doc}
-use Rattle.raven_model.specs.Commit.{stored}
+use Rattle.spec_store.specs.Commit.{stored}
 use Rattle.raven_model.specs.Mapping.{Definition, Static, Auto}
 use Rattle.raven_model.specs.Opening.{is_auto_name, may_be_named}
 use Rattle.raven_model.specs.Machine.{Auto as AutoOne, brought_on, brought_on_if}
 use Rattle.raven_model.specs.Sound.{Has}
-use Rattle.raven_model.specs.Store.{Store}
+use Rattle.spec_store.specs.Store.{Store}
 use Rattle.raven_model.specs.World.{Slot, World, added, is_named, is_reserved_name, row_body}
 use Rattle.raven_laws.proofs.MachineLemmas.{Keeps, brought-Keeps}
 use Rattle.raven_laws.proofs.SlotLemmas.{Has-append, Has-filter, Has-map}

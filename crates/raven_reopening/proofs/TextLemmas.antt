@@ -2,8 +2,8 @@
 use Rattle.std.proofs.Common.{◌≡◌, ℕ, List, [], ◌∷◌, true, Option, Some, None, option_map, Result, Ok, Err, refl, sym, ap, ◌∙◌, subst}
 use Rattle.raven_data.specs.Kept.{KeptRow}
 use Rattle.raven_data.specs.Rows.{Body, doc, gone}
-use Rattle.raven_model.specs.Commit.{Setting}
-use Rattle.raven_model.specs.Kept.{rows_in}
+use Rattle.spec_store.specs.Commit.{Setting}
+use Rattle.spec_store.specs.Kept.{rows_in}
 use Rattle.raven_model.specs.Language as is
 use Rattle.raven_model.specs.Machine.{Machine}
 use Rattle.raven_model.specs.Mapping.{Definition, Static}

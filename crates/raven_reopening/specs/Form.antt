@@ -7,8 +7,8 @@ use Rattle.raven_data.specs.Moments.{moments_end}
 use Rattle.raven_data.specs.Rows.{Row, Body, doc, gone}
 use Rattle.raven_data.specs.Sound.{IsSound}
 use Rattle.raven_data.specs.Written.{text_of}
-use Rattle.raven_model.specs.Commit.{Command, Put, Delete}
-use Rattle.raven_model.specs.Kept.{is_etag, is_stored, max_body}
+use Rattle.spec_store.specs.Commit.{Command, Put, Delete}
+use Rattle.spec_store.specs.Kept.{is_etag, is_stored, max_body}
 use Rattle.raven_model.specs.Machine.{Event, Request, Define, Auto, commands_in}
 use Rattle.raven_model.specs.Mapping.{Definition, Static}
 use Rattle.raven_model.specs.Opening.{is_part}

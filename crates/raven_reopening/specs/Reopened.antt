@@ -2,7 +2,7 @@
 use Rattle.std.specs.Prelude.{◌≡◌, List, [], Ok}
 use Rattle.raven_data.specs.Folding.{folded}
 use Rattle.raven_data.specs.Kept.{all_kept}
-use Rattle.raven_model.specs.Commit.{Setting}
+use Rattle.spec_store.specs.Commit.{Setting}
 use Rattle.raven_model.specs.Machine.{Machine}
 use Rattle.raven_model.specs.Sound.{Has}
 use Rattle.raven_model.specs.World.{Slot, World, fresh}

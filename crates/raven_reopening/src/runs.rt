@@ -2,7 +2,7 @@
 
 ghost use Rattle.std.specs.Prelude.{List, Ok};
 ghost use Rattle.raven_data.specs.Kept.{KeptRow};
-ghost use Rattle.raven_model.specs.Commit.{Setting};
+ghost use Rattle.spec_store.specs.Commit.{Setting};
 ghost use Rattle.raven_model.specs.Machine.{Event, Machine, run};
 ghost use Rattle.raven_model.specs.Script.{Given, after_lines};
 ghost use Rattle.raven_laws.specs.Opened.{OpenedAsTold};

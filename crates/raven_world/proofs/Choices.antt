@@ -3,7 +3,7 @@ use Rattle.std.proofs.Common.{◌≡◌, ◌≤◌, ◌-◌, List, [], ◌∷◌
 use Rattle.std.proofs.lemmas.Grind.{common_steps}
 use Rattle.std.specs.Prelude.{filter}
 use Rattle.raven_model.specs.Optimiser.{Shape, best, better, covers, slot_shape}
-use Rattle.raven_model.specs.Store.{Store}
+use Rattle.spec_store.specs.Store.{Store}
 use Rattle.raven_model.specs.World.{Slot}
 
 pub first-and-more : (slots : List Slot) (a : Slot) → 1 ≤ length slots → a ≡ get_or slots 0 a → slots ≡ a ∷ take (length slots - 1) (drop 1 slots)

@@ -2,11 +2,10 @@
 use Rattle.std.proofs.Common.{◌≡◌, ◌<◌, ◌+◌, ◌^◌, ℕ, List, [], ◌∷◌, length, Bool, true, false, cond, nat_le, Option, Some, None, is_some, Ok, Err, sym, ap, ◌∙◌, arith}
 use Rattle.std.proofs.lemmas.Grind.{common_steps}
 use Rattle.std.specs.Prelude.{filter, not, nat_lt}
-use Rattle.raven_model.specs.Store.{Store, last}
+use Rattle.spec_store.specs.Store.{Store, last}
 use Rattle.raven_data.specs.Rows.{Row}
-use Rattle.raven_model.specs.Commit.{Client, Server, Command, Delete, AnyVector, Refused, Written, commit, etags_taken}
-use Rattle.raven_model.specs.Replies.{Reply, Index, Removed, NoIndex, UnknownLine, Result as Done}
-use Rattle.raven_model.specs.Replies.{TooManyIndexes as TooMany}
+use Rattle.spec_store.specs.Commit.{Client, Server, Command, Delete, AnyVector, Refused, Written, commit, etags_taken}
+use Rattle.raven_model.specs.Replies.{Reply, Index, Removed, NoIndex, UnknownLine, Result as Done, TooManyIndexes as TooMany}
 use Rattle.raven_model.specs.Replies as told
 use Rattle.raven_model.specs.Mapping.{Definition}
 use Rattle.raven_model.specs.Definitions.{same_definition}

@@ -1,7 +1,7 @@
 -- Which row stands against opening a world, and what is taken of one.
 use Rattle.std.specs.Prelude.{◌≡◌, ℕ, List, [], ◌++◌, ◌⊎◌, Bool, Option, Some, None, Ok, drop, length, if◌then◌else◌}
 use Rattle.raven_data.specs.Rows.{Row}
-use Rattle.raven_model.specs.Commit.{Setting}
+use Rattle.spec_store.specs.Commit.{Setting}
 use Rattle.raven_model.specs.Mapping.{Definition}
 use Rattle.raven_model.specs.Opening.{ReadRow, rows_of, slots_after, slots_from}
 use Rattle.raven_model.specs.World.{Slot}

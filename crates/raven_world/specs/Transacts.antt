@@ -1,6 +1,6 @@
 -- What a transaction of a client leaves.
 use Rattle.std.specs.Prelude.{◌≡◌, ℕ, List, Result, Ok, Err}
-use Rattle.raven_model.specs.Commit.{Client, Command, Refused, commit, etags_taken}
+use Rattle.spec_store.specs.Commit.{Client, Command, Refused, commit, etags_taken}
 use Rattle.raven_model.specs.Machine.{refused_at}
 use Rattle.raven_model.specs.World as is
 use Rattle.raven_model.specs.Replies.{Reply}

@@ -3,7 +3,7 @@ ghost use Rattle.std.specs.Prelude.{◌≡◌, [], ◌∷◌, IfOk, MatchOption,
 ghost use Rattle.std.specs.Cmp.Lexicographic.{pointwise};
 ghost use Rattle.std.specs.List.{list_any};
 ghost use Rattle.std.specs.Str.{bytes_eq};
-ghost use Rattle.raven_model.specs.Index.{stale};
+ghost use Rattle.spec_store.specs.Stale.{stale};
 ghost use Rattle.raven_model.specs.Machine.{one_field};
 ghost use Rattle.raven_model.specs.Optimiser.{beats, best, better, covers, has_path, is_of, pick as spec_pick, slot_shape, width};
 ghost use Rattle.raven_model.specs.World.{reads};

@@ -2,7 +2,7 @@
 ghost use Rattle.std.specs.Prelude.{◌≡◌, ◌+◌, IfOk, IfSome, false, length, nat_le};
 ghost use Rattle.raven_model.specs.Machine.{Auto as AutoOne, change_of, one_field};
 ghost use Rattle.raven_model.specs.Optimiser.{Make, name_of, pick as spec_pick};
-ghost use Rattle.raven_model.specs.Store.{last};
+ghost use Rattle.spec_store.specs.Store.{last};
 ghost use Rattle.raven_world.specs.Told.{AnswersQuery, machine_of, told};
 
 use crate::choice::{Choice, pick};

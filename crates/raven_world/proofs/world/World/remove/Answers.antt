@@ -1,6 +1,6 @@
 use Rattle.std.proofs.Common.{◌≡◌, ◌∙◌, ◌∷◌, [], IfSome, ap, subst, sym}
 use Rattle.std.specs.Prelude.{filter, not}
-use Rattle.raven_model.specs.Commit.{AnyVector, Delete, Server, commit}
+use Rattle.spec_store.specs.Commit.{AnyVector, Delete, Server, commit}
 use Rattle.raven_model.specs.Machine.{rewrote}
 use Rattle.raven_model.specs.Replies.{Removed}
 use Rattle.raven_model.specs.World.{Slot, World, index_id, is_named, serving}

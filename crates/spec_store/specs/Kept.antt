@@ -1,5 +1,5 @@
--- Which kept rows are those of a database, and the database that they open.
-use Rattle.std.specs.Prelude.{◌≡◌, ℕ, List, [], ◌∷◌, ◌++◌, Bool, false, not, ◌&&◌, nat_lt, nat_le, if◌then◌else◌, Option, Some, None, is_none, Result, Ok, Err, length, codes}
+-- Which kept rows are those of a store.
+use Rattle.std.specs.Prelude.{ℕ, List, [], ◌∷◌, ◌++◌, Bool, false, not, ◌&&◌, nat_lt, nat_le, if◌then◌else◌, Option, Some, None, is_none, Result, Ok, Err, length, codes}
 use Rattle.std.specs.Option.{option_map}
 use Rattle.std.specs.List.{list_any}
 use Rattle.std.specs.Str.{bytes_eq}
@@ -11,10 +11,8 @@ use Rattle.raven_data.specs.Members.{member}
 use Rattle.raven_data.specs.Moments.{moments_end}
 use Rattle.raven_data.specs.Rows.{Row, Body, doc, gone, key}
 use Rattle.raven_data.specs.Written.{text_of}
-use Rattle.raven_model.specs.Store.{row_at, last_of}
-use Rattle.raven_model.specs.Commit.{Setting, is_own}
-use Rattle.raven_model.specs.Machine.{Machine}
-use Rattle.raven_model.specs.Opening.{ReadRow, opened, rows_of}
+use Rattle.spec_store.specs.Store.{row_at, last_of}
+use Rattle.spec_store.specs.Commit.{is_own}
 
 -- ONE ROW
 
@@ -79,11 +77,3 @@ rows_behind max earlier (k ∷ ks) = or_bad_row k.etag (row_behind max earlier (
 -- all rows, or the etag of the first that breaks the form
 abbrev pub rows_in : ℕ → List KeptRow → Result (List Row) ℕ
 rows_in max held = rows_behind max [] held
-
--- THE DATABASE
-
--- the machine that the held rows open, where this was read of them
-pub record OpenedFrom (s : Setting) (held : List KeptRow) (M : Machine) : Type 0 where
-  pub read : List ReadRow
-  pub rows : rows_in s.max_rows held ≡ Ok (rows_of read)
-  pub opens : opened s read ≡ Ok M

@@ -6,7 +6,8 @@ use Rattle.std.specs.Cmp.Lexicographic.{nat_list_eq_equiv}
 use Rattle.std.proofs.lemmas.Slice.Eq.{bytes_eq-Decides}
 use Rattle.raven_data.specs.Folding.{same_key}
 use Rattle.raven_data.specs.Rows.{Row, key}
-use Rattle.raven_model.specs.Store.{row_at, put, last_of, AreRising, AreApart}
+use Rattle.spec_store.specs.Store.{row_at, put, last_of, AreRising, AreApart}
+use Rattle.std.specs.List.{list_any}
 
 -- OPTIONS AND TESTS
 
@@ -190,3 +191,11 @@ last_of-filter a low p (x ∷ rows) up h =
       | true ↦ last_of-filter x.etag x.etag p rows up.1 (last_of-rising x.etag rows up.1)
       | false ↦ last_of-filter a x.etag p rows up.1 h
     ]
+
+pub any_false : (p : Row → Bool) (q : List ℕ) (rows : List Row) (r : Row) → list_any p rows ≡ false → row_at q rows ≡ Some r → p r ≡ false
+any_false p q [] r h g = absurd cc
+any_false p q (x ∷ rows) r h g =
+    elim (same_key q (key x)) as (λ b. cond b (Some x) (row_at q rows) ≡ Some r → p r ≡ false) [
+      | true ↦ λ is. subst (λ y. p y ≡ false) (same_row x r is) (either_false (p x) (list_any p rows) h).0
+      | false ↦ λ is. any_false p q rows r (either_false (p x) (list_any p rows) h).1 is
+    ] g

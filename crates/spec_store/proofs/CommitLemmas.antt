@@ -5,11 +5,11 @@ use Rattle.std.proofs.lemmas.Slice.Eq.{bytes_eq-Decides}
 use Rattle.std.specs.Option.{option_and_then, option_map}
 use Rattle.raven_data.specs.Folding.{folded}
 use Rattle.raven_data.specs.Rows.{Row, is_document}
-use Rattle.raven_model.specs.Store.{row_at, last_of, Store, last, IsStore, with_row, with_rows}
-use Rattle.raven_model.specs.Later.{MayFollow}
-use Rattle.raven_model.specs.Commit.{Command, Put, Delete, Writer, Setting, Refusal, Refused, Written, first_of, refusal_of, reserved, too_large, collection_changed, collection_of, other_collection, conflict, store_full, etags_spent, kept_spelling, document_at, row_of, tombstone, with_written, unless, commit_from, commit, AreNext, Commits}
-use Rattle.raven_laws.proofs.StoreLemmas.{same_row, found_key}
-use Rattle.raven_laws.proofs.LaterLemmas.{IsStore-with, last-with, Later-with, Later-itself, Later-then}
+use Rattle.spec_store.specs.Store.{row_at, last_of, Store, last, IsStore, with_row, with_rows}
+use Rattle.spec_store.specs.Later.{MayFollow}
+use Rattle.spec_store.specs.Commit.{Command, Put, Delete, Writer, Setting, Refusal, Refused, Written, first_of, refusal_of, reserved, too_large, collection_changed, collection_of, other_collection, conflict, store_full, etags_spent, kept_spelling, document_at, row_of, tombstone, with_written, unless, commit_from, commit, AreNext, Commits}
+use Rattle.spec_store.proofs.StoreLemmas.{same_row, found_key}
+use Rattle.spec_store.proofs.LaterLemmas.{IsStore-with, last-with, Later-with, Later-itself, Later-then}
 
 pub same_ok : (a b : Written) → (let x : Result Written Refused = Ok a in x) ≡ Ok b → a ≡ b
 same_ok a b h = cc

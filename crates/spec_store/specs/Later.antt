@@ -1,7 +1,7 @@
 -- What a later store keeps of an earlier one.
 use Rattle.std.specs.Prelude.{◌≡◌, ℕ, ◌≤◌, ◌+◌, List, [], ◌∷◌, Some}
 use Rattle.raven_data.specs.Rows.{Row, key}
-use Rattle.raven_model.specs.Store.{row_at, Store, last, with_row}
+use Rattle.spec_store.specs.Store.{row_at, Store, last, with_row}
 
 -- the id still has a row, which is no older and has kept its collection and its spelling
 pub record StillHas (rows : List Row) (q : List ℕ) (old : Row) : Type 0 where

@@ -10,8 +10,8 @@ use Rattle.raven_data.specs.Members.{member, value_at}
 use Rattle.raven_data.specs.Rising.{put}
 use Rattle.raven_data.specs.Rows.{Row, doc, gone, is_document}
 use Rattle.raven_data.specs.Written.{text_of}
-use Rattle.raven_model.specs.Store.{row_at, Store, last, IsStore, with_row, with_rows}
-use Rattle.raven_model.specs.Later.{Later}
+use Rattle.spec_store.specs.Store.{row_at, Store, last, IsStore, with_row, with_rows}
+use Rattle.spec_store.specs.Later.{Later}
 
 pub data Expect : Type 0 where
   AnyVector : Expect

@@ -2,9 +2,9 @@
 use Rattle.std.proofs.Common.{◌≡◌, ℕ, ◌≤◌, List, true, false, cond, Some, refl, sym, ap, ◌∙◌, subst, arith}
 use Rattle.raven_data.specs.Folding.{same_key}
 use Rattle.raven_data.specs.Rows.{Row, key}
-use Rattle.raven_model.specs.Store.{row_at, put, Store, last, IsStore, with_row}
-use Rattle.raven_model.specs.Later.{StillHas, Later, MayFollow}
-use Rattle.raven_laws.proofs.StoreLemmas.{row_at-put, found_etag, same_means, last_of-put, AreRising-put, AreApart-put}
+use Rattle.spec_store.specs.Store.{row_at, put, Store, last, IsStore, with_row}
+use Rattle.spec_store.specs.Later.{StillHas, Later, MayFollow}
+use Rattle.spec_store.proofs.StoreLemmas.{row_at-put, found_etag, same_means, last_of-put, AreRising-put, AreApart-put}
 
 pub StillHas-then : (P : List Row) (q : List ℕ) (a b : Row) → b.collection ≡ a.collection → b.id ≡ a.id → a.etag ≤ b.etag → StillHas P q b → StillHas P q a
 StillHas-then P q a b same spelled up h = record { row = h.row; found = h.found; same = h.same ∙ same; spelled = h.spelled ∙ spelled; no_older = let x = h.no_older in omega arith }

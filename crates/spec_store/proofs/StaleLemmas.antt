@@ -4,11 +4,10 @@ use Rattle.std.specs.List.{list_any}
 use Rattle.std.proofs.lemmas.Bool.{ltb-false, ltb-true, lt-ltb, le-ltb}
 use Rattle.raven_data.specs.Folding.{same_key}
 use Rattle.raven_data.specs.Rows.{Row, key}
-use Rattle.raven_model.specs.Store.{row_at, last_of, AreRising, AreApart, Store, IsStore}
-use Rattle.raven_model.specs.Index.{Scope, in_scope, up_to, stale, newest}
-use Rattle.raven_laws.proofs.StoreLemmas.{both_true, AreRising-lower, AreRising-filter, last_of-rising, same_itself, same_means}
-use Rattle.raven_laws.proofs.IndexLemmas.{any_false}
-use Rattle.raven_laws.specs.Claims.{Unseen}
+use Rattle.spec_store.specs.Store.{row_at, last_of, AreRising, AreApart, Store, IsStore}
+use Rattle.raven_data.specs.Tables.{Scope, in_scope}
+use Rattle.spec_store.specs.Stale.{up_to, stale, newest, Unseen}
+use Rattle.spec_store.proofs.StoreLemmas.{both_true, AreRising-lower, AreRising-filter, last_of-rising, same_itself, same_means, any_false}
 
 along : (scope : Scope) (e low : ℕ) (cutoff : Option ℕ) (rows : List Row) → AreRising low rows → low ≤ e
     → list_any (λ r. in_scope scope r && nat_lt e r.etag && up_to cutoff r.etag) rows ≡ nat_lt e (last_of low (filter (λ r. in_scope scope r && up_to cutoff r.etag) rows))
