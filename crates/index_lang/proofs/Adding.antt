@@ -6,7 +6,7 @@ use Rattle.std.specs.Bool.{Decides}
 use Rattle.std.proofs.lemmas.Slice.Eq.{bytes_eq-Decides}
 use Rattle.std.specs.Str.{bytes_eq}
 use Rattle.index_tree.specs.declared.map_query.MapQuery.{MapQuery}
-use Rattle.map_meaning.specs.Scope.{others, each_once, all_named, scope_of}
+use Rattle.index_tree.specs.Scope.{others, each_once, all_named, scope_of}
 use Rattle.raven_value.specs.View.{pair_of}
 use Rattle.raven_value.specs.declared.text.Text.{Text}
 use Rattle.raven_value.specs.declared.value.Value.{Value}

@@ -2,7 +2,7 @@
 use Rattle.std.proofs.Common.{◌≡◌, ◌<◌, ◌-◌, ℕ, List, [], ◌∷◌, ◌++◌, length, get_or, take, drop, refl, ap, ◌∙◌, arith, codes}
 use Rattle.std.proofs.lemmas.Grind.{common_steps}
 use Rattle.raven_data.specs.Members.{Path}
-use Rattle.raven_model.specs.Mapping.{joined}
+use Rattle.index_tree.specs.Mapper.{joined}
 
 -- each part with a dot in front
 abbrev pub dotted : Path → List ℕ

@@ -6,7 +6,7 @@ use Rattle.std.specs.Coded.{Coded, coded_list}
 use base.Stored.{Gv, gnil, gnum, gcons}
 use Rattle.index_tree.specs.declared.reduce_query.ReduceQuery.{ReduceQuery}
 use Rattle.raven_data.specs.Codes.{text_code}
-use Rattle.raven_model.specs.Definitions.{same_codes, is_same, map_code, said_code, reduce_said, same_reduce, path_code, same_definition}
+use Rattle.index_tree.specs.Definitions.{same_codes, is_same, map_code, said_code, reduce_said, same_reduce, path_code, same_definition}
 use Rattle.index_lang.specs.declared.definition.DefBody.{DefBody}
 use Rattle.index_lang.specs.declared.definition.DefBody.TheVariants.{Static, Auto}
 use Rattle.index_lang.specs.DefinitionView.{definition_view}

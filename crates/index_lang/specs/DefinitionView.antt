@@ -1,5 +1,5 @@
 -- The body of a `Definition` of the program, and what it is.
-use Rattle.raven_model.specs.Mapping as is
+use Rattle.index_tree.specs.Definitions as is
 use Rattle.index_lang.specs.declared.definition.DefBody.{DefBody}
 use Rattle.index_lang.specs.declared.definition.DefBody.TheVariants.{Static, Auto}
 

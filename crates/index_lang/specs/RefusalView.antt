@@ -1,6 +1,6 @@
 -- Why texts are refused, and what that is to the machine.
 use Rattle.std.specs.Prelude.{ℕ}
-use Rattle.raven_model.specs.Language as is
+use Rattle.index_tree.specs.Language as is
 use Rattle.index_lang.specs.declared.refusal.Part.{Part}
 use Rattle.index_lang.specs.declared.refusal.Part.TheVariants as part
 use Rattle.index_lang.specs.declared.refusal.LangKind.{LangKind}

@@ -3,8 +3,8 @@ use Rattle.std.specs.Prelude.{◌≡◌, ℕ, List, [], ◌∷◌, map, Option, 
 use Rattle.raven_data.specs.Data.{null}
 use Rattle.raven_data.specs.Rising.{Pairs, put}
 use Rattle.index_tree.specs.declared.reduce_query.ReduceQuery.{ReduceQuery}
-use Rattle.map_meaning.specs.Scope as meaning
-use Rattle.raven_model.specs.Mapping.{joined}
+use Rattle.index_tree.specs.Scope as meaning
+use Rattle.index_tree.specs.Mapper.{joined}
 use Rattle.index_lang.specs.declared.definition.DefBody.{DefBody}
 use Rattle.index_lang.specs.declared.definition.DefBody.TheVariants.{Static, Auto}
 

@@ -1,6 +1,6 @@
 //! Definitions of indexes.
 ghost use Rattle.std.specs.Prelude.{◌≡◌, ◌∷◌, [], IfOk};
-ghost use Rattle.raven_model.specs.Mapping.{Auto as AutoOf};
+ghost use Rattle.index_tree.specs.Definitions.{Auto as AutoOf};
 ghost use Rattle.index_lang.specs.DefinitionView.{definition_view};
 
 use index_tree::{MapQuery, ReduceQuery};

@@ -1,6 +1,6 @@
 //! The names of the fields that paths lead to.
 ghost use Rattle.std.specs.Prelude.{◌≡◌, IfOk, map};
-ghost use Rattle.raven_model.specs.Mapping.{joined};
+ghost use Rattle.index_tree.specs.Mapper.{joined};
 
 use index_tree::Texts;
 use raven_base::NoMemory;

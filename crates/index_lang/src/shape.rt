@@ -1,8 +1,8 @@
 //! What is told of a definition: whether another one is the same, and what it reads.
 ghost use Rattle.std.specs.Prelude.{◌≡◌, ◌↔◌, ◌++◌, ◌∷◌, [], IsTrue, IfOk, OnOk, flat_map, map};
-ghost use Rattle.map_meaning.specs.Scope as meaning;
-ghost use Rattle.raven_model.specs.Definitions.{same_definition};
-ghost use Rattle.raven_model.specs.Mapping.{mapper_of, scope_of as model_scope_of};
+ghost use Rattle.index_tree.specs.Scope as meaning;
+ghost use Rattle.index_tree.specs.Definitions.{same_definition};
+ghost use Rattle.index_tree.specs.Mapper.{mapper_of, scope_of as model_scope_of};
 ghost use Rattle.index_lang.specs.Adding as adding;
 ghost use Rattle.index_lang.specs.DefinitionView.{definition_view};
 ghost use Rattle.index_lang.specs.Shape as spec;

@@ -4,7 +4,7 @@ ghost use Rattle.std.specs.FinMap.{empty};
 ghost use Rattle.map_stage.specs.MappedView.{fields_of, mapped_view};
 ghost use Rattle.raven_value.specs.RowView.{body_of};
 ghost use Rattle.raven_value.specs.ScalarView.{scalar_view};
-ghost use Rattle.raven_model.specs.Mapping.{auto_meaning, field_of, joined, mapper_of};
+ghost use Rattle.index_tree.specs.Mapper.{auto_meaning, field_of, joined, mapper_of};
 ghost use Rattle.index_lang.specs.DefinitionView.{definition_view};
 ghost use Rattle.index_version.specs.Meaning.{found_local, found_meaning};
 

@@ -1,7 +1,7 @@
 //! What is mapped again.
 ghost use Rattle.std.specs.Prelude.{◌≡◌, IfOk, cond, is_some, length, map};
 ghost use Rattle.raven_data.specs.Folding.{folded};
-ghost use Rattle.raven_model.specs.Mapping.{mapper_of};
+ghost use Rattle.index_tree.specs.Mapper.{mapper_of};
 ghost use Rattle.index_lang.specs.DefinitionView.{definition_view};
 ghost use Rattle.index_version.specs.Folded.{by_folded};
 ghost use Rattle.index_version.specs.Kept.{given_at};

@@ -1,9 +1,10 @@
 //! How far an index has come.
 ghost use Rattle.std.specs.Prelude.{◌≡◌, IfOk, length};
 ghost use Rattle.raven_data.specs.Tables.{note_rows};
-ghost use Rattle.raven_model.specs.Machine.{found_in};
-ghost use Rattle.raven_model.specs.Mapping.{failures, mapper_of, scratch, touched};
-ghost use Rattle.raven_model.specs.World.{fresh, reads};
+ghost use Rattle.spec_index.specs.Find.{found_in};
+ghost use Rattle.spec_index.specs.Mapping.{failures, scratch, touched};
+ghost use Rattle.index_tree.specs.Mapper.{mapper_of};
+ghost use Rattle.spec_index.specs.World.{fresh, reads};
 ghost use Rattle.index_lang.specs.DefinitionView.{definition_view};
 ghost use Rattle.index_version.specs.Meaning.{Means};
 ghost use Rattle.index_version.specs.Renewed.{MapsAtMost, documents_among};
@@ -33,9 +34,9 @@ pub struct IndexVersion {
 }
 
 impl Model for IndexVersion {
-    ghost use Rattle.raven_model.specs.World as world;
-    ghost use Rattle.raven_model.specs.Codes.{version_code};
-    ghost use Rattle.raven_model.specs.Mapping.{mapper_of};
+    ghost use Rattle.spec_index.specs.World as world;
+    ghost use Rattle.spec_index.specs.Codes.{version_code};
+    ghost use Rattle.index_tree.specs.Mapper.{mapper_of};
     ghost use Rattle.index_version.specs.Folded.{by_folded};
     ghost use Rattle.index_version.specs.Kept.{AreKept};
 

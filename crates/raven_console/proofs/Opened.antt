@@ -9,9 +9,9 @@ use Rattle.raven_data.specs.Moments.{moments_end}
 use Rattle.raven_data.specs.Rows.{Row, Body, key}
 use Rattle.spec_store.specs.Commit.{Setting}
 use Rattle.spec_store.specs.Kept.{body_in, is_etag, max_etag, may_stand_behind, row_behind, row_in, rows_behind, rows_in, or_bad_row}
-use Rattle.raven_model.specs.Machine.{Machine}
+use Rattle.spec_server.specs.Machine.{Machine}
 use Rattle.raven_reading.specs.Openings.{IsOpened, IsOpenedBy, OpensAs}
-use Rattle.raven_model.specs.Options.{setting_with}
+use Rattle.spec_server.specs.Options.{setting_with}
 use Rattle.spec_store.specs.Store.{last_of, row_at}
 use Rattle.spec_store.specs.Limits.{base_id, program}
 use Rattle.doc_store.specs.Opening.{first_bad, is_sound_after}

@@ -11,13 +11,16 @@ use Rattle.raven_data.specs.Folding.{key_cmp}
 use Rattle.raven_data.specs.Rows.{Row}
 use Rattle.spec_store.specs.Store.{row_at}
 use Rattle.raven_data.specs.Tables.{Table}
-use Rattle.raven_model.specs.Index.{documents}
-use Rattle.raven_model.specs.Mapping.{Fields, Outcome, Entry, NoEntry, Failed, mapper_of, is_mapped, mapped_documents, entry_of, scratch}
+use Rattle.spec_index.specs.Index.{documents}
+use Rattle.index_tree.specs.Meaning.{Fields, Outcome, Entry, NoEntry, Failed}
+use Rattle.index_tree.specs.Mapper.{mapper_of, is_mapped}
+use Rattle.spec_index.specs.Mapping.{mapped_documents, entry_of, scratch}
 use Rattle.spec_store.specs.Commit.{Setting}
-use Rattle.raven_model.specs.World.{Slot, World, reads, serving}
-use Rattle.raven_model.specs.Replies.{Reply}
-use Rattle.raven_model.specs.Machine.{Machine, Event, start, run, answer_find, has_words, found_in, is_stale}
-use Rattle.raven_model.specs.Sound.{Has, Sound}
+use Rattle.spec_index.specs.World.{Slot, World, reads, serving}
+use Rattle.spec_server.specs.Replies.{Reply}
+use Rattle.spec_server.specs.Machine.{Machine, Event, start, run, answer_find, is_stale}
+use Rattle.spec_index.specs.Find.{has_words, found_in}
+use Rattle.spec_server.specs.Sound.{Has, Sound}
 use Rattle.raven_laws.specs.Claims.{IsAsKept, ids_in, flag_in, find_reply, FreshIsFromScratch, FlagsAreExact, IdsAreAsKept}
 use Rattle.spec_store.proofs.StoreLemmas.{same_itself}
 use Rattle.spec_store.proofs.TableLemmas.{tied}

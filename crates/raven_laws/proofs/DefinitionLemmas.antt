@@ -9,13 +9,12 @@ use Rattle.raven_data.specs.Codes.{text_code}
 use Rattle.index_tree.specs.declared.reduce_query.FoldMember.{FoldMember}
 use Rattle.index_tree.specs.declared.reduce_query.ReduceQuery.{ReduceQuery}
 use Rattle.spec_store.specs.Store.{last, put}
-use Rattle.raven_model.specs.Mapping.{Definition, Static, Auto}
-use Rattle.raven_model.specs.Definitions.{map_code, path_code, said_code, reduce_said, is_same, same_codes, same_definition, same_reduce}
+use Rattle.index_tree.specs.Definitions.{Definition, Static, Auto, map_code, path_code, said_code, reduce_said, is_same, same_codes, same_definition, same_reduce}
 use Rattle.spec_store.specs.Commit.{Command, AnyVector, Server, Written, document_at, refusal_of, tombstone, unless, with_written}
-use Rattle.raven_model.specs.World.{Slot, SlotRefusal, added, define_at, index_id, is_named, is_reserved_name, max_index_name, removed, row_body, serving, unless_refused}
-use Rattle.raven_model.specs.Sound.{Has, IsListed, Sound}
-use Rattle.raven_model.specs.Replies.{Reply}
-use Rattle.raven_model.specs.Machine.{Machine, Keeping, Replied, Pump, brought_on, brought_on_if, pump_at, reslotted, rewrote, same_machine, settled, step}
+use Rattle.spec_index.specs.World.{Slot, SlotRefusal, added, define_at, index_id, is_named, is_reserved_name, max_index_name, removed, row_body, serving, unless_refused}
+use Rattle.spec_server.specs.Sound.{Has, IsListed, Sound}
+use Rattle.spec_server.specs.Replies.{Reply}
+use Rattle.spec_server.specs.Machine.{Machine, Keeping, Replied, Pump, brought_on, brought_on_if, pump_at, reslotted, rewrote, same_machine, settled, step}
 use Rattle.raven_laws.specs.Definitions.{BatchIsAnswered, DefineIsAnswered, IsBroughtOn, IsDefineAnswer, IsDefined, IsNoIndex, IsRemoveAnswer, IsRemoved, MayBeGiven, OtherSlotsStay, RemoveIsAnswered, SameReduces, SaysTheSame, new_slot}
 use Rattle.spec_store.proofs.StoreLemmas.{both_true, found_key, same_itself}
 use Rattle.spec_store.proofs.CommitLemmas.{put_key}

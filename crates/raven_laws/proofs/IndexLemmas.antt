@@ -13,7 +13,7 @@ use Rattle.raven_data.specs.Rows.{Row, key, is_document}
 use Rattle.spec_store.specs.Store.{row_at, last_of, AreRising, AreApart, Store, last, IsStore}
 use Rattle.spec_store.specs.Later.{StillHas, Later}
 use Rattle.raven_data.specs.Tables.{Table, Scope, in_scope, note_row, note_rows}
-use Rattle.raven_model.specs.Index.{record_of, Agrees, etag_after, etag_of_batch, documents}
+use Rattle.spec_index.specs.Index.{record_of, Agrees, etag_after, etag_of_batch, documents}
 use Rattle.spec_store.specs.Stale.{past, taken, left_over, up_to, stale}
 use Rattle.spec_store.proofs.StoreLemmas.{same_row, both_true, found_etag, found_key, same_means, row_at-append, found_passing, passing_found, AreApart-filter, AreApart-front, AreRising-filter, AreRising-front, AreRising-back, last_of-rising, last_of-append, last_of-filter, row_at-filter, only_if, any_false}
 use Rattle.spec_store.proofs.LaterLemmas.{StillHas-then}

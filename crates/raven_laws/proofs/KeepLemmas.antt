@@ -6,12 +6,12 @@ use Rattle.raven_data.specs.Rows.{Row}
 use Rattle.raven_data.specs.Kept.{all_kept, keep_all}
 use Rattle.spec_store.specs.Store.{Store, last, with_row, with_rows}
 use Rattle.spec_store.specs.Commit.{AreNext, Client, Command, Put, Delete, Refused, Server, Setting, Writer, Written, commit, commit_from, document_at, refusal_of, row_of, tombstone, unless, with_written}
-use Rattle.raven_model.specs.Mapping.{Definition}
-use Rattle.raven_model.specs.Optimiser.{Choice, Use, Make, Merge, pick, name_of}
-use Rattle.raven_model.specs.Replies as told
-use Rattle.raven_model.specs.World.{Slot, serving, SlotChange, SlotRefusal, define, define_named, remove}
-use Rattle.raven_model.specs.Machine.{Machine, Request, Put as PutOne, Delete as DeleteOne, Bulk, Get, Define, Remove, Auto, Find, Pump, Stale, Indexes, Stats, Event, Keeping, Change, after, change_of, is_taken, one_field, pump_at, pump_for, reslotted, rewrote, run, same_machine, settled, single_reply, use_or_make, write, wrote}
-use Rattle.raven_model.specs.Script.{Given, after_lines, events_of}
+use Rattle.index_tree.specs.Definitions.{Definition}
+use Rattle.spec_index.specs.Optimiser.{Choice, Use, Make, Merge, pick, name_of}
+use Rattle.spec_server.specs.Replies as told
+use Rattle.spec_index.specs.World.{Slot, serving, SlotChange, SlotRefusal, define, define_named, remove}
+use Rattle.spec_server.specs.Machine.{Machine, Request, Put as PutOne, Delete as DeleteOne, Bulk, Get, Define, Remove, Auto, Find, Pump, Stale, Indexes, Stats, Event, Keeping, Change, after, change_of, is_taken, one_field, pump_at, pump_for, reslotted, rewrote, run, same_machine, settled, single_reply, use_or_make, write, wrote}
+use Rattle.spec_server.specs.Script.{Given, after_lines, events_of}
 use Rattle.raven_laws.proofs.ScriptLemmas.{lines-run}
 use Rattle.raven_laws.specs.Keeping.{rows_given, held_after}
 use Rattle.spec_store.proofs.StoreLemmas.{same_row}

@@ -7,11 +7,11 @@ use Rattle.raven_data.specs.Rows.{Row, key}
 use Rattle.spec_store.specs.Store.{row_at, Store, last, IsStore}
 use Rattle.raven_data.specs.Tables.{Scope, in_scope}
 use Rattle.spec_store.specs.Stale.{past, taken, left_over, stale}
-use Rattle.raven_model.specs.Index.{etag_after, etag_of_batch}
-use Rattle.raven_model.specs.World.{Version, Slot, reads, advanced}
-use Rattle.raven_model.specs.Machine.{Event, or_as_before, brought_on, pumping, pump, is_stale, start, run}
+use Rattle.spec_index.specs.Index.{etag_after, etag_of_batch}
+use Rattle.spec_index.specs.World.{Version, Slot, reads, advanced}
+use Rattle.spec_server.specs.Machine.{Event, or_as_before, brought_on, pumping, pump, is_stale, start, run}
 use Rattle.spec_store.specs.Commit.{Setting}
-use Rattle.raven_model.specs.Sound.{Has}
+use Rattle.spec_server.specs.Sound.{Has}
 use Rattle.spec_store.proofs.StoreLemmas.{either_false, same_itself, found_etag}
 use Rattle.raven_laws.proofs.IndexLemmas.{Taken, Taken-batch}
 use Rattle.spec_store.proofs.StaleLemmas.{seen-fresh}

@@ -5,12 +5,12 @@ use Rattle.raven_data.specs.Folding.{folded, key_cmp, same_key}
 use Rattle.raven_data.specs.Rows.{Row}
 use Rattle.spec_store.specs.Store.{Store, IsStore}
 use Rattle.spec_store.specs.Later.{Later}
-use Rattle.raven_model.specs.Index.{Agrees, etag_of_batch}
+use Rattle.spec_index.specs.Index.{Agrees, etag_of_batch}
 use Rattle.spec_store.specs.Stale.{taken}
 use Rattle.raven_data.specs.Tables.{note_rows}
-use Rattle.raven_model.specs.Mapping.{Definition}
-use Rattle.raven_model.specs.World.{Version, Slot, reads, fresh, advanced, batch, serving}
-use Rattle.raven_model.specs.Sound.{Has, Fits, NumbersRise, NamesApart}
+use Rattle.index_tree.specs.Definitions.{Definition}
+use Rattle.spec_index.specs.World.{Version, Slot, reads, fresh, advanced, batch, serving}
+use Rattle.spec_server.specs.Sound.{Has, Fits, NumbersRise, NamesApart}
 use Rattle.spec_store.proofs.StoreLemmas.{found_etag, same_itself, same_means}
 use Rattle.raven_laws.proofs.IndexLemmas.{Taken, Agrees-later, Agrees-batch, Taken-batch}
 

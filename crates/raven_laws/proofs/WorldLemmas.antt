@@ -4,11 +4,10 @@ use Rattle.std.proofs.lemmas.Bool.{leb-false}
 use Rattle.raven_data.specs.Folding.{folded, same_key}
 use Rattle.spec_store.specs.Store.{Store, last, IsStore}
 use Rattle.spec_store.specs.Later.{Later}
-use Rattle.raven_model.specs.Mapping.{Definition}
+use Rattle.index_tree.specs.Definitions.{Definition, same_definition}
 use Rattle.spec_store.specs.Commit.{Command, Put, Delete, AnyVector, after_commands}
-use Rattle.raven_model.specs.World.{Slot, Note, World, fresh, serving, SlotChange, SlotRefusal, NameServes, TooManyIndexes, added, added_if_room, define, define_at, define_named, index_id, is_named, name_refusal, remove, removed, unless_refused}
-use Rattle.raven_model.specs.Definitions.{same_definition}
-use Rattle.raven_model.specs.Sound.{Has, Fits, NumbersRise, NamesApart, AreListed, Sound, IsOldOrNew, HasItsName, LaterW}
+use Rattle.spec_index.specs.World.{Slot, Note, World, fresh, serving, SlotChange, SlotRefusal, NameServes, TooManyIndexes, added, added_if_room, define, define_at, define_named, index_id, is_named, name_refusal, remove, removed, unless_refused}
+use Rattle.spec_server.specs.Sound.{Has, Fits, NumbersRise, NamesApart, AreListed, Sound, IsOldOrNew, HasItsName, LaterW}
 use Rattle.spec_store.proofs.LaterLemmas.{Later-itself, Later-then}
 use Rattle.raven_laws.proofs.ListedLemmas.{put-AreListed, delete-AreListed}
 use Rattle.raven_laws.proofs.LimitLemmas.{length_filtered}

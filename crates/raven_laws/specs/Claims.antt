@@ -3,12 +3,15 @@ use Rattle.std.specs.Prelude.{◌≡◌, ℕ, List, [], Bool, true, false, Optio
 use Rattle.raven_data.specs.Folding.{folded}
 use Rattle.raven_data.specs.Rows.{Row, is_document}
 use Rattle.spec_store.specs.Store.{row_at, Store}
-use Rattle.raven_model.specs.Index.{documents}
-use Rattle.raven_model.specs.Mapping.{Definition, Fields, Entry, mapper_of, scope_of, is_mapped}
-use Rattle.raven_model.specs.World.{Slot, reads, serving}
-use Rattle.raven_model.specs.Replies.{Reply, Found}
-use Rattle.raven_model.specs.Machine.{Machine, Find, step, untroubled, has_words, found_in, is_stale}
-use Rattle.raven_model.specs.Sound.{Has}
+use Rattle.spec_index.specs.Index.{documents}
+use Rattle.index_tree.specs.Definitions.{Definition}
+use Rattle.index_tree.specs.Meaning.{Fields, Entry}
+use Rattle.index_tree.specs.Mapper.{mapper_of, scope_of, is_mapped}
+use Rattle.spec_index.specs.World.{Slot, reads, serving}
+use Rattle.spec_server.specs.Replies.{Reply, Found}
+use Rattle.spec_server.specs.Machine.{Machine, Find, step, untroubled, is_stale}
+use Rattle.spec_index.specs.Find.{has_words, found_in}
+use Rattle.spec_server.specs.Sound.{Has}
 use Rattle.spec_store.specs.Stale.{Unseen}
 
 -- the id is spelled as the store keeps it

@@ -9,9 +9,10 @@ ghost use Rattle.raven_data.specs.Scalars.{order};
 ghost use Rattle.spec_store.specs.Store.{Store, IsStore, last, row_at};
 ghost use Rattle.spec_store.specs.Later.{Later};
 ghost use Rattle.raven_data.specs.Tables.{Scope, Table, note_rows};
-ghost use Rattle.raven_model.specs.Index.{Agrees, etag_of_batch, record_of, documents};
+ghost use Rattle.spec_index.specs.Index.{Agrees, etag_of_batch, record_of, documents};
 ghost use Rattle.spec_store.specs.Stale.{taken, stale, newest, up_to, Unseen};
-ghost use Rattle.raven_model.specs.Mapping.{Mapper, Results, AreResults, scope_of, remapped, touched};
+ghost use Rattle.index_tree.specs.Mapper.{Mapper, scope_of};
+ghost use Rattle.spec_index.specs.Mapping.{Results, AreResults, remapped, touched};
 
 /// What an index has recorded stays right in every later store, which is not read again.
 pub fn agreement_survives()

@@ -4,12 +4,12 @@ ghost use Rattle.std.specs.Prelude.{◌≡◌, ◌⊎◌, ◌++◌, ℕ, List, [
 ghost use Rattle.raven_data.specs.Kept.{KeptRow, all_kept};
 ghost use Rattle.raven_data.specs.Rows.{Row};
 ghost use Rattle.spec_store.specs.Commit.{Setting, is_index_id};
-ghost use Rattle.raven_model.specs.Opening.{OpenedFrom};
-ghost use Rattle.raven_model.specs.Machine.{Event, Machine, run};
-ghost use Rattle.raven_model.specs.Script.{Given, after_lines};
-ghost use Rattle.raven_model.specs.Sound.{Has, LaterW, Sound};
+ghost use Rattle.spec_server.specs.Opening.{OpenedFrom};
+ghost use Rattle.spec_server.specs.Machine.{Event, Machine, run};
+ghost use Rattle.spec_server.specs.Script.{Given, after_lines};
+ghost use Rattle.spec_server.specs.Sound.{Has, LaterW, Sound};
 ghost use Rattle.spec_store.specs.Store.{row_at};
-ghost use Rattle.raven_model.specs.World.{Slot, fresh};
+ghost use Rattle.spec_index.specs.World.{Slot, fresh};
 ghost use Rattle.raven_laws.specs.Claims.{FlagsAreExact, FreshIsExact, FreshIsFromScratch, IdsAreAsKept};
 ghost use Rattle.raven_laws.specs.Opened.{OpenedAsTold};
 ghost use Rattle.raven_laws.specs.Writes.{IsWritten};

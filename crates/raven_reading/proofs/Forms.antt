@@ -7,9 +7,9 @@ use Rattle.raven_data.specs.Rising.{Pairs}
 use Rattle.raven_value.specs.View.{data_of, pair_of}
 use Rattle.raven_value.specs.declared.text.Text.{Text}
 use Rattle.raven_value.specs.declared.value.Value.{Value}
-use Rattle.raven_model.specs.Language as is
-use Rattle.raven_model.specs.Mapping.{Definition}
-use Rattle.raven_model.specs.Opening.{BodyForm, NoForm, body_form, form_of}
+use Rattle.index_tree.specs.Language as is
+use Rattle.index_tree.specs.Definitions.{Definition}
+use Rattle.spec_server.specs.Opening.{BodyForm, NoForm, body_form, form_of}
 use Rattle.index_lang.specs.DefinitionView.{definition_view}
 use Rattle.index_lang.specs.Parse.{IsParsed}
 use Rattle.index_lang.specs.RefusalView.{refusal_view}

@@ -3,13 +3,13 @@ use Rattle.std.proofs.Common.{◌≡◌, ◌⊎◌, inl, inr, ◌+◌, ℕ, subs
 use Rattle.raven_data.specs.Kept.{KeptRow}
 use Rattle.raven_data.specs.Rows.{Row, Body, doc, gone}
 use Rattle.spec_store.specs.Commit.{Setting}
-use Rattle.raven_model.specs.Opening.{OpenedFrom, BodyForm, NoForm, AutoForm, StaticForm, ReadRow, and_then, body_form, is_defining, opened, opened_with, or_bad, rows_of, slots_after, slots_from}
+use Rattle.spec_server.specs.Opening.{OpenedFrom, BodyForm, NoForm, AutoForm, StaticForm, ReadRow, and_then, body_form, is_defining, opened, opened_with, or_bad, rows_of, slots_after, slots_from}
 use Rattle.spec_store.specs.Kept.{rows_in}
-use Rattle.raven_model.specs.Language as is
-use Rattle.raven_model.specs.Machine.{Machine}
-use Rattle.raven_model.specs.Mapping.{Definition}
-use Rattle.raven_model.specs.World.{Slot}
-use Rattle.raven_model.specs.Script.{Asked, Plain, Defining, LineRead, asked_of, defined_by}
+use Rattle.index_tree.specs.Language as is
+use Rattle.spec_server.specs.Machine.{Machine}
+use Rattle.index_tree.specs.Definitions.{Definition}
+use Rattle.spec_index.specs.World.{Slot}
+use Rattle.spec_server.specs.Script.{Asked, Plain, Defining, LineRead, asked_of, defined_by}
 use Rattle.index_lang.specs.DefinitionView.{definition_view}
 use Rattle.index_lang.specs.declared.definition.Definition as program
 use Rattle.index_lang.specs.declared.refusal.LangRefusal.TheVariants.{At}

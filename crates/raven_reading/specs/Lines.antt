@@ -1,8 +1,8 @@
 -- What a line of a script comes to.
 use Rattle.std.specs.Prelude.{◌≡◌, ℕ, List, [], ◌∷◌, Result}
-use Rattle.raven_model.specs.Language.{LangRefusal}
-use Rattle.raven_model.specs.Mapping.{Definition}
-use Rattle.raven_model.specs.Script.{Asked, Plain, Defining, Given, LineRead, asked_of, defined_by}
+use Rattle.index_tree.specs.Language.{LangRefusal}
+use Rattle.index_tree.specs.Definitions.{Definition}
+use Rattle.spec_server.specs.Script.{Asked, Plain, Defining, Given, LineRead, asked_of, defined_by}
 use Rattle.raven_reading.specs.Says.{Says}
 
 -- what is asked to be defined is what the text says

@@ -4,10 +4,10 @@ use Rattle.raven_data.specs.Kept.{KeptRow}
 use Rattle.raven_data.specs.Rows.{Row, Body, doc, gone}
 use Rattle.spec_store.specs.Commit.{Setting}
 use Rattle.spec_store.specs.Kept.{rows_in}
-use Rattle.raven_model.specs.Language.{LangRefusal}
-use Rattle.raven_model.specs.Machine.{Machine}
-use Rattle.raven_model.specs.Mapping.{Definition}
-use Rattle.raven_model.specs.Opening.{BodyForm, NoForm, AutoForm, StaticForm, ReadRow, body_form, is_defining, opened, rows_of}
+use Rattle.index_tree.specs.Language.{LangRefusal}
+use Rattle.spec_server.specs.Machine.{Machine}
+use Rattle.index_tree.specs.Definitions.{Definition}
+use Rattle.spec_server.specs.Opening.{BodyForm, NoForm, AutoForm, StaticForm, ReadRow, body_form, is_defining, opened, rows_of}
 use Rattle.raven_reading.specs.Says.{Says}
 
 abbrev pub without_refusal : Result Definition LangRefusal → Option Definition

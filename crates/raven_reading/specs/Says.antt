@@ -1,7 +1,7 @@
 -- What the text of a map says.
 use Rattle.std.specs.Prelude.{◌≡◌, ℕ, List, None, Result, Ok, Err}
-use Rattle.raven_model.specs.Language as is
-use Rattle.raven_model.specs.Mapping.{Definition}
+use Rattle.index_tree.specs.Language as is
+use Rattle.index_tree.specs.Definitions.{Definition}
 use Rattle.index_lang.specs.DefinitionView.{definition_view}
 use Rattle.index_lang.specs.RefusalView.{refusal_view}
 use Rattle.index_lang.specs.Parse.{IsParsed}

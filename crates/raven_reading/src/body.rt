@@ -4,7 +4,7 @@ ghost use Rattle.std.specs.List.{list_any};
 ghost use Rattle.raven_data.specs.Data.{entries_of};
 ghost use Rattle.raven_data.specs.Members.{member as spec_member};
 ghost use Rattle.raven_value.specs.View.{data_of};
-ghost use Rattle.raven_model.specs.Opening.{auto_read, body_form, is_part as spec_is_part, map_read};
+ghost use Rattle.spec_server.specs.Opening.{auto_read, body_form, is_part as spec_is_part, map_read};
 ghost use Rattle.raven_reading.specs.Openings.{IsOfForm, IsSaid};
 ghost use Rattle.index_lang.specs.DefinitionView.{definition_view};
 ghost use Rattle.raven_reading.specs.Bodies.{form_in, is_bare as spec_is_bare, only_item as spec_only_item, text_in as spec_text_in};

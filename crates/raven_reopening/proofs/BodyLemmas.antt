@@ -14,9 +14,9 @@ use Rattle.raven_data.specs.Written.{text_of}
 use Rattle.spec_store.specs.Commit.{clean_metadata, is_own, stored}
 use Rattle.spec_store.specs.Kept.{is_clean, max_body}
 use Rattle.index_tree.specs.declared.map_query.MapQuery.{MapQuery}
-use Rattle.raven_model.specs.Mapping.{Auto, Static}
-use Rattle.raven_model.specs.Opening.{AutoForm, StaticForm, body_form, form_of, is_part}
-use Rattle.raven_model.specs.World.{row_body}
+use Rattle.index_tree.specs.Definitions.{Auto, Static}
+use Rattle.spec_server.specs.Opening.{AutoForm, StaticForm, body_form, form_of, is_part}
+use Rattle.spec_index.specs.World.{row_body}
 use Rattle.spec_store.proofs.KeyedLemmas.{differ_greater}
 use Rattle.raven_laws.proofs.MemberLemmas.{IsRising-put, pairs-entries}
 use Rattle.raven_reopening.specs.Form.{IsBody, IsDocument}

@@ -4,10 +4,10 @@ use Rattle.raven_data.specs.Kept.{KeptRow}
 use Rattle.raven_data.specs.Rows.{Body, doc, gone}
 use Rattle.spec_store.specs.Commit.{Setting}
 use Rattle.spec_store.specs.Kept.{rows_in}
-use Rattle.raven_model.specs.Language as is
-use Rattle.raven_model.specs.Machine.{Machine}
-use Rattle.raven_model.specs.Mapping.{Definition, Static}
-use Rattle.raven_model.specs.Opening.{BodyForm, NoForm, AutoForm, StaticForm, ReadRow, body_form, is_defining}
+use Rattle.index_tree.specs.Language as is
+use Rattle.spec_server.specs.Machine.{Machine}
+use Rattle.index_tree.specs.Definitions.{Definition, Static}
+use Rattle.spec_server.specs.Opening.{BodyForm, NoForm, AutoForm, StaticForm, ReadRow, body_form, is_defining}
 use Rattle.index_tree.specs.declared.map_query.MapQuery.{MapQuery}
 use Rattle.index_grammar.specs.View.{query_of}
 use Rattle.index_lang.specs.DefinitionView.{definition_view}

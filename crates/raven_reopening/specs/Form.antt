@@ -9,10 +9,10 @@ use Rattle.raven_data.specs.Sound.{IsSound}
 use Rattle.raven_data.specs.Written.{text_of}
 use Rattle.spec_store.specs.Commit.{Command, Put, Delete}
 use Rattle.spec_store.specs.Kept.{is_etag, is_stored, max_body}
-use Rattle.raven_model.specs.Machine.{Event, Request, Define, Auto, commands_in}
-use Rattle.raven_model.specs.Mapping.{Definition, Static}
-use Rattle.raven_model.specs.Opening.{is_part}
-use Rattle.raven_model.specs.Script.{Given}
+use Rattle.spec_server.specs.Machine.{Event, Request, Define, Auto, commands_in}
+use Rattle.index_tree.specs.Definitions.{Definition, Static}
+use Rattle.spec_server.specs.Opening.{is_part}
+use Rattle.spec_server.specs.Script.{Given}
 use Rattle.raven_reading.specs.Says.{Says}
 
 -- ROWS

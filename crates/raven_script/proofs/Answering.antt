@@ -8,9 +8,9 @@ use Rattle.index_lang.specs.declared.definition.Definition as program
 use Rattle.index_lang.specs.declared.refusal.Part.{Part}
 use Rattle.index_lang.specs.declared.refusal.LangKind.{LangKind}
 use Rattle.index_lang.specs.declared.refusal.LangRefusal.TheVariants.{At}
-use Rattle.raven_model.specs.Machine.{Define}
-use Rattle.raven_model.specs.Script.{Asked, Defining, Do, LineRead, Plain, asked_of, asked_to_define, defined_by}
-use Rattle.raven_model.specs.Script as read
+use Rattle.spec_server.specs.Machine.{Define}
+use Rattle.spec_server.specs.Script.{Asked, Defining, Do, LineRead, Plain, asked_of, asked_to_define, defined_by}
+use Rattle.spec_server.specs.Script as read
 use Rattle.raven_reading.specs.Lines.{Comes}
 use Rattle.raven_script.specs.LineView.{Answers, IsReading}
 use Rattle.raven_value.specs.Refusal.{fault_in}

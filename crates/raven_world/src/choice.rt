@@ -4,9 +4,9 @@ ghost use Rattle.std.specs.Cmp.Lexicographic.{pointwise};
 ghost use Rattle.std.specs.List.{list_any};
 ghost use Rattle.std.specs.Str.{bytes_eq};
 ghost use Rattle.spec_store.specs.Stale.{stale};
-ghost use Rattle.raven_model.specs.Machine.{one_field};
-ghost use Rattle.raven_model.specs.Optimiser.{beats, best, better, covers, has_path, is_of, pick as spec_pick, slot_shape, width};
-ghost use Rattle.raven_model.specs.World.{reads};
+ghost use Rattle.spec_server.specs.Machine.{one_field};
+ghost use Rattle.spec_index.specs.Optimiser.{beats, best, better, covers, has_path, is_of, pick as spec_pick, slot_shape, width};
+ghost use Rattle.spec_index.specs.World.{reads};
 ghost use Rattle.raven_world.specs.ChoiceView.{choice_view};
 
 use crate::slot::Slot;

@@ -1,10 +1,10 @@
 //! Indexes that are defined and removed, and the rows of their definitions.
 ghost use Rattle.std.specs.Prelude.{◌≡◌, ◌+◌, ◌++◌, ◌∷◌, [], IfOk, IfSome, Ok, length, map, nat_le};
 ghost use Rattle.spec_store.specs.Commit.{AnyVector, Delete, Put, Server, commit as spec_commit};
-ghost use Rattle.raven_model.specs.Machine.{Define, Remove, change_of, reslotted, rewrote};
-ghost use Rattle.raven_model.specs.Replies.{Index as IndexOf, Removed as RemovedOf};
+ghost use Rattle.spec_server.specs.Machine.{Define, Remove, change_of, reslotted, rewrote};
+ghost use Rattle.spec_server.specs.Replies.{Index as IndexOf, Removed as RemovedOf};
 ghost use Rattle.spec_store.specs.Store.{last};
-ghost use Rattle.raven_model.specs.World.{added, added_if_room, fresh, index_id as spec_index_id, row_body as spec_row_body};
+ghost use Rattle.spec_index.specs.World.{added, added_if_room, fresh, index_id as spec_index_id, row_body as spec_row_body};
 ghost use Rattle.doc_txn.specs.CommandView.{command_view};
 ghost use Rattle.index_lang.specs.DefinitionView.{definition_view};
 ghost use Rattle.raven_reply.specs.ReplyView.{reply_view};

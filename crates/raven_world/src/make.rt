@@ -1,7 +1,7 @@
 //! Automatic indexes: the one that serves a query, or a new one.
 ghost use Rattle.std.specs.Prelude.{◌≡◌, ◌+◌, IfOk, IfSome, false, length, nat_le};
-ghost use Rattle.raven_model.specs.Machine.{Auto as AutoOne, change_of, one_field};
-ghost use Rattle.raven_model.specs.Optimiser.{Make, name_of, pick as spec_pick};
+ghost use Rattle.spec_server.specs.Machine.{Auto as AutoOne, change_of, one_field};
+ghost use Rattle.spec_index.specs.Optimiser.{Make, name_of, pick as spec_pick};
 ghost use Rattle.spec_store.specs.Store.{last};
 ghost use Rattle.raven_world.specs.Told.{AnswersQuery, machine_of, told};
 

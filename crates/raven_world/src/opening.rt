@@ -3,7 +3,7 @@ ghost use Rattle.std.specs.Prelude.{◌≡◌, ◌<◌, ◌^◌, ℕ, List, [], 
 ghost use Rattle.doc_store.specs.Opening.{first_bad};
 ghost use Rattle.doc_txn.specs.SettingView.{setting_of};
 ghost use Rattle.spec_store.specs.Commit.{is_index_id as spec_is_index_id};
-ghost use Rattle.raven_model.specs.Opening.{is_defining as spec_is_defining, is_filed as spec_is_filed, is_too_many as spec_is_too_many, with_slot};
+ghost use Rattle.spec_server.specs.Opening.{is_defining as spec_is_defining, is_filed as spec_is_filed, is_too_many as spec_is_too_many, with_slot};
 ghost use Rattle.index_lang.specs.DefinitionView.{definition_view};
 ghost use Rattle.raven_reading.specs.Openings.{IsReadRow, OpensAs};
 ghost use Rattle.raven_world.specs.Opened.{TakesRow, TellsBadRow, read_as};

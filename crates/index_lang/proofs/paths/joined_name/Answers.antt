@@ -1,5 +1,5 @@
 use Rattle.std.proofs.Common.{◌-◌, ◌++◌, ◌∙◌, List, ℕ, ap, length, take, drop}
-use Rattle.raven_model.specs.Mapping.{joined}
+use Rattle.index_tree.specs.Mapper.{joined}
 use Rattle.index_lang.proofs.Joins.{joined-parts, dotted}
 use Rattle.index_lang.proofs.paths.joined_name.Goals as goal
 

@@ -1,5 +1,5 @@
 use Rattle.std.proofs.Common.{◌≡◌, ◌++◌, drop, string_bytes}
-use Rattle.raven_model.specs.Mapping.{joined}
+use Rattle.index_tree.specs.Mapper.{joined}
 use Rattle.index_lang.proofs.Joins.{dotted}
 use Rattle.index_lang.proofs.paths.joined_name.Given as goal
 

@@ -1,5 +1,5 @@
 use Rattle.std.proofs.Common.{◌≡◌, take, map}
-use Rattle.raven_model.specs.Mapping.{joined}
+use Rattle.index_tree.specs.Mapper.{joined}
 use Rattle.index_lang.proofs.paths.joined_names.Given as goal
 
 abbrev pub invariant-loop-path : goal.invariant-loop-path

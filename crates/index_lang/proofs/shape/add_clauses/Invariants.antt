@@ -1,5 +1,5 @@
 use Rattle.std.proofs.Common.{◌≡◌, ◌++◌, drop, flat_map}
-use Rattle.map_meaning.specs.Scope as meaning
+use Rattle.index_tree.specs.Scope as meaning
 use Rattle.index_lang.proofs.shape.add_clauses.Given as goal
 
 abbrev pub invariant-loop-clause : goal.invariant-loop-clause

@@ -1,6 +1,6 @@
 use Rattle.std.proofs.Common.{◌∙◌, ap, sym, drop}
 use Rattle.raven_data.specs.Rows.{Row}
-use Rattle.raven_model.specs.World.{Slot, fresh}
+use Rattle.spec_index.specs.World.{Slot, fresh}
 use Rattle.index_lang.specs.DefinitionView.{definition_view}
 use Rattle.index_lang.specs.declared.definition.Definition.{Definition}
 use Rattle.raven_world.proofs.Openings.{slot-some}

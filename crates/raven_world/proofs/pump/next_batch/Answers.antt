@@ -1,5 +1,5 @@
 use Rattle.std.proofs.Common.{◌∙◌, ap, subst, sym}
-use Rattle.raven_model.specs.World.{Version}
+use Rattle.spec_index.specs.World.{Version}
 use Rattle.index_lang.specs.DefinitionView.{definition_view}
 use Rattle.index_lang.specs.declared.definition.Definition.{Definition}
 use Rattle.index_version.specs.Meaning.{Means, found_meaning}

@@ -1,4 +1,4 @@
--- Codes of maps and reduces, and whether two definitions are the same, told by these codes.
+-- Definitions of indexes, their codes, and whether two say the same, told by these codes.
 use Rattle.std.specs.Prelude.{◌≡◌, ℕ, zero, suc, List, Bool, true, false, ◌&&◌, ◌==◌, Option, Some, None, ◌⊎◌, refl}
 use Rattle.std.specs.Coded.{Coded, coded_ℕ, coded_list, coded×, coded⊎, coded_option, code_by}
 use Rattle.std.proofs.Common.{inl, inr}
@@ -17,7 +17,12 @@ use Rattle.index_tree.specs.declared.reduce_query.FoldValue.{FoldValue}
 use Rattle.index_tree.specs.declared.reduce_query.FoldValue.TheVariants as fold
 use Rattle.index_tree.specs.declared.reduce_query.FoldMember.{FoldMember}
 use Rattle.index_tree.specs.declared.reduce_query.ReduceQuery.{ReduceQuery}
-use Rattle.raven_model.specs.Mapping.{Definition, Static, Auto}
+
+pub data Definition : Type 0 where
+  -- what the texts of a map and of a reduce say, and these texts. The groups of a reduce are not made yet.
+  Static : (map : MapQuery) (reduce : Option ReduceQuery) (map_text : List ℕ) (reduce_text : Option (List ℕ)) → Definition
+  -- the fields of an automatic index, in the order of the bytes of their joined paths
+  Auto : (collection : List ℕ) (fields : List Path) → Definition
 
 -- MAPS
 

@@ -13,10 +13,10 @@ use Rattle.index_tree.specs.declared.map_query.Clause.TheVariants as clause
 use Rattle.index_tree.specs.declared.map_query.MapMember.{MapMember}
 use Rattle.index_tree.specs.declared.map_query.MapQuery.{MapQuery}
 use Rattle.index_tree.specs.Trees.{Tree, If, Binary, Unary, Dot, Load, Num, Quoted, Flag, Null, Var}
-use Rattle.map_meaning.specs.Asking.{Lookup, Asking, AgreeAt, from, gives, after, goes_on, ◌>>=◌}
-use Rattle.map_meaning.specs.Operators.{is_true, part_of, binary, unary}
-use Rattle.map_meaning.specs.Evaluate.{Bindings, document_of, document_in, loaded, chosen, as_flag, combined, evaluate}
-use Rattle.map_meaning.specs.Meaning.{Fields, where_some, bound_by, bound_after, fields_with, fields_under, entry_of, mapped, meaning}
+use Rattle.index_tree.specs.Asking.{Lookup, Asking, AgreeAt, from, gives, after, goes_on, ◌>>=◌}
+use Rattle.index_tree.specs.Operators.{is_true, part_of, binary, unary}
+use Rattle.index_tree.specs.Evaluate.{Bindings, document_of, document_in, loaded, chosen, as_flag, combined, evaluate}
+use Rattle.index_tree.specs.Meaning.{Fields, where_some, bound_by, bound_after, fields_with, fields_under, entry_of, mapped, meaning}
 
 -- where lookups agree on all that was asked for, the same comes of it
 abbrev pub IsLocal : {A : Type 0} → (Lookup → Asking A) → Type 0

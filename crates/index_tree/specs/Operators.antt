@@ -11,8 +11,8 @@ use Rattle.index_tree.specs.declared.expression.BinaryOp.{BinaryOp}
 use Rattle.index_tree.specs.declared.expression.BinaryOp.TheVariants as op
 use Rattle.index_tree.specs.declared.expression.UnaryOp.{UnaryOp}
 use Rattle.index_tree.specs.declared.expression.UnaryOp.TheVariants as sign
-use Rattle.map_meaning.specs.Dates.{date_part}
-use Rattle.map_meaning.specs.Numbers.{sum, difference, product, quotient, remainder, negative}
+use Rattle.index_tree.specs.Dates.{date_part}
+use Rattle.index_tree.specs.Numbers.{sum, difference, product, quotient, remainder, negative}
 
 abbrev pub or_null : Option Data → Data
 or_null None = null

@@ -8,12 +8,12 @@ use Rattle.raven_data.specs.Faults.{Fault, empty, too_long, control, fault_of, m
 use Rattle.raven_data.specs.Json.{JsonRefusal, not_json, number_not_whole, too_deep, reading}
 use Rattle.raven_data.specs.Members.{member}
 use Rattle.spec_store.specs.Commit.{Command, Expect, AnyVector, Vector}
-use Rattle.raven_model.specs.Language.{LangRefusal}
-use Rattle.raven_model.specs.Mapping.{Definition}
-use Rattle.raven_model.specs.Replies.{Reply, printed}
-use Rattle.raven_model.specs.Replies as told
-use Rattle.raven_model.specs.Machine.{Machine, Request, Put, Delete, Bulk, Get, Define, Remove, Auto, Find, Pump, Stale, Indexes, Stats, Keeping, Event, step}
-use Rattle.raven_model.specs.Lines.{begins_with}
+use Rattle.index_tree.specs.Language.{LangRefusal}
+use Rattle.index_tree.specs.Definitions.{Definition}
+use Rattle.spec_server.specs.Replies.{Reply, printed}
+use Rattle.spec_server.specs.Replies as told
+use Rattle.spec_server.specs.Machine.{Machine, Request, Put, Delete, Bulk, Get, Define, Remove, Auto, Find, Pump, Stale, Indexes, Stats, Keeping, Event, step}
+use Rattle.spec_server.specs.Lines.{begins_with}
 
 -- what one line asks
 pub data Line : Type 0 where

@@ -4,7 +4,7 @@ use Rattle.std.specs.Option.{option_map}
 use Rattle.std.specs.List.{list_all, list_any}
 use Rattle.std.specs.Str.{bytes_eq}
 use Rattle.spec_store.specs.Commit.{Setting}
-use Rattle.raven_model.specs.Lines.{begins_with}
+use Rattle.spec_server.specs.Lines.{begins_with}
 use Rattle.spec_store.specs.Limits.{base_id, program, is_base_id}
 
 -- PAIRS

@@ -8,8 +8,9 @@ use Rattle.raven_data.specs.Faults.{is_fit}
 use Rattle.raven_data.specs.Members.{Path}
 use Rattle.spec_store.specs.Store.{Store}
 use Rattle.spec_store.specs.Stale.{stale}
-use Rattle.raven_model.specs.Mapping.{Definition, Static, Auto, joined}
-use Rattle.raven_model.specs.World.{Slot, reads, serving}
+use Rattle.index_tree.specs.Definitions.{Definition, Static, Auto}
+use Rattle.index_tree.specs.Mapper.{joined}
+use Rattle.spec_index.specs.World.{Slot, reads, serving}
 
 -- what a query asks of an index
 pub record Shape : Type 0 where

@@ -4,8 +4,8 @@ use Rattle.raven_data.specs.Folding.{folded}
 use Rattle.raven_data.specs.Rows.{Row, doc, is_document}
 use Rattle.spec_store.specs.Store.{row_at, Store, last, IsStore}
 use Rattle.spec_store.specs.Later.{Later}
-use Rattle.raven_model.specs.Index.{Agrees}
-use Rattle.raven_model.specs.World.{Version, Slot, Note, World, reads, index_id, row_body}
+use Rattle.spec_index.specs.Index.{Agrees}
+use Rattle.spec_index.specs.World.{Version, Slot, Note, World, reads, index_id, row_body}
 use Rattle.spec_store.specs.Commit.{stored}
 
 -- the list has the element

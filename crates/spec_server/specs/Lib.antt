@@ -1,9 +1,3 @@
-pub mod Index
-pub mod Mapping
-pub mod Definitions
-pub mod World
-pub mod Optimiser
-pub mod Language
 pub mod Replies
 pub mod Machine
 pub mod Sound

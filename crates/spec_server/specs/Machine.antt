@@ -1,5 +1,5 @@
 -- The plain machine: one request after another.
-use Rattle.std.specs.Prelude.{ℕ, ◌+◌, List, [], ◌∷◌, Bool, true, false, not, ◌&&◌, if◌then◌else◌, Option, Some, None, is_some, Result, Ok, Err, length, codes, filter, map}
+use Rattle.std.specs.Prelude.{ℕ, ◌+◌, List, [], ◌∷◌, Bool, true, not, ◌&&◌, if◌then◌else◌, Option, Some, None, is_some, Result, Ok, Err, length, codes, filter, map}
 use Rattle.std.specs.Str.{bytes_eq}
 use Rattle.raven_data.specs.Data.{Data, text, object, entries_of, pairs_of}
 use Rattle.raven_data.specs.Folding.{folded}
@@ -7,16 +7,18 @@ use Rattle.raven_data.specs.Members.{member}
 use Rattle.raven_data.specs.Moments.{moment_text}
 use Rattle.raven_data.specs.Rising.{Pairs, put}
 use Rattle.raven_data.specs.Rows.{Row, doc, gone, is_document}
-use Rattle.raven_data.specs.Scalars.{Scalar, words, Is, holds}
+use Rattle.raven_data.specs.Scalars.{words}
 use Rattle.spec_store.specs.Store.{Store, row_at, last, empty_store}
-use Rattle.raven_data.specs.Tables.{Table}
 use Rattle.spec_store.specs.Stale.{stale, newest}
-use Rattle.raven_model.specs.Mapping.{Definition, Mapper, Fields, failures, mapper_of, scratch}
+use Rattle.index_tree.specs.Definitions.{Definition}
+use Rattle.spec_index.specs.Mapping.{failures, scratch}
+use Rattle.index_tree.specs.Mapper.{mapper_of}
 use Rattle.spec_store.specs.Commit.{Command, Expect, Client, Server, Setting, Refusal, Written, Refused, commit, vector_of, kept_spelling, etags_taken}
-use Rattle.raven_model.specs.Optimiser.{Shape, Choice, Use, Make, Merge, pick, name_of}
-use Rattle.raven_model.specs.Replies.{Reply, Index, Removed, Pumped, Pumping, Listing, Found, NoIndex, UnknownLine}
-use Rattle.raven_model.specs.Replies as told
-use Rattle.raven_model.specs.World.{Version, Slot, World, reads, batch, serving, SlotChange, SlotRefusal, define, define_named, remove, is_named, definition_data}
+use Rattle.spec_index.specs.Optimiser.{Shape, Choice, Use, Make, Merge, pick, name_of}
+use Rattle.spec_server.specs.Replies.{Reply, Index, Removed, Pumped, Pumping, Listing, Found, NoIndex, UnknownLine}
+use Rattle.spec_server.specs.Replies as told
+use Rattle.spec_index.specs.World.{Version, Slot, World, reads, batch, serving, SlotChange, SlotRefusal, define, define_named, remove, is_named, definition_data}
+use Rattle.spec_index.specs.Find.{found, found_in}
 
 pub record Machine : Type 0 where
   pub world : World
@@ -210,27 +212,6 @@ pump_for M max None = pump M max
 pump_for M max (Some name) = pump_at M max name (serving M.world.slots name)
 
 -- ANSWERS, which change nothing
-
-abbrev pub field_named : List ℕ → Fields → Option Scalar
-field_named name [] = None
-field_named name (f ∷ fields) = if bytes_eq name f.0 then Some f.1 else field_named name fields
-
--- a field that an entry lacks meets no test
-abbrev pub is_words : List ℕ → Option Scalar → Bool
-is_words ws None = false
-is_words ws (Some v) = holds (Is (words ws)) false v
-
--- the field of that name is that text, without regard to case
-abbrev pub has_words : List ℕ → List ℕ → Fields → Bool
-has_words name ws fields = is_words ws (field_named name fields)
-
--- the ids of the entries that a query finds, by id
-abbrev pub found : List (List ℕ × Fields) → List ℕ → List ℕ → List (List ℕ)
-found entries name ws = map (λ e. e.0) (filter (λ e. has_words name ws e.1) entries)
-
--- what is found over the documents of a table
-abbrev pub found_in : Mapper → Table → List ℕ → List ℕ → List (List ℕ)
-found_in m T name ws = found (scratch m T) name ws
 
 abbrev pub is_stale : Store → Slot → Bool
 is_stale S s = stale S (reads s.version) s.version.etag None

@@ -1,17 +1,12 @@
--- Codes of what the types of the crates above are seen as.
-use Rattle.std.specs.Prelude.{ℕ, List, Bool, refl}
-use Rattle.std.specs.Coded.{Coded, coded_ℕ, coded_bool, coded_list, coded×, code_by}
+-- Codes of indexes, by which they can be the value of a Rust type.
+use Rattle.std.specs.Prelude.{ℕ, List, refl}
+use Rattle.std.specs.Coded.{Coded, coded_ℕ, coded_list, coded×, code_by}
 use Rattle.raven_data.specs.Codes.{text_code, table_code}
-use Rattle.raven_data.specs.DataCode.{data_code}
 use Rattle.spec_store.specs.Store.{Store}
-use Rattle.raven_data.specs.Data.{Data}
 use Rattle.raven_data.specs.Tables.{Table}
-use Rattle.raven_model.specs.Mapping.{Definition}
-use Rattle.raven_model.specs.Definitions.{definition_code}
+use Rattle.index_tree.specs.Definitions.{Definition, definition_code}
 use Rattle.spec_store.specs.Commit.{Setting}
-use Rattle.raven_model.specs.World.{Version, Slot, Note, World}
-use Rattle.raven_model.specs.Replies.{Pumping, Listing}
-use Rattle.raven_model.specs.Machine.{Machine}
+use Rattle.spec_index.specs.World.{Version, Slot, Note, World}
 use Rattle.spec_store.specs.Codes.{store_code, setting_code}
 
 abbrev pub version_code : Coded Version
@@ -30,15 +25,3 @@ note_code = code_by (ℕ × (List ℕ × (ℕ × (ℕ × (ℕ × ℕ))))) (coded
 abbrev pub world_code : Coded World
 world_code = code_by (Setting × (Store × (List Slot × List Note))) (coded× setting_code (coded× store_code (coded× (coded_list slot_code) (coded_list note_code))))
     (λ w. (w.setting, (w.store, (w.slots, w.notes)))) (λ p. record { setting = p.0; store = p.1.0; slots = p.1.1.0; notes = p.1.1.1 }) (λ _. refl)
-
-abbrev pub machine_code : Coded Machine
-machine_code = code_by World world_code (λ m. m.world) (λ w. record { world = w }) (λ _. refl)
-
-abbrev pub pumping_code : Coded Pumping
-pumping_code = code_by (ℕ × (List ℕ × ℕ)) (coded× coded_ℕ (coded× text_code coded_ℕ))
-    (λ p. (p.from, (p.index, p.to))) (λ q. record { from = q.0; index = q.1.0; to = q.1.1 }) (λ _. refl)
-
-abbrev pub listing_code : Coded Listing
-listing_code = code_by (Data × (ℕ × (ℕ × (ℕ × (Bool × List ℕ))))) (coded× data_code (coded× coded_ℕ (coded× coded_ℕ (coded× coded_ℕ (coded× coded_bool text_code)))))
-    (λ l. (l.definition, (l.entries, (l.errors, (l.etag, (l.is_stale, l.name))))))
-    (λ p. record { definition = p.0; entries = p.1.0; errors = p.1.1.0; etag = p.1.1.1.0; is_stale = p.1.1.1.1.0; name = p.1.1.1.1.1 }) (λ _. refl)

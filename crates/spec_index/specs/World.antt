@@ -9,9 +9,9 @@ use Rattle.raven_data.specs.Rows.{Row}
 use Rattle.spec_store.specs.Store.{Store, last}
 use Rattle.raven_data.specs.Tables.{Table, Scope, note_rows}
 use Rattle.spec_store.specs.Stale.{taken}
-use Rattle.raven_model.specs.Index.{etag_of_batch}
-use Rattle.raven_model.specs.Mapping.{Definition, Static, Auto, mapper_of, scope_of}
-use Rattle.raven_model.specs.Definitions.{same_definition}
+use Rattle.spec_index.specs.Index.{etag_of_batch}
+use Rattle.index_tree.specs.Definitions.{Definition, Static, Auto, same_definition}
+use Rattle.index_tree.specs.Mapper.{mapper_of, scope_of}
 use Rattle.spec_store.specs.Commit.{Command, Put, Delete, AnyVector, Setting}
 
 -- an index as far as it has come: it has recorded this table up to this etag

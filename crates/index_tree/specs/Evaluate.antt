@@ -8,8 +8,8 @@ use Rattle.raven_data.specs.Rows.{Row, Body, doc, gone}
 use Rattle.index_tree.specs.declared.expression.BinaryOp.{BinaryOp}
 use Rattle.index_tree.specs.declared.expression.BinaryOp.TheVariants as op
 use Rattle.index_tree.specs.Trees.{Tree, If, Binary, Unary, Dot, Load, Num, Quoted, Flag, Null, Var}
-use Rattle.map_meaning.specs.Asking.{Lookup, Asking, from, gives, ◌>>=◌}
-use Rattle.map_meaning.specs.Operators.{is_true, part_of, binary, unary}
+use Rattle.index_tree.specs.Asking.{Lookup, Asking, from, gives, ◌>>=◌}
+use Rattle.index_tree.specs.Operators.{is_true, part_of, binary, unary}
 
 -- names with their values, the latest first
 abbrev pub Bindings : Type 0

@@ -7,9 +7,9 @@ use Rattle.index_tree.specs.declared.map_query.Clause.{Clause}
 use Rattle.index_tree.specs.declared.map_query.Clause.TheVariants as clause
 use Rattle.index_tree.specs.declared.map_query.MapMember.{MapMember}
 use Rattle.index_tree.specs.declared.map_query.MapQuery.{MapQuery}
-use Rattle.map_meaning.specs.Asking.{Lookup, Asking, gives, ◌>>=◌}
-use Rattle.map_meaning.specs.Operators.{is_true}
-use Rattle.map_meaning.specs.Evaluate.{Bindings, document_of, evaluate}
+use Rattle.index_tree.specs.Asking.{Lookup, Asking, gives, ◌>>=◌}
+use Rattle.index_tree.specs.Operators.{is_true}
+use Rattle.index_tree.specs.Evaluate.{Bindings, document_of, evaluate}
 
 -- names of fields and what stands there
 abbrev pub Fields : Type 0

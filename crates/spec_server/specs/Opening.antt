@@ -8,9 +8,9 @@ use Rattle.raven_data.specs.Folding.{folded}
 use Rattle.raven_data.specs.Members.{member}
 use Rattle.raven_data.specs.Rows.{Row, is_document}
 use Rattle.spec_store.specs.Commit.{Setting, is_index_id}
-use Rattle.raven_model.specs.Mapping.{Definition, Static, Auto}
-use Rattle.raven_model.specs.World.{Slot, fresh, is_reserved_name, max_index_name}
-use Rattle.raven_model.specs.Machine.{Machine}
+use Rattle.index_tree.specs.Definitions.{Definition, Static, Auto}
+use Rattle.spec_index.specs.World.{Slot, fresh, is_reserved_name, max_index_name}
+use Rattle.spec_server.specs.Machine.{Machine}
 use Rattle.raven_data.specs.Kept.{KeptRow}
 use Rattle.spec_store.specs.Kept.{rows_in}
 
