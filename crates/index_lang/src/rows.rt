@@ -5,10 +5,10 @@ ghost use Rattle.raven_data.specs.Rising.{put};
 ghost use Rattle.raven_value.specs.View.{data_of};
 ghost use Rattle.spec_index.specs.Mapping as is;
 ghost use Rattle.spec_index.specs.World as world;
-ghost use Rattle.index_lang.specs.DefinitionView.{definition_view};
+ghost use Rattle.index_definition.specs.DefinitionView.{definition_view};
 ghost use Rattle.index_lang.specs.Rows.{put_members};
 
-use crate::definition::{DefBody, Definition};
+use index_definition::{DefBody, Definition};
 use raven_base::NoMemory;
 use raven_value::{Members, Path, Text, Value, Values};
 use std::alloc::Global;

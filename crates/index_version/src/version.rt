@@ -5,7 +5,7 @@ ghost use Rattle.spec_index.specs.Find.{found_in};
 ghost use Rattle.spec_index.specs.Mapping.{failures, scratch, touched};
 ghost use Rattle.index_tree.specs.Mapper.{mapper_of};
 ghost use Rattle.spec_index.specs.World.{fresh, reads};
-ghost use Rattle.index_lang.specs.DefinitionView.{definition_view};
+ghost use Rattle.index_definition.specs.DefinitionView.{definition_view};
 ghost use Rattle.index_version.specs.Meaning.{Means};
 ghost use Rattle.index_version.specs.Renewed.{MapsAtMost, documents_among};
 
@@ -14,7 +14,7 @@ use crate::renewal::renewed;
 use crate::sharing::share;
 use crate::table::Table;
 use crate::touched::touched_ids;
-use index_lang::{Definition, scope};
+use index_definition::{Definition, scope};
 use map_stage::Mapper;
 use raven_base::{NoMemory, Steps};
 use raven_value::{Ids, Row, Scope};
@@ -44,7 +44,7 @@ impl Model for IndexVersion {
 
     ghost coded = { version_code };
 
-    ghost use Rattle.index_lang.specs.DefinitionView.{definition_view};
+    ghost use Rattle.index_definition.specs.DefinitionView.{definition_view};
 
     ghost view = { λ a. record { definition = definition_view a.definition.value.body; etag = a.etag; table = a.table } };
 

@@ -6,7 +6,7 @@ use Rattle.raven_data.specs.Rows.{Row}
 use Rattle.spec_server.specs.Machine.{Machine, Request, change_of, step}
 use Rattle.spec_server.specs.Replies.{Reply, printed}
 use Rattle.spec_server.specs.Script.{BadId, BadName, Circumstance, Do, LineRead, ReadRefusal, asked_of, after_line, fault_reply, left_by, refusal_reply, reply_to, written_for}
-use Rattle.raven_reading.specs.Lines.{IsLine}
+use Rattle.index_lang.specs.Lines.{IsLine}
 use Rattle.raven_script.specs.LineView.{Answers, IsReading}
 use Rattle.raven_script.specs.RequestView.{IsBadId, IsBadName, line_view}
 use Rattle.raven_script.specs.declared.request.Line.{Line}

@@ -10,7 +10,7 @@ use Rattle.raven_data.specs.Rows.{Row, Body, key}
 use Rattle.spec_store.specs.Commit.{Setting}
 use Rattle.spec_store.specs.Kept.{body_in, is_etag, max_etag, may_stand_behind, row_behind, row_in, rows_behind, rows_in, or_bad_row}
 use Rattle.spec_server.specs.Machine.{Machine}
-use Rattle.raven_reading.specs.Openings.{IsOpened, IsOpenedBy, OpensAs}
+use Rattle.index_lang.specs.Openings.{IsOpened, IsOpenedBy, OpensAs}
 use Rattle.spec_server.specs.Options.{setting_with}
 use Rattle.spec_store.specs.Store.{last_of, row_at}
 use Rattle.spec_store.specs.Limits.{base_id, program}
@@ -21,7 +21,7 @@ use Rattle.spec_store.proofs.StoreLemmas.{both_true}
 use Rattle.doc_keeper.specs.Loading.{AreCalls, IsLoaded}
 use Rattle.raven_world.specs.Opened as worlds
 use Rattle.raven_laws.proofs.OpenLemmas.{opened_from-Sound, opened_from-rows}
-use Rattle.raven_reopening.proofs.TextLemmas.{opened-told}
+use Rattle.raven_reading.proofs.TextLemmas.{opened-told}
 use Rattle.raven_console.specs.Outcome.{IsBad, Loads, Opens}
 use Rattle.raven_console.specs.Outside.{KeeperState, Keeps}
 

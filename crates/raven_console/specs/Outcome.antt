@@ -8,7 +8,7 @@ use Rattle.spec_server.specs.Lines.{lines, max_input}
 use Rattle.spec_server.specs.Machine.{Machine}
 use Rattle.spec_server.specs.Options.{Options, options_in, setting_with}
 use Rattle.spec_server.specs.Script.{Given, reply_to, replies_to, after_lines}
-use Rattle.raven_reading.specs.Openings.{IsOpened}
+use Rattle.index_lang.specs.Openings.{IsOpened}
 use Rattle.raven_console.specs.Outside.{KeeperState, Come, Holds}
 
 -- a front of these bytes was added

@@ -8,7 +8,7 @@ use Rattle.raven_ports.specs.Plan.{Plan, is_failing, one_later}
 use Rattle.spec_server.specs.Machine.{Machine, change_of}
 use Rattle.spec_server.specs.Script.{Circumstance, Given, LineRead, Do, after_line}
 use Rattle.spec_server.specs.Sound.{Sound}
-use Rattle.raven_reading.specs.Lines.{IsLine}
+use Rattle.index_lang.specs.Lines.{IsLine}
 
 -- a keeper at one moment: the rows that it holds and the calls that fail, where it tells them, and its count of faults
 pub record KeeperState : Type 0 where

@@ -9,9 +9,9 @@ ghost use Rattle.index_tree.specs.Language.{LangRefusal};
 ghost use Rattle.spec_server.specs.Machine.{Machine};
 ghost use Rattle.index_tree.specs.Definitions.{Definition};
 ghost use Rattle.spec_server.specs.Script.{LineRead};
-ghost use Rattle.raven_reading.specs.Lines.{IsLine};
-ghost use Rattle.raven_reading.specs.Openings.{IsOpened, Opens};
-ghost use Rattle.raven_reading.specs.Says.{Says};
+ghost use Rattle.index_lang.specs.Lines.{IsLine};
+ghost use Rattle.index_lang.specs.Openings.{IsOpened, Opens};
+ghost use Rattle.index_lang.specs.Says.{Says};
 
 /// A text says one definition, or is refused for one cause, and not both.
 pub fn texts_say_one_thing()

@@ -21,7 +21,7 @@ use Rattle.raven_laws.proofs.AnswerLemmas.{Has-filter_map}
 use Rattle.raven_laws.proofs.OpenedRuns.{go-Sound, go-LaterW}
 use Rattle.raven_laws.proofs.OpenLemmas.{Has-found, opened_from-rows, opened_from-Sound}
 use Rattle.raven_laws.proofs.SlotLemmas.{Has-map, Has-mapped, find-Has}
-use Rattle.raven_reading.specs.Openings.{AreReadRows, IsInBody, IsOpened, IsOpenedBy, IsReadIf, IsReadRow}
+use Rattle.index_lang.specs.Openings.{AreReadRows, IsInBody, IsOpened, IsOpenedBy, IsReadIf, IsReadRow}
 use Rattle.raven_reading.proofs.Once.{body_once}
 use Rattle.raven_reopening.specs.Form.{AreEvents}
 use Rattle.raven_reopening.specs.Reopened.{IsThereAgain, WasThere, OpensAgain}
@@ -29,7 +29,7 @@ use Rattle.raven_reopening.proofs.ReadLemmas.{AreBack, rows_in-kept}
 use Rattle.raven_reopening.proofs.FitLemmas.{named-other}
 use Rattle.raven_reopening.proofs.LastLemmas.{AllLast, name-under}
 use Rattle.raven_reopening.proofs.CountLemmas.{definitions, few-definitions, one_more}
-use Rattle.raven_reopening.proofs.TextLemmas.{opened-told}
+use Rattle.raven_reading.proofs.TextLemmas.{opened-told}
 use Rattle.raven_reopening.proofs.AgainLemmas.{Again, run-Again}
 use Rattle.raven_reopening.proofs.OpenedLemmas.{machine_of, opened-Again}
 

@@ -21,12 +21,12 @@ use Rattle.spec_server.specs.Script.{Do, LineRead, ReadRefusal, Plain, asked_by,
 use Rattle.raven_laws.proofs.ScriptLemmas.{lines-run}
 use Rattle.spec_store.proofs.StoreLemmas.{both_true, either_false}
 use Rattle.raven_reopening.specs.Form.{IsBody, IsCommand, AreCommands, IsIndexing, AreEvents, AreTimely}
-use Rattle.raven_reading.specs.Lines.{AreLines, Comes}
-use Rattle.raven_reading.specs.Openings.{IsOpened}
-use Rattle.raven_reading.specs.Says.{Says}
+use Rattle.index_lang.specs.Lines.{AreLines, Comes}
+use Rattle.index_lang.specs.Openings.{IsOpened}
+use Rattle.index_lang.specs.Says.{Says}
 use Rattle.raven_reopening.specs.Reopened.{OpensAgain}
 use Rattle.raven_reopening.proofs.BackLemmas.{run-opens}
-use Rattle.raven_reopening.proofs.TextLemmas.{said-by}
+use Rattle.raven_reading.proofs.TextLemmas.{said-by}
 use Rattle.raven_reopening.proofs.BodyLemmas.{member-sound, member-depth}
 use Rattle.raven_reopening.proofs.SoundLemmas.{AreFine, IsFine, reading-fine}
 use Rattle.raven_reopening.proofs.Utf8Lemmas.{AreHigh, encode-high, utf8-one}

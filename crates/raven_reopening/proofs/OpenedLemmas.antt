@@ -19,10 +19,10 @@ use Rattle.spec_index.specs.World.{Slot}
 use Rattle.spec_store.proofs.StoreLemmas.{both_true, same_row}
 use Rattle.raven_laws.proofs.OpenLemmas.{BodyRises, may_behind, rows_in-AreRowsOf, taken-of, toldin-is, with_slot-is}
 use Rattle.raven_laws.proofs.SlotLemmas.{Has-append}
-use Rattle.raven_reading.specs.Openings.{AreReadRows, IsInBody, IsOpened, IsOpenedBy, IsReadIf, IsReadRow}
+use Rattle.index_lang.specs.Openings.{AreReadRows, IsInBody, IsOpened, IsOpenedBy, IsReadIf, IsReadRow}
 use Rattle.raven_reopening.proofs.ReadLemmas.{IsReadBack, IsBodyBack, IsBack}
 use Rattle.raven_reopening.proofs.RightLemmas.{IsRight}
-use Rattle.raven_reopening.proofs.TextLemmas.{body-told}
+use Rattle.raven_reading.proofs.TextLemmas.{body-told}
 use Rattle.raven_reopening.proofs.AgainLemmas.{Again}
 
 -- ROWS

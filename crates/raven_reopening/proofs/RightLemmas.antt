@@ -11,8 +11,8 @@ use Rattle.spec_store.specs.Store.{Store}
 use Rattle.spec_index.specs.World.{Slot, World, added, is_named, is_reserved_name, row_body}
 use Rattle.raven_laws.proofs.MachineLemmas.{Keeps, brought-Keeps}
 use Rattle.raven_laws.proofs.SlotLemmas.{Has-append, Has-filter, Has-map}
-use Rattle.raven_reading.specs.Openings.{IsInBody, IsOfForm}
-use Rattle.raven_reading.specs.Says.{Says}
+use Rattle.index_lang.specs.Openings.{IsInBody, IsOfForm}
+use Rattle.index_lang.specs.Says.{Says}
 use Rattle.raven_reopening.specs.Form.{IsBody, IsByText, IsIndexing}
 use Rattle.raven_reopening.proofs.BodyLemmas.{auto-back, definition-body, static-body}
 use Rattle.raven_reopening.proofs.FitLemmas.{static_name-fit}

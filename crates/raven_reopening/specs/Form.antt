@@ -13,7 +13,7 @@ use Rattle.spec_server.specs.Machine.{Event, Request, Define, Auto, commands_in}
 use Rattle.index_tree.specs.Definitions.{Definition, Static}
 use Rattle.spec_server.specs.Opening.{is_part}
 use Rattle.spec_server.specs.Script.{Given}
-use Rattle.raven_reading.specs.Says.{Says}
+use Rattle.index_lang.specs.Says.{Says}
 
 -- ROWS
 

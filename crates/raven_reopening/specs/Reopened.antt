@@ -6,7 +6,7 @@ use Rattle.spec_store.specs.Commit.{Setting}
 use Rattle.spec_server.specs.Machine.{Machine}
 use Rattle.spec_server.specs.Sound.{Has}
 use Rattle.spec_index.specs.World.{Slot, World, fresh}
-use Rattle.raven_reading.specs.Openings.{IsOpened}
+use Rattle.index_lang.specs.Openings.{IsOpened}
 
 -- among the slots is one with the name, the number and the definition of this one, which has recorded nothing yet
 pub record IsThereAgain (slots : List Slot) (s : Slot) : Type 0 where

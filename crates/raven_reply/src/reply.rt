@@ -1,5 +1,5 @@
 //! Replies.
-use index_lang::{LangKind, Part};
+use index_definition::{LangKind, Part};
 use raven_base::Sequence;
 use raven_value::{Id, Ids, Name, Text, Value};
 use std::marker::Model;

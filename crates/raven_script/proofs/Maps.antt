@@ -3,7 +3,7 @@ use Rattle.std.proofs.Common.{◌≡◌, ℕ, List, Option, Some, None, Ok, Err,
 use Rattle.raven_data.specs.Data.{Data, null, flag, num, text, array, object, Items, no_items, item}
 use Rattle.spec_server.specs.Script.{map_member}
 use Rattle.spec_server.specs.Script as read
-use Rattle.raven_reading.specs.Bodies.{only_item, text_in}
+use Rattle.index_lang.specs.Bodies.{only_item, text_in}
 use Rattle.raven_script.specs.RequestView.{IsBadMember, Refuses}
 use Rattle.raven_script.specs.declared.request.ReadRefusal.{ReadRefusal}
 use Rattle.raven_script.proofs.Readings.{bad_member}

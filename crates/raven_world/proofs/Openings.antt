@@ -16,7 +16,7 @@ use Rattle.index_tree.specs.Definitions.{Definition, Static, Auto}
 use Rattle.spec_server.specs.Opening.{ReadRow, and_then, is_defining, is_filed, is_too_many, may_be_named, name_in, opened_with, or_bad, rows_of, slot_of, slots_after, slots_from, slots_with, with_slot}
 use Rattle.spec_store.specs.Store.{Store}
 use Rattle.spec_index.specs.World.{Slot, fresh}
-use Rattle.raven_reading.specs.Openings.{AreReadRows, EndsAt, IsReadRow, OpensAs}
+use Rattle.index_lang.specs.Openings.{AreReadRows, EndsAt, IsReadRow, OpensAs}
 use Rattle.doc_store.specs.Opening.{Tells, first_bad}
 use Rattle.doc_store.specs.declared.opening.OpenFault.{OpenFault}
 use Rattle.doc_store.specs.declared.opening.OpenFault.TheVariants.{KeptBad, NoMemory}

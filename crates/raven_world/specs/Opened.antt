@@ -5,7 +5,7 @@ use Rattle.spec_store.specs.Commit.{Setting}
 use Rattle.index_tree.specs.Definitions.{Definition}
 use Rattle.spec_server.specs.Opening.{ReadRow, rows_of, slots_after, slots_from}
 use Rattle.spec_index.specs.World.{Slot}
-use Rattle.raven_reading.specs.Openings.{AreReadRows, EndsAt, IsReadRow}
+use Rattle.index_lang.specs.Openings.{AreReadRows, EndsAt, IsReadRow}
 use Rattle.doc_store.specs.Opening.{first_bad}
 use Rattle.doc_store.specs.declared.opening.OpenFault.{OpenFault}
 use Rattle.doc_store.specs.declared.opening.OpenFault.TheVariants.{KeptBad, NoMemory}

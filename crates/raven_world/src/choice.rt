@@ -11,7 +11,7 @@ ghost use Rattle.raven_world.specs.ChoiceView.{choice_view};
 
 use crate::slot::Slot;
 use doc_store::Store;
-use index_lang::DefBody;
+use index_definition::DefBody;
 use index_version::IndexVersion;
 use raven_base::NoMemory;
 use raven_value::{Path, Paths, Text};

@@ -9,7 +9,7 @@ use crate::choice::{Choice, pick};
 use crate::define::{index_reply, shared};
 use crate::naming::{auto_name, is_served};
 use crate::world::{Answered, Change, World, WorldFault};
-use index_lang::auto_definition;
+use index_definition::auto_definition;
 use raven_base::NoMemory;
 use raven_reply::Reply;
 use raven_value::{Name, Text};
