@@ -4,9 +4,9 @@ use Rattle.std.proofs.lemmas.Bool.{ltb-true, lt-ltb, le-ltb}
 use Rattle.std.proofs.lemmas.List.{append_assoc, append-nil, length-append, length-take, take-append-drop}
 use Rattle.raven_data.specs.Kept.{KeptRow, EtagsRise, is_past, last_kept}
 use Rattle.raven_data.specs.Rows.{Row, key}
-use Rattle.raven_model.specs.Kept.{may_stand_behind, row_behind, row_in, or_bad_row, rows_behind, rows_in, max_etag}
-use Rattle.raven_model.specs.Store.{Store, row_at, put, last_of, with_row}
-use Rattle.raven_laws.proofs.StoreLemmas.{both_true, last_of-put}
+use Rattle.spec_store.specs.Kept.{may_stand_behind, row_behind, row_in, or_bad_row, rows_behind, rows_in, max_etag}
+use Rattle.spec_store.specs.Store.{Store, row_at, put, last_of, with_row}
+use Rattle.spec_store.proofs.StoreLemmas.{both_true, last_of-put}
 use Rattle.doc_store.specs.Bounds.{IsWithin}
 use Rattle.doc_store.specs.Steps.{MayStand}
 use Rattle.doc_store.proofs.MapLemmas.{none_out}

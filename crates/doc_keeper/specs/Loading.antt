@@ -2,7 +2,7 @@
 use Rattle.std.specs.Prelude.{◌≡◌, ℕ, List, Option, None, IfSome, Result, Err}
 use Rattle.raven_data.specs.Kept.{KeptRow, EtagsRise, kept_after}
 use Rattle.raven_data.specs.Rows.{Row}
-use Rattle.raven_model.specs.Kept.{rows_in}
+use Rattle.spec_store.specs.Kept.{rows_in}
 use Rattle.raven_ports.specs.Plan.{Plan, calls_later}
 use Rattle.doc_keeper.specs.declared.loading.LoadFault.{LoadFault}
 use Rattle.doc_keeper.specs.declared.loading.LoadFault.TheVariants.{Failed, KeptBad, NoMemory}

@@ -3,7 +3,7 @@ ghost use Rattle.std.specs.Prelude.{◌≡◌, ◌≤◌, ◌++◌, ℕ, [], ◌
 ghost use Rattle.doc_keeper.specs.Loading.{AreCalls, IsCause, IsLoaded, IsPage, Tells};
 ghost use Rattle.doc_keeper.specs.declared.loading.LoadFault.TheVariants.{NoMemory as OutOfMemory};
 ghost use Rattle.raven_data.specs.Kept.{last_kept};
-ghost use Rattle.raven_model.specs.Kept.{max_etag, may_stand_behind, rows_behind};
+ghost use Rattle.spec_store.specs.Kept.{max_etag, may_stand_behind, rows_behind};
 ghost use Rattle.raven_ports.specs.Faults.{Rose};
 ghost use Rattle.raven_ports.specs.Plan.{one_later};
 
@@ -59,7 +59,7 @@ impl Model for Loaded {
     ghost use Rattle.std.specs.Coded.{coded_list};
     ghost use Rattle.raven_data.specs.Codes.{row_code};
     ghost use Rattle.raven_data.specs.Rows as rowdata;
-    ghost use Rattle.raven_model.specs.Store as stores;
+    ghost use Rattle.spec_store.specs.Store as stores;
 
     ghost Value = { List rowdata.Row };
 

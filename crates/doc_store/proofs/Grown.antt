@@ -3,10 +3,10 @@ use Rattle.std.proofs.Common.{◌≡◌, ℕ, ◌<◌, ◌≤◌, ◌+◌, List,
 use Rattle.std.proofs.lemmas.List.{drop_more, length-append}
 use Rattle.raven_data.specs.Folding.{same_key}
 use Rattle.raven_data.specs.Rows.{Row, key}
-use Rattle.raven_model.specs.Store.{row_at, put, Store, IsStore, AreApart, with_row, with_rows}
-use Rattle.raven_model.specs.Later.{MayFollowAll}
-use Rattle.raven_laws.proofs.StoreLemmas.{same_means}
-use Rattle.raven_laws.proofs.LaterLemmas.{IsStore-with, last-with}
+use Rattle.spec_store.specs.Store.{row_at, put, Store, IsStore, AreApart, with_row, with_rows}
+use Rattle.spec_store.specs.Later.{MayFollowAll}
+use Rattle.spec_store.proofs.StoreLemmas.{same_means}
+use Rattle.spec_store.proofs.LaterLemmas.{IsStore-with, last-with}
 use Rattle.doc_store.specs.Bounds.{IsWithin}
 use Rattle.doc_store.proofs.MapLemmas.{none_out}
 

@@ -9,11 +9,11 @@ use Rattle.std.proofs.lemmas.Bool.Decides.{nat_tests}
 use Rattle.std.proofs.lemmas.Map.Text.{is_eq-slice_cmp}
 use Rattle.raven_data.specs.Folding.{folded, key_cmp, same_key}
 use Rattle.raven_data.specs.Rows.{Row, key}
-use Rattle.raven_model.specs.Store.{row_at}
-use Rattle.raven_model.specs.Index.{table_of}
-use Rattle.raven_laws.specs.Keyed.{AreKeyed}
-use Rattle.raven_laws.proofs.StoreLemmas.{same_itself, same_means}
-use Rattle.raven_laws.proofs.KeyedLemmas.{get-table_of, same_table, values-table_of}
+use Rattle.spec_store.specs.Store.{row_at}
+use Rattle.raven_data.specs.Tables.{table_of}
+use Rattle.spec_store.specs.Keyed.{AreKeyed}
+use Rattle.spec_store.proofs.StoreLemmas.{same_itself, same_means}
+use Rattle.spec_store.proofs.KeyedLemmas.{get-table_of, same_table, values-table_of}
 use Rattle.paged_map.specs.Pairs.{IsRising}
 use Rattle.doc_store.specs.Maps.{id_cmp, rows_in, AreFiled}
 

@@ -11,9 +11,9 @@ use Rattle.std.proofs.lemmas.List.{map-append}
 use Rattle.std.proofs.lemmas.Map.Text.{is_eq-slice_cmp}
 use Rattle.raven_data.specs.Folding.{folded, key_cmp, same_key}
 use Rattle.raven_data.specs.Rows.{Row, key}
-use Rattle.raven_model.specs.Store.{row_at, put, last_of, AreRising, AreApart, Store, IsStore, with_row}
-use Rattle.raven_laws.proofs.StoreLemmas.{row_at-put, found_etag, same_means, same_row, last_of-put, AreRising-put, AreApart-put, AreRising-filter, last_of-filter}
-use Rattle.raven_laws.proofs.KeyedLemmas.{key_ties}
+use Rattle.spec_store.specs.Store.{row_at, put, last_of, AreRising, AreApart, Store, IsStore, with_row}
+use Rattle.spec_store.proofs.StoreLemmas.{row_at-put, found_etag, same_means, same_row, last_of-put, AreRising-put, AreApart-put, AreRising-filter, last_of-filter}
+use Rattle.spec_store.proofs.KeyedLemmas.{key_ties}
 use Rattle.paged_map.specs.Pairs.{AllAnswer}
 use Rattle.paged_map.proofs.Laws.{lookup-insert_entry, insert_last}
 use Rattle.doc_store.specs.Maps.{id_cmp, AreFiled, rows_in, by_etag, newest_at, is_of, Shows}

@@ -3,9 +3,9 @@ use Rattle.std.proofs.Common.{◌≡◌, ℕ, ◌<◌, ◌≤◌, ◌+◌, ◌^�
 use Rattle.std.proofs.lemmas.Bool.{leb-true}
 use Rattle.std.proofs.lemmas.List.{drop_more, take_more, length-append, length-take}
 use Rattle.raven_data.specs.Rows.{Row, key}
-use Rattle.raven_model.specs.Store.{row_at, put, Store, with_row}
-use Rattle.raven_laws.proofs.StoreLemmas.{both_true}
-use Rattle.raven_laws.proofs.LaterLemmas.{last-with}
+use Rattle.spec_store.specs.Store.{row_at, put, Store, with_row}
+use Rattle.spec_store.proofs.StoreLemmas.{both_true}
+use Rattle.spec_store.proofs.LaterLemmas.{last-with}
 use Rattle.doc_store.specs.Bounds.{IsWithin, max_etag}
 use Rattle.doc_store.specs.Opening.{is_sound_after, first_bad}
 use Rattle.doc_store.proofs.MapLemmas.{none_out}

@@ -6,9 +6,10 @@ use Rattle.std.specs.Cmp.{ranked}
 use Rattle.std.proofs.lemmas.Bool.{le-leb, leb-true}
 use Rattle.std.proofs.lemmas.Bool.Decides.{nat_tests}
 use Rattle.raven_data.specs.Rows.{Row}
-use Rattle.raven_model.specs.Store.{last_of, AreRising, Store, IsStore}
-use Rattle.raven_model.specs.Index.{Scope, in_scope, up_to, newest}
-use Rattle.raven_laws.proofs.StoreLemmas.{AreRising-lower, AreRising-filter, last_of-rising}
+use Rattle.spec_store.specs.Store.{last_of, AreRising, Store, IsStore}
+use Rattle.raven_data.specs.Tables.{Scope, in_scope}
+use Rattle.spec_store.specs.Stale.{up_to, newest}
+use Rattle.spec_store.proofs.StoreLemmas.{AreRising-lower, AreRising-filter, last_of-rising}
 use Rattle.paged_map.specs.Range.{between}
 use Rattle.doc_store.specs.Maps.{rows_in, by_etag, newest_at, newest_among, is_of}
 

@@ -1,6 +1,6 @@
 -- How large a store may grow.
 use Rattle.std.specs.Prelude.{ℕ, ◌≤◌, ◌<◌, ◌^◌, length}
-use Rattle.raven_model.specs.Store.{Store, last, IsStore}
+use Rattle.spec_store.specs.Store.{Store, last, IsStore}
 
 -- the greatest number that a double of 53 bits tells apart from its neighbours
 abbrev pub max_etag : ℕ

@@ -7,7 +7,7 @@ use Rattle.std.specs.Map.{lookup}
 use Rattle.std.specs.BTreeMap.{is_at}
 use Rattle.raven_data.specs.Folding.{folded, key_cmp}
 use Rattle.raven_data.specs.Rows.{Row, key}
-use Rattle.raven_model.specs.Store.{row_at, last_of}
+use Rattle.spec_store.specs.Store.{row_at, last_of}
 use Rattle.doc_store.specs.Bounds.{IsKept}
 
 -- ids are ordered by their folded forms

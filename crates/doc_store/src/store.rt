@@ -3,9 +3,10 @@ ghost use Rattle.std.specs.Str.{bytes_eq};
 ghost use Rattle.std.specs.Prelude.{◌≡◌, ◌≤◌, ◌<◌, ◌&&◌, ◌↔◌, ℕ, IfOk, IsTrue, filter, length, nat_lt, not, option_copied};
 ghost use Rattle.raven_data.specs.Folding.{folded, same_key};
 ghost use Rattle.raven_data.specs.Rows.{is_document, key};
-ghost use Rattle.raven_model.specs.Store.{IsStore, empty_store, last, row_at, with_row, with_rows};
-ghost use Rattle.raven_model.specs.Later.{MayFollowAll};
-ghost use Rattle.raven_model.specs.Index.{newest, past, stale, table_of, taken};
+ghost use Rattle.spec_store.specs.Store.{IsStore, empty_store, last, row_at, with_row, with_rows};
+ghost use Rattle.spec_store.specs.Later.{MayFollowAll};
+ghost use Rattle.spec_store.specs.Stale.{newest, past, stale, taken};
+ghost use Rattle.raven_data.specs.Tables.{table_of};
 ghost use Rattle.std.specs.FinMap.{values};
 ghost use Rattle.doc_store.specs.Bounds.{IsWithin, max_etag};
 ghost use Rattle.doc_store.specs.Maps.{by_etag};
@@ -34,8 +35,8 @@ pub struct Store {
 }
 
 impl Model for Store {
-    ghost use Rattle.raven_model.specs.Store as stores;
-    ghost use Rattle.raven_model.specs.Codes.{store_code};
+    ghost use Rattle.spec_store.specs.Store as stores;
+    ghost use Rattle.spec_store.specs.Codes.{store_code};
     ghost use Rattle.doc_store.specs.Maps.{Shows, rows_in};
 
     ghost Value = { stores.Store };

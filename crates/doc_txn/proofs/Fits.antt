@@ -6,11 +6,11 @@ use Rattle.std.specs.Prelude.{◌==◌}
 use Rattle.std.specs.Option.{option_map}
 use Rattle.raven_data.specs.Folding.{folded, same_key}
 use Rattle.raven_data.specs.Rows.{Row, key}
-use Rattle.raven_model.specs.Store.{Store, last, row_at, put, with_row}
-use Rattle.raven_model.specs.Commit.{Command, Put, Delete, Setting, Refusal, id_of, document_at, refuse_if, row_of, tombstone, with_option}
-use Rattle.raven_laws.proofs.CommitLemmas.{put_key, document_found}
-use Rattle.raven_laws.proofs.LaterLemmas.{last-with}
-use Rattle.raven_laws.proofs.StoreLemmas.{found_key}
+use Rattle.spec_store.specs.Store.{Store, last, row_at, put, with_row}
+use Rattle.spec_store.specs.Commit.{Command, Put, Delete, Setting, Refusal, id_of, document_at, refuse_if, row_of, tombstone, with_option}
+use Rattle.spec_store.proofs.CommitLemmas.{put_key, document_found}
+use Rattle.spec_store.proofs.LaterLemmas.{last-with}
+use Rattle.spec_store.proofs.StoreLemmas.{found_key}
 use Rattle.doc_store.specs.Bounds.{IsWithin, max_etag}
 use Rattle.doc_txn.specs.Tests.{full_for, spent_for}
 

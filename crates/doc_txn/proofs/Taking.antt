@@ -2,8 +2,8 @@
 use Rattle.std.proofs.Common.{◌≡◌, ℕ, ◌+◌, List, [], ◌∷◌, ◌++◌, Option, Some, None, Result, Ok, Err, refl, sym, ap, ◌∙◌, append_assoc}
 use Rattle.std.specs.Option.{option_map}
 use Rattle.raven_data.specs.Rows.{Row}
-use Rattle.raven_model.specs.Store.{Store}
-use Rattle.raven_model.specs.Commit.{Command, Writer, Setting, Refused, Written, after_command, commit_from, etags_taken, refusal_of, row_of, unless, with_option, with_written}
+use Rattle.spec_store.specs.Store.{Store}
+use Rattle.spec_store.specs.Commit.{Command, Writer, Setting, Refused, Written, after_command, commit_from, etags_taken, refusal_of, row_of, unless, with_option, with_written}
 
 pub takes_on : (at : ℕ) (s : Setting) (w : Writer) (now : ℕ) (cs more : List Command) (c : Command) (done new : Written) (all : Result Written Refused)
     → cs ≡ c ∷ more → commit_from at s w now cs done ≡ all → refusal_of s w done.store c ≡ None → new ≡ with_written (row_of now done.store c) done → commit_from (at + 1) s w now more new ≡ all

@@ -1,6 +1,6 @@
 -- What the commands of the program are.
 use Rattle.raven_value.specs.View.{data_of}
-use Rattle.raven_model.specs.Commit as is
+use Rattle.spec_store.specs.Commit as is
 use Rattle.doc_txn.specs.declared.command.Command.{Command}
 use Rattle.doc_txn.specs.declared.command.Command.TheVariants as c
 use Rattle.doc_txn.specs.declared.command.Expect.{Expect}

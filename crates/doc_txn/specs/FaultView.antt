@@ -1,6 +1,6 @@
 -- What the refusals of the program are.
 use Rattle.std.specs.Prelude.{◌≡◌, Result, Err}
-use Rattle.raven_model.specs.Commit as is
+use Rattle.spec_store.specs.Commit as is
 use Rattle.doc_txn.specs.declared.fault.TxnKind.{TxnKind}
 use Rattle.doc_txn.specs.declared.fault.TxnKind.TheVariants as k
 use Rattle.doc_txn.specs.declared.fault.TxnFault.{TxnFault}

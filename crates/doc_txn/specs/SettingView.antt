@@ -1,6 +1,6 @@
 -- The base id and the limits of the program, and what they are.
 use Rattle.std.specs.Prelude.{ℕ, List}
-use Rattle.raven_model.specs.Commit.{Setting}
+use Rattle.spec_store.specs.Commit.{Setting}
 use Rattle.doc_txn.specs.declared.limits.Limits.{Limits}
 
 abbrev pub setting_of : List ℕ → Limits → Setting

@@ -1,5 +1,5 @@
 -- The setting of a transaction.
-use Rattle.raven_model.specs.Commit.{Setting}
+use Rattle.spec_store.specs.Commit.{Setting}
 use Rattle.doc_txn.specs.SettingView.{setting_of}
 use Rattle.doc_txn.specs.declared.refusal.Terms.{Terms}
 

@@ -3,8 +3,8 @@ use Rattle.std.specs.Prelude.{ℕ, List, Bool, false, ◌||◌, ◌&&◌, ◌==�
 use Rattle.std.specs.Str.{bytes_eq}
 use Rattle.raven_data.specs.Rows.{Row, Body, doc, gone, is_document}
 use Rattle.raven_data.specs.Written.{text_of}
-use Rattle.raven_model.specs.Store.{Store, last}
-use Rattle.raven_model.specs.Commit.{Setting, Writer, Client, Server, Refusal, ReservedId, TooLarge, StoreFull, EtagsSpent, is_index_id, other_collection, refuse_if}
+use Rattle.spec_store.specs.Store.{Store, last}
+use Rattle.spec_store.specs.Commit.{Setting, Writer, Client, Server, Refusal, ReservedId, TooLarge, StoreFull, EtagsSpent, is_index_id, other_collection, refuse_if}
 
 -- the row is a document of the server's collection
 abbrev pub is_definition : Option Row → Bool

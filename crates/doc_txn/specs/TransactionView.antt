@@ -1,5 +1,5 @@
 -- What a transaction leaves.
-use Rattle.raven_model.specs.Commit.{Written}
+use Rattle.spec_store.specs.Commit.{Written}
 use Rattle.doc_txn.specs.declared.transaction.Transaction.{Transaction}
 
 abbrev pub written_of : Transaction → Written

@@ -2,9 +2,8 @@
 ghost use Rattle.std.specs.Prelude.{◌≡◌, IfOk, IsTrue};
 ghost use Rattle.std.specs.List.{list_all};
 ghost use Rattle.std.specs.Char.{is_ascii_alphanumeric};
-ghost use Rattle.raven_model.specs.Commit.{vector_of};
-ghost use Rattle.raven_model.specs.Words.{base_id};
-ghost use Rattle.raven_model.specs.Options.{is_base_id as spec_is_base_id};
+ghost use Rattle.spec_store.specs.Commit.{vector_of};
+ghost use Rattle.spec_store.specs.Limits.{base_id, is_base_id as spec_is_base_id};
 ghost use Rattle.doc_txn.specs.BaseId.{read_base_id};
 
 use raven_base::NoMemory;
@@ -29,7 +28,7 @@ impl Model for BaseId {
     ghost view = { λ a. a.text };
 
     ghost use Rattle.std.specs.Prelude.{IsTrue};
-    ghost use Rattle.raven_model.specs.Options.{is_base_id};
+    ghost use Rattle.spec_store.specs.Limits.{is_base_id};
 
     ghost invariant = { λ a. IsTrue (is_base_id a.text) };
 }

@@ -1,6 +1,6 @@
 //! What a transaction is asked to do.
 ghost use Rattle.std.specs.Prelude.{◌≡◌};
-ghost use Rattle.raven_model.specs.Commit.{expected_of, id_of};
+ghost use Rattle.spec_store.specs.Commit.{expected_of, id_of};
 ghost use Rattle.doc_txn.specs.CommandView.{command_view, expect_view};
 
 use raven_base::Sequence;

@@ -1,6 +1,6 @@
 //! How much a database may hold.
 ghost use Rattle.std.specs.Prelude.{◌≡◌};
-ghost use Rattle.raven_model.specs.Words.{base_id, program as spec_program};
+ghost use Rattle.spec_store.specs.Limits.{base_id, program as spec_program};
 ghost use Rattle.doc_txn.specs.SettingView.{setting_of};
 
 /// How much a database may hold.

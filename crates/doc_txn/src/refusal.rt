@@ -2,8 +2,8 @@
 ghost use Rattle.std.specs.Prelude.{◌≡◌, ◌<◌, ◌≤◌, ◌^◌, ℕ, List, length, IfOk, None, option_copied, option_map};
 ghost use Rattle.raven_data.specs.Rows.{doc};
 ghost use Rattle.raven_value.specs.View.{data_of};
-ghost use Rattle.raven_model.specs.Store.{last as spec_last};
-ghost use Rattle.raven_model.specs.Commit.{differs, is_index_id as spec_is_index_id, live_vector as spec_live_vector, refusal_of as spec_refusal_of, row_of as spec_row_of, with_option};
+ghost use Rattle.spec_store.specs.Store.{last as spec_last};
+ghost use Rattle.spec_store.specs.Commit.{differs, is_index_id as spec_is_index_id, live_vector as spec_live_vector, refusal_of as spec_refusal_of, row_of as spec_row_of, with_option};
 ghost use Rattle.doc_store.specs.Bounds.{IsWithin, max_etag};
 ghost use Rattle.doc_txn.specs.CommandView.{command_view, expect_view, writer_view};
 ghost use Rattle.doc_txn.specs.FaultView.{kind_view};

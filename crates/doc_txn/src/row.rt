@@ -2,7 +2,7 @@
 ghost use Rattle.std.specs.Prelude.{◌≡◌, IfOk, Some, None, if◌then◌else◌, option_and_then, option_copied};
 ghost use Rattle.raven_data.specs.Rows.{doc, is_document};
 ghost use Rattle.raven_value.specs.View.{data_of};
-ghost use Rattle.raven_model.specs.Commit.{collection_of as spec_collection_of, kept_spelling, row_of as spec_row_of, stored as spec_stored, tombstone as spec_tombstone};
+ghost use Rattle.spec_store.specs.Commit.{collection_of as spec_collection_of, kept_spelling, row_of as spec_row_of, stored as spec_stored, tombstone as spec_tombstone};
 ghost use Rattle.doc_txn.specs.CommandView.{command_view};
 
 use crate::command::Command;

@@ -1,9 +1,9 @@
 //! Transactions.
 ghost use Rattle.std.specs.Prelude.{◌≡◌, ◌∷◌, ◌++◌, [], IfOk, IfErr, None, OnOk, Some, Ok, Err, map, option_map};
 ghost use Rattle.std.specs.Option.{ForSome};
-ghost use Rattle.raven_model.specs.Store.{IsStore, with_row};
-ghost use Rattle.raven_model.specs.Later.{MayFollow};
-ghost use Rattle.raven_model.specs.Commit.{Commits, commit as spec_commit, etags_taken, refusal_of as spec_refusal_of, row_of as spec_row_of, with_option, with_written};
+ghost use Rattle.spec_store.specs.Store.{IsStore, with_row};
+ghost use Rattle.spec_store.specs.Later.{MayFollow};
+ghost use Rattle.spec_store.specs.Commit.{Commits, commit as spec_commit, etags_taken, refusal_of as spec_refusal_of, row_of as spec_row_of, with_option, with_written};
 ghost use Rattle.doc_store.specs.Bounds.{IsWithin};
 ghost use Rattle.doc_txn.specs.CommandView.{command_view, writer_view};
 ghost use Rattle.doc_txn.specs.FaultView.{Refuses, kind_view};

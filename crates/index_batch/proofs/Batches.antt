@@ -2,9 +2,11 @@
 use Rattle.std.proofs.Common.{◌≡◌, ◌<◌, ◌↔◌, ℕ, List, [], ◌∷◌, length, drop, Bool, true, false, cond, IsTrue, Some, None, Option, refl, sym, ap, ◌∙◌, arith}
 use Rattle.std.proofs.lemmas.Grind.{common_steps}
 use Rattle.raven_data.specs.Rows.{Row}
-use Rattle.raven_model.specs.Store.{Store, last, last_of}
-use Rattle.raven_model.specs.Index.{past, taken, note_rows, etag_after, etag_of_batch}
-use Rattle.raven_model.specs.World.{Version, reads, advanced, batch}
+use Rattle.spec_store.specs.Store.{Store, last, last_of}
+use Rattle.spec_store.specs.Stale.{past, taken}
+use Rattle.raven_data.specs.Tables.{note_rows}
+use Rattle.spec_index.specs.Index.{etag_after, etag_of_batch}
+use Rattle.spec_index.specs.World.{Version, reads, advanced, batch}
 
 abbrev version_at : Version → List Row → ℕ → Version
 version_at v rows etag = record { definition = v.definition; etag = etag; table = note_rows v.table rows }

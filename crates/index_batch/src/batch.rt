@@ -1,9 +1,11 @@
 //! Batches: how an index is brought on.
 ghost use Rattle.std.specs.Prelude.{◌≡◌, IfOk, cond, length};
-ghost use Rattle.raven_model.specs.Index.{note_rows, taken};
-ghost use Rattle.raven_model.specs.Mapping.{mapper_of, touched};
-ghost use Rattle.raven_model.specs.Store.{last, last_of};
-ghost use Rattle.raven_model.specs.World.{batch, reads};
+ghost use Rattle.raven_data.specs.Tables.{note_rows};
+ghost use Rattle.spec_store.specs.Stale.{taken};
+ghost use Rattle.index_tree.specs.Mapper.{mapper_of};
+ghost use Rattle.spec_index.specs.Mapping.{touched};
+ghost use Rattle.spec_store.specs.Store.{last, last_of};
+ghost use Rattle.spec_index.specs.World.{batch, reads};
 ghost use Rattle.index_version.specs.Meaning.{Means};
 ghost use Rattle.index_version.specs.Renewed.{MapsAtMost, documents_among};
 

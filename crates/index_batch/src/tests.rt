@@ -1,11 +1,12 @@
 //! How often a map is asked: over documents that load others, with a mapper that counts its own calls.
 ghost use Rattle.std.specs.Prelude.{◌≡◌, ◌≤◌, ◌<◌, ◌^◌, length};
-ghost use Rattle.index_lang.specs.DefinitionView.{definition_view};
+ghost use Rattle.index_definition.specs.DefinitionView.{definition_view};
 ghost use Rattle.index_version.specs.Meaning.{found_local, found_meaning};
 
 use crate::next;
 use doc_store::Store;
-use index_lang::{Definition, parse};
+use index_definition::{DefBody, Definition};
+use index_tree::{Clause, Clauses, Expr, ExprKind, MapMember, MapMembers, MapQuery};
 use index_version::{DefinitionMapper, IndexVersion};
 use map_stage::{Lookup, Mapped, Mapper};
 use raven_base::{NoMemory, Steps};
@@ -96,11 +97,42 @@ fn store(alloc: Global) -> Result<Store, Fail> {
     opened(alloc, &rows)
 }
 
+fn member(alloc: Global, var: &str, name: &str) -> Result<Expr, NoMemory> {
+    let value = Expr::of(alloc, ExprKind::Var(Text::of(alloc, var)?))?;
+    Expr::of(alloc, ExprKind::Dot(value, Text::of(alloc, name)?))
+}
+
+// The tree of MAP.
+fn map(alloc: Global) -> Result<MapQuery, NoMemory> {
+    let company = member(alloc, "o", "Company")?;
+    let loaded = ExprKind::Load(company, Text::of(alloc, "Companies")?);
+    let mut clauses = Clauses::new(alloc);
+    clauses.push(Clause::Let {
+        var: Text::of(alloc, "c")?,
+        value: Expr::of(alloc, loaded)?,
+    })?;
+    let mut members = MapMembers::new(alloc);
+    members.push(MapMember {
+        name: Text::of(alloc, "Name")?,
+        value: member(alloc, "c", "Name")?,
+    })?;
+    Ok(MapQuery {
+        var: Text::of(alloc, "o")?,
+        collection: Text::of(alloc, "Orders")?,
+        clauses,
+        members,
+    })
+}
+
 fn definition(alloc: Global) -> Result<Arc<Definition>, Fail> {
-    match parse(alloc, Name::new(alloc, "N")?, MAP, None) {
-        Ok(definition) => Ok(Arc::new(alloc, definition)?),
-        Err(_) => Err(Fail::new("the text was refused")),
-    }
+    let body = DefBody::Static {
+        map: map(alloc)?,
+        reduce: None,
+        map_text: Text::of(alloc, MAP)?,
+        reduce_text: None,
+    };
+    let name = Name::new(alloc, "N")?;
+    Ok(Arc::new(alloc, Definition { name, body })?)
 }
 
 fn brought<L: Ledger>(

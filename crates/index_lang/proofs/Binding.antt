@@ -6,7 +6,8 @@ use Rattle.std.specs.Str.{bytes_eq}
 use Rattle.index_tree.specs.declared.map_query.Clause.{Clause}
 use Rattle.index_tree.specs.declared.map_query.Clause.TheVariants as c
 use Rattle.index_grammar.specs.declared.spelled.SpelledMap.{SpelledMap}
-use Rattle.index_lang.specs.Bound.{is_among, bound_by, is_bound_by}
+use Rattle.index_definition.specs.Adding.{is_among}
+use Rattle.index_lang.specs.Bound.{bound_by, is_bound_by}
 use Rattle.index_lang.specs.Scan.{is_bound}
 
 front_last : (a b c : Bool) → (a || b) || c ≡ b || (a || c)

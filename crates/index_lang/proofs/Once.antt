@@ -17,11 +17,11 @@ use Rattle.reduce_grammar.specs.Limits as reduces
 use Rattle.reduce_grammar.specs.ReduceReading.{reduce_text}
 use Rattle.reduce_grammar.proofs.ReduceKeeps.{reduce_keeps}
 use Rattle.reduce_grammar.proofs.ReduceMeets.{reduce_meets}
-use Rattle.index_lang.specs.declared.refusal.Part.TheVariants as part
-use Rattle.index_lang.specs.declared.refusal.LangKind.TheVariants as kind
-use Rattle.index_lang.specs.declared.refusal.LangRefusal.{LangRefusal}
-use Rattle.index_lang.specs.declared.refusal.LangRefusal.TheVariants.{At, NoMemory}
-use Rattle.index_lang.specs.declared.definition.Definition.{Definition}
+use Rattle.index_definition.specs.declared.refusal.Part.TheVariants as part
+use Rattle.index_definition.specs.declared.refusal.LangKind.TheVariants as kind
+use Rattle.index_definition.specs.declared.refusal.LangRefusal.{LangRefusal}
+use Rattle.index_definition.specs.declared.refusal.LangRefusal.TheVariants.{At, NoMemory}
+use Rattle.index_definition.specs.declared.definition.Definition.{Definition}
 use Rattle.index_lang.specs.declared.reading.ReadMap.{ReadMap}
 use Rattle.index_lang.specs.declared.reading.ReadReduce.{ReadReduce}
 use Rattle.index_lang.specs.declared.reading.Trees.{Trees}

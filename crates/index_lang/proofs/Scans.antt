@@ -12,13 +12,13 @@ use Rattle.index_tree.specs.declared.expression.BinaryOp.{BinaryOp}
 use Rattle.index_tree.specs.declared.expression.UnaryOp.{UnaryOp}
 use Rattle.index_grammar.specs.declared.spelled.SpelledMap.{SpelledMap}
 use Rattle.index_grammar.specs.Operators.{operator_as, sign_as}
-use Rattle.index_grammar.specs.Expressions.{Rule, Spells, plain, choice, tighter, binary, signed, post, first, point, number, text, yes, no, null, var, parens, load}
+use Rattle.index_grammar.specs.Expressions.{Rule, Spells, plain, choice, tighter, binary, signed, post, first, point, number, text, yes, no, null, var, parens, load, Post}
 use Rattle.index_tree.specs.declared.map_query.Clause.{Clause}
 use Rattle.index_grammar.specs.declared.spelled.PlacedMember.{PlacedMember}
 use Rattle.index_grammar.specs.declared.spelled.Origin.{Origin}
 use Rattle.index_grammar.specs.Maps.{origin, SpellsClause, filter, binding, SpellsClauses, no_clause, next_clause, SpellsMember, named, path, SpellsMembers, last, last_comma, more, SpellsEntry, entry, SpellsMap, map, spelled_map, SpellsOrigin}
-use Rattle.index_grammar.specs.Expressions.{Post}
-use Rattle.index_lang.specs.Bound.{or_else, unbound, unbound_clause, unbound_clauses, unbound_member, unbound_members, unbound_entry, unbound_in, bound_by, is_among}
+use Rattle.index_lang.specs.Bound.{or_else, unbound, unbound_clause, unbound_clauses, unbound_member, unbound_members, unbound_entry, unbound_in, bound_by}
+use Rattle.index_definition.specs.Adding.{is_among}
 use Rattle.index_lang.specs.declared.names.Scanned.{Scanned}
 use Rattle.index_lang.specs.Scan.{scanned, is_named_by, named_part, is_bound, names, binds, at_reserved, at_word, at_token, follow, scan, scan_map}
 use Rattle.index_lang.specs.declared.names.Step.TheVariants.{Found, GoesOn}

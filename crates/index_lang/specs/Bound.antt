@@ -1,6 +1,5 @@
 -- Which variables of a map are bound, told of its spelling.
 use Rattle.std.specs.Prelude.{ℕ, Bool, false, if◌then◌else◌, List, [], ◌∷◌, Option, Some, None}
-use Rattle.std.specs.List.{list_any}
 use Rattle.std.specs.Str.{bytes_eq}
 use Rattle.index_tokens.specs.Words.{Tokens}
 use Rattle.index_tree.specs.Trees.{Tree}
@@ -10,13 +9,11 @@ use Rattle.index_grammar.specs.declared.spelled.PlacedMember.{PlacedMember}
 use Rattle.index_grammar.specs.declared.spelled.SpelledMap.{SpelledMap}
 use Rattle.index_grammar.specs.Expressions.{Rule, Spells, plain, choice, tighter, binary, signed, post, first, point, number, text, yes, no, null, var, parens, load}
 use Rattle.index_grammar.specs.Maps.{SpellsClause, filter, binding, SpellsClauses, no_clause, next_clause, SpellsMember, named, path, SpellsMembers, last, last_comma, more, SpellsEntry, entry, SpellsMap, map}
+use Rattle.index_definition.specs.Adding.{is_among}
 
 abbrev pub or_else : Option ℕ → Option ℕ → Option ℕ
 or_else (Some place) other = Some place
 or_else None other = other
-
-abbrev pub is_among : List (List ℕ) → List ℕ → Bool
-is_among names name = list_any (bytes_eq name) names
 
 module _ (bound : List (List ℕ)) where
   -- where the first variable of an expression stands that is none of the bound names

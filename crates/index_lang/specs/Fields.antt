@@ -7,7 +7,8 @@ use Rattle.index_tree.specs.declared.reduce_query.FoldValue.TheVariants as v
 use Rattle.index_grammar.specs.declared.spelled.PlacedMember.{PlacedMember}
 use Rattle.reduce_grammar.specs.declared.spelled.PlacedFold.{PlacedFold}
 use Rattle.reduce_grammar.specs.declared.spelled.SpelledReduce.{SpelledReduce}
-use Rattle.index_lang.specs.Bound.{or_else, is_among}
+use Rattle.index_lang.specs.Bound.{or_else}
+use Rattle.index_definition.specs.Adding.{is_among}
 
 -- ---- two members of one name
 

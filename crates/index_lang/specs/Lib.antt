@@ -4,8 +4,8 @@ pub mod Fields
 pub mod BoundGroups
 pub mod ScanGroups
 pub mod Parse
-pub mod Shape
-pub mod Adding
-pub mod DefinitionView
 pub mod Rows
-pub mod RefusalView
+pub mod Says
+pub mod Lines
+pub mod Openings
+pub mod Bodies

@@ -10,14 +10,14 @@ use Rattle.index_grammar.specs.View.{query_of}
 use Rattle.reduce_grammar.specs.declared.spelled.SpelledReduce.{SpelledReduce}
 use Rattle.reduce_grammar.specs.Reduces.{SpellsReduce}
 use Rattle.reduce_grammar.specs.Limits as reduces
-use Rattle.index_lang.specs.declared.refusal.Part.{Part}
-use Rattle.index_lang.specs.declared.refusal.Part.TheVariants as part
-use Rattle.index_lang.specs.declared.refusal.LangKind.{LangKind}
-use Rattle.index_lang.specs.declared.refusal.LangKind.TheVariants as kind
-use Rattle.index_lang.specs.declared.refusal.LangRefusal.{LangRefusal}
-use Rattle.index_lang.specs.declared.refusal.LangRefusal.TheVariants.{At, NoMemory}
-use Rattle.index_lang.specs.declared.definition.Definition.{Definition}
-use Rattle.index_lang.specs.declared.definition.DefBody.TheVariants.{Static}
+use Rattle.index_definition.specs.declared.refusal.Part.{Part}
+use Rattle.index_definition.specs.declared.refusal.Part.TheVariants as part
+use Rattle.index_definition.specs.declared.refusal.LangKind.{LangKind}
+use Rattle.index_definition.specs.declared.refusal.LangKind.TheVariants as kind
+use Rattle.index_definition.specs.declared.refusal.LangRefusal.{LangRefusal}
+use Rattle.index_definition.specs.declared.refusal.LangRefusal.TheVariants.{At, NoMemory}
+use Rattle.index_definition.specs.declared.definition.Definition.{Definition}
+use Rattle.index_definition.specs.declared.definition.DefBody.TheVariants.{Static}
 use Rattle.index_lang.specs.declared.reading.ReadMap.{ReadMap}
 use Rattle.index_lang.specs.declared.reading.ReadReduce.{ReadReduce}
 use Rattle.index_lang.specs.declared.reading.Trees.{Trees}

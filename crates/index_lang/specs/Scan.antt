@@ -7,7 +7,8 @@ use Rattle.index_tokens.specs.declared.token.Placed.{Placed}
 use Rattle.index_tokens.specs.Spelling.{is_reserved}
 use Rattle.index_tokens.specs.Words.{Tokens, the, name}
 use Rattle.index_grammar.specs.declared.spelled.SpelledMap.{SpelledMap}
-use Rattle.index_lang.specs.Bound.{is_among, bound_by}
+use Rattle.index_definition.specs.Adding.{is_among}
+use Rattle.index_lang.specs.Bound.{bound_by}
 use Rattle.index_lang.specs.declared.names.Scanned.{Scanned}
 use Rattle.index_lang.specs.declared.names.Step.{Step}
 use Rattle.index_lang.specs.declared.names.Step.TheVariants.{Found, Ends, GoesOn}

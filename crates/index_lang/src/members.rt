@@ -1,10 +1,10 @@
 //! The members of a map and of its reduce.
 ghost use Rattle.std.specs.Prelude.{◌≡◌, ℕ, List};
 ghost use Rattle.std.specs.List.{list_all, list_any};
-ghost use Rattle.index_lang.specs.Bound.{is_among as spec_is_among};
 ghost use Rattle.index_lang.specs.Fields as spec;
 ghost use Rattle.index_lang.specs.Fields.{fold_name, fold_place, member_name, member_place};
 
+use index_definition::is_among;
 use index_grammar::PlacedMember;
 use index_tree::FoldValue;
 use raven_value::Text;
@@ -94,17 +94,6 @@ pub fn fields_agree(members: &[PlacedMember], folds: &[PlacedFold]) -> bool
     ensures { result ≡ spec.fields_agree members.now folds.now }
 {
     has_all(members, folds) && has_all(folds, members)
-}
-
-pub fn is_among(key: &[Text], part: &Text) -> bool
-    ensures { result ≡ spec_is_among key.now part.now }
-{
-    for other in key {
-        if *part == *other {
-            return true;
-        }
-    }
-    false
 }
 
 fn keeps_name(key: &[Text], name: &Text, value: &FoldValue) -> bool

@@ -1,15 +1,14 @@
 //! The reading of definitions.
 ghost use Rattle.std.specs.Prelude.{◌≡◌, IfOk, map, option_map, Option, Some, None, Result, Ok, Err};
-ghost use Rattle.index_lang.specs.declared.refusal.LangRefusal.TheVariants.{At};
+ghost use Rattle.index_definition.specs.declared.refusal.LangRefusal.TheVariants.{At};
 ghost use Rattle.index_lang.specs.Parse as spec;
 ghost use Rattle.index_lang.specs.Parse.{UnlessNoMemory, first_cause, unless, where_given};
 
-use crate::definition::{DefBody, Definition};
 use crate::groups::unbound_in_reduce;
 use crate::members::{duplicate, fields_agree, irreducible};
 use crate::names::unbound_name;
 use crate::reading::{ReadMap, ReadReduce, Trees};
-use crate::refusal::{LangKind, LangRefusal, Part};
+use index_definition::{DefBody, Definition, LangKind, LangRefusal, Part};
 use index_parser::{Refusal as MapStop, read_map};
 use index_tokens::{Placed, tokenise};
 use index_tree::{FoldMembers, ReduceQuery};

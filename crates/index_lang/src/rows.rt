@@ -3,12 +3,12 @@ ghost use Rattle.std.specs.Prelude.{◌≡◌, ◌∷◌, [], IfOk, OnOk, codes}
 ghost use Rattle.raven_data.specs.Data.{array, entry, items_of, no_entries, object, text as spec_text};
 ghost use Rattle.raven_data.specs.Rising.{put};
 ghost use Rattle.raven_value.specs.View.{data_of};
-ghost use Rattle.raven_model.specs.Mapping as is;
-ghost use Rattle.raven_model.specs.World as world;
-ghost use Rattle.index_lang.specs.DefinitionView.{definition_view};
+ghost use Rattle.spec_index.specs.Mapping as is;
+ghost use Rattle.spec_index.specs.World as world;
+ghost use Rattle.index_definition.specs.DefinitionView.{definition_view};
 ghost use Rattle.index_lang.specs.Rows.{put_members};
 
-use crate::definition::{DefBody, Definition};
+use index_definition::{DefBody, Definition};
 use raven_base::NoMemory;
 use raven_value::{Members, Path, Text, Value, Values};
 use std::alloc::Global;

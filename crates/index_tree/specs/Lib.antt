@@ -1,3 +1,14 @@
 pub mod Trees
 pub mod TreeCode
 pub mod View
+pub mod Asking
+pub mod Numbers
+pub mod Dates
+pub mod Operators
+pub mod Evaluate
+pub mod Meaning
+pub mod Local
+pub mod Scope
+pub mod Language
+pub mod Mapper
+pub mod Definitions

@@ -1,4 +1,4 @@
-//! The trees of index definitions: what a map and a reduce say, without how they are spelled.
+//! The trees of index definitions: what a map and a reduce say, without how they are spelled; and, in its definitions, what they mean.
 #![tactic(auto)]
 
 mod expression;

@@ -7,10 +7,11 @@ use Rattle.std.proofs.lemmas.List.{drop_more, map-append, take_more}
 use Rattle.std.proofs.lemmas.List.Sums.{sum_by-cons}
 use Rattle.raven_data.specs.Folding.{folded, key_cmp, same_key}
 use Rattle.raven_data.specs.Rows.{Row, key, is_document}
-use Rattle.raven_model.specs.Index.{Table, note_row, note_rows}
-use Rattle.raven_model.specs.Mapping.{Mapper, entry_of, failures, has_failed, is_mapped, scratch}
-use Rattle.raven_laws.proofs.IndexLemmas.{get-note_row}
-use Rattle.raven_laws.proofs.StoreLemmas.{same_means, same_row}
+use Rattle.raven_data.specs.Tables.{Table, note_row, note_rows}
+use Rattle.index_tree.specs.Mapper.{Mapper, is_mapped}
+use Rattle.spec_index.specs.Mapping.{entry_of, failures, has_failed, scratch}
+use Rattle.spec_store.proofs.TableLemmas.{get-note_row}
+use Rattle.spec_store.proofs.StoreLemmas.{same_means, same_row}
 use Rattle.reference_track.specs.Tracks.{Track, is_pair}
 use Rattle.reference_track.specs.Sets.{is_id}
 use Rattle.index_version.specs.Kept.{AreKept, Given, IsFiled, entry_given, given_at, given_of, is_loaded}

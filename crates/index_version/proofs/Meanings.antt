@@ -1,6 +1,6 @@
 -- That a definition's map means it.
 use Rattle.std.proofs.Common.{refl}
-use Rattle.raven_model.specs.Mapping.{Definition, Static, Auto}
+use Rattle.index_tree.specs.Definitions.{Definition, Static, Auto}
 use Rattle.index_version.specs.Meaning.{Means, found_meaning}
 
 pub definition_means : (definition : Definition) → Means (found_meaning definition) definition

@@ -9,7 +9,7 @@ use Rattle.std.specs.List.{cons_option, filter_map}
 use Rattle.std.specs.Map.{values_of}
 use Rattle.std.specs.Option.{option_and_then}
 use Rattle.raven_data.specs.Folding.{key_cmp}
-use Rattle.raven_laws.proofs.KeyedLemmas.{key_ties}
+use Rattle.spec_store.proofs.KeyedLemmas.{key_ties}
 use Rattle.paged_map.specs.Pairs.{AllAnswer, IsRising}
 use Rattle.paged_map.proofs.Rising.{lookup_none}
 use Rattle.index_version.proofs.FoldedMaps.{total, found, entries-rising, same_results}

@@ -6,8 +6,8 @@ use Rattle.std.specs.BTreeMap.{is_at, insert_entry}
 use Rattle.std.specs.List.{list_any}
 use Rattle.raven_data.specs.Folding.{folded, same_key}
 use Rattle.raven_data.specs.Rows.{Row, is_document, key}
-use Rattle.raven_model.specs.Index.{note_row}
-use Rattle.raven_laws.proofs.IndexLemmas.{tied}
+use Rattle.raven_data.specs.Tables.{note_row}
+use Rattle.spec_store.proofs.TableLemmas.{tied}
 use Rattle.paged_map.specs.Pairs.{IsRising}
 use Rattle.reference_track.specs.Sets.{id_cmp, is_one_of}
 use Rattle.index_version.specs.Folded.{by_folded}

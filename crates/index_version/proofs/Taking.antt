@@ -4,9 +4,11 @@ use Rattle.std.specs.FinMap.{FinMap}
 use Rattle.std.specs.List.{list_any}
 use Rattle.raven_data.specs.Folding.{folded, key_cmp, same_key}
 use Rattle.raven_data.specs.Rows.{Row}
-use Rattle.raven_model.specs.Index.{Table, note_rows}
-use Rattle.raven_model.specs.Mapping.{Definition, mapper_of, touched}
-use Rattle.raven_model.specs.World.{Version}
+use Rattle.raven_data.specs.Tables.{Table, note_rows}
+use Rattle.index_tree.specs.Definitions.{Definition}
+use Rattle.index_tree.specs.Mapper.{mapper_of}
+use Rattle.spec_index.specs.Mapping.{touched}
+use Rattle.spec_index.specs.World.{Version}
 use Rattle.raven_base.specs.Counts.{Counts}
 use Rattle.reference_track.specs.Sets.{AreInOrder}
 use Rattle.reference_track.specs.Tracks.{Track}

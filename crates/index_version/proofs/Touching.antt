@@ -11,11 +11,12 @@ use Rattle.std.specs.Map.{values_of}
 use Rattle.std.proofs.lemmas.List.Folds.{list_any-append}
 use Rattle.raven_data.specs.Folding.{folded, key_cmp, same_key}
 use Rattle.raven_data.specs.Rows.{Row, key}
-use Rattle.raven_model.specs.Index.{Table, note_rows}
-use Rattle.raven_model.specs.Mapping.{Mapper, is_mapped, is_taken, loads_taken, touched}
-use Rattle.raven_laws.proofs.IndexLemmas.{tied}
-use Rattle.raven_laws.proofs.KeyedLemmas.{differ_less}
-use Rattle.raven_laws.proofs.StoreLemmas.{either_false, same_itself, same_means}
+use Rattle.raven_data.specs.Tables.{Table, note_rows}
+use Rattle.index_tree.specs.Mapper.{Mapper, is_mapped}
+use Rattle.spec_index.specs.Mapping.{is_taken, loads_taken, touched}
+use Rattle.spec_store.proofs.TableLemmas.{tied}
+use Rattle.spec_store.proofs.KeyedLemmas.{differ_less}
+use Rattle.spec_store.proofs.StoreLemmas.{either_false, same_itself, same_means}
 use Rattle.paged_map.specs.Pairs.{IsRising}
 use Rattle.reference_track.specs.Sets.{AreInOrder, IsBelowAll, is_one_of}
 use Rattle.reference_track.specs.Tracks.{Track, is_pair}

@@ -5,11 +5,12 @@ use Rattle.std.specs.List.{list_any}
 use Rattle.std.specs.Option.{option_and_then}
 use Rattle.raven_data.specs.Folding.{same_key}
 use Rattle.raven_data.specs.Rows.{Row, key, is_document}
-use Rattle.raven_model.specs.Store.{row_at}
-use Rattle.raven_model.specs.Index.{Table, note_row, note_rows}
-use Rattle.raven_model.specs.Mapping.{AlikeAt, Mapper, is_mapped, is_taken}
-use Rattle.raven_laws.proofs.IndexLemmas.{get-note_row}
-use Rattle.raven_laws.proofs.StoreLemmas.{same_itself, same_means}
+use Rattle.spec_store.specs.Store.{row_at}
+use Rattle.raven_data.specs.Tables.{Table, note_row, note_rows}
+use Rattle.index_tree.specs.Mapper.{AlikeAt, Mapper, is_mapped}
+use Rattle.spec_index.specs.Mapping.{is_taken}
+use Rattle.spec_store.proofs.TableLemmas.{get-note_row}
+use Rattle.spec_store.proofs.StoreLemmas.{same_itself, same_means}
 use Rattle.index_version.specs.Kept.{Given, given_at, given_of, is_loaded}
 
 -- A TAKEN ID AMONG THE LOADS

@@ -3,8 +3,9 @@ use Rattle.std.proofs.Common.{◌≡◌, ℕ, ◌+◌, List, ◌∷◌, true, fa
 use Rattle.std.specs.List.{count_by, filter_map}
 use Rattle.std.specs.Map.{values_of}
 use Rattle.std.proofs.lemmas.List.Sums.{sum_by-cons}
-use Rattle.raven_model.specs.Machine.{found, has_words}
-use Rattle.raven_model.specs.Mapping.{Fields, Entry, NoEntry, Failed, has_failed}
+use Rattle.spec_index.specs.Find.{found, has_words}
+use Rattle.index_tree.specs.Meaning.{Fields, Entry, NoEntry, Failed}
+use Rattle.spec_index.specs.Mapping.{has_failed}
 use Rattle.index_version.specs.Kept.{Given, entry_given, has_entry, outcome_has_words}
 
 pub entries_step : (e : List ℕ × Given) (es : List (List ℕ × Given)) → length (filter_map entry_given (values_of (e ∷ es))) ≡ cond (has_entry e.1.mapped.outcome) 1 0 + length (filter_map entry_given (values_of es))

@@ -2,7 +2,7 @@
 use Rattle.std.specs.Prelude.{◌≡◌, ℕ, List, Option, Some, None, refl}
 use Rattle.std.specs.Coded.{Coded, coded_list, coded×, coded_option, code_by}
 use Rattle.raven_data.specs.Codes.{text_code, scalar_code}
-use Rattle.raven_model.specs.Mapping.{Fields, Outcome, Entry, NoEntry, Failed, Mapped}
+use Rattle.index_tree.specs.Meaning.{Fields, Outcome, Entry, NoEntry, Failed, Mapped}
 
 abbrev outcome_parts : Outcome → Option (Option Fields)
 outcome_parts (Entry fields) = Some (Some fields)

@@ -7,9 +7,11 @@ use Rattle.std.specs.Option.{option_and_then}
 use Rattle.raven_data.specs.Codes.{text_code}
 use Rattle.raven_data.specs.Folding.{folded, key_cmp, same_key}
 use Rattle.raven_data.specs.Rows.{Row, key}
-use Rattle.raven_model.specs.Index.{Table}
-use Rattle.raven_model.specs.Machine.{has_words}
-use Rattle.raven_model.specs.Mapping.{Fields, Outcome, Entry, NoEntry, Failed, Mapped, Mapper, is_mapped, entry_of}
+use Rattle.raven_data.specs.Tables.{Table}
+use Rattle.spec_index.specs.Find.{has_words}
+use Rattle.index_tree.specs.Meaning.{Fields, Outcome, Entry, NoEntry, Failed, Mapped}
+use Rattle.index_tree.specs.Mapper.{Mapper, is_mapped}
+use Rattle.spec_index.specs.Mapping.{entry_of}
 use Rattle.reference_track.specs.Tracks.{Track, is_pair}
 use Rattle.index_version.specs.Codes.{mapped_code}
 

@@ -2,11 +2,13 @@
 use Rattle.std.specs.Prelude.{◌≡◌, refl}
 use Rattle.std.specs.FinMap.{get, empty}
 use Rattle.raven_data.specs.Rows.{Row}
-use Rattle.map_meaning.specs.Asking.{Lookup, AgreeAt}
-use Rattle.map_meaning.specs.Local.{meaning_local}
-use Rattle.map_meaning.specs.Meaning as query
-use Rattle.raven_model.specs.Index.{Table}
-use Rattle.raven_model.specs.Mapping.{Definition, Static, Auto, Mapped, auto_meaning, mapper_of}
+use Rattle.index_tree.specs.Asking.{Lookup, AgreeAt}
+use Rattle.index_tree.specs.Local.{meaning_local}
+use Rattle.index_tree.specs.Meaning as query
+use Rattle.raven_data.specs.Tables.{Table}
+use Rattle.index_tree.specs.Definitions.{Definition, Static, Auto}
+use Rattle.index_tree.specs.Meaning.{Mapped}
+use Rattle.index_tree.specs.Mapper.{auto_meaning, mapper_of}
 
 -- over whatever rows are looked up
 abbrev pub found_meaning : Definition → Row → Lookup → Mapped

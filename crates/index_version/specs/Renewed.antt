@@ -3,8 +3,8 @@ use Rattle.std.specs.Prelude.{◌≡◌, ℕ, ◌+◌, ◌≤◌, List, cond, is
 use Rattle.std.specs.FinMap.{FinMap, get}
 use Rattle.std.specs.List.{list_any}
 use Rattle.raven_data.specs.Folding.{folded, key_cmp, same_key}
-use Rattle.raven_model.specs.Index.{Table}
-use Rattle.raven_model.specs.Mapping.{Mapper}
+use Rattle.raven_data.specs.Tables.{Table}
+use Rattle.index_tree.specs.Mapper.{Mapper}
 use Rattle.raven_base.specs.Counts.{Counts}
 use Rattle.reference_track.specs.Tracks.{Track, is_pair}
 use Rattle.index_version.specs.Kept.{Given, given_at, is_loaded}

@@ -2,8 +2,8 @@
 ghost use Rattle.std.specs.Prelude.{◌≡◌, false, map};
 ghost use Rattle.raven_data.specs.Folding.{folded};
 ghost use Rattle.raven_data.specs.Scalars.{holds, Is, words as spec_words};
-ghost use Rattle.raven_model.specs.Machine.{has_words};
-ghost use Rattle.raven_model.specs.Mapping.{has_failed};
+ghost use Rattle.spec_index.specs.Find.{has_words};
+ghost use Rattle.spec_index.specs.Mapping.{has_failed};
 ghost use Rattle.raven_value.specs.ScalarView.{scalar_view};
 ghost use Rattle.map_stage.specs.MappedView.{fields_of, mapped_view, outcome_view};
 ghost use Rattle.index_version.specs.Kept.{has_entry, outcome_has_words};

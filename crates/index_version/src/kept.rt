@@ -3,8 +3,8 @@ ghost use Rattle.std.specs.Prelude.{◌≡◌, ℕ, List, None, Some, IfOk, fals
 ghost use Rattle.std.specs.FinMap.{empty, get};
 ghost use Rattle.std.specs.List.{count_by, filter_map};
 ghost use Rattle.raven_data.specs.Folding.{folded, same_key};
-ghost use Rattle.raven_model.specs.Machine.{found};
-ghost use Rattle.raven_model.specs.Mapping.{has_failed};
+ghost use Rattle.spec_index.specs.Find.{found};
+ghost use Rattle.spec_index.specs.Mapping.{has_failed};
 ghost use Rattle.std.specs.Map.{values_of};
 ghost use Rattle.paged_map.specs.Pairs.{IsRising};
 ghost use Rattle.reference_track.specs.Sets.{id_cmp, is_id};

@@ -4,11 +4,11 @@ ghost use Rattle.std.specs.FinMap.{empty};
 ghost use Rattle.map_stage.specs.MappedView.{fields_of, mapped_view};
 ghost use Rattle.raven_value.specs.RowView.{body_of};
 ghost use Rattle.raven_value.specs.ScalarView.{scalar_view};
-ghost use Rattle.raven_model.specs.Mapping.{auto_meaning, field_of, joined, mapper_of};
-ghost use Rattle.index_lang.specs.DefinitionView.{definition_view};
+ghost use Rattle.index_tree.specs.Mapper.{auto_meaning, field_of, joined, mapper_of};
+ghost use Rattle.index_definition.specs.DefinitionView.{definition_view};
 ghost use Rattle.index_version.specs.Meaning.{found_local, found_meaning};
 
-use index_lang::{DefBody, Definition, joined_name};
+use index_definition::{DefBody, Definition, joined_name};
 use map_stage::{Entry, LangMapper, Lookup, Mapped, Mapper, Outcome};
 use raven_base::{NoMemory, Steps};
 use raven_value::{Body, Ids, Path, Row, Scalar, Text};

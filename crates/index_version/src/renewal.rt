@@ -1,8 +1,8 @@
 //! What is mapped again.
 ghost use Rattle.std.specs.Prelude.{◌≡◌, IfOk, cond, is_some, length, map};
 ghost use Rattle.raven_data.specs.Folding.{folded};
-ghost use Rattle.raven_model.specs.Mapping.{mapper_of};
-ghost use Rattle.index_lang.specs.DefinitionView.{definition_view};
+ghost use Rattle.index_tree.specs.Mapper.{mapper_of};
+ghost use Rattle.index_definition.specs.DefinitionView.{definition_view};
 ghost use Rattle.index_version.specs.Folded.{by_folded};
 ghost use Rattle.index_version.specs.Kept.{given_at};
 ghost use Rattle.index_version.specs.Meaning.{Means};
@@ -12,7 +12,7 @@ use crate::given::Given;
 use crate::kept::Kept;
 use crate::mapping::mapped_collection;
 use crate::table::Table;
-use index_lang::Definition;
+use index_definition::Definition;
 use map_stage::{Lookup, Mapper};
 use raven_base::{NoMemory, Steps};
 use raven_value::Id;

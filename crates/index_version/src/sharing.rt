@@ -1,7 +1,7 @@
 //! Values that several versions of an index share.
 ghost use Rattle.std.specs.Prelude.{◌≡◌, IfOk};
 
-use index_lang::Definition;
+use index_definition::Definition;
 use raven_base::NoMemory;
 use std::alloc::{AllocError, Global};
 use std::marker::Model;

@@ -2,7 +2,7 @@
 ghost use Rattle.std.specs.Prelude.{◌≡◌, IfOk};
 ghost use Rattle.std.specs.FinMap.{empty, get};
 ghost use Rattle.raven_data.specs.Rows as model;
-ghost use Rattle.raven_model.specs.Index.{note_row, note_rows};
+ghost use Rattle.raven_data.specs.Tables.{note_row, note_rows};
 ghost use Rattle.index_version.specs.Folded.{by_folded};
 
 use crate::sharing::Shared;
@@ -23,8 +23,8 @@ pub struct Table {
 }
 
 impl Model for Table {
-    ghost use Rattle.raven_model.specs.Index as index;
-    ghost use Rattle.raven_model.specs.Codes.{table_code};
+    ghost use Rattle.raven_data.specs.Tables as index;
+    ghost use Rattle.raven_data.specs.Codes.{table_code};
     ghost use Rattle.index_version.specs.Folded.{by_folded};
 
     ghost Value = { index.Table };

@@ -2,7 +2,7 @@
 ghost use Rattle.std.specs.Prelude.{◌≡◌, ◌||◌, ℕ, List, IfOk};
 ghost use Rattle.std.specs.List.{list_any};
 ghost use Rattle.raven_data.specs.Folding.{folded};
-ghost use Rattle.raven_model.specs.Mapping.{is_taken};
+ghost use Rattle.spec_index.specs.Mapping.{is_taken};
 ghost use Rattle.reference_track.specs.Sets.{AreInOrder, is_one_of};
 ghost use Rattle.reference_track.specs.Tracks.{is_pair};
 

@@ -1,10 +1,11 @@
 //! How far an index has come.
 ghost use Rattle.std.specs.Prelude.{◌≡◌, IfOk, length};
-ghost use Rattle.raven_model.specs.Index.{note_rows};
-ghost use Rattle.raven_model.specs.Machine.{found_in};
-ghost use Rattle.raven_model.specs.Mapping.{failures, mapper_of, scratch, touched};
-ghost use Rattle.raven_model.specs.World.{fresh, reads};
-ghost use Rattle.index_lang.specs.DefinitionView.{definition_view};
+ghost use Rattle.raven_data.specs.Tables.{note_rows};
+ghost use Rattle.spec_index.specs.Find.{found_in};
+ghost use Rattle.spec_index.specs.Mapping.{failures, scratch, touched};
+ghost use Rattle.index_tree.specs.Mapper.{mapper_of};
+ghost use Rattle.spec_index.specs.World.{fresh, reads};
+ghost use Rattle.index_definition.specs.DefinitionView.{definition_view};
 ghost use Rattle.index_version.specs.Meaning.{Means};
 ghost use Rattle.index_version.specs.Renewed.{MapsAtMost, documents_among};
 
@@ -13,7 +14,7 @@ use crate::renewal::renewed;
 use crate::sharing::share;
 use crate::table::Table;
 use crate::touched::touched_ids;
-use index_lang::{Definition, scope};
+use index_definition::{Definition, scope};
 use map_stage::Mapper;
 use raven_base::{NoMemory, Steps};
 use raven_value::{Ids, Row, Scope};
@@ -33,9 +34,9 @@ pub struct IndexVersion {
 }
 
 impl Model for IndexVersion {
-    ghost use Rattle.raven_model.specs.World as world;
-    ghost use Rattle.raven_model.specs.Codes.{version_code};
-    ghost use Rattle.raven_model.specs.Mapping.{mapper_of};
+    ghost use Rattle.spec_index.specs.World as world;
+    ghost use Rattle.spec_index.specs.Codes.{version_code};
+    ghost use Rattle.index_tree.specs.Mapper.{mapper_of};
     ghost use Rattle.index_version.specs.Folded.{by_folded};
     ghost use Rattle.index_version.specs.Kept.{AreKept};
 
@@ -43,7 +44,7 @@ impl Model for IndexVersion {
 
     ghost coded = { version_code };
 
-    ghost use Rattle.index_lang.specs.DefinitionView.{definition_view};
+    ghost use Rattle.index_definition.specs.DefinitionView.{definition_view};
 
     ghost view = { λ a. record { definition = definition_view a.definition.value.body; etag = a.etag; table = a.table } };
 

@@ -14,11 +14,11 @@ use Rattle.index_tree.specs.declared.map_query.Clause.TheVariants as clause
 use Rattle.index_tree.specs.declared.map_query.MapMember.{MapMember}
 use Rattle.index_tree.specs.declared.map_query.MapQuery.{MapQuery}
 use Rattle.index_tree.specs.Trees.{Tree, If, Binary, Unary, Dot, Load, Num, Quoted, Flag, Null, Var}
-use Rattle.map_meaning.specs.Asking.{Lookup}
-use Rattle.map_meaning.specs.Dates.{date_part}
-use Rattle.map_meaning.specs.Evaluate.{evaluate}
-use Rattle.map_meaning.specs.Meaning.{Mapped, Entry, NoEntry, Failed, meaning}
-use Rattle.map_meaning.specs.Scope.{fields_of, scope_of}
+use Rattle.index_tree.specs.Asking.{Lookup}
+use Rattle.index_tree.specs.Dates.{date_part}
+use Rattle.index_tree.specs.Evaluate.{evaluate}
+use Rattle.index_tree.specs.Meaning.{Mapped, Entry, NoEntry, Failed, meaning}
+use Rattle.index_tree.specs.Scope.{fields_of, scope_of}
 
 -- OPERATORS
 

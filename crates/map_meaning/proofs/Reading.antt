@@ -16,11 +16,11 @@ use Rattle.index_tree.specs.declared.map_query.Clause.TheVariants as clause
 use Rattle.index_tree.specs.declared.map_query.MapMember.{MapMember}
 use Rattle.index_tree.specs.declared.map_query.MapQuery.{MapQuery}
 use Rattle.index_tree.specs.Trees.{Tree, If, Binary, Unary, Dot, Load, Num, Quoted, Flag, Null, Var}
-use Rattle.map_meaning.specs.Asking.{Lookup, Asking, from, gives, after, goes_on, ◌>>=◌}
-use Rattle.map_meaning.specs.Evaluate.{Bindings, document_of, document_in, loaded, chosen, as_flag, in_turn, combined, evaluate}
-use Rattle.map_meaning.specs.Meaning.{Fields, where_some, bound_by, bound_after, fields_with, fields_under, entry_of, mapped, meaning}
-use Rattle.map_meaning.specs.Operators.{is_true, part_of, binary, unary}
-use Rattle.map_meaning.specs.Scope.{named_in, clause_names, all_named, others, each_once, scope_of, kept_in, within}
+use Rattle.index_tree.specs.Asking.{Lookup, Asking, from, gives, after, goes_on, ◌>>=◌}
+use Rattle.index_tree.specs.Evaluate.{Bindings, document_of, document_in, loaded, chosen, as_flag, in_turn, combined, evaluate}
+use Rattle.index_tree.specs.Meaning.{Fields, where_some, bound_by, bound_after, fields_with, fields_under, entry_of, mapped, meaning}
+use Rattle.index_tree.specs.Operators.{is_true, part_of, binary, unary}
+use Rattle.index_tree.specs.Scope.{named_in, clause_names, all_named, others, each_once, scope_of, kept_in, within}
 
 -- NAMES IN A SCOPE
 

@@ -6,10 +6,10 @@ ghost use Rattle.std.specs.Result.{result_map_both};
 ghost use Rattle.jiff_fmt.specs.Temporal.{parse_date, parse_datetime};
 ghost use Rattle.raven_data.specs.Rows.{Row};
 ghost use Rattle.index_tree.specs.declared.map_query.MapQuery.{MapQuery};
-ghost use Rattle.map_meaning.specs.Asking.{AgreeAt, Lookup};
-ghost use Rattle.map_meaning.specs.Meaning.{meaning};
-ghost use Rattle.map_meaning.specs.Scope.{scope_of, within};
-ghost use Rattle.map_meaning.specs.Numbers.{is_within};
+ghost use Rattle.index_tree.specs.Asking.{AgreeAt, Lookup};
+ghost use Rattle.index_tree.specs.Meaning.{meaning};
+ghost use Rattle.index_tree.specs.Scope.{scope_of, within};
+ghost use Rattle.index_tree.specs.Numbers.{is_within};
 
 /// What a map gives hangs on the document and on what its loads give, and on nothing else: where a second lookup has the same at all ids
 /// that were asked for under the first one, the map gives the same under it, and asks for the same ids.

@@ -1,4 +1,4 @@
-//! What the map of an index gives for a document, as definitions alone, and the laws of it, each the contract of a function without a body.
+//! The laws of what the map of an index gives for a document, each the contract of a function without a body.
 #![tactic(auto)]
 
 mod laws;

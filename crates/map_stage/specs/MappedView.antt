@@ -5,7 +5,7 @@ use Rattle.raven_data.specs.Scalars as is
 use Rattle.raven_value.specs.declared.scalar.Scalar.{Scalar}
 use Rattle.raven_value.specs.declared.text.Text.{Text}
 use Rattle.raven_value.specs.ScalarView.{scalar_view}
-use Rattle.map_meaning.specs.Meaning as meaning
+use Rattle.index_tree.specs.Meaning as meaning
 use Rattle.map_stage.specs.declared.mapper.Mapped.{Mapped}
 use Rattle.map_stage.specs.declared.mapper.Outcome.{Outcome}
 use Rattle.map_stage.specs.declared.mapper.Outcome.TheVariants as o

@@ -3,8 +3,8 @@ use Rattle.std.specs.Prelude.{◌≡◌, ℕ, List, map, reverse, Bool, if◌the
 use Rattle.raven_data.specs.Data.{Data}
 use Rattle.raven_data.specs.Folding.{folded}
 use Rattle.raven_value.specs.declared.id.Id.{Id}
-use Rattle.map_meaning.specs.Asking.{Lookup, Asking, after}
-use Rattle.map_meaning.specs.Evaluate.{Bindings, evaluate}
+use Rattle.index_tree.specs.Asking.{Lookup, Asking, after}
+use Rattle.index_tree.specs.Evaluate.{Bindings, evaluate}
 use Rattle.index_tree.specs.Trees.{Tree}
 use Rattle.map_stage.specs.declared.held.Held.{Held}
 use Rattle.map_stage.specs.declared.scene.Binding.{Binding}

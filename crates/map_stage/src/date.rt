@@ -1,6 +1,6 @@
 //! The year, the month and the day of a text.
 ghost use Rattle.std.specs.Prelude.{◌≡◌};
-ghost use Rattle.map_meaning.specs.Dates.{date_part, without_mark};
+ghost use Rattle.index_tree.specs.Dates.{date_part, without_mark};
 
 use jiff_fmt::temporal::parse_date;
 

@@ -2,8 +2,8 @@
 ghost use Rattle.std.specs.Prelude.{◌≡◌, IfOk, [], map, option_map};
 ghost use Rattle.raven_data.specs.Folding.{folded};
 ghost use Rattle.raven_value.specs.RowView.{body_of};
-ghost use Rattle.map_meaning.specs.Evaluate.{document_of};
-ghost use Rattle.map_meaning.specs.Meaning.{bound_after, bound_by, entry_of, fields_with, mapped};
+ghost use Rattle.index_tree.specs.Evaluate.{document_of};
+ghost use Rattle.index_tree.specs.Meaning.{bound_after, bound_by, entry_of, fields_with, mapped};
 ghost use Rattle.map_stage.specs.MappedView.{fields_of, outcome_view};
 ghost use Rattle.map_stage.specs.Reached.{bindings_of, bound_if, from_there};
 

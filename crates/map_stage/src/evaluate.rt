@@ -2,7 +2,7 @@
 ghost use Rattle.std.specs.Prelude.{IfOk};
 ghost use Rattle.index_tree.specs.Trees.{Binary, Dot, If, Load, Unary};
 ghost use Rattle.index_tree.specs.declared.expression.BinaryOp.TheVariants.{And, Or};
-ghost use Rattle.map_meaning.specs.Evaluate.{as_flag, in_turn};
+ghost use Rattle.index_tree.specs.Evaluate.{as_flag, in_turn};
 ghost use Rattle.map_stage.specs.Reached.{Does, value_under};
 
 use crate::held::Held;

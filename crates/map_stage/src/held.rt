@@ -3,7 +3,7 @@ ghost use Rattle.std.specs.Prelude.{◌≡◌, IfOk};
 ghost use Rattle.raven_data.specs.Scalars.{scalar_of};
 ghost use Rattle.raven_value.specs.ScalarView.{scalar_view};
 ghost use Rattle.raven_value.specs.View.{data_of};
-ghost use Rattle.map_meaning.specs.Operators.{is_true};
+ghost use Rattle.index_tree.specs.Operators.{is_true};
 ghost use Rattle.map_stage.specs.HeldView.{held_of};
 
 use raven_base::NoMemory;

@@ -1,6 +1,6 @@
 //! The map of a text of the index language.
-ghost use Rattle.map_meaning.specs.Local.{meaning_local};
-ghost use Rattle.map_meaning.specs.Meaning as meaning;
+ghost use Rattle.index_tree.specs.Local.{meaning_local};
+ghost use Rattle.index_tree.specs.Meaning as meaning;
 
 use crate::entry::outcome_of;
 use crate::lookup::Lookup;

@@ -1,6 +1,6 @@
 //! Documents that a map loads.
 ghost use Rattle.std.specs.Prelude.{◌≡◌, IfOk, Some, option_map};
-ghost use Rattle.map_meaning.specs.Evaluate.{document_in, document_of, loaded};
+ghost use Rattle.index_tree.specs.Evaluate.{document_in, document_of, loaded};
 ghost use Rattle.raven_value.specs.RowView.{body_of};
 ghost use Rattle.map_stage.specs.HeldView.{held_of};
 ghost use Rattle.map_stage.specs.Reached.{Does};

@@ -1,6 +1,6 @@
 //! Whole numbers of 64 bits.
 ghost use Rattle.std.specs.Prelude.{◌≡◌};
-ghost use Rattle.map_meaning.specs.Numbers.{difference, negative, product, quotient, remainder, sum};
+ghost use Rattle.index_tree.specs.Numbers.{difference, negative, product, quotient, remainder, sum};
 
 /// The sum, if it fits.
 pub fn sum(m: i64, n: i64) -> Option<i64>

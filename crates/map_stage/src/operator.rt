@@ -4,8 +4,8 @@ ghost use Rattle.std.specs.Option.{option_map_or};
 ghost use Rattle.std.specs.Ordering.{is_ge, is_gt, is_le, is_lt};
 ghost use Rattle.raven_data.specs.Data.{entries_of, items_of, num};
 ghost use Rattle.raven_value.specs.DataEq.{data_eq, entries_eq, items_eq};
-ghost use Rattle.map_meaning.specs.Numbers.{difference, product, quotient, remainder, sum};
-ghost use Rattle.map_meaning.specs.Operators.{arithmetic, binary, part_of, plus, standing, unary};
+ghost use Rattle.index_tree.specs.Numbers.{difference, product, quotient, remainder, sum};
+ghost use Rattle.index_tree.specs.Operators.{arithmetic, binary, part_of, plus, standing, unary};
 ghost use Rattle.map_stage.specs.HeldView.{held_of};
 
 use crate::date::date_part;

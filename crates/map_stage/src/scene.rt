@@ -1,6 +1,6 @@
 //! What is at hand while a document is mapped.
 ghost use Rattle.std.specs.Prelude.{◌≡◌, IfOk};
-ghost use Rattle.map_meaning.specs.Evaluate.{value_of};
+ghost use Rattle.index_tree.specs.Evaluate.{value_of};
 ghost use Rattle.map_stage.specs.HeldView.{held_of};
 ghost use Rattle.map_stage.specs.Reached.{bindings_of};
 

@@ -3,10 +3,10 @@ use Rattle.std.proofs.Common.{◌≡◌, ℕ, List, [], Bool, true, Option, Some
 use Rattle.std.specs.Prelude.{option_map}
 use Rattle.raven_data.specs.Faults.{Fault}
 use Rattle.raven_data.specs.Rows.{Row}
-use Rattle.raven_model.specs.Machine.{Machine, Request, change_of, step}
-use Rattle.raven_model.specs.Replies.{Reply, printed}
-use Rattle.raven_model.specs.Script.{BadId, BadName, Circumstance, Do, LineRead, ReadRefusal, asked_of, after_line, fault_reply, left_by, refusal_reply, reply_to, written_for}
-use Rattle.raven_reading.specs.Lines.{IsLine}
+use Rattle.spec_server.specs.Machine.{Machine, Request, change_of, step}
+use Rattle.spec_server.specs.Replies.{Reply, printed}
+use Rattle.spec_server.specs.Script.{BadId, BadName, Circumstance, Do, LineRead, ReadRefusal, asked_of, after_line, fault_reply, left_by, refusal_reply, reply_to, written_for}
+use Rattle.index_lang.specs.Lines.{IsLine}
 use Rattle.raven_script.specs.LineView.{Answers, IsReading}
 use Rattle.raven_script.specs.RequestView.{IsBadId, IsBadName, line_view}
 use Rattle.raven_script.specs.declared.request.Line.{Line}

@@ -4,8 +4,8 @@ use Rattle.std.proofs.lemmas.List.{length-append}
 use Rattle.raven_data.specs.Kept.{KeptRow}
 use Rattle.raven_ports.specs.Told.{preceded}
 use Rattle.raven_reading.proofs.Once.{held_once}
-use Rattle.raven_reading.specs.Openings.{IsOpened}
-use Rattle.raven_model.specs.Options.{Options, options_in, setting_with}
+use Rattle.index_lang.specs.Openings.{IsOpened}
+use Rattle.spec_server.specs.Options.{Options, options_in, setting_with}
 use Rattle.raven_console.specs.declared.status.Status.{Status}
 use Rattle.raven_console.specs.declared.status.Status.TheVariants as status
 use Rattle.raven_console.specs.Ends.{TellsKeptBad}

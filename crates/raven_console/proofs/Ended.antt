@@ -1,8 +1,8 @@
 -- How a run ends.
 use Rattle.std.proofs.Common.{◌≡◌, ◌⊎◌, inl, inr, ℕ, List, Option, Some, None, IfSome, [], sym, subst}
 use Rattle.raven_data.specs.Kept.{KeptRow}
-use Rattle.raven_model.specs.Machine.{Machine}
-use Rattle.raven_model.specs.Options.{Options, options_in, setting_with}
+use Rattle.spec_server.specs.Machine.{Machine}
+use Rattle.spec_server.specs.Options.{Options, options_in, setting_with}
 use Rattle.raven_console.specs.Outcome.{Answers, Begins, Finished, IsKeptBad, IsBad, Loads, Opens, Stopped, StoppedEarly, StopsBefore, StopsIn}
 use Rattle.raven_console.specs.Outside.{KeeperState, Keeps}
 

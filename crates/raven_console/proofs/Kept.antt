@@ -2,10 +2,11 @@
 use Rattle.std.proofs.Common.{◌≡◌, ℕ, List, [], ◌∷◌, Bool, true, false, Option, Some, None, option_map, IfSome, Result, Ok, Err, refl, sym, ap, ◌∙◌, subst}
 use Rattle.raven_data.specs.Kept.{KeptRow, EtagsRise, all_kept, keep_all, last_kept}
 use Rattle.raven_data.specs.Rows.{Row}
-use Rattle.raven_model.specs.Machine.{Machine, Change, Request, change_of, settled}
-use Rattle.raven_model.specs.Script.{Do, LineRead, after_line, left_by}
-use Rattle.raven_model.specs.Store.{Store, with_rows}
-use Rattle.raven_laws.proofs.KeepLemmas.{change-rows, kept-with_rows, next-alone, next-behind}
+use Rattle.spec_server.specs.Machine.{Machine, Change, Request, change_of, settled}
+use Rattle.spec_server.specs.Script.{Do, LineRead, after_line, left_by}
+use Rattle.spec_store.specs.Store.{Store, with_rows}
+use Rattle.raven_laws.proofs.KeepLemmas.{change-rows}
+use Rattle.spec_store.proofs.KeepLemmas.{kept-with_rows, next-alone, next-behind}
 use Rattle.raven_laws.proofs.MachineLemmas.{step-Moves}
 use Rattle.raven_console.specs.Answering.{IsAnswered}
 use Rattle.raven_console.specs.Outside.{KeeperState, Asked, Keeps, circumstance, given, rows_in}

@@ -1,7 +1,7 @@
 -- Where the first line ends.
 use Rattle.std.proofs.Common.{◌≡◌, ◌≢◌, ◌<◌, ◌-◌, ◌≤◌, ℕ, ◌+◌, suc, zero, List, [], ◌∷◌, length, get_or, take, drop, true, false, refl, ap, sym, ◌∙◌, arith, add-one, subst}
 use Rattle.std.proofs.lemmas.Grind.{common_steps}
-use Rattle.raven_model.specs.Lines.{lines, onto, begins_with}
+use Rattle.spec_server.specs.Lines.{lines, onto, begins_with}
 use Rattle.raven_console.specs.LineEnds.{without_cr, IsFirstEnd}
 
 -- without an end there is one line

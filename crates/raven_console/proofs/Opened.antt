@@ -7,21 +7,21 @@ use Rattle.raven_data.specs.Faults.{is_fit, max_id}
 use Rattle.raven_data.specs.Kept.{KeptRow, all_kept}
 use Rattle.raven_data.specs.Moments.{moments_end}
 use Rattle.raven_data.specs.Rows.{Row, Body, key}
-use Rattle.raven_model.specs.Commit.{Setting}
-use Rattle.raven_model.specs.Kept.{body_in, is_etag, max_etag, may_stand_behind, row_behind, row_in, rows_behind, rows_in, or_bad_row}
-use Rattle.raven_model.specs.Machine.{Machine}
-use Rattle.raven_reading.specs.Openings.{IsOpened, IsOpenedBy, OpensAs}
-use Rattle.raven_model.specs.Options.{setting_with}
-use Rattle.raven_model.specs.Store.{last_of, row_at}
-use Rattle.raven_model.specs.Words.{base_id, program}
+use Rattle.spec_store.specs.Commit.{Setting}
+use Rattle.spec_store.specs.Kept.{body_in, is_etag, max_etag, may_stand_behind, row_behind, row_in, rows_behind, rows_in, or_bad_row}
+use Rattle.spec_server.specs.Machine.{Machine}
+use Rattle.index_lang.specs.Openings.{IsOpened, IsOpenedBy, OpensAs}
+use Rattle.spec_server.specs.Options.{setting_with}
+use Rattle.spec_store.specs.Store.{last_of, row_at}
+use Rattle.spec_store.specs.Limits.{base_id, program}
 use Rattle.doc_store.specs.Opening.{first_bad, is_sound_after}
 use Rattle.doc_txn.specs.SettingView.{setting_of}
 use Rattle.doc_txn.specs.declared.limits.Limits.{Limits}
-use Rattle.raven_laws.proofs.StoreLemmas.{both_true}
+use Rattle.spec_store.proofs.StoreLemmas.{both_true}
 use Rattle.doc_keeper.specs.Loading.{AreCalls, IsLoaded}
 use Rattle.raven_world.specs.Opened as worlds
 use Rattle.raven_laws.proofs.OpenLemmas.{opened_from-Sound, opened_from-rows}
-use Rattle.raven_reopening.proofs.TextLemmas.{opened-told}
+use Rattle.raven_reading.proofs.TextLemmas.{opened-told}
 use Rattle.raven_console.specs.Outcome.{IsBad, Loads, Opens}
 use Rattle.raven_console.specs.Outside.{KeeperState, Keeps}
 

@@ -1,8 +1,8 @@
 -- What a request leaves once the keeper was asked.
 use Rattle.std.proofs.Common.{◌≡◌, ℕ, List, [], ◌∷◌, Bool, true, false, refl, sym, ap, ◌∙◌, subst}
 use Rattle.raven_data.specs.Rows.{Row}
-use Rattle.raven_model.specs.Machine.{Machine, Change, Replied, Request, change_of, settled, same_machine, step}
-use Rattle.raven_model.specs.Replies.{KeeperFault, printed}
+use Rattle.spec_server.specs.Machine.{Machine, Change, Replied, Request, change_of, settled, same_machine, step}
+use Rattle.spec_server.specs.Replies.{KeeperFault, printed}
 use Rattle.raven_console.specs.Outside.{KeeperState, Asked, circumstance}
 use Rattle.raven_console.proofs.Kept.{rising, past}
 

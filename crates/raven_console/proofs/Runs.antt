@@ -3,9 +3,9 @@ use Rattle.std.proofs.Common.{◌≡◌, ℕ, ◌<◌, List, [], ◌∷◌, ◌+
 use Rattle.std.proofs.lemmas.List.{append-nil}
 use Rattle.raven_data.specs.Moments.{moments_end}
 use Rattle.raven_ports.specs.Told.{appended}
-use Rattle.raven_model.specs.Lines.{lines}
-use Rattle.raven_model.specs.Machine.{Machine}
-use Rattle.raven_model.specs.Script.{Given, reply_to, replies_to, after_line, after_lines}
+use Rattle.spec_server.specs.Lines.{lines}
+use Rattle.spec_server.specs.Machine.{Machine}
+use Rattle.spec_server.specs.Script.{Given, reply_to, replies_to, after_line, after_lines}
 use Rattle.raven_console.specs.Answering.{IsAnswered}
 use Rattle.raven_console.specs.Outside.{KeeperState, Asked, Come, Comes, MayTell, given, rows_in}
 use Rattle.raven_console.specs.Outcome.{Answers, GivesFront, StopsBefore, StopsIn, texts_of}

@@ -4,7 +4,7 @@ use Rattle.std.specs.Prelude.{◌&&◌, if◌then◌else◌, codes}
 use Rattle.std.specs.Option.{is_some, option_map}
 use Rattle.std.specs.Str.{bytes_eq}
 use Rattle.std.proofs.lemmas.Slice.Eq.{bytes_eq-Decides}
-use Rattle.raven_model.specs.Options.{Options, Pairs, are_known, are_once, base_in, has_name, is_value, options_in, pairs_in, run_names, run_options, value_named}
+use Rattle.spec_server.specs.Options.{Options, Pairs, are_known, are_once, base_in, has_name, is_value, options_in, pairs_in, run_names, run_options, value_named}
 use Rattle.raven_console.specs.WordsView.{Texts, bytes_of, texts_in}
 
 -- the first of them that is there

@@ -1,9 +1,9 @@
 -- What is answered to a line.
 use Rattle.std.specs.Prelude.{◌≡◌, ℕ, List, Bool, Err}
-use Rattle.raven_model.specs.Machine.{Machine}
-use Rattle.raven_model.specs.Replies.{Reply}
-use Rattle.raven_model.specs.Script.{LineRead, ReadRefusal, after_line, refusal_reply, reply_to}
-use Rattle.raven_reading.specs.Lines.{IsLine}
+use Rattle.spec_server.specs.Machine.{Machine}
+use Rattle.spec_server.specs.Replies.{Reply}
+use Rattle.spec_server.specs.Script.{LineRead, ReadRefusal, after_line, refusal_reply, reply_to}
+use Rattle.index_lang.specs.Lines.{IsLine}
 use Rattle.raven_console.specs.Outside.{Asked, KeeperState, given, rows_in}
 
 -- the line was read as it is, this is written for it, the keeper was asked for its rows, and the machine is that after it

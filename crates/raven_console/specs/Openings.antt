@@ -1,7 +1,7 @@
 -- What is told where a database does not open.
 use Rattle.std.specs.Prelude.{List, Option}
 use Rattle.raven_data.specs.Kept.{KeptRow}
-use Rattle.raven_model.specs.Commit.{Setting}
+use Rattle.spec_store.specs.Commit.{Setting}
 use Rattle.doc_keeper.specs.declared.loading.LoadFault.{LoadFault}
 use Rattle.doc_keeper.specs.declared.loading.LoadFault.TheVariants.{Failed, KeptBad, NoMemory}
 use Rattle.raven_console.specs.Outcome.{IsBad}

@@ -3,13 +3,12 @@ use Rattle.std.specs.Prelude.{◌≡◌, ℕ, ◌≤◌, List, [], ◌∷◌, �
 use Rattle.raven_data.specs.Kept.{KeptRow}
 use Rattle.raven_ports.specs.Told.{appended}
 use Rattle.doc_keeper.specs.Loading.{AreCalls}
-use Rattle.raven_model.specs.Commit.{Setting}
-use Rattle.raven_model.specs.Lines.{lines}
-use Rattle.raven_model.specs.Machine.{Machine}
-use Rattle.raven_model.specs.Options.{Options, options_in, setting_with}
-use Rattle.raven_model.specs.Script.{Given, reply_to, replies_to, after_lines}
-use Rattle.raven_model.specs.Words.{max_input}
-use Rattle.raven_reading.specs.Openings.{IsOpened}
+use Rattle.spec_store.specs.Commit.{Setting}
+use Rattle.spec_server.specs.Lines.{lines, max_input}
+use Rattle.spec_server.specs.Machine.{Machine}
+use Rattle.spec_server.specs.Options.{Options, options_in, setting_with}
+use Rattle.spec_server.specs.Script.{Given, reply_to, replies_to, after_lines}
+use Rattle.index_lang.specs.Openings.{IsOpened}
 use Rattle.raven_console.specs.Outside.{KeeperState, Come, Holds}
 
 -- a front of these bytes was added

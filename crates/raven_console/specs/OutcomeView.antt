@@ -1,7 +1,7 @@
 -- What a request leaves, and what it changes of the machine.
 use Rattle.std.specs.Prelude.{Option, Some, None}
-use Rattle.raven_model.specs.World as is
-use Rattle.raven_model.specs.Machine.{Change}
+use Rattle.spec_index.specs.World as is
+use Rattle.spec_server.specs.Machine.{Change}
 use Rattle.raven_reply.specs.ReplyView.{reply_view}
 use Rattle.raven_world.specs.Told.{machine_of}
 use Rattle.raven_console.specs.declared.outcome.Outcome.{Outcome}

@@ -5,10 +5,10 @@ use Rattle.raven_data.specs.Moments.{moments_end}
 use Rattle.raven_data.specs.Rows.{Row}
 use Rattle.raven_ports.specs.Faults.{Rose}
 use Rattle.raven_ports.specs.Plan.{Plan, is_failing, one_later}
-use Rattle.raven_model.specs.Machine.{Machine, change_of}
-use Rattle.raven_model.specs.Script.{Circumstance, Given, LineRead, Do, after_line}
-use Rattle.raven_model.specs.Sound.{Sound}
-use Rattle.raven_reading.specs.Lines.{IsLine}
+use Rattle.spec_server.specs.Machine.{Machine, change_of}
+use Rattle.spec_server.specs.Script.{Circumstance, Given, LineRead, Do, after_line}
+use Rattle.spec_server.specs.Sound.{Sound}
+use Rattle.index_lang.specs.Lines.{IsLine}
 
 -- a keeper at one moment: the rows that it holds and the calls that fail, where it tells them, and its count of faults
 pub record KeeperState : Type 0 where

@@ -1,8 +1,8 @@
 -- What a change needs before the keeper is asked.
 use Rattle.std.specs.Prelude.{◌≡◌}
-use Rattle.raven_model.specs.World as is
-use Rattle.raven_model.specs.Machine.{Change}
-use Rattle.raven_model.specs.Replies.{printed}
+use Rattle.spec_index.specs.World as is
+use Rattle.spec_server.specs.Machine.{Change}
+use Rattle.spec_server.specs.Replies.{printed}
 use Rattle.raven_world.specs.Told.{machine_of}
 use Rattle.raven_console.specs.OutcomeView.{world_left}
 use Rattle.raven_console.specs.declared.machine.Prepared.{Prepared}

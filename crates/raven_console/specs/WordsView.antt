@@ -2,7 +2,7 @@
 use Rattle.std.specs.Borrow.{Bor}
 use Rattle.std.specs.Prelude.{ℕ, List, ◌&&◌, if◌then◌else◌, Option, Some, None, codes}
 use Rattle.std.specs.Option.{option_map}
-use Rattle.raven_model.specs.Options.{Options, Pairs, are_known, are_once, run_names, value_named}
+use Rattle.spec_server.specs.Options.{Options, Pairs, are_known, are_once, run_names, value_named}
 use Rattle.raven_console.specs.declared.options.RunOptions.{RunOptions}
 
 abbrev pub bytes_of : Option (Bor (List ℕ)) → Option (List ℕ)

@@ -1,6 +1,6 @@
 //! The lines of a script.
 ghost use Rattle.std.specs.Prelude.{◌≡◌, ◌<◌, ◌∷◌, ◌≢◌, length, IfSome, IfNone, slice_index, ℕ};
-ghost use Rattle.raven_model.specs.Lines.{lines};
+ghost use Rattle.spec_server.specs.Lines.{lines};
 ghost use Rattle.raven_console.specs.LineEnds.{IsFirstEnd, without_cr as spec_without_cr};
 
 fn line_end(bytes: &[u8]) -> Option<usize>

@@ -1,8 +1,8 @@
 //! The machine that answers lines.
 ghost use Rattle.std.specs.Prelude.{◌≡◌, ◌<◌, ◌≤◌, true, false, IfOk, OnErr};
 ghost use Rattle.raven_data.specs.Moments.{moments_end};
-ghost use Rattle.raven_model.specs.Machine.{change_of, step};
-ghost use Rattle.raven_model.specs.Replies.{KeeperFault, printed as spec_printed};
+ghost use Rattle.spec_server.specs.Machine.{change_of, step};
+ghost use Rattle.spec_server.specs.Replies.{KeeperFault, printed as spec_printed};
 ghost use Rattle.raven_reply.specs.ReplyView.{reply_view};
 ghost use Rattle.raven_console.specs.Answering.{IsAnswered};
 ghost use Rattle.raven_console.specs.Outside.{Asked, Keeps, circumstance, seen};
@@ -29,8 +29,8 @@ pub struct Machine {
 }
 
 impl Model for Machine {
-    ghost use Rattle.raven_model.specs.Machine as is;
-    ghost use Rattle.raven_model.specs.Codes.{machine_code};
+    ghost use Rattle.spec_server.specs.Machine as is;
+    ghost use Rattle.spec_server.specs.Codes.{machine_code};
 
     ghost Value = { is.Machine };
 

@@ -1,6 +1,6 @@
 //! Opening a database from what its keeper holds.
 ghost use Rattle.std.specs.Prelude.{◌≡◌, ◌≤◌, IfErr, IfOk, IsErrOf};
-ghost use Rattle.raven_model.specs.Options.{setting_with};
+ghost use Rattle.spec_server.specs.Options.{setting_with};
 ghost use Rattle.raven_ports.specs.Faults.{Rose};
 ghost use Rattle.raven_console.specs.Outcome.{IsBad, Loads, Opens};
 ghost use Rattle.raven_console.specs.Outside.{Keeps, seen};

@@ -1,7 +1,7 @@
 //! What a request leaves.
 ghost use Rattle.std.specs.Prelude.{◌≡◌, IfOk, Some};
-ghost use Rattle.raven_model.specs.World as is;
-ghost use Rattle.raven_model.specs.Machine.{Auto, change_of, no_change};
+ghost use Rattle.spec_index.specs.World as is;
+ghost use Rattle.spec_server.specs.Machine.{Auto, change_of, no_change};
 ghost use Rattle.raven_script.specs.RequestView.{request_view};
 ghost use Rattle.raven_world.specs.Told.{change_view, machine_of, told};
 ghost use Rattle.raven_reply.specs.ReplyView.{reply_view};

@@ -1,7 +1,7 @@
 //! The whole input.
 ghost use Rattle.std.specs.Prelude.{◌≡◌, ◌≤◌, length, IfOk, IfSome, [], Some, IsErrOf};
 ghost use Rattle.raven_ports.specs.Faults.{Rose};
-ghost use Rattle.raven_model.specs.Words.{max_input};
+ghost use Rattle.spec_server.specs.Lines.{max_input};
 ghost use Rattle.raven_console.specs.Input.{TakesMore, TakesWithin};
 
 use raven_ports::Source;

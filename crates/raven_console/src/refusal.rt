@@ -1,12 +1,11 @@
 //! The replies to lines that are not read.
-ghost use Rattle.std.specs.Prelude.{◌≡◌, ℕ, List, IfOk, Err};
+ghost use Rattle.std.specs.Prelude.{◌≡◌, ℕ, List, IfOk, Err, Some};
 ghost use Rattle.raven_data.specs.Faults.{Fault};
-ghost use Rattle.raven_model.specs.Script.{asked_of, fault_reply};
+ghost use Rattle.spec_server.specs.Script.{asked_of, fault_reply};
 ghost use Rattle.raven_reply.specs.ReplyView.{reply_view};
 ghost use Rattle.raven_console.specs.Answering.{IsRefusedLine};
 ghost use Rattle.raven_script.specs.LineView.{Answers};
 ghost use Rattle.raven_value.specs.Refusal.{fault_in};
-ghost use Rattle.std.specs.Prelude.{Some};
 
 use raven_base::NoMemory;
 use raven_script::ReadRefusal;

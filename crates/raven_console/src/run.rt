@@ -1,6 +1,6 @@
 //! What the program does.
 ghost use Rattle.std.specs.Prelude.{◌≡◌, ◌≤◌, ◌⊎◌, None, Some, IfSome, OnOk, OnErr, IsErrOf, IsSome, map, string_bytes};
-ghost use Rattle.raven_model.specs.Options.{options_in};
+ghost use Rattle.spec_server.specs.Options.{options_in};
 ghost use Rattle.raven_ports.specs.Faults.{Rose};
 ghost use Rattle.raven_console.specs.Ends.{IsUnopened, TellsKeptBad};
 ghost use Rattle.raven_console.specs.Input.{TakesMore, TakesWithin};

@@ -1,6 +1,6 @@
 //! The words that the program is called with: a command, and then pairs of a name and a value.
 ghost use Rattle.std.specs.Prelude.{◌≡◌, ◌↔◌, IfOk, IfSome, None, map, option_map, string_bytes};
-ghost use Rattle.raven_model.specs.Options.{base_in, is_value as spec_is_value, options_in, pairs_in};
+ghost use Rattle.spec_server.specs.Options.{base_in, is_value as spec_is_value, options_in, pairs_in};
 ghost use Rattle.raven_console.specs.WordsView.{bytes_of, file_named, options_view, texts_in, texts_view};
 
 use crate::options::{Outside, RunOptions};

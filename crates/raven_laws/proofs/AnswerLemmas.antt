@@ -9,19 +9,24 @@ use Rattle.std.specs.FinMap.{get, values, entries, find as entry_at, is_sorted, 
 use Rattle.std.specs.FinMap.Entries.{below_all}
 use Rattle.raven_data.specs.Folding.{key_cmp}
 use Rattle.raven_data.specs.Rows.{Row}
-use Rattle.raven_model.specs.Store.{row_at}
-use Rattle.raven_model.specs.Index.{Table, documents}
-use Rattle.raven_model.specs.Mapping.{Fields, Outcome, Entry, NoEntry, Failed, mapper_of, is_mapped, mapped_documents, entry_of, scratch}
-use Rattle.raven_model.specs.Commit.{Setting}
-use Rattle.raven_model.specs.World.{Slot, World, reads, serving}
-use Rattle.raven_model.specs.Replies.{Reply}
-use Rattle.raven_model.specs.Machine.{Machine, Event, start, run, answer_find, has_words, found_in, is_stale}
-use Rattle.raven_model.specs.Sound.{Has, Sound}
+use Rattle.spec_store.specs.Store.{row_at}
+use Rattle.raven_data.specs.Tables.{Table}
+use Rattle.spec_index.specs.Index.{documents}
+use Rattle.index_tree.specs.Meaning.{Fields, Outcome, Entry, NoEntry, Failed}
+use Rattle.index_tree.specs.Mapper.{mapper_of, is_mapped}
+use Rattle.spec_index.specs.Mapping.{mapped_documents, entry_of, scratch}
+use Rattle.spec_store.specs.Commit.{Setting}
+use Rattle.spec_index.specs.World.{Slot, World, reads, serving}
+use Rattle.spec_server.specs.Replies.{Reply}
+use Rattle.spec_server.specs.Machine.{Machine, Event, start, run, answer_find, is_stale}
+use Rattle.spec_index.specs.Find.{has_words, found_in}
+use Rattle.spec_server.specs.Sound.{Has, Sound}
 use Rattle.raven_laws.specs.Claims.{IsAsKept, ids_in, flag_in, find_reply, FreshIsFromScratch, FlagsAreExact, IdsAreAsKept}
-use Rattle.raven_laws.proofs.StoreLemmas.{same_itself}
-use Rattle.raven_laws.proofs.IndexLemmas.{tied, fresh_whole}
-use Rattle.raven_laws.proofs.KeyedLemmas.{differ_less}
-use Rattle.raven_laws.proofs.StaleLemmas.{stale-Unseen, Unseen-stale, fresh-seen, seen-fresh}
+use Rattle.spec_store.proofs.StoreLemmas.{same_itself}
+use Rattle.spec_store.proofs.TableLemmas.{tied}
+use Rattle.raven_laws.proofs.IndexLemmas.{fresh_whole}
+use Rattle.spec_store.proofs.KeyedLemmas.{differ_less}
+use Rattle.spec_store.proofs.StaleLemmas.{stale-Unseen, Unseen-stale, fresh-seen, seen-fresh}
 use Rattle.raven_laws.proofs.SlotLemmas.{Has-filter, Has-map, served, serves}
 use Rattle.raven_laws.proofs.MachineLemmas.{run-Sound}
 

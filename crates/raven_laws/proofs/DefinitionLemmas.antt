@@ -1,25 +1,23 @@
 -- Definitions that say the same, and what is answered to a Define, a Remove and a batch for one index.
 use Rattle.std.proofs.Common.{◌≡◌, ℕ, ◌+◌, List, [], ◌∷◌, ◌++◌, Bool, true, false, not, cond, ◌&&◌, nat_lt, nat_le, length, map, Option, Some, None, option_map, Ok, Err, refl, sym, ap, ◌∙◌, subst, ◌⊎◌, inl, inr, ◌↔◌}
 use Rattle.std.proofs.lemmas.Bool.{eqb-true, eq-eqb, leb-true, leb-false, ltb-true, ltb-false}
-use Rattle.std.specs.Coded.{Coded}
+use Rattle.std.specs.Coded.{Coded, coded_list}
 use base.Stored.{Gv, gnil, gnum, gcons}
 use Rattle.raven_data.specs.Folding.{folded, same_key}
 use Rattle.raven_data.specs.Rows.{Row, key}
 use Rattle.raven_data.specs.Codes.{text_code}
-use Rattle.std.specs.Coded.{coded_list}
 use Rattle.index_tree.specs.declared.reduce_query.FoldMember.{FoldMember}
 use Rattle.index_tree.specs.declared.reduce_query.ReduceQuery.{ReduceQuery}
-use Rattle.raven_model.specs.Store.{last, put}
-use Rattle.raven_model.specs.Mapping.{Definition, Static, Auto}
-use Rattle.raven_model.specs.Definitions.{map_code, path_code, said_code, reduce_said, is_same, same_codes, same_definition, same_reduce}
-use Rattle.raven_model.specs.Commit.{Command, AnyVector, Server, Written, document_at, refusal_of, tombstone, unless, with_written}
-use Rattle.raven_model.specs.World.{Slot, SlotRefusal, added, define_at, index_id, is_named, is_reserved_name, max_index_name, removed, row_body, serving, unless_refused}
-use Rattle.raven_model.specs.Sound.{Has, IsListed, Sound}
-use Rattle.raven_model.specs.Replies.{Reply}
-use Rattle.raven_model.specs.Machine.{Machine, Keeping, Replied, Pump, brought_on, brought_on_if, pump_at, reslotted, rewrote, same_machine, settled, step}
+use Rattle.spec_store.specs.Store.{last, put}
+use Rattle.index_tree.specs.Definitions.{Definition, Static, Auto, map_code, path_code, said_code, reduce_said, is_same, same_codes, same_definition, same_reduce}
+use Rattle.spec_store.specs.Commit.{Command, AnyVector, Server, Written, document_at, refusal_of, tombstone, unless, with_written}
+use Rattle.spec_index.specs.World.{Slot, SlotRefusal, added, define_at, index_id, is_named, is_reserved_name, max_index_name, removed, row_body, serving, unless_refused}
+use Rattle.spec_server.specs.Sound.{Has, IsListed, Sound}
+use Rattle.spec_server.specs.Replies.{Reply}
+use Rattle.spec_server.specs.Machine.{Machine, Keeping, Replied, Pump, brought_on, brought_on_if, pump_at, reslotted, rewrote, same_machine, settled, step}
 use Rattle.raven_laws.specs.Definitions.{BatchIsAnswered, DefineIsAnswered, IsBroughtOn, IsDefineAnswer, IsDefined, IsNoIndex, IsRemoveAnswer, IsRemoved, MayBeGiven, OtherSlotsStay, RemoveIsAnswered, SameReduces, SaysTheSame, new_slot}
-use Rattle.raven_laws.proofs.StoreLemmas.{both_true, found_key, same_itself}
-use Rattle.raven_laws.proofs.CommitLemmas.{put_key}
+use Rattle.spec_store.proofs.StoreLemmas.{both_true, found_key, same_itself}
+use Rattle.spec_store.proofs.CommitLemmas.{put_key}
 use Rattle.raven_laws.proofs.ListedLemmas.{in_indexes_collection, listed-document}
 use Rattle.raven_laws.proofs.SlotLemmas.{Has-filter, Has-map, Has-mapped, into-filter, served}
 use Rattle.raven_laws.proofs.WorldLemmas.{other_name, others_of}

@@ -4,19 +4,20 @@ use Rattle.std.specs.Bool.{IsTrue}
 use Rattle.std.proofs.lemmas.Bool.{ltb-true, ltb-false}
 use Rattle.std.proofs.lemmas.List.{take-append-drop}
 use Rattle.std.specs.List.{list_any}
-use Rattle.std.specs.Ordering.{eq_by_cmp}
-use Rattle.std.proofs.lemmas.Map.Text.{is_eq-slice_cmp}
 use Rattle.std.specs.Str.{bytes_eq}
 use Rattle.std.specs.Option.{option_or, option_and_then}
 use Rattle.std.specs.Cmp.Lexicographic.{nat_list_cmp_total}
-use Rattle.std.specs.FinMap.{get, empty, insert, remove, get-insert, get-remove, get-empty, same_map, nat_cmp-IsAntisymmetric, slice_cmp-IsAntisymmetric}
+use Rattle.std.specs.FinMap.{get, empty, get-empty, same_map, nat_cmp-IsAntisymmetric, slice_cmp-IsAntisymmetric}
 use Rattle.raven_data.specs.Folding.{key_cmp, same_key}
 use Rattle.raven_data.specs.Rows.{Row, key, is_document}
-use Rattle.raven_model.specs.Store.{row_at, last_of, AreRising, AreApart, Store, last, IsStore}
-use Rattle.raven_model.specs.Later.{StillHas, Later}
-use Rattle.raven_model.specs.Index.{Table, Scope, in_scope, record_of, Agrees, past, taken, left_over, note_row, note_rows, etag_after, etag_of_batch, up_to, stale, documents}
-use Rattle.raven_laws.proofs.StoreLemmas.{same_row, both_true, either_false, found_etag, found_key, same_means, row_at-append, found_passing, passing_found, AreApart-filter, AreApart-front, AreRising-filter, AreRising-front, AreRising-back, last_of-rising, last_of-append, last_of-filter, row_at-filter, only_if}
-use Rattle.raven_laws.proofs.LaterLemmas.{StillHas-then}
+use Rattle.spec_store.specs.Store.{row_at, last_of, AreRising, AreApart, Store, last, IsStore}
+use Rattle.spec_store.specs.Later.{StillHas, Later}
+use Rattle.raven_data.specs.Tables.{Table, Scope, in_scope, note_row, note_rows}
+use Rattle.spec_index.specs.Index.{record_of, Agrees, etag_after, etag_of_batch, documents}
+use Rattle.spec_store.specs.Stale.{past, taken, left_over, up_to, stale}
+use Rattle.spec_store.proofs.StoreLemmas.{same_row, both_true, found_etag, found_key, same_means, row_at-append, found_passing, passing_found, AreApart-filter, AreApart-front, AreRising-filter, AreRising-front, AreRising-back, last_of-rising, last_of-append, last_of-filter, row_at-filter, only_if, any_false}
+use Rattle.spec_store.proofs.LaterLemmas.{StillHas-then}
+use Rattle.spec_store.proofs.TableLemmas.{get-note_row}
 
 pub Agrees-later : (scope : Scope) (T : Table) (S N : Store) (e : ℕ) → Agrees scope T S e → Later S N → e ≤ last S → Agrees scope T N e
 Agrees-later scope T S N e a l le = record {
@@ -31,17 +32,6 @@ Agrees-later scope T S N e a l le = record {
 unfoldable pub noted : Option Row → Option Row → Option Row
 noted None t = t
 noted (Some r) t = cond (is_document r) (Some r) None
-
--- the keys that tie in a table are those that are the same
-pub tied : (q k : List ℕ) → eq_by_cmp key_cmp q k ≡ same_key q k
-tied = is_eq-slice_cmp
-
-pub get-note_row : (T : Table) (r : Row) (q : List ℕ) → get (note_row T r) q ≡ cond (same_key q (key r)) (cond (is_document r) (Some r) None) (get T q)
-get-note_row T r q =
-    elim (is_document r) as (λ b. get (cond b (insert T (key r) r) (remove T (key r))) q ≡ cond (same_key q (key r)) (cond b (Some r) None) (get T q)) [
-      | true ↦ get-insert nat_list_cmp_total T (key r) r q ∙ ap (λ b. cond b (Some r) (get T q)) (tied q (key r))
-      | false ↦ get-remove nat_list_cmp_total T (key r) q ∙ ap (λ b. cond b None (get T q)) (tied q (key r))
-    ]
 
 pub get-note_rows : (T : Table) (rows : List Row) (q : List ℕ) → AreApart rows → get (note_rows T rows) q ≡ noted (row_at q rows) (get T q)
 unfolding noted
@@ -192,14 +182,6 @@ Taken-batch scope S e max s le = record {
 pub Agrees-batch : (scope : Scope) (T : Table) (S : Store) (e max : ℕ) → IsStore S → Agrees scope T S e → e ≤ last S
     → Agrees scope (note_rows T (taken scope e S max)) S (etag_of_batch scope e S max)
 Agrees-batch scope T S e max s a le = Agrees-taken scope T S e (taken scope e S max) (etag_of_batch scope e S max) s a (Taken-batch scope S e max s le)
-
-pub any_false : (p : Row → Bool) (q : List ℕ) (rows : List Row) (r : Row) → list_any p rows ≡ false → row_at q rows ≡ Some r → p r ≡ false
-any_false p q [] r h g = absurd cc
-any_false p q (x ∷ rows) r h g =
-    elim (same_key q (key x)) as (λ b. cond b (Some x) (row_at q rows) ≡ Some r → p r ≡ false) [
-      | true ↦ λ is. subst (λ y. p y ≡ false) (same_row x r is) (either_false (p x) (list_any p rows) h).0
-      | false ↦ λ is. any_false p q rows r (either_false (p x) (list_any p rows) h).1 is
-    ] g
 
 -- an index that is not stale for a cutoff has recorded all up to it
 pub fresh_exact : (scope : Scope) (T : Table) (S : Store) (e : ℕ) (cutoff : Option ℕ) → Agrees scope T S e → stale S scope e cutoff ≡ false

@@ -1,79 +1,22 @@
 -- What a keeper holds are the rows of the store.
-use Rattle.std.proofs.Common.{◌≡◌, ℕ, ◌+◌, List, [], ◌∷◌, ◌++◌, true, false, not, cond, filter, Option, Some, None, Result, Ok, Err, refl, sym, ap, ◌∙◌, subst, arith}
+use Rattle.std.proofs.Common.{◌≡◌, ℕ, ◌+◌, List, [], ◌∷◌, true, false, cond, Option, Some, None, Result, Ok, Err, refl, sym, ap, ◌∙◌, subst}
 use Rattle.std.specs.Option.{option_map}
-use Rattle.raven_data.specs.Folding.{folded, same_key}
-use Rattle.raven_data.specs.Rows.{Row, key}
-use Rattle.raven_data.specs.Kept.{EtagsRise, kept, kept_key, all_kept, keep, keep_all, last_kept}
-use Rattle.raven_model.specs.Store.{AreRising, IsStore, Store, last, last_of, put, with_row, with_rows}
-use Rattle.raven_model.specs.Commit.{AreNext, Client, Command, Put, Delete, Refused, Server, Setting, Writer, Written, commit, commit_from, document_at, refusal_of, row_of, tombstone, unless, with_written}
-use Rattle.raven_model.specs.Mapping.{Definition}
-use Rattle.raven_model.specs.Optimiser.{Choice, Use, Make, Merge, pick, name_of}
-use Rattle.raven_model.specs.Replies as told
-use Rattle.raven_model.specs.World.{Slot, serving, SlotChange, SlotRefusal, define, define_named, remove}
-use Rattle.raven_model.specs.Machine.{Machine, Request, Put as PutOne, Delete as DeleteOne, Bulk, Get, Define, Remove, Auto, Find, Pump, Stale, Indexes, Stats, Event, Keeping, Change, after, change_of, is_taken, one_field, pump_at, pump_for, reslotted, rewrote, run, same_machine, settled, single_reply, use_or_make, write, wrote}
-use Rattle.raven_model.specs.Script.{Given, after_lines, events_of}
+use Rattle.raven_data.specs.Folding.{folded}
+use Rattle.raven_data.specs.Rows.{Row}
+use Rattle.raven_data.specs.Kept.{all_kept, keep_all}
+use Rattle.spec_store.specs.Store.{Store, last, with_row, with_rows}
+use Rattle.spec_store.specs.Commit.{AreNext, Client, Command, Put, Delete, Refused, Server, Setting, Writer, Written, commit, commit_from, document_at, refusal_of, row_of, tombstone, unless, with_written}
+use Rattle.index_tree.specs.Definitions.{Definition}
+use Rattle.spec_index.specs.Optimiser.{Choice, Use, Make, Merge, pick, name_of}
+use Rattle.spec_server.specs.Replies as told
+use Rattle.spec_index.specs.World.{Slot, serving, SlotChange, SlotRefusal, define, define_named, remove}
+use Rattle.spec_server.specs.Machine.{Machine, Request, Put as PutOne, Delete as DeleteOne, Bulk, Get, Define, Remove, Auto, Find, Pump, Stale, Indexes, Stats, Event, Keeping, Change, after, change_of, is_taken, one_field, pump_at, pump_for, reslotted, rewrote, run, same_machine, settled, single_reply, use_or_make, write, wrote}
+use Rattle.spec_server.specs.Script.{Given, after_lines, events_of}
 use Rattle.raven_laws.proofs.ScriptLemmas.{lines-run}
 use Rattle.raven_laws.specs.Keeping.{rows_given, held_after}
-use Rattle.raven_laws.proofs.StoreLemmas.{same_row}
-use Rattle.raven_laws.proofs.CommitLemmas.{same_ok, with_rows-push, AreNext-push, last-with_rows}
-
--- STORES
-
--- what is held of rows without those of an id
-kept-without : (r : Row) (rows : List Row) → filter (λ k. not (same_key (key r) (kept_key k))) (all_kept rows) ≡ all_kept (filter (λ x. not (same_key (key r) (key x))) rows)
-kept-without r [] = refl
-kept-without r (x ∷ rows) = elim (same_key (key r) (key x)) as (λ b.
-    cond (not b) (kept x ∷ filter (λ k. not (same_key (key r) (kept_key k))) (all_kept rows)) (filter (λ k. not (same_key (key r) (kept_key k))) (all_kept rows))
-    ≡ all_kept (cond (not b) (x ∷ filter (λ y. not (same_key (key r) (key y))) rows) (filter (λ y. not (same_key (key r) (key y))) rows))) [
-      | true ↦ kept-without r rows
-      | false ↦ ap (λ ks. kept x ∷ ks) (kept-without r rows)
-    ]
-
-kept-append : (xs ys : List Row) → all_kept (xs ++ ys) ≡ all_kept xs ++ all_kept ys
-kept-append [] ys = refl
-kept-append (x ∷ xs) ys = ap (λ ks. kept x ∷ ks) (kept-append xs ys)
-
-kept-put : (r : Row) (rows : List Row) → keep (kept r) (all_kept rows) ≡ all_kept (put r rows)
-kept-put r rows =
-    ap (λ ks. ks ++ kept r ∷ []) (kept-without r rows)
-    ∙ sym (kept-append (filter (λ x. not (same_key (key r) (key x))) rows) (r ∷ []))
-
-pub kept-with_rows : (S : Store) (rows : List Row) → keep_all (all_kept S.rows) (all_kept rows) ≡ all_kept (with_rows S rows).rows
-kept-with_rows S [] = refl
-kept-with_rows S (r ∷ rows) = ap (λ ks. keep_all ks (all_kept rows)) (kept-put r S.rows) ∙ kept-with_rows (with_row S r) rows
-
--- ETAGS
-
-next-rise : (e : ℕ) (rows : List Row) → AreNext e rows → EtagsRise (Some e) (all_kept rows)
-next-rise e [] h = tt
-next-rise e (r ∷ rows) h = (let a = h.0 in omega arith, next-rise r.etag rows h.1)
-
-any-rise : (e : ℕ) (rows : List Row) → EtagsRise (Some e) (all_kept rows) → EtagsRise None (all_kept rows)
-any-rise e [] h = tt
-any-rise e (r ∷ rows) h = (tt, h.1)
-
-pub next-alone : (e : ℕ) (rows : List Row) → AreNext e rows → EtagsRise None (all_kept rows)
-next-alone e rows h = any-rise e rows (next-rise e rows h)
-
-last_kept-of : (e : ℕ) (rows : List Row) → last_kept (Some e) (all_kept rows) ≡ Some (last_of e rows)
-last_kept-of e [] = refl
-last_kept-of e (r ∷ rows) = last_kept-of r.etag rows
-
-behind : (held rows : List Row) → AreNext (last_of 0 held) rows → EtagsRise (last_kept None (all_kept held)) (all_kept rows)
-behind [] rows h = next-alone 0 rows h
-behind (r ∷ held) rows h =
-    let P : Option ℕ → Type 0 = λ o. EtagsRise o (all_kept rows) in
-    subst P (sym (last_kept-of r.etag held)) (next-rise (last_of r.etag held) rows h)
-
-pub next-behind : (S : Store) (rows : List Row) → AreNext (last S) rows → EtagsRise (last_kept None (all_kept S.rows)) (all_kept rows)
-next-behind S rows h = behind S.rows rows h
-
-rising-rise : (e : ℕ) (rows : List Row) → AreRising e rows → EtagsRise (Some e) (all_kept rows)
-rising-rise e [] h = tt
-rising-rise e (r ∷ rows) h = (h.0, rising-rise r.etag rows h.1)
-
-pub store-rises : (S : Store) → IsStore S → EtagsRise None (all_kept S.rows)
-store-rises S o = any-rise 0 S.rows (rising-rise 0 S.rows o.rising)
+use Rattle.spec_store.proofs.StoreLemmas.{same_row}
+use Rattle.spec_store.proofs.CommitLemmas.{same_ok, with_rows-push, AreNext-push, last-with_rows}
+use Rattle.spec_store.proofs.KeepLemmas.{kept-with_rows}
 
 -- TRANSACTIONS
 

@@ -1,10 +1,5 @@
-pub mod StoreLemmas
-pub mod LaterLemmas
-pub mod CommitLemmas
 pub mod IndexLemmas
-pub mod StaleLemmas
 pub mod MappingLemmas
-pub mod KeyedLemmas
 pub mod SlotLemmas
 pub mod ListedLemmas
 pub mod LimitLemmas

@@ -4,12 +4,12 @@ use Rattle.std.proofs.lemmas.Bool.{leb-false, ltb-true, ltb-false, eq-eqb}
 use Rattle.std.specs.Option.{option_map}
 use Rattle.raven_data.specs.Folding.{folded, same_key}
 use Rattle.raven_data.specs.Rows.{Row, key}
-use Rattle.raven_model.specs.Store.{row_at, put, Store, last}
-use Rattle.raven_model.specs.Commit.{Command, Put, Delete, Writer, Setting, Refusal, StoreFull, Written, first_of, refusal_of, reserved, too_large, collection_changed, conflict, store_full, takes_etag, refuse_if, EtagsSpent, etags_spent, document_at, tombstone, row_of, with_written, unless, commit_from}
-use Rattle.raven_model.specs.Sound.{Has}
-use Rattle.raven_laws.proofs.StoreLemmas.{same_row, found_key}
-use Rattle.raven_laws.proofs.LaterLemmas.{last-with}
-use Rattle.raven_laws.proofs.CommitLemmas.{put_key, document_found, row_of-follows}
+use Rattle.spec_store.specs.Store.{row_at, put, Store, last}
+use Rattle.spec_store.specs.Commit.{Command, Put, Delete, Writer, Setting, Refusal, StoreFull, Written, first_of, refusal_of, reserved, too_large, collection_changed, conflict, store_full, takes_etag, refuse_if, EtagsSpent, etags_spent, document_at, tombstone, row_of, with_written, unless, commit_from}
+use Rattle.spec_server.specs.Sound.{Has}
+use Rattle.spec_store.proofs.StoreLemmas.{same_row, found_key}
+use Rattle.spec_store.proofs.LaterLemmas.{last-with}
+use Rattle.spec_store.proofs.CommitLemmas.{put_key, document_found, row_of-follows}
 
 -- WHAT IS LEFT WITHOUT AN ID
 

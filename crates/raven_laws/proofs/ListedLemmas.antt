@@ -6,13 +6,13 @@ use Rattle.std.proofs.lemmas.Slice.Eq.{bytes_eq-Decides}
 use Rattle.std.specs.Option.{option_and_then, option_map}
 use Rattle.raven_data.specs.Folding.{folded, same_key}
 use Rattle.raven_data.specs.Rows.{Row, Body, doc, gone, key, is_document}
-use Rattle.raven_model.specs.Store.{row_at, put, Store, last, with_row}
-use Rattle.raven_model.specs.Mapping.{Definition, Static, Auto}
-use Rattle.raven_model.specs.Commit.{Command, Put, Delete, AnyVector, Writer, Client, Setting, Refusal, Written, first_of, refusal_of, reserved, is_reserved, is_index_id, too_large, collection_changed, conflict, store_full, etags_spent, collection_of, stored, kept_spelling, document_at, tombstone, row_of, with_written, with_option, after_commands, unless, commit_from}
-use Rattle.raven_model.specs.World.{Slot, index_id, row_body}
-use Rattle.raven_model.specs.Sound.{Has, IsListed, AreListed}
-use Rattle.raven_laws.proofs.StoreLemmas.{same_row, either_false, row_at-put, same_itself, same_means, found_key}
-use Rattle.raven_laws.proofs.CommitLemmas.{put_key, document_found}
+use Rattle.spec_store.specs.Store.{row_at, put, Store, last, with_row}
+use Rattle.index_tree.specs.Definitions.{Definition, Static, Auto}
+use Rattle.spec_store.specs.Commit.{Command, Put, Delete, AnyVector, Writer, Client, Setting, Refusal, Written, first_of, refusal_of, reserved, is_reserved, is_index_id, too_large, collection_changed, conflict, store_full, etags_spent, collection_of, stored, kept_spelling, document_at, tombstone, row_of, with_written, with_option, after_commands, unless, commit_from}
+use Rattle.spec_index.specs.World.{Slot, index_id, row_body}
+use Rattle.spec_server.specs.Sound.{Has, IsListed, AreListed}
+use Rattle.spec_store.proofs.StoreLemmas.{same_row, either_false, row_at-put, same_itself, same_means, found_key}
+use Rattle.spec_store.proofs.CommitLemmas.{put_key, document_found}
 use Rattle.raven_laws.proofs.SlotLemmas.{Has-map, Has-mapped}
 
 -- WHAT COMMANDS LEAVE

@@ -1,18 +1,19 @@
 -- Each step of the machine leaves a sound and later world.
 use Rattle.std.proofs.Common.{◌≡◌, ℕ, ◌+◌, ◌<◌, ◌≤◌, List, [], ◌∷◌, ◌++◌, length, Option, Some, None, Result, Ok, Err, map, refl, sym, ap, subst, arith, inl, true, false, cond}
 use Rattle.raven_data.specs.Rows.{Row}
-use Rattle.raven_model.specs.Store.{Store, last, IsStore}
-use Rattle.raven_model.specs.Later.{Later}
-use Rattle.raven_model.specs.Index.{taken, etag_of_batch}
-use Rattle.raven_model.specs.Mapping.{Definition}
-use Rattle.raven_model.specs.Optimiser.{Choice, Use, Make, Merge, pick, name_of}
-use Rattle.raven_model.specs.Commit.{Command, Put, Delete, Writer, Client, Server, Setting, Refused, Written, refusal_of, row_of, with_written, unless, commit_from, commit}
-use Rattle.raven_model.specs.Replies as told
-use Rattle.raven_model.specs.World.{Slot, World, reads, advanced, batch, serving, SlotChange, SlotRefusal, define, define_named, is_named, remove}
-use Rattle.raven_model.specs.Machine.{Machine, Request, Put as PutOne, Delete as DeleteOne, Bulk, Get, Define, Remove, Auto, Find, Pump, Stale, Indexes, Stats, Event, Keeping, Change, is_taken, same_machine, settled, single_reply, wrote, write, rewrote, reslotted, use_or_make, one_field, or_as_before, brought_on, brought_on_if, with_slots, pump, pump_at, pump_for, change_of, step, start, after, run}
-use Rattle.raven_model.specs.Sound.{Has, NumbersRise, NamesApart, AreListed, Sound, LaterW}
-use Rattle.raven_laws.proofs.LaterLemmas.{Later-itself, IsStore-with, last-with}
-use Rattle.raven_laws.proofs.CommitLemmas.{row_of-follows, commit-Commits}
+use Rattle.spec_store.specs.Store.{Store, last, IsStore}
+use Rattle.spec_store.specs.Later.{Later}
+use Rattle.spec_store.specs.Stale.{taken}
+use Rattle.spec_index.specs.Index.{etag_of_batch}
+use Rattle.index_tree.specs.Definitions.{Definition}
+use Rattle.spec_index.specs.Optimiser.{Choice, Use, Make, Merge, pick, name_of}
+use Rattle.spec_store.specs.Commit.{Command, Put, Delete, Writer, Client, Server, Setting, Refused, Written, refusal_of, row_of, with_written, unless, commit_from, commit}
+use Rattle.spec_server.specs.Replies as told
+use Rattle.spec_index.specs.World.{Slot, World, reads, advanced, batch, serving, SlotChange, SlotRefusal, define, define_named, is_named, remove}
+use Rattle.spec_server.specs.Machine.{Machine, Request, Put as PutOne, Delete as DeleteOne, Bulk, Get, Define, Remove, Auto, Find, Pump, Stale, Indexes, Stats, Event, Keeping, Change, is_taken, same_machine, settled, single_reply, wrote, write, rewrote, reslotted, use_or_make, one_field, or_as_before, brought_on, brought_on_if, with_slots, pump, pump_at, pump_for, change_of, step, start, after, run}
+use Rattle.spec_server.specs.Sound.{Has, NumbersRise, NamesApart, AreListed, Sound, LaterW}
+use Rattle.spec_store.proofs.LaterLemmas.{Later-itself, IsStore-with, last-with}
+use Rattle.spec_store.proofs.CommitLemmas.{row_of-follows, commit-Commits}
 use Rattle.raven_laws.proofs.SlotLemmas.{Has-map, NumbersRise-map, NamesApart-map, batch-Brought}
 use Rattle.raven_laws.proofs.ListedLemmas.{commit_from-applied, clients-AreListed, map-AreListed}
 use Rattle.raven_laws.proofs.LimitLemmas.{commit_from-fits, commit_from-last, length_mapped}

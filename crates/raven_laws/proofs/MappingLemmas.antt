@@ -8,11 +8,16 @@ use Rattle.std.specs.Cmp.Lexicographic.{nat_list_cmp_total}
 use Rattle.std.specs.FinMap.{get, values, entries, find as entry_at, get-entries, get-insert, get-remove}
 use Rattle.raven_data.specs.Folding.{key_cmp, same_key}
 use Rattle.raven_data.specs.Rows.{Row, key, is_document}
-use Rattle.raven_model.specs.Store.{row_at, AreApart, Store, last, IsStore}
-use Rattle.raven_model.specs.Index.{Table, Agrees, taken, etag_of_batch, note_rows}
-use Rattle.raven_model.specs.Mapping.{Mapped, Mapper, AlikeAt, scope_of, is_mapped, result_of, is_taken, loads_taken, touched, Results, set_result, remapped, AreResults}
-use Rattle.raven_laws.proofs.StoreLemmas.{same_row, either_false, same_itself, same_means}
-use Rattle.raven_laws.proofs.IndexLemmas.{noted, tied, get-note_rows, Taken, Taken-batch}
+use Rattle.spec_store.specs.Store.{row_at, AreApart, Store, last, IsStore}
+use Rattle.raven_data.specs.Tables.{Table, note_rows}
+use Rattle.spec_index.specs.Index.{Agrees, etag_of_batch}
+use Rattle.spec_store.specs.Stale.{taken}
+use Rattle.index_tree.specs.Meaning.{Mapped}
+use Rattle.index_tree.specs.Mapper.{Mapper, AlikeAt, scope_of, is_mapped}
+use Rattle.spec_index.specs.Mapping.{result_of, is_taken, loads_taken, touched, Results, set_result, remapped, AreResults}
+use Rattle.spec_store.proofs.StoreLemmas.{same_row, either_false, same_itself, same_means}
+use Rattle.raven_laws.proofs.IndexLemmas.{noted, get-note_rows, Taken, Taken-batch}
+use Rattle.spec_store.proofs.TableLemmas.{tied}
 
 any-append : {X : Type 0} (p : X → Bool) (xs ys : List X) → list_any p (xs ++ ys) ≡ false → (list_any p xs ≡ false) × (list_any p ys ≡ false)
 any-append p [] ys h = (refl, h)

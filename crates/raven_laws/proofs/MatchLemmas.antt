@@ -7,14 +7,19 @@ use Rattle.std.specs.Str.{bytes_eq}
 use Rattle.std.specs.FinMap.{get, values, entries, find as entry_at, get-entries}
 use Rattle.raven_data.specs.Folding.{folded, key_cmp}
 use Rattle.raven_data.specs.Rows.{Row, key, is_document}
-use Rattle.raven_model.specs.Store.{row_at, Store, IsStore}
-use Rattle.raven_model.specs.Index.{Table, Scope, in_scope, record_of, documents}
-use Rattle.raven_model.specs.Mapping.{Definition, Fields, Outcome, Entry, NoEntry, Failed, mapper_of, scope_of, is_mapped, mapped_documents, entry_of, scratch}
-use Rattle.raven_model.specs.Commit.{Setting}
-use Rattle.raven_model.specs.Machine.{Machine, Event, start, run, has_words, found_in}
-use Rattle.raven_model.specs.Sound.{Has, Sound}
+use Rattle.spec_store.specs.Store.{row_at, Store, IsStore}
+use Rattle.raven_data.specs.Tables.{Table, Scope, in_scope}
+use Rattle.spec_index.specs.Index.{record_of, documents}
+use Rattle.index_tree.specs.Definitions.{Definition}
+use Rattle.index_tree.specs.Meaning.{Fields, Outcome, Entry, NoEntry, Failed}
+use Rattle.index_tree.specs.Mapper.{mapper_of, scope_of, is_mapped}
+use Rattle.spec_index.specs.Mapping.{mapped_documents, entry_of, scratch}
+use Rattle.spec_store.specs.Commit.{Setting}
+use Rattle.spec_server.specs.Machine.{Machine, Event, start, run}
+use Rattle.spec_index.specs.Find.{has_words, found_in}
+use Rattle.spec_server.specs.Sound.{Has, Sound}
 use Rattle.raven_laws.specs.Claims.{IsMatch, ids_in, FreshIsExact}
-use Rattle.raven_laws.proofs.StoreLemmas.{both_true, found_key}
+use Rattle.spec_store.proofs.StoreLemmas.{both_true, found_key}
 use Rattle.raven_laws.proofs.IndexLemmas.{get-documents}
 use Rattle.raven_laws.proofs.SlotLemmas.{Has-filter, Has-map, Has-mapped, passes, into-filter}
 use Rattle.raven_laws.proofs.MachineLemmas.{run-Sound}

@@ -15,7 +15,7 @@ use Rattle.raven_data.specs.Json.{JsonRefusal, reading, whole, or_refusal, numbe
 use Rattle.raven_data.specs.Members.{member}
 use Rattle.raven_data.specs.Rising.{Pairs, IsBelowAll, IsRising, put}
 use Rattle.raven_data.specs.Scan.{is_too_deep, outside}
-use Rattle.raven_laws.proofs.KeyedLemmas.{differ_less}
+use Rattle.spec_store.proofs.KeyedLemmas.{differ_less}
 
 -- A MEMBER THAT IS PUT
 

@@ -8,14 +8,14 @@ use Rattle.std.specs.Char.{to_ascii_lowercase, digit_value}
 use Rattle.std.specs.Fmt.{decimal}
 use Rattle.std.specs.Str.Parse.{AllDigits}
 use Rattle.raven_data.specs.Folding.{folded, same_key}
-use Rattle.raven_model.specs.Commit.{Setting}
-use Rattle.raven_model.specs.Machine.{Event, start, run}
-use Rattle.raven_model.specs.Store.{last}
+use Rattle.spec_store.specs.Commit.{Setting}
+use Rattle.spec_server.specs.Machine.{Event, start, run}
+use Rattle.spec_store.specs.Store.{last}
 use Rattle.raven_data.specs.Faults.{is_fit}
-use Rattle.raven_model.specs.World.{Slot, serving}
-use Rattle.raven_model.specs.Optimiser.{Shape, plain_name, free_name, first_free, name_of}
-use Rattle.raven_model.specs.Sound.{Has}
-use Rattle.raven_laws.proofs.StoreLemmas.{same_itself, same_means}
+use Rattle.spec_index.specs.World.{Slot, serving}
+use Rattle.spec_index.specs.Optimiser.{Shape, plain_name, free_name, first_free, name_of}
+use Rattle.spec_server.specs.Sound.{Has}
+use Rattle.spec_store.proofs.StoreLemmas.{same_itself, same_means}
 use Rattle.raven_laws.proofs.LimitLemmas.{fewer_filtered}
 use Rattle.raven_laws.proofs.SlotLemmas.{served}
 use Rattle.raven_laws.proofs.MachineLemmas.{run-Sound, run-LaterW}

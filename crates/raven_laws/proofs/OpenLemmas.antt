@@ -16,16 +16,16 @@ use Rattle.raven_data.specs.Moments.{moments_end}
 use Rattle.raven_data.specs.Rising.{Pairs, IsRising}
 use Rattle.raven_data.specs.Rows.{Row, Body, doc, gone, key, is_document}
 use Rattle.raven_data.specs.Written.{text_of}
-use Rattle.raven_model.specs.Store.{row_at, last_of, AreRising, AreApart, IsStore}
-use Rattle.raven_model.specs.Mapping.{Definition, Auto}
-use Rattle.raven_model.specs.Commit.{Setting, is_index_id, stored}
-use Rattle.raven_model.specs.World.{Slot, fresh, index_id, row_body}
-use Rattle.raven_model.specs.Machine.{Machine}
-use Rattle.raven_model.specs.Kept.{OpenedFrom, max_body, max_etag, is_stored, document_of, document_in, body_in, is_etag, row_in, may_stand_behind, row_behind, or_bad_row, rows_behind, rows_in}
-use Rattle.raven_model.specs.Opening.{is_part, auto_read, map_read, form_of, body_form, NoForm, ReadRow, is_defining, name_in, may_be_named, is_filed, is_too_many, slot_of, with_slot, slots_with, slots_after, or_bad, and_then, slots_from, opened_with, rows_of}
-use Rattle.raven_model.specs.Sound.{Has, Fits, NumbersRise, NamesApart, AreListed, Sound}
+use Rattle.spec_store.specs.Store.{row_at, last_of, AreRising, AreApart, IsStore}
+use Rattle.index_tree.specs.Definitions.{Definition, Auto}
+use Rattle.spec_store.specs.Commit.{Setting, is_index_id, stored}
+use Rattle.spec_index.specs.World.{Slot, fresh, index_id, row_body}
+use Rattle.spec_server.specs.Machine.{Machine}
+use Rattle.spec_server.specs.Opening.{OpenedFrom, is_part, auto_read, map_read, form_of, body_form, NoForm, ReadRow, is_defining, name_in, may_be_named, is_filed, is_too_many, slot_of, with_slot, slots_with, slots_after, or_bad, and_then, slots_from, opened_with, rows_of}
+use Rattle.spec_store.specs.Kept.{max_body, max_etag, is_stored, document_of, document_in, body_in, is_etag, row_in, may_stand_behind, row_behind, or_bad_row, rows_behind, rows_in}
+use Rattle.spec_server.specs.Sound.{Has, Fits, NumbersRise, NamesApart, AreListed, Sound}
 use Rattle.raven_laws.specs.Opened.{IsTold, IsToldIn, IsToldBy, AreTold, OpenedAsTold}
-use Rattle.raven_laws.proofs.StoreLemmas.{same_row, both_true, either_false, same_itself, same_means, found_key, row_at-append, last_of-append}
+use Rattle.spec_store.proofs.StoreLemmas.{same_row, both_true, either_false, same_itself, same_means, found_key, row_at-append, last_of-append}
 use Rattle.raven_laws.proofs.SlotLemmas.{Has-append, Has-left, Has-right, find-Has, NumbersRise-push, Fits-fresh}
 use Rattle.raven_laws.proofs.MemberLemmas.{Rises, read_rises, they_are}
 

@@ -1,10 +1,10 @@
 -- Runs and scripts from a state that kept rows open.
 use Rattle.std.proofs.Common.{List, ◌++◌, sym, ◌∙◌, subst}
 use Rattle.raven_data.specs.Kept.{KeptRow}
-use Rattle.raven_model.specs.Commit.{Setting}
-use Rattle.raven_model.specs.Machine.{Machine, Event, run}
-use Rattle.raven_model.specs.Script.{Given, after_lines, events_of}
-use Rattle.raven_model.specs.Sound.{Sound, LaterW}
+use Rattle.spec_store.specs.Commit.{Setting}
+use Rattle.spec_server.specs.Machine.{Machine, Event, run}
+use Rattle.spec_server.specs.Script.{Given, after_lines, events_of}
+use Rattle.spec_server.specs.Sound.{Sound, LaterW}
 use Rattle.raven_laws.specs.Claims.{FreshIsFromScratch, FreshIsExact, FlagsAreExact, IdsAreAsKept}
 use Rattle.raven_laws.specs.Opened.{OpenedAsTold}
 use Rattle.raven_laws.proofs.MachineLemmas.{run-Moves, run-append}

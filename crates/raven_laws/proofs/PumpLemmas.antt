@@ -4,15 +4,17 @@ use Rattle.std.specs.List.{list_any}
 use Rattle.std.proofs.lemmas.Bool.{ltb-true}
 use Rattle.std.proofs.lemmas.List.{drop_all}
 use Rattle.raven_data.specs.Rows.{Row, key}
-use Rattle.raven_model.specs.Store.{row_at, Store, last, IsStore}
-use Rattle.raven_model.specs.Index.{Scope, in_scope, past, taken, left_over, etag_after, etag_of_batch, stale}
-use Rattle.raven_model.specs.World.{Version, Slot, reads, advanced}
-use Rattle.raven_model.specs.Machine.{Event, or_as_before, brought_on, pumping, pump, is_stale, start, run}
-use Rattle.raven_model.specs.Commit.{Setting}
-use Rattle.raven_model.specs.Sound.{Has}
-use Rattle.raven_laws.proofs.StoreLemmas.{either_false, same_itself, found_etag}
+use Rattle.spec_store.specs.Store.{row_at, Store, last, IsStore}
+use Rattle.raven_data.specs.Tables.{Scope, in_scope}
+use Rattle.spec_store.specs.Stale.{past, taken, left_over, stale}
+use Rattle.spec_index.specs.Index.{etag_after, etag_of_batch}
+use Rattle.spec_index.specs.World.{Version, Slot, reads, advanced}
+use Rattle.spec_server.specs.Machine.{Event, or_as_before, brought_on, pumping, pump, is_stale, start, run}
+use Rattle.spec_store.specs.Commit.{Setting}
+use Rattle.spec_server.specs.Sound.{Has}
+use Rattle.spec_store.proofs.StoreLemmas.{either_false, same_itself, found_etag}
 use Rattle.raven_laws.proofs.IndexLemmas.{Taken, Taken-batch}
-use Rattle.raven_laws.proofs.StaleLemmas.{seen-fresh}
+use Rattle.spec_store.proofs.StaleLemmas.{seen-fresh}
 use Rattle.raven_laws.proofs.LimitLemmas.{length_filtered}
 use Rattle.raven_laws.proofs.SlotLemmas.{Has-map}
 use Rattle.raven_laws.proofs.MachineLemmas.{run-Sound}

@@ -1,10 +1,10 @@
 -- A script is a run.
 use Rattle.std.proofs.Common.{◌≡◌, List, [], ◌∷◌, ◌++◌, Some, None, Ok, Err, refl, sym, ◌∙◌, subst}
 use Rattle.std.specs.List.{cons_option}
-use Rattle.raven_model.specs.Commit.{Setting}
-use Rattle.raven_model.specs.Machine.{Machine, Event, start, run}
-use Rattle.raven_model.specs.Sound.{Sound, LaterW}
-use Rattle.raven_model.specs.Script.{Do, LineRead, Circumstance, Given, event_of, left_by, after_line, after_lines, events_of}
+use Rattle.spec_store.specs.Commit.{Setting}
+use Rattle.spec_server.specs.Machine.{Machine, Event, start, run}
+use Rattle.spec_server.specs.Sound.{Sound, LaterW}
+use Rattle.spec_server.specs.Script.{Do, LineRead, Circumstance, Given, event_of, left_by, after_line, after_lines, events_of}
 use Rattle.raven_laws.specs.Claims.{FreshIsFromScratch, FreshIsExact, FlagsAreExact, IdsAreAsKept}
 use Rattle.raven_laws.proofs.MachineLemmas.{run-Sound, run-Moves}
 use Rattle.raven_laws.proofs.MatchLemmas.{Sound-exact}

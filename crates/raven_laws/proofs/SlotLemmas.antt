@@ -3,13 +3,15 @@ use Rattle.std.proofs.Common.{◌≡◌, ℕ, ◌<◌, ◌≤◌, List, [], ◌�
 use Rattle.std.specs.FinMap.{get, get-empty}
 use Rattle.raven_data.specs.Folding.{folded, key_cmp, same_key}
 use Rattle.raven_data.specs.Rows.{Row}
-use Rattle.raven_model.specs.Store.{Store, IsStore}
-use Rattle.raven_model.specs.Later.{Later}
-use Rattle.raven_model.specs.Index.{Agrees, taken, note_rows, etag_of_batch}
-use Rattle.raven_model.specs.Mapping.{Definition}
-use Rattle.raven_model.specs.World.{Version, Slot, reads, fresh, advanced, batch, serving}
-use Rattle.raven_model.specs.Sound.{Has, Fits, NumbersRise, NamesApart}
-use Rattle.raven_laws.proofs.StoreLemmas.{found_etag, same_itself, same_means}
+use Rattle.spec_store.specs.Store.{Store, IsStore}
+use Rattle.spec_store.specs.Later.{Later}
+use Rattle.spec_index.specs.Index.{Agrees, etag_of_batch}
+use Rattle.spec_store.specs.Stale.{taken}
+use Rattle.raven_data.specs.Tables.{note_rows}
+use Rattle.index_tree.specs.Definitions.{Definition}
+use Rattle.spec_index.specs.World.{Version, Slot, reads, fresh, advanced, batch, serving}
+use Rattle.spec_server.specs.Sound.{Has, Fits, NumbersRise, NamesApart}
+use Rattle.spec_store.proofs.StoreLemmas.{found_etag, same_itself, same_means}
 use Rattle.raven_laws.proofs.IndexLemmas.{Taken, Agrees-later, Agrees-batch, Taken-batch}
 
 -- MEMBERSHIP

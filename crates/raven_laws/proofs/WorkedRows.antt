@@ -6,14 +6,16 @@ use Rattle.std.specs.FinMap.{empty}
 use Rattle.raven_data.specs.Data.{object, text, entry, no_entries}
 use Rattle.raven_data.specs.Moments.{moment_text, day_from, day_in, day_text}
 use Rattle.raven_data.specs.Rows.{Row, doc}
-use Rattle.raven_model.specs.Mapping.{Definition, Mapper, mapper_of, is_mapped, entry_of}
-use Rattle.raven_model.specs.Commit.{Command, AnyVector, Vector}
-use Rattle.raven_model.specs.World.{definition_data}
-use Rattle.raven_model.specs.Replies.{Result as Done}
-use Rattle.raven_model.specs.Replies.{Reply, Index, Indexes, Removed, ReservedName, NameTooLong, Pumped, Pumping, Found, NoIndex, UnknownLine, Stale, Stats, Document, NoDocument, Deleted, CollectionChanged, ReservedId, Conflict, TooLong, KeeperFault, printed}
-use Rattle.raven_model.specs.Machine.{Machine, Request, Put, Delete, Bulk, Get, Define, Remove, Auto, Find, Pump, Stale as AskStale, Stats as AskStats, found, start, step, untroubled}
-use Rattle.raven_model.specs.Words.{program}
-use Rattle.raven_laws.proofs.KeyedLemmas.{values-table_of}
+use Rattle.index_tree.specs.Definitions.{Definition}
+use Rattle.index_tree.specs.Mapper.{Mapper, mapper_of, is_mapped}
+use Rattle.spec_index.specs.Mapping.{entry_of}
+use Rattle.spec_store.specs.Commit.{Command, AnyVector, Vector}
+use Rattle.spec_index.specs.World.{definition_data}
+use Rattle.spec_server.specs.Replies.{Result as Done, Reply, Index, Indexes, Removed, ReservedName, NameTooLong, Pumped, Pumping, Found, NoIndex, UnknownLine, Stale, Stats, Document, NoDocument, Deleted, CollectionChanged, ReservedId, Conflict, TooLong, KeeperFault, printed}
+use Rattle.spec_server.specs.Machine.{Machine, Request, Put, Delete, Bulk, Get, Define, Remove, Auto, Find, Pump, Stale as AskStale, Stats as AskStats, start, step, untroubled}
+use Rattle.spec_index.specs.Find.{found}
+use Rattle.spec_store.specs.Limits.{program}
+use Rattle.spec_store.proofs.KeyedLemmas.{values-table_of}
 
 -- REQUESTS, one after another, from an empty database
 

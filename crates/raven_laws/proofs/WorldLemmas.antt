@@ -2,17 +2,16 @@
 use Rattle.std.proofs.Common.{◌≡◌, ℕ, ◌+◌, ◌<◌, ◌≤◌, List, [], ◌∷◌, ◌++◌, Bool, true, false, not, cond, filter, nat_le, length, is_some, Option, Some, None, Result, Ok, Err, refl, sym, ap, ◌∙◌, subst, arith, ◌⊎◌, inl, inr, append_assoc, length-append}
 use Rattle.std.proofs.lemmas.Bool.{leb-false}
 use Rattle.raven_data.specs.Folding.{folded, same_key}
-use Rattle.raven_model.specs.Store.{Store, last, IsStore}
-use Rattle.raven_model.specs.Later.{Later}
-use Rattle.raven_model.specs.Mapping.{Definition}
-use Rattle.raven_model.specs.Commit.{Command, Put, Delete, AnyVector, after_commands}
-use Rattle.raven_model.specs.World.{Slot, Note, World, fresh, serving, SlotChange, SlotRefusal, NameServes, TooManyIndexes, added, added_if_room, define, define_at, define_named, index_id, is_named, name_refusal, remove, removed, unless_refused}
-use Rattle.raven_model.specs.Definitions.{same_definition}
-use Rattle.raven_model.specs.Sound.{Has, Fits, NumbersRise, NamesApart, AreListed, Sound, IsOldOrNew, HasItsName, LaterW}
-use Rattle.raven_laws.proofs.LaterLemmas.{Later-itself, Later-then}
+use Rattle.spec_store.specs.Store.{Store, last, IsStore}
+use Rattle.spec_store.specs.Later.{Later}
+use Rattle.index_tree.specs.Definitions.{Definition, same_definition}
+use Rattle.spec_store.specs.Commit.{Command, Put, Delete, AnyVector, after_commands}
+use Rattle.spec_index.specs.World.{Slot, Note, World, fresh, serving, SlotChange, SlotRefusal, NameServes, TooManyIndexes, added, added_if_room, define, define_at, define_named, index_id, is_named, name_refusal, remove, removed, unless_refused}
+use Rattle.spec_server.specs.Sound.{Has, Fits, NumbersRise, NamesApart, AreListed, Sound, IsOldOrNew, HasItsName, LaterW}
+use Rattle.spec_store.proofs.LaterLemmas.{Later-itself, Later-then}
 use Rattle.raven_laws.proofs.ListedLemmas.{put-AreListed, delete-AreListed}
 use Rattle.raven_laws.proofs.LimitLemmas.{length_filtered}
-use Rattle.raven_laws.proofs.StoreLemmas.{same_itself, same_means}
+use Rattle.spec_store.proofs.StoreLemmas.{same_itself, same_means}
 use Rattle.raven_laws.proofs.SlotLemmas.{Has-append, Has-left, Has-right, Has-filter, passes, into-filter, NumbersRise-push, NumbersRise-filter, NamesApart-push, NamesApart-filter, unserved, served, Fits-later, Fits-fresh}
 
 -- LATER WORLDS

@@ -5,18 +5,17 @@ use Rattle.std.specs.Option.{option_map}
 use Rattle.raven_data.specs.Data.{Data}
 use Rattle.raven_data.specs.Folding.{folded, same_key}
 use Rattle.raven_data.specs.Rows.{Row, key}
-use Rattle.raven_model.specs.Store.{Store, row_at, last, put}
-use Rattle.raven_model.specs.Mapping.{Definition}
-use Rattle.raven_model.specs.Commit.{Command, Expect, Client, Server, Setting, Refused, Written, after_command, after_commands, commit, document_at, id_of, is_index_id, kept_spelling, refusal_of, row_of, tombstone, unless, vector_of, with_option, with_written, etags_taken}
-use Rattle.raven_model.specs.Replies.{Reply, Result as Done}
-use Rattle.raven_model.specs.Replies as told
-use Rattle.raven_model.specs.World.{Slot, World, SlotChange, SlotRefusal, added, added_if_room, define, define_at, define_named, name_refusal, remove, removed, serving, unless_refused}
-use Rattle.raven_model.specs.Definitions.{same_definition}
-use Rattle.raven_model.specs.Optimiser.{Choice, Use, Make, Merge, name_of, pick}
-use Rattle.raven_model.specs.Machine.{Machine, Change, Event, Keeping, Replied, Request, Put, Delete, Bulk, Get, Define, Remove, Auto, Find, Pump, Stale, Indexes, Stats, after, change_of, commands_in, is_first_taken, is_taken, one_field, pump_at, reslotted, rewrote, run, same_machine, settled, single_reply, start, step, use_or_make, write, wrote, results_of}
+use Rattle.spec_store.specs.Store.{Store, row_at, last, put}
+use Rattle.index_tree.specs.Definitions.{Definition, same_definition}
+use Rattle.spec_store.specs.Commit.{Command, Expect, Client, Server, Setting, Refused, Written, after_command, after_commands, commit, document_at, id_of, is_index_id, kept_spelling, refusal_of, row_of, tombstone, unless, vector_of, with_option, with_written, etags_taken}
+use Rattle.spec_server.specs.Replies.{Reply, Result as Done}
+use Rattle.spec_server.specs.Replies as told
+use Rattle.spec_index.specs.World.{Slot, World, SlotChange, SlotRefusal, added, added_if_room, define, define_at, define_named, name_refusal, remove, removed, serving, unless_refused}
+use Rattle.spec_index.specs.Optimiser.{Choice, Use, Make, Merge, name_of, pick}
+use Rattle.spec_server.specs.Machine.{Machine, Change, Event, Keeping, Replied, Request, Put, Delete, Bulk, Get, Define, Remove, Auto, Find, Pump, Stale, Indexes, Stats, after, change_of, commands_in, is_first_taken, is_taken, one_field, pump_at, reslotted, rewrote, run, same_machine, settled, single_reply, start, step, use_or_make, write, wrote, results_of}
 use Rattle.raven_laws.specs.Writes.{row_given, AreWritten, BulkIsAnswered, DeleteIsAnswered, IsCommanded, IsDeleted, IsNotThere, IsPutKept, IsRefused, IsUnkept, IsWritten, OnlyReads, PutIsAnswered}
-use Rattle.raven_laws.proofs.StoreLemmas.{found_key, row_at-put, same_itself, same_row}
-use Rattle.raven_laws.proofs.CommitLemmas.{document_found, put_key}
+use Rattle.spec_store.proofs.StoreLemmas.{found_key, row_at-put, same_itself, same_row}
+use Rattle.spec_store.proofs.CommitLemmas.{document_found, put_key}
 use Rattle.raven_laws.proofs.ListedLemmas.{commit_from-applied}
 use Rattle.raven_laws.proofs.WorldLemmas.{same_change, past_test, unchanged_slots, taken_out}
 

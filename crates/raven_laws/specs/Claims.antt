@@ -1,23 +1,18 @@
 -- What the laws say of the answers of a machine.
-use Rattle.std.specs.Prelude.{◌≡◌, ℕ, ◌<◌, List, [], Bool, true, false, Option, Some, None, IsTrue, ◌↔◌}
+use Rattle.std.specs.Prelude.{◌≡◌, ℕ, List, [], Bool, true, false, Option, Some, None, IsTrue, ◌↔◌}
 use Rattle.raven_data.specs.Folding.{folded}
 use Rattle.raven_data.specs.Rows.{Row, is_document}
-use Rattle.raven_model.specs.Store.{row_at, Store}
-use Rattle.raven_model.specs.Index.{Scope, in_scope, up_to, documents}
-use Rattle.raven_model.specs.Mapping.{Definition, Fields, Entry, mapper_of, scope_of, is_mapped}
-use Rattle.raven_model.specs.World.{Slot, reads, serving}
-use Rattle.raven_model.specs.Replies.{Reply, Found}
-use Rattle.raven_model.specs.Machine.{Machine, Find, step, untroubled, has_words, found_in, is_stale}
-use Rattle.raven_model.specs.Sound.{Has}
-
--- a row in scope past the etag, and no newer than the cutoff
-pub record Unseen (S : Store) (scope : Scope) (e : ℕ) (cutoff : Option ℕ) : Type 0 where
-  pub id : List ℕ
-  pub row : Row
-  pub found : row_at id S.rows ≡ Some row
-  pub read : IsTrue (in_scope scope row)
-  pub past : e < row.etag
-  pub before : IsTrue (up_to cutoff row.etag)
+use Rattle.spec_store.specs.Store.{row_at, Store}
+use Rattle.spec_index.specs.Index.{documents}
+use Rattle.index_tree.specs.Definitions.{Definition}
+use Rattle.index_tree.specs.Meaning.{Fields, Entry}
+use Rattle.index_tree.specs.Mapper.{mapper_of, scope_of, is_mapped}
+use Rattle.spec_index.specs.World.{Slot, reads, serving}
+use Rattle.spec_server.specs.Replies.{Reply, Found}
+use Rattle.spec_server.specs.Machine.{Machine, Find, step, untroubled, is_stale}
+use Rattle.spec_index.specs.Find.{has_words, found_in}
+use Rattle.spec_server.specs.Sound.{Has}
+use Rattle.spec_store.specs.Stale.{Unseen}
 
 -- the id is spelled as the store keeps it
 pub record IsAsKept (S : Store) (id : List ℕ) : Type 0 where

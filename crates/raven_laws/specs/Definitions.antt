@@ -6,13 +6,13 @@ use Rattle.raven_data.specs.Members.{Path}
 use Rattle.raven_data.specs.Rows.{Row}
 use Rattle.index_tree.specs.declared.map_query.MapQuery.{MapQuery}
 use Rattle.index_tree.specs.declared.reduce_query.ReduceQuery.{ReduceQuery}
-use Rattle.raven_model.specs.Store.{row_at, last}
-use Rattle.raven_model.specs.Mapping.{Definition, Static, Auto}
-use Rattle.raven_model.specs.Commit.{Command, AnyVector, Server, Refused, commit, document_at, tombstone}
-use Rattle.raven_model.specs.World.{Slot, index_id, is_named, is_reserved_name, max_index_name, row_body, serving}
-use Rattle.raven_model.specs.Sound.{Has, IsListed}
-use Rattle.raven_model.specs.Replies.{Reply}
-use Rattle.raven_model.specs.Machine.{Machine, Keeping, Replied, Define, Remove, Pump, brought_on, pumping, same_machine, step, write_refused}
+use Rattle.spec_store.specs.Store.{row_at, last}
+use Rattle.index_tree.specs.Definitions.{Definition, Static, Auto}
+use Rattle.spec_store.specs.Commit.{Command, AnyVector, Server, Refused, commit, document_at, tombstone}
+use Rattle.spec_index.specs.World.{Slot, index_id, is_named, is_reserved_name, max_index_name, row_body, serving}
+use Rattle.spec_server.specs.Sound.{Has, IsListed}
+use Rattle.spec_server.specs.Replies.{Reply}
+use Rattle.spec_server.specs.Machine.{Machine, Keeping, Replied, Define, Remove, Pump, brought_on, pumping, same_machine, step, write_refused}
 use Rattle.raven_laws.specs.Writes.{IsUnkept}
 
 -- WHICH DEFINITIONS SAY THE SAME

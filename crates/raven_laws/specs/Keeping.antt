@@ -2,7 +2,7 @@
 use Rattle.std.specs.Prelude.{List, [], ◌∷◌, if◌then◌else◌}
 use Rattle.raven_data.specs.Rows.{Row}
 use Rattle.raven_data.specs.Kept.{KeptRow, all_kept, keep_all}
-use Rattle.raven_model.specs.Machine.{Machine, Event, Keeping, after, change_of, is_taken}
+use Rattle.spec_server.specs.Machine.{Machine, Event, Keeping, after, change_of, is_taken}
 
 -- the rows of a change that is taken, and none of one that is not
 abbrev pub rows_taken : Keeping → List Row → List Row

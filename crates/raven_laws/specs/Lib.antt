@@ -1,4 +1,3 @@
-pub mod Keyed
 pub mod Claims
 pub mod Writes
 pub mod Definitions

@@ -3,10 +3,10 @@ use Rattle.std.specs.Prelude.{◌≡◌, ℕ, ◌+◌, List, [], ◌∷◌, ◌+
 use Rattle.raven_data.specs.Data.{Data}
 use Rattle.raven_data.specs.Folding.{folded, same_key}
 use Rattle.raven_data.specs.Rows.{Row, doc}
-use Rattle.raven_model.specs.Store.{Store, row_at, last}
-use Rattle.raven_model.specs.Commit.{Command, Expect, Client, Refused, after_commands, collection_of, commit, document_at, etags_taken, row_of, stored, tombstone, vector_of}
-use Rattle.raven_model.specs.Replies.{Reply}
-use Rattle.raven_model.specs.Machine.{Machine, Event, Keeping, Replied, Request, Put, Delete, Bulk, Get, Find, Stale, Indexes, Stats, after, commands_in, results_of, run, same_machine, spelling, step, write_refused}
+use Rattle.spec_store.specs.Store.{Store, row_at, last}
+use Rattle.spec_store.specs.Commit.{Command, Expect, Client, Refused, after_commands, collection_of, commit, document_at, etags_taken, row_of, stored, tombstone, vector_of}
+use Rattle.spec_server.specs.Replies.{Reply}
+use Rattle.spec_server.specs.Machine.{Machine, Event, Keeping, Replied, Request, Put, Delete, Bulk, Get, Find, Stale, Indexes, Stats, after, commands_in, results_of, run, same_machine, spelling, step, write_refused}
 
 -- what a Put is to write: the body without what the server writes itself, under the next etag
 abbrev pub row_given : Store → ℕ → List ℕ → Data → Row

@@ -1,10 +1,9 @@
 //! Which definitions say the same, what defining an index does, what removing one does, and a batch for one.
 
 ghost use Rattle.std.specs.Prelude.{◌≡◌, ◌↔◌, ℕ, List, Some, true};
-ghost use Rattle.raven_model.specs.Definitions.{same_definition};
-ghost use Rattle.raven_model.specs.Mapping.{Definition};
-ghost use Rattle.raven_model.specs.Machine.{Keeping, Machine, Pump, step};
-ghost use Rattle.raven_model.specs.Sound.{Sound};
+ghost use Rattle.index_tree.specs.Definitions.{same_definition, Definition};
+ghost use Rattle.spec_server.specs.Machine.{Keeping, Machine, Pump, step};
+ghost use Rattle.spec_server.specs.Sound.{Sound};
 ghost use Rattle.raven_laws.specs.Definitions.{BatchIsAnswered, DefineIsAnswered, OtherSlotsStay, RemoveIsAnswered, SaysTheSame};
 
 /// Two definitions are found to be the same exactly where they say the same: their maps and their reduces, but for the name of a group, or

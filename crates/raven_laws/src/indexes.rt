@@ -6,11 +6,13 @@ ghost use Rattle.std.specs.FinMap.{get};
 ghost use Rattle.std.specs.Option.{option_and_then};
 ghost use Rattle.raven_data.specs.Rows.{Row};
 ghost use Rattle.raven_data.specs.Scalars.{order};
-ghost use Rattle.raven_model.specs.Store.{Store, IsStore, last, row_at};
-ghost use Rattle.raven_model.specs.Later.{Later};
-ghost use Rattle.raven_model.specs.Index.{Scope, Table, Agrees, taken, etag_of_batch, note_rows, stale, newest, up_to, record_of, documents};
-ghost use Rattle.raven_model.specs.Mapping.{Mapper, Results, AreResults, scope_of, remapped, touched};
-ghost use Rattle.raven_laws.specs.Claims.{Unseen};
+ghost use Rattle.spec_store.specs.Store.{Store, IsStore, last, row_at};
+ghost use Rattle.spec_store.specs.Later.{Later};
+ghost use Rattle.raven_data.specs.Tables.{Scope, Table, note_rows};
+ghost use Rattle.spec_index.specs.Index.{Agrees, etag_of_batch, record_of, documents};
+ghost use Rattle.spec_store.specs.Stale.{taken, stale, newest, up_to, Unseen};
+ghost use Rattle.index_tree.specs.Mapper.{Mapper, scope_of};
+ghost use Rattle.spec_index.specs.Mapping.{Results, AreResults, remapped, touched};
 
 /// What an index has recorded stays right in every later store, which is not read again.
 pub fn agreement_survives()

@@ -3,10 +3,10 @@
 ghost use Rattle.std.specs.Prelude.{◌≡◌, ℕ, List, None};
 ghost use Rattle.raven_data.specs.Rows.{Row};
 ghost use Rattle.raven_data.specs.Kept.{EtagsRise, all_kept, keep_all, last_kept};
-ghost use Rattle.raven_model.specs.Commit.{AreNext};
-ghost use Rattle.raven_model.specs.Machine.{Event, Machine, Request, change_of, run};
-ghost use Rattle.raven_model.specs.Script.{Given, after_lines, events_of};
-ghost use Rattle.raven_model.specs.Store.{IsStore, Store, last, with_rows};
+ghost use Rattle.spec_store.specs.Commit.{AreNext};
+ghost use Rattle.spec_server.specs.Machine.{Event, Machine, Request, change_of, run};
+ghost use Rattle.spec_server.specs.Script.{Given, after_lines, events_of};
+ghost use Rattle.spec_store.specs.Store.{IsStore, Store, last, with_rows};
 ghost use Rattle.raven_laws.specs.Keeping.{held_after};
 
 /// A keeper that holds the rows of a store and is given further ones holds those of the store with them; and rows whose etags follow on

@@ -1,13 +1,15 @@
 //! What holds after every run: whatever is asked, in whatever order.
 
 ghost use Rattle.std.specs.Prelude.{◌≡◌, ◌↔◌, ◌<◌, ◌≤◌, ◌^◌, ◌+◌, ◌++◌, ℕ, List, Some, None, false, length};
-ghost use Rattle.raven_model.specs.Store.{last};
-ghost use Rattle.raven_model.specs.Mapping.{Fields, mapper_of, scratch};
-ghost use Rattle.raven_model.specs.Commit.{Setting};
-ghost use Rattle.raven_model.specs.World.{Slot, World, serving};
-ghost use Rattle.raven_model.specs.Optimiser.{Shape, name_of};
-ghost use Rattle.raven_model.specs.Machine.{Event, is_stale, pump, pumping, run, start};
-ghost use Rattle.raven_model.specs.Sound.{Has, LaterW, Sound};
+ghost use Rattle.spec_store.specs.Store.{last};
+ghost use Rattle.index_tree.specs.Meaning.{Fields};
+ghost use Rattle.index_tree.specs.Mapper.{mapper_of};
+ghost use Rattle.spec_index.specs.Mapping.{scratch};
+ghost use Rattle.spec_store.specs.Commit.{Setting};
+ghost use Rattle.spec_index.specs.World.{Slot, World, serving};
+ghost use Rattle.spec_index.specs.Optimiser.{Shape, name_of};
+ghost use Rattle.spec_server.specs.Machine.{Event, is_stale, pump, pumping, run, start};
+ghost use Rattle.spec_server.specs.Sound.{Has, LaterW, Sound};
 ghost use Rattle.raven_laws.specs.Claims.{FlagsAreExact, FreshIsExact, FreshIsFromScratch, IdsAreAsKept, IsAsKept};
 
 /// Each index has recorded what the store has up to its etag, has its row among the indexes' rows, and shares its number and its name

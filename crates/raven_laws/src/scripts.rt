@@ -1,10 +1,10 @@
 //! What holds after every script: its lines are one run.
 
 ghost use Rattle.std.specs.Prelude.{◌≡◌, ◌++◌, List};
-ghost use Rattle.raven_model.specs.Commit.{Setting};
-ghost use Rattle.raven_model.specs.Machine.{Machine, run, start};
-ghost use Rattle.raven_model.specs.Script.{Given, after_lines, events_of};
-ghost use Rattle.raven_model.specs.Sound.{LaterW, Sound};
+ghost use Rattle.spec_store.specs.Commit.{Setting};
+ghost use Rattle.spec_server.specs.Machine.{Machine, run, start};
+ghost use Rattle.spec_server.specs.Script.{Given, after_lines, events_of};
+ghost use Rattle.spec_server.specs.Sound.{LaterW, Sound};
 ghost use Rattle.raven_laws.specs.Claims.{FlagsAreExact, FreshIsExact, FreshIsFromScratch, IdsAreAsKept};
 
 /// The state after lines is that of the run that they ask for.

@@ -1,9 +1,9 @@
 //! How a store grows.
 
 ghost use Rattle.std.specs.Prelude.{◌≡◌, ℕ, List, Ok};
-ghost use Rattle.raven_model.specs.Store.{Store, IsStore};
-ghost use Rattle.raven_model.specs.Later.{Later};
-ghost use Rattle.raven_model.specs.Commit.{Setting, Writer, Command, Written, Commits, commit};
+ghost use Rattle.spec_store.specs.Store.{Store, IsStore};
+ghost use Rattle.spec_store.specs.Later.{Later};
+ghost use Rattle.spec_store.specs.Commit.{Setting, Writer, Command, Written, Commits, commit};
 
 /// A transaction that is taken leaves a store with the rows that it wrote, under the next etags without a gap;
 /// all that was written before is as it was, or was replaced.

@@ -3,9 +3,9 @@
 ghost use Rattle.std.specs.Prelude.{◌≡◌, ℕ, List, [], Option, Some, false};
 ghost use Rattle.raven_data.specs.Data.{Data};
 ghost use Rattle.raven_data.specs.Rows.{Row};
-ghost use Rattle.raven_model.specs.Store.{row_at};
-ghost use Rattle.raven_model.specs.Commit.{Command, Expect, Setting, is_index_id};
-ghost use Rattle.raven_model.specs.Machine.{Auto, Event, Keeping, Machine, Request, Pump, commands_in, run, start, step};
+ghost use Rattle.spec_store.specs.Store.{row_at};
+ghost use Rattle.spec_store.specs.Commit.{Command, Expect, Setting, is_index_id};
+ghost use Rattle.spec_server.specs.Machine.{Auto, Event, Keeping, Machine, Request, Pump, commands_in, run, start, step};
 ghost use Rattle.raven_laws.specs.Writes.{BulkIsAnswered, DeleteIsAnswered, IsWritten, PutIsAnswered, OnlyReads};
 
 /// A Put is refused for a stated cause and changes nothing, or the keeper failed and nothing is changed, or the document stands in the

@@ -1,2 +1,2 @@
 pub mod Once
-pub mod Forms
+pub mod TextLemmas

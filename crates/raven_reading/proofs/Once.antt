@@ -2,25 +2,25 @@
 use Rattle.std.proofs.Common.{◌≡◌, ◌⊎◌, inl, inr, ◌+◌, ℕ, subst, List, [], ◌∷◌, ◌++◌, Bool, true, false, Option, Some, None, Result, Ok, Err, refl, sym, ap, ◌∙◌}
 use Rattle.raven_data.specs.Kept.{KeptRow}
 use Rattle.raven_data.specs.Rows.{Row, Body, doc, gone}
-use Rattle.raven_model.specs.Commit.{Setting}
-use Rattle.raven_model.specs.Kept.{OpenedFrom, rows_in}
-use Rattle.raven_model.specs.Language as is
-use Rattle.raven_model.specs.Machine.{Machine}
-use Rattle.raven_model.specs.Mapping.{Definition}
-use Rattle.raven_model.specs.Opening.{BodyForm, NoForm, AutoForm, StaticForm, ReadRow, and_then, body_form, is_defining, opened, opened_with, or_bad, rows_of, slots_after, slots_from}
-use Rattle.raven_model.specs.World.{Slot}
-use Rattle.raven_model.specs.Script.{Asked, Plain, Defining, LineRead, asked_of, defined_by}
-use Rattle.index_lang.specs.DefinitionView.{definition_view}
-use Rattle.index_lang.specs.declared.definition.Definition as program
-use Rattle.index_lang.specs.declared.refusal.LangRefusal.TheVariants.{At}
-use Rattle.index_lang.specs.declared.refusal.LangRefusal.{LangRefusal}
+use Rattle.spec_store.specs.Commit.{Setting}
+use Rattle.spec_server.specs.Opening.{OpenedFrom, BodyForm, NoForm, AutoForm, StaticForm, ReadRow, and_then, body_form, is_defining, opened, opened_with, or_bad, rows_of, slots_after, slots_from}
+use Rattle.spec_store.specs.Kept.{rows_in}
+use Rattle.index_tree.specs.Language as is
+use Rattle.spec_server.specs.Machine.{Machine}
+use Rattle.index_tree.specs.Definitions.{Definition}
+use Rattle.spec_index.specs.World.{Slot}
+use Rattle.spec_server.specs.Script.{Asked, Plain, Defining, LineRead, asked_of, defined_by}
+use Rattle.index_definition.specs.DefinitionView.{definition_view}
+use Rattle.index_definition.specs.declared.definition.Definition as program
+use Rattle.index_definition.specs.declared.refusal.LangRefusal.TheVariants.{At}
+use Rattle.index_definition.specs.declared.refusal.LangRefusal.{LangRefusal}
 use Rattle.index_lang.specs.declared.reading.Trees.{Trees}
 use Rattle.index_lang.specs.Parse.{AreRead, IsParsed, causes, definition, first_cause, is_long, judged_if, lengths, unless}
 use Rattle.index_lang.proofs.Once.{parsed_once}
-use Rattle.raven_reading.specs.Lines.{Comes, IsLine}
-use Rattle.raven_reading.specs.Openings.{AreReadRows, IsInBody, IsOfForm, IsOpened, IsOpenedBy, IsReadIf, Opens, without_refusal}
-use Rattle.index_lang.specs.RefusalView.{refusal_view}
-use Rattle.raven_reading.specs.Says.{Says}
+use Rattle.index_lang.specs.Lines.{Comes, IsLine}
+use Rattle.index_lang.specs.Openings.{AreReadRows, IsInBody, IsOfForm, IsOpened, IsOpenedBy, IsReadIf, Opens, without_refusal}
+use Rattle.index_definition.specs.RefusalView.{refusal_view}
+use Rattle.index_lang.specs.Says.{Says}
 
 -- TEXTS
 

@@ -3,15 +3,15 @@
 ghost use Rattle.std.specs.Prelude.{◌≡◌, ℕ, List, Ok, Result};
 ghost use Rattle.raven_data.specs.Kept.{KeptRow};
 ghost use Rattle.raven_data.specs.Rows.{Row};
-ghost use Rattle.raven_model.specs.Commit.{Setting};
-ghost use Rattle.raven_model.specs.Kept.{OpenedFrom};
-ghost use Rattle.raven_model.specs.Language.{LangRefusal};
-ghost use Rattle.raven_model.specs.Machine.{Machine};
-ghost use Rattle.raven_model.specs.Mapping.{Definition};
-ghost use Rattle.raven_model.specs.Script.{LineRead};
-ghost use Rattle.raven_reading.specs.Lines.{IsLine};
-ghost use Rattle.raven_reading.specs.Openings.{IsOpened, Opens};
-ghost use Rattle.raven_reading.specs.Says.{Says};
+ghost use Rattle.spec_store.specs.Commit.{Setting};
+ghost use Rattle.spec_server.specs.Opening.{OpenedFrom};
+ghost use Rattle.index_tree.specs.Language.{LangRefusal};
+ghost use Rattle.spec_server.specs.Machine.{Machine};
+ghost use Rattle.index_tree.specs.Definitions.{Definition};
+ghost use Rattle.spec_server.specs.Script.{LineRead};
+ghost use Rattle.index_lang.specs.Lines.{IsLine};
+ghost use Rattle.index_lang.specs.Openings.{IsOpened, Opens};
+ghost use Rattle.index_lang.specs.Says.{Says};
 
 /// A text says one definition, or is refused for one cause, and not both.
 pub fn texts_say_one_thing()

@@ -3,16 +3,15 @@ use Rattle.std.proofs.Common.{◌≡◌, ℕ, ◌+◌, ◌<◌, List, [], ◌∷
 use Rattle.std.proofs.lemmas.Bool.{ltb-false}
 use Rattle.std.specs.List.{list_any}
 use Rattle.raven_data.specs.Moments.{moments_end}
-use Rattle.raven_model.specs.Store.{last}
-use Rattle.raven_model.specs.Mapping.{Definition, Auto}
-use Rattle.raven_model.specs.Definitions.{same_definition}
-use Rattle.raven_model.specs.Opening.{is_auto_name}
-use Rattle.raven_model.specs.Commit.{Command, AnyVector, Client, Server, Refused, Written, commit}
-use Rattle.raven_model.specs.Optimiser.{Shape, Make, Merge, best, chosen, covers, is_of, name_of, slot_shape}
-use Rattle.raven_model.specs.Replies as told
-use Rattle.raven_model.specs.World.{Slot, index_id, row_body, serving, SlotRefusal, added, define_at, is_named, is_reserved_name, removed, unless_refused}
-use Rattle.raven_model.specs.Machine.{Machine, Request, Put as PutOne, Delete as DeleteOne, Bulk, Get, Define, Remove, Auto as AutoOne, Find, Pump, Stale, Indexes, Stats, Event, Keeping, Change, after, change_of, commands_in, pump_at, pump_for, reslotted, is_taken, one_field, rewrote, run, same_machine, settled, single_reply, use_or_make, write, wrote}
-use Rattle.raven_model.specs.Sound.{Sound}
+use Rattle.spec_store.specs.Store.{last}
+use Rattle.index_tree.specs.Definitions.{Definition, Auto, same_definition}
+use Rattle.spec_server.specs.Opening.{is_auto_name}
+use Rattle.spec_store.specs.Commit.{Command, AnyVector, Client, Server, Refused, Written, commit}
+use Rattle.spec_index.specs.Optimiser.{Shape, Make, Merge, best, chosen, covers, is_of, name_of, slot_shape}
+use Rattle.spec_server.specs.Replies as told
+use Rattle.spec_index.specs.World.{Slot, index_id, row_body, serving, SlotRefusal, added, define_at, is_named, is_reserved_name, removed, unless_refused}
+use Rattle.spec_server.specs.Machine.{Machine, Request, Put as PutOne, Delete as DeleteOne, Bulk, Get, Define, Remove, Auto as AutoOne, Find, Pump, Stale, Indexes, Stats, Event, Keeping, Change, after, change_of, commands_in, pump_at, pump_for, reslotted, is_taken, one_field, rewrote, run, same_machine, settled, single_reply, use_or_make, write, wrote}
+use Rattle.spec_server.specs.Sound.{Sound}
 use Rattle.raven_laws.proofs.MachineLemmas.{step-Moves}
 use Rattle.raven_laws.proofs.WorldLemmas.{taken_out}
 use Rattle.raven_reopening.specs.Form.{IsByText, IsEvent, AreCommands, AreEvents, IsIndexing}

@@ -8,20 +8,20 @@ use Rattle.std.specs.Str.{bytes_eq}
 use Rattle.raven_data.specs.Folding.{folded, same_key}
 use Rattle.raven_data.specs.Kept.{KeptRow, all_kept}
 use Rattle.raven_data.specs.Rows.{Row, Body, doc, gone, key, is_document}
-use Rattle.raven_model.specs.Commit.{Setting, stored}
-use Rattle.raven_model.specs.Machine.{Event, Machine, run}
-use Rattle.raven_model.specs.Mapping.{Definition}
-use Rattle.raven_model.specs.Opening.{ReadRow, is_defining, name_in, may_be_named, is_filed, is_too_many, slot_of, with_slot, slots_with, slots_after, or_bad, and_then, slots_from, opened_with, rows_of}
-use Rattle.raven_model.specs.Sound.{Has, Sound}
-use Rattle.raven_model.specs.Store.{row_at}
-use Rattle.raven_model.specs.World.{Slot, fresh, index_id, row_body}
-use Rattle.raven_laws.proofs.StoreLemmas.{both_true, found_key, same_row}
+use Rattle.spec_store.specs.Commit.{Setting, stored}
+use Rattle.spec_server.specs.Machine.{Event, Machine, run}
+use Rattle.index_tree.specs.Definitions.{Definition}
+use Rattle.spec_server.specs.Opening.{ReadRow, is_defining, name_in, may_be_named, is_filed, is_too_many, slot_of, with_slot, slots_with, slots_after, or_bad, and_then, slots_from, opened_with, rows_of}
+use Rattle.spec_server.specs.Sound.{Has, Sound}
+use Rattle.spec_store.specs.Store.{row_at}
+use Rattle.spec_index.specs.World.{Slot, fresh, index_id, row_body}
+use Rattle.spec_store.proofs.StoreLemmas.{both_true, found_key, same_row}
 use Rattle.raven_laws.proofs.MatchLemmas.{into-filter_map}
 use Rattle.raven_laws.proofs.AnswerLemmas.{Has-filter_map}
 use Rattle.raven_laws.proofs.OpenedRuns.{go-Sound, go-LaterW}
 use Rattle.raven_laws.proofs.OpenLemmas.{Has-found, opened_from-rows, opened_from-Sound}
 use Rattle.raven_laws.proofs.SlotLemmas.{Has-map, Has-mapped, find-Has}
-use Rattle.raven_reading.specs.Openings.{AreReadRows, IsInBody, IsOpened, IsOpenedBy, IsReadIf, IsReadRow}
+use Rattle.index_lang.specs.Openings.{AreReadRows, IsInBody, IsOpened, IsOpenedBy, IsReadIf, IsReadRow}
 use Rattle.raven_reading.proofs.Once.{body_once}
 use Rattle.raven_reopening.specs.Form.{AreEvents}
 use Rattle.raven_reopening.specs.Reopened.{IsThereAgain, WasThere, OpensAgain}
@@ -29,7 +29,7 @@ use Rattle.raven_reopening.proofs.ReadLemmas.{AreBack, rows_in-kept}
 use Rattle.raven_reopening.proofs.FitLemmas.{named-other}
 use Rattle.raven_reopening.proofs.LastLemmas.{AllLast, name-under}
 use Rattle.raven_reopening.proofs.CountLemmas.{definitions, few-definitions, one_more}
-use Rattle.raven_reopening.proofs.TextLemmas.{opened-told}
+use Rattle.raven_reading.proofs.TextLemmas.{opened-told}
 use Rattle.raven_reopening.proofs.AgainLemmas.{Again, run-Again}
 use Rattle.raven_reopening.proofs.OpenedLemmas.{machine_of, opened-Again}
 

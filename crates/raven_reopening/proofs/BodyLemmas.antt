@@ -11,13 +11,13 @@ use Rattle.raven_data.specs.Members.{member}
 use Rattle.raven_data.specs.Rising.{Pairs, IsBelowAll, IsRising, put}
 use Rattle.raven_data.specs.Sound.{IsSound, HasSound}
 use Rattle.raven_data.specs.Written.{text_of}
-use Rattle.raven_model.specs.Commit.{clean_metadata, is_own, stored}
-use Rattle.raven_model.specs.Kept.{is_clean, max_body}
+use Rattle.spec_store.specs.Commit.{clean_metadata, is_own, stored}
+use Rattle.spec_store.specs.Kept.{is_clean, max_body}
 use Rattle.index_tree.specs.declared.map_query.MapQuery.{MapQuery}
-use Rattle.raven_model.specs.Mapping.{Auto, Static}
-use Rattle.raven_model.specs.Opening.{AutoForm, StaticForm, body_form, form_of, is_part}
-use Rattle.raven_model.specs.World.{row_body}
-use Rattle.raven_laws.proofs.KeyedLemmas.{differ_greater}
+use Rattle.index_tree.specs.Definitions.{Auto, Static}
+use Rattle.spec_server.specs.Opening.{AutoForm, StaticForm, body_form, form_of, is_part}
+use Rattle.spec_index.specs.World.{row_body}
+use Rattle.spec_store.proofs.KeyedLemmas.{differ_greater}
 use Rattle.raven_laws.proofs.MemberLemmas.{IsRising-put, pairs-entries}
 use Rattle.raven_reopening.specs.Form.{IsBody, IsDocument}
 use Rattle.raven_reopening.proofs.ReadLemmas.{IsReadBack, document-back}

@@ -4,15 +4,15 @@ use Rattle.std.proofs.lemmas.Slice.Eq.{bytes_eq-Decides}
 use Rattle.std.specs.Str.{bytes_eq}
 use Rattle.raven_data.specs.Folding.{folded, same_key}
 use Rattle.raven_data.specs.Rows.{Row, key, is_document}
-use Rattle.raven_model.specs.Machine.{Machine}
-use Rattle.raven_model.specs.Opening.{is_defining}
-use Rattle.raven_model.specs.Sound.{Has, Sound}
-use Rattle.raven_model.specs.Store.{AreApart, row_at}
-use Rattle.raven_model.specs.World.{Slot, index_id}
+use Rattle.spec_server.specs.Machine.{Machine}
+use Rattle.spec_server.specs.Opening.{is_defining}
+use Rattle.spec_server.specs.Sound.{Has, Sound}
+use Rattle.spec_store.specs.Store.{AreApart, row_at}
+use Rattle.spec_index.specs.World.{Slot, index_id}
 use Rattle.raven_laws.proofs.LimitLemmas.{fewer_filtered}
 use Rattle.raven_laws.proofs.OpenLemmas.{Has-found}
 use Rattle.raven_laws.proofs.SlotLemmas.{Has-filter, into-filter, passes}
-use Rattle.raven_laws.proofs.StoreLemmas.{AreApart-filter, both_true, same_itself, same_means}
+use Rattle.spec_store.proofs.StoreLemmas.{AreApart-filter, both_true, same_itself, same_means}
 
 -- how many live rows of definitions there are
 abbrev pub definitions : List Row → ℕ

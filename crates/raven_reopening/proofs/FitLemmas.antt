@@ -10,11 +10,11 @@ use Rattle.std.specs.List.{position_from, starts_with}
 use Rattle.std.specs.Str.Parse.{AllDigits}
 use Rattle.raven_data.specs.Faults.{empty, too_long, control, is_control, is_fit}
 use Rattle.raven_data.specs.Folding.{folded}
-use Rattle.raven_model.specs.Mapping.{Definition, Static, Auto}
-use Rattle.raven_model.specs.Opening.{is_auto_name, is_static_name, may_be_named}
-use Rattle.raven_model.specs.Optimiser.{Shape, plain_name, free_name, first_free, name_of}
-use Rattle.raven_model.specs.Sound.{Has, NumbersRise}
-use Rattle.raven_model.specs.World.{Slot, index_id, is_reserved_name, serving}
+use Rattle.index_tree.specs.Definitions.{Definition, Static, Auto}
+use Rattle.spec_server.specs.Opening.{is_auto_name, is_static_name, may_be_named}
+use Rattle.spec_index.specs.Optimiser.{Shape, plain_name, free_name, first_free, name_of}
+use Rattle.spec_server.specs.Sound.{Has, NumbersRise}
+use Rattle.spec_index.specs.World.{Slot, index_id, is_reserved_name, serving}
 
 -- TEXTS THAT CAN BE IDS AND NAMES
 

@@ -10,16 +10,16 @@ use Rattle.raven_data.specs.Members.{value_at}
 use Rattle.raven_data.specs.Moments.{moments_end}
 use Rattle.raven_data.specs.Rows.{Row, Body, doc, key}
 use Rattle.raven_data.specs.Written.{text_of}
-use Rattle.raven_model.specs.Store.{row_at, put, Store, last, with_row}
-use Rattle.raven_model.specs.Kept.{max_body, is_etag}
-use Rattle.raven_model.specs.Mapping.{Definition}
-use Rattle.raven_model.specs.Opening.{name_in, is_filed}
-use Rattle.raven_model.specs.Commit.{Command, Expect, Put, Delete, AnyVector, Writer, Client, Server, Setting, Refusal, Written, Refused, collection_of, named_collection, is_index_id, stored, kept_spelling, document_at, refusal_of, reserved, too_large, collection_changed, conflict, store_full, etags_spent, row_of, tombstone, with_written, unless, commit_from, commit}
-use Rattle.raven_model.specs.World.{index_id, row_body}
-use Rattle.raven_model.specs.Sound.{Has}
-use Rattle.raven_laws.proofs.StoreLemmas.{same_row, either_false, both_true}
-use Rattle.raven_laws.proofs.LaterLemmas.{last-with}
-use Rattle.raven_laws.proofs.CommitLemmas.{put_key, document_found}
+use Rattle.spec_store.specs.Store.{row_at, put, Store, last, with_row}
+use Rattle.spec_store.specs.Kept.{max_body, is_etag}
+use Rattle.index_tree.specs.Definitions.{Definition}
+use Rattle.spec_server.specs.Opening.{name_in, is_filed}
+use Rattle.spec_store.specs.Commit.{Command, Expect, Put, Delete, AnyVector, Writer, Client, Server, Setting, Refusal, Written, Refused, collection_of, named_collection, is_index_id, stored, kept_spelling, document_at, refusal_of, reserved, too_large, collection_changed, conflict, store_full, etags_spent, row_of, tombstone, with_written, unless, commit_from, commit}
+use Rattle.spec_index.specs.World.{index_id, row_body}
+use Rattle.spec_server.specs.Sound.{Has}
+use Rattle.spec_store.proofs.StoreLemmas.{same_row, either_false, both_true}
+use Rattle.spec_store.proofs.LaterLemmas.{last-with}
+use Rattle.spec_store.proofs.CommitLemmas.{put_key, document_found}
 use Rattle.raven_laws.proofs.KeepLemmas.{next_etag}
 use Rattle.raven_laws.proofs.LimitLemmas.{all_none, takes, unspent}
 use Rattle.raven_laws.proofs.ListedLemmas.{unreserved}

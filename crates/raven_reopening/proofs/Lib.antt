@@ -1,5 +1,4 @@
 pub mod ReadLemmas
-pub mod TextLemmas
 pub mod BodyLemmas
 pub mod FitLemmas
 pub mod CountLemmas

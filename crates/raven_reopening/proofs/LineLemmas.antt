@@ -12,21 +12,21 @@ use Rattle.raven_data.specs.Kept.{KeptRow}
 use Rattle.raven_data.specs.Members.{member}
 use Rattle.raven_data.specs.Moments.{moments_end}
 use Rattle.raven_data.specs.Sound.{AreSound}
-use Rattle.raven_model.specs.Commit.{Command, Expect, AnyVector, Vector, Setting}
-use Rattle.raven_model.specs.Language.{LangRefusal}
-use Rattle.raven_model.specs.Mapping.{Definition}
-use Rattle.raven_model.specs.Machine.{Event, Machine, Request, Put, Delete, Bulk, Get, Remove, Auto, Find, Pump, Stale, Indexes, Stats, commands_in}
-use Rattle.raven_model.specs.Opening.{is_part}
-use Rattle.raven_model.specs.Script.{Do, LineRead, ReadRefusal, Plain, asked_by, asked_to_define, defined_by, index_of, map_member, name_member, reduce_member, texts_in, texts_of_body, unless_name_fault, UnknownLine, BadMember, Circumstance, Given, then_read, before_space, after_space, both_parts, word_and_rest, has_byte, unless_fault, id_read, json_read, object_read, put_read, delete_read, id_member, vector_member, put_command, delete_command, typed_command, command_read, commands_read, list_member, commands_of, bulk_read, or_unknown, parts_read, put_of, put_if_of, delete_if_of, get_of, is_collection, is_field, auto_of, drop_of, max_read, pump_of, pump_read, name_read, find_of, stale_of, by_word, request_of, line_of, event_of, events_of, after_lines}
+use Rattle.spec_store.specs.Commit.{Command, Expect, AnyVector, Vector, Setting}
+use Rattle.index_tree.specs.Language.{LangRefusal}
+use Rattle.index_tree.specs.Definitions.{Definition}
+use Rattle.spec_server.specs.Machine.{Event, Machine, Request, Put, Delete, Bulk, Get, Remove, Auto, Find, Pump, Stale, Indexes, Stats, commands_in}
+use Rattle.spec_server.specs.Opening.{is_part}
+use Rattle.spec_server.specs.Script.{Do, LineRead, ReadRefusal, Plain, asked_by, asked_to_define, defined_by, index_of, map_member, name_member, reduce_member, texts_in, texts_of_body, unless_name_fault, UnknownLine, BadMember, Circumstance, Given, then_read, before_space, after_space, both_parts, word_and_rest, has_byte, unless_fault, id_read, json_read, object_read, put_read, delete_read, id_member, vector_member, put_command, delete_command, typed_command, command_read, commands_read, list_member, commands_of, bulk_read, or_unknown, parts_read, put_of, put_if_of, delete_if_of, get_of, is_collection, is_field, auto_of, drop_of, max_read, pump_of, pump_read, name_read, find_of, stale_of, by_word, request_of, line_of, event_of, events_of, after_lines}
 use Rattle.raven_laws.proofs.ScriptLemmas.{lines-run}
-use Rattle.raven_laws.proofs.StoreLemmas.{both_true, either_false}
+use Rattle.spec_store.proofs.StoreLemmas.{both_true, either_false}
 use Rattle.raven_reopening.specs.Form.{IsBody, IsCommand, AreCommands, IsIndexing, AreEvents, AreTimely}
-use Rattle.raven_reading.specs.Lines.{AreLines, Comes}
-use Rattle.raven_reading.specs.Openings.{IsOpened}
-use Rattle.raven_reading.specs.Says.{Says}
+use Rattle.index_lang.specs.Lines.{AreLines, Comes}
+use Rattle.index_lang.specs.Openings.{IsOpened}
+use Rattle.index_lang.specs.Says.{Says}
 use Rattle.raven_reopening.specs.Reopened.{OpensAgain}
 use Rattle.raven_reopening.proofs.BackLemmas.{run-opens}
-use Rattle.raven_reopening.proofs.TextLemmas.{said-by}
+use Rattle.raven_reading.proofs.TextLemmas.{said-by}
 use Rattle.raven_reopening.proofs.BodyLemmas.{member-sound, member-depth}
 use Rattle.raven_reopening.proofs.SoundLemmas.{AreFine, IsFine, reading-fine}
 use Rattle.raven_reopening.proofs.Utf8Lemmas.{AreHigh, encode-high, utf8-one}

@@ -10,19 +10,19 @@ use Rattle.raven_data.specs.Kept.{KeptRow}
 use Rattle.raven_data.specs.Moments.{moments_end}
 use Rattle.raven_data.specs.Rows.{Row, Body, doc, gone}
 use Rattle.raven_data.specs.Written.{text_of}
-use Rattle.raven_model.specs.Commit.{Setting}
-use Rattle.raven_model.specs.Kept.{max_body, is_stored, document_of, body_in, is_etag, row_in, row_behind, or_bad_row, rows_behind, rows_in}
-use Rattle.raven_model.specs.Machine.{Machine}
-use Rattle.raven_model.specs.Opening.{ReadRow, is_defining, is_filed, may_be_named, slot_of, with_slot, slots_after, or_bad, and_then, slots_from, opened_with, rows_of}
-use Rattle.raven_model.specs.Sound.{Has}
-use Rattle.raven_model.specs.World.{Slot}
-use Rattle.raven_laws.proofs.StoreLemmas.{both_true, same_row}
+use Rattle.spec_store.specs.Commit.{Setting}
+use Rattle.spec_store.specs.Kept.{max_body, is_stored, document_of, body_in, is_etag, row_in, row_behind, or_bad_row, rows_behind, rows_in}
+use Rattle.spec_server.specs.Machine.{Machine}
+use Rattle.spec_server.specs.Opening.{ReadRow, is_defining, is_filed, may_be_named, slot_of, with_slot, slots_after, or_bad, and_then, slots_from, opened_with, rows_of}
+use Rattle.spec_server.specs.Sound.{Has}
+use Rattle.spec_index.specs.World.{Slot}
+use Rattle.spec_store.proofs.StoreLemmas.{both_true, same_row}
 use Rattle.raven_laws.proofs.OpenLemmas.{BodyRises, may_behind, rows_in-AreRowsOf, taken-of, toldin-is, with_slot-is}
 use Rattle.raven_laws.proofs.SlotLemmas.{Has-append}
-use Rattle.raven_reading.specs.Openings.{AreReadRows, IsInBody, IsOpened, IsOpenedBy, IsReadIf, IsReadRow}
+use Rattle.index_lang.specs.Openings.{AreReadRows, IsInBody, IsOpened, IsOpenedBy, IsReadIf, IsReadRow}
 use Rattle.raven_reopening.proofs.ReadLemmas.{IsReadBack, IsBodyBack, IsBack}
 use Rattle.raven_reopening.proofs.RightLemmas.{IsRight}
-use Rattle.raven_reopening.proofs.TextLemmas.{body-told}
+use Rattle.raven_reading.proofs.TextLemmas.{body-told}
 use Rattle.raven_reopening.proofs.AgainLemmas.{Again}
 
 -- ROWS

@@ -13,9 +13,9 @@ use Rattle.raven_data.specs.Kept.{all_kept, body_text, kept}
 use Rattle.raven_data.specs.Moments.{moments_end}
 use Rattle.raven_data.specs.Rows.{Row, Body, doc, gone, key}
 use Rattle.raven_data.specs.Written.{text_of}
-use Rattle.raven_model.specs.Kept.{max_body, is_stored, document_of, document_in, body_in, is_etag, row_in, may_stand_behind, row_behind, or_bad_row, rows_behind, rows_in}
-use Rattle.raven_model.specs.Store.{row_at, last_of, AreRising, AreApart, Store, IsStore}
-use Rattle.raven_laws.proofs.StoreLemmas.{AreRising-back}
+use Rattle.spec_store.specs.Kept.{max_body, is_stored, document_of, document_in, body_in, is_etag, row_in, may_stand_behind, row_behind, or_bad_row, rows_behind, rows_in}
+use Rattle.spec_store.specs.Store.{row_at, last_of, AreRising, AreApart, Store, IsStore}
+use Rattle.spec_store.proofs.StoreLemmas.{AreRising-back}
 use Rattle.raven_laws.proofs.OpenLemmas.{none_then}
 use Rattle.raven_json.proofs.RoundTrip.{reading-text_of}
 use Rattle.raven_reopening.specs.Form.{IsDocument, IsBodyInForm, IsInForm, AreInForm}

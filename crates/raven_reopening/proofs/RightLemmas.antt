@@ -2,17 +2,17 @@
 use Rattle.std.proofs.Common.{◌≡◌, ℕ, ◌≤◌, List, [], ◌∷◌, Bool, true, false, if◌then◌else◌, length, filter, map, Some, None, Ok, refl, sym, ◌∙◌, subst, inl, inr}
 use Rattle.raven_data.specs.Faults.{max_name}
 use Rattle.raven_data.specs.Rows.{doc}
-use Rattle.raven_model.specs.Commit.{stored}
-use Rattle.raven_model.specs.Mapping.{Definition, Static, Auto}
-use Rattle.raven_model.specs.Opening.{is_auto_name, may_be_named}
-use Rattle.raven_model.specs.Machine.{Auto as AutoOne, brought_on, brought_on_if}
-use Rattle.raven_model.specs.Sound.{Has}
-use Rattle.raven_model.specs.Store.{Store}
-use Rattle.raven_model.specs.World.{Slot, World, added, is_named, is_reserved_name, row_body}
+use Rattle.spec_store.specs.Commit.{stored}
+use Rattle.index_tree.specs.Definitions.{Definition, Static, Auto}
+use Rattle.spec_server.specs.Opening.{is_auto_name, may_be_named}
+use Rattle.spec_server.specs.Machine.{Auto as AutoOne, brought_on, brought_on_if}
+use Rattle.spec_server.specs.Sound.{Has}
+use Rattle.spec_store.specs.Store.{Store}
+use Rattle.spec_index.specs.World.{Slot, World, added, is_named, is_reserved_name, row_body}
 use Rattle.raven_laws.proofs.MachineLemmas.{Keeps, brought-Keeps}
 use Rattle.raven_laws.proofs.SlotLemmas.{Has-append, Has-filter, Has-map}
-use Rattle.raven_reading.specs.Openings.{IsInBody, IsOfForm}
-use Rattle.raven_reading.specs.Says.{Says}
+use Rattle.index_lang.specs.Openings.{IsInBody, IsOfForm}
+use Rattle.index_lang.specs.Says.{Says}
 use Rattle.raven_reopening.specs.Form.{IsBody, IsByText, IsIndexing}
 use Rattle.raven_reopening.proofs.BodyLemmas.{auto-back, definition-body, static-body}
 use Rattle.raven_reopening.proofs.FitLemmas.{static_name-fit}

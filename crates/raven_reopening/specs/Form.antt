@@ -7,13 +7,13 @@ use Rattle.raven_data.specs.Moments.{moments_end}
 use Rattle.raven_data.specs.Rows.{Row, Body, doc, gone}
 use Rattle.raven_data.specs.Sound.{IsSound}
 use Rattle.raven_data.specs.Written.{text_of}
-use Rattle.raven_model.specs.Commit.{Command, Put, Delete}
-use Rattle.raven_model.specs.Kept.{is_etag, is_stored, max_body}
-use Rattle.raven_model.specs.Machine.{Event, Request, Define, Auto, commands_in}
-use Rattle.raven_model.specs.Mapping.{Definition, Static}
-use Rattle.raven_model.specs.Opening.{is_part}
-use Rattle.raven_model.specs.Script.{Given}
-use Rattle.raven_reading.specs.Says.{Says}
+use Rattle.spec_store.specs.Commit.{Command, Put, Delete}
+use Rattle.spec_store.specs.Kept.{is_etag, is_stored, max_body}
+use Rattle.spec_server.specs.Machine.{Event, Request, Define, Auto, commands_in}
+use Rattle.index_tree.specs.Definitions.{Definition, Static}
+use Rattle.spec_server.specs.Opening.{is_part}
+use Rattle.spec_server.specs.Script.{Given}
+use Rattle.index_lang.specs.Says.{Says}
 
 -- ROWS
 

@@ -2,11 +2,11 @@
 use Rattle.std.specs.Prelude.{◌≡◌, List, [], Ok}
 use Rattle.raven_data.specs.Folding.{folded}
 use Rattle.raven_data.specs.Kept.{all_kept}
-use Rattle.raven_model.specs.Commit.{Setting}
-use Rattle.raven_model.specs.Machine.{Machine}
-use Rattle.raven_model.specs.Sound.{Has}
-use Rattle.raven_model.specs.World.{Slot, World, fresh}
-use Rattle.raven_reading.specs.Openings.{IsOpened}
+use Rattle.spec_store.specs.Commit.{Setting}
+use Rattle.spec_server.specs.Machine.{Machine}
+use Rattle.spec_server.specs.Sound.{Has}
+use Rattle.spec_index.specs.World.{Slot, World, fresh}
+use Rattle.index_lang.specs.Openings.{IsOpened}
 
 -- among the slots is one with the name, the number and the definition of this one, which has recorded nothing yet
 pub record IsThereAgain (slots : List Slot) (s : Slot) : Type 0 where

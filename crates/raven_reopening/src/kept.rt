@@ -7,12 +7,12 @@ ghost use Rattle.raven_data.specs.Json.{reading};
 ghost use Rattle.raven_data.specs.Kept.{all_kept, kept};
 ghost use Rattle.raven_data.specs.Rows.{Row};
 ghost use Rattle.raven_data.specs.Sound.{IsSound};
-ghost use Rattle.raven_model.specs.Commit.{stored};
-ghost use Rattle.raven_model.specs.Kept.{row_in, rows_in};
-ghost use Rattle.raven_model.specs.Mapping.{Auto, Static};
-ghost use Rattle.raven_model.specs.Opening.{AutoForm, StaticForm, body_form, is_part};
-ghost use Rattle.raven_model.specs.Store.{IsStore, Store};
-ghost use Rattle.raven_model.specs.World.{row_body};
+ghost use Rattle.spec_store.specs.Commit.{stored};
+ghost use Rattle.spec_store.specs.Kept.{row_in, rows_in};
+ghost use Rattle.index_tree.specs.Definitions.{Auto, Static};
+ghost use Rattle.spec_server.specs.Opening.{AutoForm, StaticForm, body_form, is_part};
+ghost use Rattle.spec_store.specs.Store.{IsStore, Store};
+ghost use Rattle.spec_index.specs.World.{row_body};
 ghost use Rattle.raven_reopening.specs.Form.{AreInForm, IsInForm};
 
 /// A row in the form is read back from what is kept of it.

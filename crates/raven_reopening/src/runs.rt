@@ -2,12 +2,12 @@
 
 ghost use Rattle.std.specs.Prelude.{List, Ok};
 ghost use Rattle.raven_data.specs.Kept.{KeptRow};
-ghost use Rattle.raven_model.specs.Commit.{Setting};
-ghost use Rattle.raven_model.specs.Machine.{Event, Machine, run};
-ghost use Rattle.raven_model.specs.Script.{Given, after_lines};
+ghost use Rattle.spec_store.specs.Commit.{Setting};
+ghost use Rattle.spec_server.specs.Machine.{Event, Machine, run};
+ghost use Rattle.spec_server.specs.Script.{Given, after_lines};
 ghost use Rattle.raven_laws.specs.Opened.{OpenedAsTold};
-ghost use Rattle.raven_reading.specs.Lines.{AreLines};
-ghost use Rattle.raven_reading.specs.Openings.{IsOpened};
+ghost use Rattle.index_lang.specs.Lines.{AreLines};
+ghost use Rattle.index_lang.specs.Openings.{IsOpened};
 ghost use Rattle.raven_reopening.specs.Form.{AreEvents, AreTimely};
 ghost use Rattle.raven_reopening.specs.Reopened.{OpensAgain};
 

@@ -3,7 +3,7 @@ use Rattle.std.proofs.Common.{◌≡◌, ℕ, List, ◌++◌, ◌∷◌, [], Boo
 use Rattle.std.proofs.lemmas.List.{append-nil}
 use Rattle.raven_data.specs.Data.{Entries, object, text, items_of, flag}
 use Rattle.raven_data.specs.Written.{quoted, text_of, items_text, entries_text}
-use Rattle.raven_model.specs.Replies.{Bulk, Found, Indexes, Listing, Pumped, Pumping, Result, listing_data, number, pumping_data, result_data, reply_data}
+use Rattle.spec_server.specs.Replies.{Bulk, Found, Indexes, Listing, Pumped, Pumping, Result, listing_data, number, pumping_data, result_data, reply_data}
 
 pub printed-object : (old : List ℕ) (ms : Entries) → ((old ++ 123 ∷ []) ++ entries_text false ms) ++ 125 ∷ [] ≡ old ++ text_of (object ms)
 printed-object old ms = simp (append_assoc)

@@ -1,6 +1,6 @@
 -- What stands at a member of a reply.
 use Rattle.raven_data.specs.Data.{Data, flag, text}
-use Rattle.raven_model.specs.Replies.{number}
+use Rattle.spec_server.specs.Replies.{number}
 use Rattle.raven_value.specs.View.{data_of}
 use Rattle.raven_reply.specs.declared.text.Piece.{Piece}
 use Rattle.raven_reply.specs.declared.text.Piece.TheVariants as p

@@ -1,7 +1,7 @@
 -- A `Reply` of the program, and what it is.
 use Rattle.std.specs.Prelude.{map}
-use Rattle.raven_model.specs.Replies as is
-use Rattle.index_lang.specs.RefusalView.{refusal_view}
+use Rattle.spec_server.specs.Replies as is
+use Rattle.index_definition.specs.RefusalView.{refusal_view}
 use Rattle.raven_value.specs.View.{data_of}
 use Rattle.raven_reply.specs.declared.reply.BulkResult.{BulkResult}
 use Rattle.raven_reply.specs.declared.reply.BulkResult.TheVariants as b

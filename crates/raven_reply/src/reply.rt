@@ -1,5 +1,5 @@
 //! Replies.
-use index_lang::{LangKind, Part};
+use index_definition::{LangKind, Part};
 use raven_base::Sequence;
 use raven_value::{Id, Ids, Name, Text, Value};
 use std::marker::Model;
@@ -13,8 +13,8 @@ pub struct Pumping {
 }
 
 impl Model for Pumping {
-    ghost use Rattle.raven_model.specs.Replies as replies;
-    ghost use Rattle.raven_model.specs.Codes.{pumping_code};
+    ghost use Rattle.spec_server.specs.Replies as replies;
+    ghost use Rattle.spec_server.specs.Codes.{pumping_code};
 
     ghost Value = { replies.Pumping };
 
@@ -49,8 +49,8 @@ pub struct Listing {
 }
 
 impl Model for Listing {
-    ghost use Rattle.raven_model.specs.Replies as replies;
-    ghost use Rattle.raven_model.specs.Codes.{listing_code};
+    ghost use Rattle.spec_server.specs.Replies as replies;
+    ghost use Rattle.spec_server.specs.Codes.{listing_code};
     ghost use Rattle.raven_value.specs.View.{data_of};
 
     ghost Value = { replies.Listing };

@@ -2,15 +2,15 @@
 ghost use Rattle.std.specs.Prelude.{◌≡◌, ◌++◌, ◌∷◌, [], IfOk, OnOk, false, map};
 ghost use Rattle.raven_data.specs.Data.{entries_of, items_of, object, text as spec_text};
 ghost use Rattle.raven_data.specs.Written.{entries_text, items_text, quoted, text_of};
-ghost use Rattle.raven_model.specs.Replies.{Bulk, Conflict, Deleted, Found as FoundIds, Index, Indexes as IndexesAll, Lang as LangOf, Pumped as PumpedAll, Put as PutOne, Removed, Stale, Stats, error, error_at, listing_data, pumping_data, reply_data, result_data};
-ghost use Rattle.raven_model.specs.Language.{kind_name as spec_kind_name, part_name as spec_part_name};
-ghost use Rattle.index_lang.specs.RefusalView.{kind_view, part_view, refusal_view};
+ghost use Rattle.spec_server.specs.Replies.{Bulk, Conflict, Deleted, Found as FoundIds, Index, Indexes as IndexesAll, Lang as LangOf, Pumped as PumpedAll, Put as PutOne, Removed, Stale, Stats, error, error_at, listing_data, pumping_data, reply_data, result_data};
+ghost use Rattle.index_tree.specs.Language.{kind_name as spec_kind_name, part_name as spec_part_name};
+ghost use Rattle.index_definition.specs.RefusalView.{kind_view, part_view, refusal_view};
 ghost use Rattle.raven_value.specs.View.{data_of};
 ghost use Rattle.raven_reply.specs.Pieces.{piece_data};
 ghost use Rattle.raven_reply.specs.ReplyView.{reply_view, result_view};
 
 use crate::reply::{BulkResult, Listing, Pumping, Reply};
-use index_lang::{LangKind, Part};
+use index_definition::{LangKind, Part};
 use raven_base::NoMemory;
 use raven_json::{write, write_text};
 use raven_value::{Id, Value};

@@ -1,17 +1,17 @@
 -- What is answered of lines.
 use Rattle.std.proofs.Common.{◌≡◌, ℕ, List, Option, Some, None, Result, Ok, Err, refl, sym, ap, ◌∙◌, subst}
 use Rattle.std.specs.Prelude.{option_map}
-use Rattle.index_lang.specs.DefinitionView.{definition_view}
+use Rattle.index_definition.specs.DefinitionView.{definition_view}
 use Rattle.index_lang.specs.Parse.{IsParsed}
-use Rattle.index_lang.specs.RefusalView.{refusal_view}
-use Rattle.index_lang.specs.declared.definition.Definition as program
-use Rattle.index_lang.specs.declared.refusal.Part.{Part}
-use Rattle.index_lang.specs.declared.refusal.LangKind.{LangKind}
-use Rattle.index_lang.specs.declared.refusal.LangRefusal.TheVariants.{At}
-use Rattle.raven_model.specs.Machine.{Define}
-use Rattle.raven_model.specs.Script.{Asked, Defining, Do, LineRead, Plain, asked_of, asked_to_define, defined_by}
-use Rattle.raven_model.specs.Script as read
-use Rattle.raven_reading.specs.Lines.{Comes}
+use Rattle.index_definition.specs.RefusalView.{refusal_view}
+use Rattle.index_definition.specs.declared.definition.Definition as program
+use Rattle.index_definition.specs.declared.refusal.Part.{Part}
+use Rattle.index_definition.specs.declared.refusal.LangKind.{LangKind}
+use Rattle.index_definition.specs.declared.refusal.LangRefusal.TheVariants.{At}
+use Rattle.spec_server.specs.Machine.{Define}
+use Rattle.spec_server.specs.Script.{Asked, Defining, Do, LineRead, Plain, asked_of, asked_to_define, defined_by}
+use Rattle.spec_server.specs.Script as read
+use Rattle.index_lang.specs.Lines.{Comes}
 use Rattle.raven_script.specs.LineView.{Answers, IsReading}
 use Rattle.raven_value.specs.Refusal.{fault_in}
 use Rattle.raven_value.specs.declared.fault.IdRefusal.{IdRefusal}

@@ -4,7 +4,7 @@ use Rattle.std.specs.Str.{IsUtf8, bytes_eq, is_utf8}
 use Rattle.std.proofs.lemmas.Str.{IsUtf8-from_is_utf8, is_utf8-from_IsUtf8}
 use Rattle.std.proofs.lemmas.Bool.{false_from_ne_true}
 use Rattle.std.specs.Prelude.{if◌then◌else◌}
-use Rattle.raven_model.specs.Script.{Asked, Plain, asked_by, asked_of, asked_to_define, index_of, line_of, word_and_rest}
+use Rattle.spec_server.specs.Script.{Asked, Plain, asked_by, asked_of, asked_to_define, index_of, line_of, word_and_rest}
 
 -- where the bytes are no text
 pub asked-bytes : (line : List ℕ) → ¬ (IsUtf8 line) → asked_of line ≡ Plain (line_of line)

@@ -1,9 +1,9 @@
 -- The text of a list of one.
 use Rattle.std.proofs.Common.{◌≡◌, ℕ, List, Option, Some, None, Ok, Err, refl, sym, ap, ◌∙◌, codes}
 use Rattle.raven_data.specs.Data.{Data, null, flag, num, text, array, object, Items, no_items, item}
-use Rattle.raven_model.specs.Script.{map_member}
-use Rattle.raven_model.specs.Script as read
-use Rattle.raven_reading.specs.Bodies.{only_item, text_in}
+use Rattle.spec_server.specs.Script.{map_member}
+use Rattle.spec_server.specs.Script as read
+use Rattle.index_lang.specs.Bodies.{only_item, text_in}
 use Rattle.raven_script.specs.RequestView.{IsBadMember, Refuses}
 use Rattle.raven_script.specs.declared.request.ReadRefusal.{ReadRefusal}
 use Rattle.raven_script.proofs.Readings.{bad_member}

@@ -1,6 +1,6 @@
 -- A pump of one index, and one of each.
 use Rattle.std.proofs.Common.{◌≡◌, ℕ, List, [], Some, None, Result, sym, subst}
-use Rattle.raven_model.specs.Script.{pump_of, pump_read, word_and_rest}
+use Rattle.spec_server.specs.Script.{pump_of, pump_read, word_and_rest}
 use Rattle.raven_script.specs.RequestView.{Reads, request_view}
 use Rattle.raven_script.specs.declared.request.Request.{Request}
 use Rattle.raven_script.specs.declared.request.ReadRefusal.{ReadRefusal}

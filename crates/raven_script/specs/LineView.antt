@@ -1,7 +1,7 @@
 -- What is answered of a line that may hold the text of a definition.
 use Rattle.std.specs.Prelude.{◌≡◌, ℕ, List, Option, Some, None, option_map, Result, Ok, Err}
-use Rattle.raven_model.specs.Script.{Asked, LineRead, Plain, asked_of, asked_to_define, index_of, line_of}
-use Rattle.raven_reading.specs.Lines.{Comes}
+use Rattle.spec_server.specs.Script.{Asked, LineRead, Plain, asked_of, asked_to_define, index_of, line_of}
+use Rattle.index_lang.specs.Lines.{Comes}
 use Rattle.raven_script.specs.RequestView.{Reads, line_view}
 use Rattle.raven_script.specs.declared.request.Line.{Line}
 use Rattle.raven_script.specs.declared.request.ReadRefusal.{ReadRefusal}

@@ -4,11 +4,11 @@ use Rattle.raven_data.specs.Faults.{Fault}
 use Rattle.raven_data.specs.Json.{not_json, number_not_whole, too_deep}
 use Rattle.raven_value.specs.Refusal.{fault_in}
 use Rattle.raven_value.specs.View.{data_of}
-use Rattle.raven_model.specs.Machine as is
-use Rattle.raven_model.specs.Script as read
+use Rattle.spec_server.specs.Machine as is
+use Rattle.spec_server.specs.Script as read
 use Rattle.doc_txn.specs.CommandView.{command_view, expect_view}
-use Rattle.index_lang.specs.DefinitionView.{definition_view}
-use Rattle.index_lang.specs.RefusalView.{refusal_view}
+use Rattle.index_definition.specs.DefinitionView.{definition_view}
+use Rattle.index_definition.specs.RefusalView.{refusal_view}
 use Rattle.raven_script.specs.declared.request.Request.{Request}
 use Rattle.raven_script.specs.declared.request.Request.TheVariants as r
 use Rattle.raven_script.specs.declared.request.Line.{Line}

@@ -1,19 +1,18 @@
 //! The definition of an index, in JSON.
-ghost use Rattle.std.specs.Prelude.{◌≡◌, IfOk, option_map};
+ghost use Rattle.std.specs.Prelude.{◌≡◌, IfOk, option_map, Some, codes};
 ghost use Rattle.raven_data.specs.Data.{entries_of};
 ghost use Rattle.raven_value.specs.View.{data_of};
-ghost use Rattle.raven_model.specs.Script.{Defining, asked_to_define, index_of as spec_index_of, map_member as spec_map_member, name_member as spec_name_member, reduce_member as spec_reduce_member, texts_in as spec_texts_in, texts_of_body as spec_texts_of_body};
+ghost use Rattle.spec_server.specs.Script.{Defining, asked_to_define, index_of as spec_index_of, map_member as spec_map_member, name_member as spec_name_member, reduce_member as spec_reduce_member, texts_in as spec_texts_in, texts_of_body as spec_texts_of_body};
 ghost use Rattle.raven_data.specs.Members.{member};
-ghost use Rattle.std.specs.Prelude.{Some, codes};
 ghost use Rattle.raven_script.specs.LineView.{Answers};
 ghost use Rattle.raven_script.specs.RequestView.{Reads};
 
 use crate::body::{bad_member, json_of, name_of};
 use crate::commands::member_of;
 use crate::request::{Line, ReadRefusal, Request};
-use index_lang::{Definition, LangRefusal, parse};
+use index_definition::{Definition, LangRefusal};
+use index_lang::{only_item, parse, text_in};
 use raven_base::NoMemory;
-use raven_reading::{only_item, text_in};
 use raven_value::{Members, Name, Text, Value};
 use std::alloc::Global;
 use std::sync::Arc;

@@ -3,7 +3,7 @@ ghost use Rattle.std.specs.Prelude.{◌≡◌};
 ghost use Rattle.raven_script.specs.declared.request.ReadRefusal.TheVariants.{NoMemory as OutOfMemory};
 
 use doc_txn::{Commands, Expect};
-use index_lang::{Definition, LangKind, Part};
+use index_definition::{Definition, LangKind, Part};
 use raven_base::NoMemory;
 use raven_value::{Id, IdRefusal, Name, Text, Value};
 use std::sync::Arc;

@@ -2,9 +2,9 @@
 use Rattle.std.proofs.Common.{◌≡◌, ◌≤◌, ◌-◌, List, [], ◌∷◌, true, cond, Option, length, take, drop, get_or, sym, ap, ◌∙◌, arith}
 use Rattle.std.proofs.lemmas.Grind.{common_steps}
 use Rattle.std.specs.Prelude.{filter}
-use Rattle.raven_model.specs.Optimiser.{Shape, best, better, covers, slot_shape}
-use Rattle.raven_model.specs.Store.{Store}
-use Rattle.raven_model.specs.World.{Slot}
+use Rattle.spec_index.specs.Optimiser.{Shape, best, better, covers, slot_shape}
+use Rattle.spec_store.specs.Store.{Store}
+use Rattle.spec_index.specs.World.{Slot}
 
 pub first-and-more : (slots : List Slot) (a : Slot) → 1 ≤ length slots → a ≡ get_or slots 0 a → slots ≡ a ∷ take (length slots - 1) (drop 1 slots)
 first-and-more [] a h is = absurd (omega arith)

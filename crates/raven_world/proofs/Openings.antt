@@ -10,13 +10,13 @@ use Rattle.std.specs.Char.{to_ascii_lowercase}
 use Rattle.raven_data.specs.Faults.{Fault, empty, too_long, control, fault_of, is_control, is_fit, max_name}
 use Rattle.raven_data.specs.Folding.{folded}
 use Rattle.raven_data.specs.Rows.{Row, is_document}
-use Rattle.raven_model.specs.Commit.{Setting, is_index_id}
-use Rattle.raven_model.specs.Machine.{Machine}
-use Rattle.raven_model.specs.Mapping.{Definition, Static, Auto}
-use Rattle.raven_model.specs.Opening.{ReadRow, and_then, is_defining, is_filed, is_too_many, may_be_named, name_in, opened_with, or_bad, rows_of, slot_of, slots_after, slots_from, slots_with, with_slot}
-use Rattle.raven_model.specs.Store.{Store}
-use Rattle.raven_model.specs.World.{Slot, fresh}
-use Rattle.raven_reading.specs.Openings.{AreReadRows, EndsAt, IsReadRow, OpensAs}
+use Rattle.spec_store.specs.Commit.{Setting, is_index_id}
+use Rattle.spec_server.specs.Machine.{Machine}
+use Rattle.index_tree.specs.Definitions.{Definition, Static, Auto}
+use Rattle.spec_server.specs.Opening.{ReadRow, and_then, is_defining, is_filed, is_too_many, may_be_named, name_in, opened_with, or_bad, rows_of, slot_of, slots_after, slots_from, slots_with, with_slot}
+use Rattle.spec_store.specs.Store.{Store}
+use Rattle.spec_index.specs.World.{Slot, fresh}
+use Rattle.index_lang.specs.Openings.{AreReadRows, EndsAt, IsReadRow, OpensAs}
 use Rattle.doc_store.specs.Opening.{Tells, first_bad}
 use Rattle.doc_store.specs.declared.opening.OpenFault.{OpenFault}
 use Rattle.doc_store.specs.declared.opening.OpenFault.TheVariants.{KeptBad, NoMemory}

@@ -2,17 +2,15 @@
 use Rattle.std.proofs.Common.{◌≡◌, ◌<◌, ◌+◌, ◌^◌, ℕ, List, [], ◌∷◌, length, Bool, true, false, cond, nat_le, Option, Some, None, is_some, Ok, Err, sym, ap, ◌∙◌, arith}
 use Rattle.std.proofs.lemmas.Grind.{common_steps}
 use Rattle.std.specs.Prelude.{filter, not, nat_lt}
-use Rattle.raven_model.specs.Store.{Store, last}
+use Rattle.spec_store.specs.Store.{Store, last}
 use Rattle.raven_data.specs.Rows.{Row}
-use Rattle.raven_model.specs.Commit.{Client, Server, Command, Delete, AnyVector, Refused, Written, commit, etags_taken}
-use Rattle.raven_model.specs.Replies.{Reply, Index, Removed, NoIndex, UnknownLine, Result as Done}
-use Rattle.raven_model.specs.Replies.{TooManyIndexes as TooMany}
-use Rattle.raven_model.specs.Replies as told
-use Rattle.raven_model.specs.Mapping.{Definition}
-use Rattle.raven_model.specs.Definitions.{same_definition}
-use Rattle.raven_model.specs.Optimiser.{Make, pick, name_of}
-use Rattle.raven_model.specs.World.{World, Slot, NameServes, NameTooLong, ReservedName, TooManyIndexes, added, added_if_room, define_at, index_id, is_named, is_reserved_name, removed, serving, unless_refused}
-use Rattle.raven_model.specs.Machine.{Change, Define, Remove, Auto as AutoOne, in_world, no_change, one_field, refused_at, reslotted, results_of, rewrote, use_or_make, wrote, write, change_of}
+use Rattle.spec_store.specs.Commit.{Client, Server, Command, Delete, AnyVector, Refused, Written, commit, etags_taken}
+use Rattle.spec_server.specs.Replies.{Reply, Index, Removed, NoIndex, UnknownLine, Result as Done, TooManyIndexes as TooMany}
+use Rattle.spec_server.specs.Replies as told
+use Rattle.index_tree.specs.Definitions.{Definition, same_definition}
+use Rattle.spec_index.specs.Optimiser.{Make, pick, name_of}
+use Rattle.spec_index.specs.World.{World, Slot, NameServes, NameTooLong, ReservedName, TooManyIndexes, added, added_if_room, define_at, index_id, is_named, is_reserved_name, removed, serving, unless_refused}
+use Rattle.spec_server.specs.Machine.{Change, Define, Remove, Auto as AutoOne, in_world, no_change, one_field, refused_at, reslotted, results_of, rewrote, use_or_make, wrote, write, change_of}
 use Rattle.raven_world.specs.Told.{machine_of}
 
 -- WRITES

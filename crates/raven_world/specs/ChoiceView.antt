@@ -1,5 +1,5 @@
 -- A `Choice` of the program for a shape, and what it is.
-use Rattle.raven_model.specs.Optimiser as is
+use Rattle.spec_index.specs.Optimiser as is
 use Rattle.raven_world.specs.declared.choice.Choice.{Choice}
 use Rattle.raven_world.specs.declared.choice.Choice.TheVariants.{Use, Make, Merge}
 

@@ -2,8 +2,8 @@
 use Rattle.std.specs.Prelude.{ℕ, List, Bool, not, nat_eq, codes}
 use Rattle.std.specs.List.{starts_with}
 use Rattle.raven_data.specs.Folding.{folded}
-use Rattle.raven_model.specs.Mapping.{Definition, Static, Auto}
-use Rattle.raven_model.specs.World.{is_reserved_name}
+use Rattle.index_tree.specs.Definitions.{Definition, Static, Auto}
+use Rattle.spec_index.specs.World.{is_reserved_name}
 
 -- a name that begins as one of an index of its kind
 abbrev pub begins_as : Definition → List ℕ → Bool

@@ -1,11 +1,11 @@
 -- Which row stands against opening a world, and what is taken of one.
 use Rattle.std.specs.Prelude.{◌≡◌, ℕ, List, [], ◌++◌, ◌⊎◌, Bool, Option, Some, None, Ok, drop, length, if◌then◌else◌}
 use Rattle.raven_data.specs.Rows.{Row}
-use Rattle.raven_model.specs.Commit.{Setting}
-use Rattle.raven_model.specs.Mapping.{Definition}
-use Rattle.raven_model.specs.Opening.{ReadRow, rows_of, slots_after, slots_from}
-use Rattle.raven_model.specs.World.{Slot}
-use Rattle.raven_reading.specs.Openings.{AreReadRows, EndsAt, IsReadRow}
+use Rattle.spec_store.specs.Commit.{Setting}
+use Rattle.index_tree.specs.Definitions.{Definition}
+use Rattle.spec_server.specs.Opening.{ReadRow, rows_of, slots_after, slots_from}
+use Rattle.spec_index.specs.World.{Slot}
+use Rattle.index_lang.specs.Openings.{AreReadRows, EndsAt, IsReadRow}
 use Rattle.doc_store.specs.Opening.{first_bad}
 use Rattle.doc_store.specs.declared.opening.OpenFault.{OpenFault}
 use Rattle.doc_store.specs.declared.opening.OpenFault.TheVariants.{KeptBad, NoMemory}

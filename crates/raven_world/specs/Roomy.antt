@@ -1,6 +1,6 @@
 -- How large a database may grow.
 use Rattle.std.specs.Prelude.{ℕ, ◌<◌, ◌^◌}
-use Rattle.raven_model.specs.Store.{Store}
+use Rattle.spec_store.specs.Store.{Store}
 use Rattle.doc_store.specs.Bounds.{IsWithin}
 
 pub record IsRoomy (S : Store) (most most_slots : ℕ) : Type 0 where

@@ -1,8 +1,8 @@
 -- What the answers of a world tell of a change of the machine.
 use Rattle.std.specs.Prelude.{◌≡◌, ℕ, List, Option, Some, None, Result, Ok, Err}
-use Rattle.raven_model.specs.World as is
-use Rattle.raven_model.specs.Machine.{Machine, Change as Asked, Auto, one_field, no_change, change_of}
-use Rattle.raven_model.specs.Optimiser.{Make, pick}
+use Rattle.spec_index.specs.World as is
+use Rattle.spec_server.specs.Machine.{Machine, Change as Asked, Auto, one_field, no_change, change_of}
+use Rattle.spec_index.specs.Optimiser.{Make, pick}
 use Rattle.raven_reply.specs.ReplyView.{reply_view}
 use Rattle.raven_world.specs.declared.world.Change.{Change}
 use Rattle.raven_world.specs.declared.world.WorldFault.{WorldFault}

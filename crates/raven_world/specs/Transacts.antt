@@ -1,9 +1,9 @@
 -- What a transaction of a client leaves.
 use Rattle.std.specs.Prelude.{◌≡◌, ℕ, List, Result, Ok, Err}
-use Rattle.raven_model.specs.Commit.{Client, Command, Refused, commit, etags_taken}
-use Rattle.raven_model.specs.Machine.{refused_at}
-use Rattle.raven_model.specs.World as is
-use Rattle.raven_model.specs.Replies.{Reply}
+use Rattle.spec_store.specs.Commit.{Client, Command, Refused, commit, etags_taken}
+use Rattle.spec_server.specs.Machine.{refused_at}
+use Rattle.spec_index.specs.World as is
+use Rattle.spec_server.specs.Replies.{Reply}
 use Rattle.raven_reply.specs.ReplyView.{reply_view}
 use Rattle.doc_txn.specs.TransactionView.{written_of}
 use Rattle.doc_txn.specs.declared.transaction.Transaction.{Transaction}

@@ -3,9 +3,9 @@ ghost use Rattle.std.specs.Prelude.{◌≡◌, IfOk, OnOk, length, map, option_m
 ghost use Rattle.raven_data.specs.Data.{entries_of, object, text as spec_text};
 ghost use Rattle.raven_data.specs.Rising.{put};
 ghost use Rattle.raven_value.specs.View.{data_of};
-ghost use Rattle.raven_model.specs.Machine.{answer_get, answer_indexes, answer_stale, answer_stats, listing as spec_listing, members_of, shown as spec_shown, shown_metadata as spec_shown_metadata};
-ghost use Rattle.raven_model.specs.World.{serving as spec_serving};
-ghost use Rattle.raven_model.specs.Replies.{NoIndex as NoIndexOf};
+ghost use Rattle.spec_server.specs.Machine.{answer_get, answer_indexes, answer_stale, answer_stats, listing as spec_listing, members_of, shown as spec_shown, shown_metadata as spec_shown_metadata};
+ghost use Rattle.spec_index.specs.World.{serving as spec_serving};
+ghost use Rattle.spec_server.specs.Replies.{NoIndex as NoIndexOf};
 ghost use Rattle.raven_reply.specs.ReplyView.{reply_view};
 
 use crate::choice::is_stale;

@@ -3,15 +3,15 @@ ghost use Rattle.std.specs.Prelude.{◌≡◌, [], ◌∷◌, IfOk, MatchOption,
 ghost use Rattle.std.specs.Cmp.Lexicographic.{pointwise};
 ghost use Rattle.std.specs.List.{list_any};
 ghost use Rattle.std.specs.Str.{bytes_eq};
-ghost use Rattle.raven_model.specs.Index.{stale};
-ghost use Rattle.raven_model.specs.Machine.{one_field};
-ghost use Rattle.raven_model.specs.Optimiser.{beats, best, better, covers, has_path, is_of, pick as spec_pick, slot_shape, width};
-ghost use Rattle.raven_model.specs.World.{reads};
+ghost use Rattle.spec_store.specs.Stale.{stale};
+ghost use Rattle.spec_server.specs.Machine.{one_field};
+ghost use Rattle.spec_index.specs.Optimiser.{beats, best, better, covers, has_path, is_of, pick as spec_pick, slot_shape, width};
+ghost use Rattle.spec_index.specs.World.{reads};
 ghost use Rattle.raven_world.specs.ChoiceView.{choice_view};
 
 use crate::slot::Slot;
 use doc_store::Store;
-use index_lang::DefBody;
+use index_definition::DefBody;
 use index_version::IndexVersion;
 use raven_base::NoMemory;
 use raven_value::{Path, Paths, Text};

@@ -1,12 +1,12 @@
 //! Indexes that are defined and removed, and the rows of their definitions.
 ghost use Rattle.std.specs.Prelude.{◌≡◌, ◌+◌, ◌++◌, ◌∷◌, [], IfOk, IfSome, Ok, length, map, nat_le};
-ghost use Rattle.raven_model.specs.Commit.{AnyVector, Delete, Put, Server, commit as spec_commit};
-ghost use Rattle.raven_model.specs.Machine.{Define, Remove, change_of, reslotted, rewrote};
-ghost use Rattle.raven_model.specs.Replies.{Index as IndexOf, Removed as RemovedOf};
-ghost use Rattle.raven_model.specs.Store.{last};
-ghost use Rattle.raven_model.specs.World.{added, added_if_room, fresh, index_id as spec_index_id, row_body as spec_row_body};
+ghost use Rattle.spec_store.specs.Commit.{AnyVector, Delete, Put, Server, commit as spec_commit};
+ghost use Rattle.spec_server.specs.Machine.{Define, Remove, change_of, reslotted, rewrote};
+ghost use Rattle.spec_server.specs.Replies.{Index as IndexOf, Removed as RemovedOf};
+ghost use Rattle.spec_store.specs.Store.{last};
+ghost use Rattle.spec_index.specs.World.{added, added_if_room, fresh, index_id as spec_index_id, row_body as spec_row_body};
 ghost use Rattle.doc_txn.specs.CommandView.{command_view};
-ghost use Rattle.index_lang.specs.DefinitionView.{definition_view};
+ghost use Rattle.index_definition.specs.DefinitionView.{definition_view};
 ghost use Rattle.raven_reply.specs.ReplyView.{reply_view};
 ghost use Rattle.raven_world.specs.Told.{machine_of, told};
 
@@ -16,7 +16,8 @@ use crate::slot::{Slot, copies, fresh_slot, others, serving};
 use crate::world::{Change, World, WorldFault};
 use crate::write::refused_at;
 use doc_txn::{Command, Commands, Expect, TxnFault, Writer, commit};
-use index_lang::{Definition, row_body, same};
+use index_definition::{Definition, same};
+use index_lang::row_body;
 use raven_base::NoMemory;
 use raven_reply::Reply;
 use raven_value::Name;

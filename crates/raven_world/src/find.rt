@@ -1,9 +1,10 @@
 //! Finding documents by a field.
 ghost use Rattle.std.specs.Prelude.{◌≡◌, IfOk};
-ghost use Rattle.raven_model.specs.Machine.{answer_find, found_in, is_stale as spec_is_stale};
-ghost use Rattle.raven_model.specs.Mapping.{mapper_of};
-ghost use Rattle.raven_model.specs.Replies.{Found as FoundIds};
-ghost use Rattle.raven_model.specs.World.{serving as spec_serving};
+ghost use Rattle.spec_server.specs.Machine.{answer_find, is_stale as spec_is_stale};
+ghost use Rattle.spec_index.specs.Find.{found_in};
+ghost use Rattle.index_tree.specs.Mapper.{mapper_of};
+ghost use Rattle.spec_server.specs.Replies.{Found as FoundIds};
+ghost use Rattle.spec_index.specs.World.{serving as spec_serving};
 ghost use Rattle.raven_reply.specs.ReplyView.{reply_view};
 
 use crate::answer::no_index;

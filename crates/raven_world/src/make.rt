@@ -1,15 +1,15 @@
 //! Automatic indexes: the one that serves a query, or a new one.
 ghost use Rattle.std.specs.Prelude.{◌≡◌, ◌+◌, IfOk, IfSome, false, length, nat_le};
-ghost use Rattle.raven_model.specs.Machine.{Auto as AutoOne, change_of, one_field};
-ghost use Rattle.raven_model.specs.Optimiser.{Make, name_of, pick as spec_pick};
-ghost use Rattle.raven_model.specs.Store.{last};
+ghost use Rattle.spec_server.specs.Machine.{Auto as AutoOne, change_of, one_field};
+ghost use Rattle.spec_index.specs.Optimiser.{Make, name_of, pick as spec_pick};
+ghost use Rattle.spec_store.specs.Store.{last};
 ghost use Rattle.raven_world.specs.Told.{AnswersQuery, machine_of, told};
 
 use crate::choice::{Choice, pick};
 use crate::define::{index_reply, shared};
 use crate::naming::{auto_name, is_served};
 use crate::world::{Answered, Change, World, WorldFault};
-use index_lang::auto_definition;
+use index_definition::auto_definition;
 use raven_base::NoMemory;
 use raven_reply::Reply;
 use raven_value::{Name, Text};

@@ -1,15 +1,15 @@
 //! What an automatic index is called.
 ghost use Rattle.std.specs.Prelude.{◌≡◌, ◌++◌, ◌<◌, ◌^◌, IfOk, None, Some, codes, decimal, if◌then◌else◌, is_some, length, string_bytes};
-ghost use Rattle.raven_model.specs.Machine.{one_field};
-ghost use Rattle.raven_model.specs.Opening.{may_be_named};
-ghost use Rattle.index_lang.specs.DefinitionView.{definition_view};
+ghost use Rattle.spec_server.specs.Machine.{one_field};
+ghost use Rattle.spec_server.specs.Opening.{may_be_named};
+ghost use Rattle.index_definition.specs.DefinitionView.{definition_view};
 ghost use Rattle.raven_world.specs.Kinds.{begins_as};
-ghost use Rattle.raven_model.specs.Optimiser.{first_free as spec_first_free, name_of, plain_name as spec_plain_name};
+ghost use Rattle.spec_index.specs.Optimiser.{first_free as spec_first_free, name_of, plain_name as spec_plain_name};
 ghost use Rattle.raven_value.specs.Refusal.{fault_in};
-ghost use Rattle.raven_model.specs.World.{index_id as spec_index_id, is_reserved_name as spec_is_reserved_name, serving as spec_serving};
+ghost use Rattle.spec_index.specs.World.{index_id as spec_index_id, is_reserved_name as spec_is_reserved_name, serving as spec_serving};
 
 use crate::slot::{Slot, serving};
-use index_lang::DefBody;
+use index_definition::DefBody;
 use raven_base::NoMemory;
 use raven_value::{Id, IdRefusal, Name, Text, starts_folded};
 use std::alloc::Global;

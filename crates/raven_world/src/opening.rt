@@ -2,10 +2,10 @@
 ghost use Rattle.std.specs.Prelude.{◌≡◌, ◌<◌, ◌^◌, ℕ, List, [], ◌++◌, ◌∷◌, IfErr, IfOk, IsTrue, None, Some, drop, if◌then◌else◌, length, option_map};
 ghost use Rattle.doc_store.specs.Opening.{first_bad};
 ghost use Rattle.doc_txn.specs.SettingView.{setting_of};
-ghost use Rattle.raven_model.specs.Commit.{is_index_id as spec_is_index_id};
-ghost use Rattle.raven_model.specs.Opening.{is_defining as spec_is_defining, is_filed as spec_is_filed, is_too_many as spec_is_too_many, with_slot};
-ghost use Rattle.index_lang.specs.DefinitionView.{definition_view};
-ghost use Rattle.raven_reading.specs.Openings.{IsReadRow, OpensAs};
+ghost use Rattle.spec_store.specs.Commit.{is_index_id as spec_is_index_id};
+ghost use Rattle.spec_server.specs.Opening.{is_defining as spec_is_defining, is_filed as spec_is_filed, is_too_many as spec_is_too_many, with_slot};
+ghost use Rattle.index_definition.specs.DefinitionView.{definition_view};
+ghost use Rattle.index_lang.specs.Openings.{IsReadRow, OpensAs};
 ghost use Rattle.raven_world.specs.Opened.{TakesRow, TellsBadRow, read_as};
 ghost use Rattle.raven_world.specs.Told.{machine_of};
 
@@ -14,10 +14,10 @@ use crate::slot::{Slot, fresh_slot};
 use crate::world::World;
 use doc_store::{OpenFault, Store};
 use doc_txn::{BaseId, Limits};
-use index_lang::{DefBody, Definition};
+use index_definition::{DefBody, Definition};
+use index_lang::of_row_body;
 use index_version::is_document;
 use raven_base::NoMemory;
-use raven_reading::definition_of;
 use raven_value::{Body, Id, Row, Rows, starts_folded};
 use std::alloc::Global;
 use std::sync::Arc;
@@ -61,7 +61,7 @@ fn definition_in(alloc: Global, row: &Row) -> Result<Option<DefBody>, NoMemory>
         return Ok(None);
     }
     match &row.body {
-        Body::Doc(document) => definition_of(alloc, document.value()),
+        Body::Doc(document) => of_row_body(alloc, document.value()),
         Body::Gone => Ok(None),
     }
 }

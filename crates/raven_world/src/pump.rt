@@ -1,7 +1,7 @@
 //! One batch for each index, or for one.
 ghost use Rattle.std.specs.Prelude.{◌≡◌, ◌≤◌, ◌∷◌, [], IfOk, IfSome, map};
-ghost use Rattle.raven_model.specs.Machine.{brought_on as spec_brought_on, brought_on_if as spec_brought_on_if, pump, pump_at, pumping};
-ghost use Rattle.raven_model.specs.World.{batch, serving as spec_serving};
+ghost use Rattle.spec_server.specs.Machine.{brought_on as spec_brought_on, brought_on_if as spec_brought_on_if, pump, pump_at, pumping};
+ghost use Rattle.spec_index.specs.World.{batch, serving as spec_serving};
 ghost use Rattle.raven_world.specs.Told.{change_view, machine_of, told};
 
 use crate::answer::no_index;

@@ -1,9 +1,9 @@
 //! Live indexes.
 ghost use Rattle.std.specs.Prelude.{◌≡◌, IfOk, filter, not, option_copied};
-ghost use Rattle.raven_model.specs.World.{fresh, is_named as spec_is_named, serving as spec_serving};
-ghost use Rattle.index_lang.specs.DefinitionView.{definition_view};
+ghost use Rattle.spec_index.specs.World.{fresh, is_named as spec_is_named, serving as spec_serving};
+ghost use Rattle.index_definition.specs.DefinitionView.{definition_view};
 
-use index_lang::Definition;
+use index_definition::Definition;
 use index_version::IndexVersion;
 use raven_base::NoMemory;
 use raven_value::Name;
@@ -28,8 +28,8 @@ pub struct Slot {
 }
 
 impl Model for Slot {
-    ghost use Rattle.raven_model.specs.World as world;
-    ghost use Rattle.raven_model.specs.Codes.{slot_code};
+    ghost use Rattle.spec_index.specs.World as world;
+    ghost use Rattle.spec_index.specs.Codes.{slot_code};
 
     ghost Value = { world.Slot };
 

@@ -1,6 +1,6 @@
 //! The world.
 ghost use Rattle.std.specs.Prelude.{◌≡◌, IfOk};
-ghost use Rattle.raven_model.specs.Machine.{in_world, no_change};
+ghost use Rattle.spec_server.specs.Machine.{in_world, no_change};
 ghost use Rattle.raven_reply.specs.ReplyView.{reply_view};
 ghost use Rattle.raven_world.specs.Told.{change_view, machine_of};
 ghost use Rattle.raven_world.specs.declared.world.WorldFault.TheVariants.{NoMemory as OutOfMemory};
@@ -25,8 +25,8 @@ pub struct World {
 
 impl Model for World {
     ghost use Rattle.std.specs.Prelude.{[]};
-    ghost use Rattle.raven_model.specs.World as world;
-    ghost use Rattle.raven_model.specs.Codes.{world_code};
+    ghost use Rattle.spec_index.specs.World as world;
+    ghost use Rattle.spec_index.specs.Codes.{world_code};
     ghost use Rattle.doc_txn.specs.SettingView.{setting_of};
 
     ghost Value = { world.World };

@@ -1,8 +1,8 @@
 //! Writes of clients.
 ghost use Rattle.std.specs.Prelude.{◌≡◌, ◌∷◌, [], IfOk, IfSome, map, string_bytes};
 ghost use Rattle.raven_data.specs.Folding.{folded};
-ghost use Rattle.raven_model.specs.Machine.{refused_at as spec_refused_at, result_of as spec_result_of, results_of as spec_results_of, in_world, single_reply, spelling as spec_spelling, write};
-ghost use Rattle.raven_model.specs.Replies.{Bulk};
+ghost use Rattle.spec_server.specs.Machine.{refused_at as spec_refused_at, result_of as spec_result_of, results_of as spec_results_of, in_world, single_reply, spelling as spec_spelling, write};
+ghost use Rattle.spec_server.specs.Replies.{Bulk};
 ghost use Rattle.doc_txn.specs.CommandView.{command_view};
 ghost use Rattle.doc_txn.specs.FaultView.{kind_view};
 ghost use Rattle.raven_reply.specs.ReplyView.{reply_view, result_view};

@@ -1,6 +1,6 @@
 use Rattle.std.proofs.Common.{◌≡◌, drop, map}
 use Rattle.std.specs.List.{list_any}
-use Rattle.raven_model.specs.Commit.{is_own}
+use Rattle.spec_store.specs.Commit.{is_own}
 use Rattle.raven_value.specs.View.{pair_of}
 use Rattle.doc_keeper.proofs.form.has_own.Given as goal
 

@@ -1,6 +1,6 @@
 use Rattle.std.proofs.Common.{List, Option, refl, ap, sym, subst, ◌∙◌, length, arith}
 use Rattle.raven_data.specs.Kept.{KeptRow, last_kept}
-use Rattle.raven_model.specs.Kept.{rows_behind}
+use Rattle.spec_store.specs.Kept.{rows_behind}
 use Rattle.doc_keeper.specs.Loading.{IsCause, IsPage, Tells}
 use Rattle.doc_keeper.specs.declared.loading.LoadFault.TheVariants.{Failed}
 use Rattle.doc_keeper.proofs.LoadLemmas.{start, go_on, stop, finish, few, smaller, rose_since, other_error, has_none, first_call, one_more_call}

@@ -1,5 +1,5 @@
 use Rattle.std.proofs.Common.{◌≡◌, drop}
-use Rattle.raven_model.specs.Store.{last_of}
+use Rattle.spec_store.specs.Store.{last_of}
 use Rattle.doc_store.proofs.rows.last_etag.Given as goal
 
 -- the last etag of all rows is that of the rest, from here

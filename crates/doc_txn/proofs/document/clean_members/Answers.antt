@@ -1,6 +1,6 @@
 use Rattle.std.proofs.Common.{◌∙◌, ap, sym, subst, not, filter}
 use Rattle.raven_data.specs.Rising.{Pairs, IsRising}
-use Rattle.raven_model.specs.Commit.{is_own}
+use Rattle.spec_store.specs.Commit.{is_own}
 use Rattle.doc_txn.proofs.Pairs.{IsRising-filter}
 use Rattle.doc_txn.proofs.document.clean_members.Goals as goal
 

@@ -1,6 +1,6 @@
 use Rattle.std.proofs.Common.{◌≡◌, ◌++◌, not, drop, filter, map}
 use Rattle.raven_value.specs.View.{pair_of}
-use Rattle.raven_model.specs.Commit.{is_own}
+use Rattle.spec_store.specs.Commit.{is_own}
 use Rattle.doc_txn.proofs.document.without_own.Given as goal
 
 abbrev pub invariant-loop-member : goal.invariant-loop-member

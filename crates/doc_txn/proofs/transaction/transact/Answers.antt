@@ -1,12 +1,12 @@
 use Rattle.std.proofs.Common.{arith, ◌≡◌, ◌∷◌, ◌+◌, Ok, drop, map, option_map, sym, ap, ◌∙◌}
 use Rattle.doc_txn.proofs.Taking.{takes_on, etags_on}
 use Rattle.std.proofs.lemmas.Grind.{common_steps}
-use Rattle.raven_model.specs.Commit.{commit}
+use Rattle.spec_store.specs.Commit.{commit}
 use Rattle.doc_txn.specs.CommandView.{command_view, writer_view}
 use Rattle.doc_txn.specs.FaultView.{kind_view}
 use Rattle.doc_txn.specs.SettingView.{setting_of}
 use Rattle.doc_txn.specs.TransactionView.{written_of}
-use Rattle.raven_laws.proofs.CommitLemmas.{commit-Commits}
+use Rattle.spec_store.proofs.CommitLemmas.{commit-Commits}
 use Rattle.doc_txn.proofs.transaction.transact.Goals as goal
 
 pub returns-clause-grows : goal.returns-clause-grows

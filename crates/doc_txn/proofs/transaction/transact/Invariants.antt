@@ -1,5 +1,5 @@
 use Rattle.std.proofs.Common.{◌≡◌, ◌++◌, drop, map}
-use Rattle.raven_model.specs.Commit.{commit_from, commit, etags_taken}
+use Rattle.spec_store.specs.Commit.{commit_from, commit, etags_taken}
 use Rattle.doc_txn.specs.CommandView.{command_view, writer_view}
 use Rattle.doc_txn.specs.SettingView.{setting_of}
 use Rattle.doc_txn.specs.TransactionView.{written_of}

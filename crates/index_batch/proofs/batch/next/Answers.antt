@@ -1,7 +1,9 @@
 use Rattle.std.proofs.Common.{cond, length, ◌∙◌, ap, subst, Some}
-use Rattle.raven_model.specs.Index.{taken, note_rows}
-use Rattle.raven_model.specs.Mapping.{mapper_of, touched}
-use Rattle.raven_model.specs.Store.{last, last_of}
+use Rattle.spec_store.specs.Stale.{taken}
+use Rattle.raven_data.specs.Tables.{note_rows}
+use Rattle.index_tree.specs.Mapper.{mapper_of}
+use Rattle.spec_index.specs.Mapping.{touched}
+use Rattle.spec_store.specs.Store.{last, last_of}
 use Rattle.index_version.specs.Renewed.{MapsAtMost, documents_among}
 use Rattle.index_batch.proofs.Batches.{batch-none, batch-some}
 use Rattle.index_batch.proofs.batch.next.Goals as goal

@@ -1,5 +1,5 @@
 use Rattle.std.proofs.Common.{◌≡◌, take, map}
-use Rattle.raven_model.specs.World.{text_list}
+use Rattle.spec_index.specs.World.{text_list}
 use Rattle.index_lang.proofs.rows.paths_value.Given as goal
 
 abbrev pub invariant-loop-path : goal.invariant-loop-path

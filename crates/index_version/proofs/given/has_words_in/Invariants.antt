@@ -1,5 +1,5 @@
 use Rattle.std.proofs.Common.{◌≡◌, drop}
-use Rattle.raven_model.specs.Machine.{has_words}
+use Rattle.spec_index.specs.Find.{has_words}
 use Rattle.map_stage.specs.MappedView.{fields_of}
 use Rattle.index_version.proofs.given.has_words_in.Given as goal
 

@@ -1,6 +1,6 @@
 use Rattle.std.proofs.Common.{◌≡◌, ◌++◌, drop, map}
 use Rattle.raven_value.specs.RowView.{body_of}
-use Rattle.raven_model.specs.Mapping.{field_of, joined}
+use Rattle.index_tree.specs.Mapper.{field_of, joined}
 use Rattle.map_stage.specs.MappedView.{fields_of}
 use Rattle.index_version.proofs.mapping.auto_fields.Given as goal
 

@@ -1,7 +1,7 @@
 use Rattle.std.proofs.Common.{◌≡◌, ◌+◌, ◌≤◌, drop, length, map, take}
 use Rattle.raven_data.specs.Folding.{folded}
-use Rattle.raven_model.specs.Mapping.{mapper_of}
-use Rattle.index_lang.specs.DefinitionView.{definition_view}
+use Rattle.index_tree.specs.Mapper.{mapper_of}
+use Rattle.index_definition.specs.DefinitionView.{definition_view}
 use Rattle.index_version.specs.Folded.{by_folded}
 use Rattle.index_version.specs.Renewed.{ArePaired, AreRenewed, mapped_among}
 use Rattle.index_version.proofs.renewal.renewed.Given as goal

@@ -1,6 +1,6 @@
 use Rattle.std.proofs.Common.{◌≡◌, ◌||◌, ℕ, List, drop}
 use Rattle.raven_data.specs.Folding.{folded}
-use Rattle.raven_model.specs.Mapping.{is_taken}
+use Rattle.spec_index.specs.Mapping.{is_taken}
 use Rattle.reference_track.specs.Sets.{is_one_of}
 use Rattle.index_version.proofs.touched.with_taken.Given as goal
 

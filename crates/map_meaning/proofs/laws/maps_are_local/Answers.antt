@@ -1,4 +1,4 @@
-use Rattle.map_meaning.specs.Local.{meaning_local}
+use Rattle.index_tree.specs.Local.{meaning_local}
 use Rattle.map_meaning.proofs.laws.maps_are_local.Goals as goal
 
 pub returns : goal.returns

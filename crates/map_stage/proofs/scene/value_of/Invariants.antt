@@ -1,5 +1,5 @@
 use Rattle.std.proofs.Common.{◌≡◌}
-use Rattle.map_meaning.specs.Evaluate.{value_of}
+use Rattle.index_tree.specs.Evaluate.{value_of}
 use Rattle.map_stage.specs.Reached.{bindings_of}
 use Rattle.map_stage.proofs.scene.value_of.Given as goal
 

@@ -1,6 +1,6 @@
 use Rattle.std.proofs.Common.{◌≡◌, ◌∷◌, ◌-◌, ◌+◌, ◌∙◌, ap, sym, take, drop, length, arith, List, ℕ, [], ◌<◌, ◌≢◌, get_or}
 use Rattle.std.proofs.lemmas.Grind.{common_steps}
-use Rattle.raven_model.specs.Lines.{lines}
+use Rattle.spec_server.specs.Lines.{lines}
 use Rattle.raven_console.proofs.LineLemmas.{cut, uncut}
 use Rattle.raven_console.proofs.lines.next_line.Goals as goal
 

@@ -1,6 +1,6 @@
 use Rattle.std.proofs.Common.{subst, sym}
-use Rattle.raven_reading.specs.Openings.{OpensAs}
-use Rattle.raven_model.specs.Options.{setting_with}
+use Rattle.index_lang.specs.Openings.{OpensAs}
+use Rattle.spec_server.specs.Options.{setting_with}
 use Rattle.raven_console.proofs.Opened.{keeps_from, opens}
 use Rattle.raven_console.proofs.opening.open_from.Goals as goal
 

@@ -1,6 +1,6 @@
 use Rattle.std.proofs.Common.{length, ◌-◌, ◌+◌, ◌≤◌, ◌≡◌}
 use Rattle.raven_ports.specs.Told.{preceded}
-use Rattle.raven_model.specs.Words.{max_input}
+use Rattle.spec_server.specs.Lines.{max_input}
 use Rattle.raven_console.proofs.read.read_all.Given as goal
 
 abbrev pub invariant-loop-buf : goal.invariant-loop-buf

@@ -1,6 +1,6 @@
 use Rattle.std.proofs.Common.{Err, subst}
 use Rattle.raven_script.specs.LineView.{Answers}
-use Rattle.raven_model.specs.Script.{asked_of}
+use Rattle.spec_server.specs.Script.{asked_of}
 use Rattle.raven_value.specs.Refusal.{fault_in}
 use Rattle.raven_reply.specs.ReplyView.{reply_view}
 use Rattle.raven_console.proofs.Answered.{if_ok, refused_id, refused_name}

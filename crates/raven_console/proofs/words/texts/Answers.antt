@@ -2,7 +2,7 @@ use Rattle.std.proofs.Common.{◌≡◌, Some, true, not, string_bytes, map, ap,
 use Rattle.std.specs.Option.{is_some}
 use Rattle.std.specs.Prelude.{codes}
 use Rattle.std.specs.Str.{bytes_eq}
-use Rattle.raven_model.specs.Options.{is_value, pairs_in}
+use Rattle.spec_server.specs.Options.{is_value, pairs_in}
 use Rattle.raven_console.specs.WordsView.{bytes_of}
 use Rattle.raven_console.proofs.WordLemmas.{joined, file_taken, base_taken, words_refused, not_both}
 use Rattle.raven_console.proofs.words.texts.Goals.{else-eq-via-then-eq+else-is_none, else-eq-via-else-eq, else-eq-2-via-then-eq-2+else-is_none-2, else-eq-2-via-else-eq-2}

@@ -1,5 +1,5 @@
 use Rattle.std.proofs.Common.{◌≡◌, length, map, string_bytes}
-use Rattle.raven_model.specs.Options.{pairs_in}
+use Rattle.spec_server.specs.Options.{pairs_in}
 use Rattle.raven_console.specs.WordsView.{bytes_of, texts_in}
 use Rattle.raven_console.proofs.WordLemmas.{joined}
 use Rattle.raven_console.proofs.words.texts.Given as goal

@@ -1,4 +1,4 @@
-use Rattle.raven_laws.proofs.StaleLemmas.{stale-newest}
+use Rattle.spec_store.proofs.StaleLemmas.{stale-newest}
 use Rattle.raven_laws.proofs.indexes.stale_by_newest.Goals as goal
 
 pub returns : goal.returns

@@ -1,4 +1,4 @@
-use Rattle.raven_laws.proofs.StaleLemmas.{stale-iff, fresh-iff}
+use Rattle.spec_store.proofs.StaleLemmas.{stale-iff, fresh-iff}
 use Rattle.raven_laws.proofs.indexes.stale_is_unseen.Goals as goal
 
 pub returns-clause-stale : goal.returns-clause-stale

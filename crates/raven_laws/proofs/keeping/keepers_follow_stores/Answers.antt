@@ -1,4 +1,4 @@
-use Rattle.raven_laws.proofs.KeepLemmas.{kept-with_rows, next-behind, next-alone, store-rises}
+use Rattle.spec_store.proofs.KeepLemmas.{kept-with_rows, next-behind, next-alone, store-rises}
 use Rattle.raven_laws.proofs.keeping.keepers_follow_stores.Goals as goal
 
 pub returns-clause-holds : goal.returns-clause-holds

@@ -1,4 +1,4 @@
-use Rattle.raven_laws.proofs.LaterLemmas.{Later-itself, Later-then}
+use Rattle.spec_store.proofs.LaterLemmas.{Later-itself, Later-then}
 use Rattle.raven_laws.proofs.stores.later_orders.Goals as goal
 
 pub returns-clause-itself : goal.returns-clause-itself

@@ -1,5 +1,5 @@
 use Rattle.std.proofs.Common.{◌≡◌, ◌++◌, Ok, drop, map}
-use Rattle.raven_model.specs.Script.{commands_read, then_read}
+use Rattle.spec_server.specs.Script.{commands_read, then_read}
 use Rattle.raven_value.specs.View.{data_of}
 use Rattle.doc_txn.specs.CommandView.{command_view}
 use Rattle.raven_script.proofs.commands.commands_read.Given as goal

@@ -1,5 +1,5 @@
 use Rattle.std.proofs.Common.{◌-◌, ◌∙◌, Some, drop, length, sym, take}
-use Rattle.raven_model.specs.Machine.{one_field}
+use Rattle.spec_server.specs.Machine.{one_field}
 use Rattle.raven_world.proofs.Choices.{chosen-first, first-and-more}
 use Rattle.raven_world.proofs.choice.+best_of.Goals as goal
 

@@ -1,5 +1,5 @@
 use Rattle.std.proofs.Common.{◌≡◌, ◌+◌, ◌-◌, length, string_bytes}
-use Rattle.raven_model.specs.Optimiser.{free_name}
+use Rattle.spec_index.specs.Optimiser.{free_name}
 use Rattle.raven_world.proofs.naming.first_free.Given as goal
 
 -- what is found from here on is what is found from the first try on

@@ -1,5 +1,5 @@
 use Rattle.std.proofs.Common.{◌≡◌, List, ℕ, true, sym, subst}
-use Rattle.raven_model.specs.Commit.{is_index_id}
+use Rattle.spec_store.specs.Commit.{is_index_id}
 use Rattle.raven_world.proofs.Openings.{index-boundary}
 use Rattle.raven_world.proofs.opening.name_in.Goals as goal
 

@@ -1,8 +1,8 @@
 use Rattle.std.proofs.Common.{◌∙◌, ap, sym, drop}
 use Rattle.raven_data.specs.Rows.{Row}
-use Rattle.raven_model.specs.World.{Slot, fresh}
-use Rattle.index_lang.specs.DefinitionView.{definition_view}
-use Rattle.index_lang.specs.declared.definition.Definition.{Definition}
+use Rattle.spec_index.specs.World.{Slot, fresh}
+use Rattle.index_definition.specs.DefinitionView.{definition_view}
+use Rattle.index_definition.specs.declared.definition.Definition.{Definition}
 use Rattle.raven_world.proofs.Openings.{slot-some}
 use Rattle.raven_world.proofs.opening.slot_of.Goals as goal
 

@@ -1,8 +1,8 @@
 use Rattle.std.proofs.Common.{◌∙◌, List, option_map, ap, sym}
 use Rattle.doc_txn.specs.SettingView.{setting_of}
-use Rattle.index_lang.specs.DefinitionView.{definition_view}
-use Rattle.raven_model.specs.Opening.{is_too_many}
-use Rattle.raven_model.specs.World.{Slot}
+use Rattle.index_definition.specs.DefinitionView.{definition_view}
+use Rattle.spec_server.specs.Opening.{is_too_many}
+use Rattle.spec_index.specs.World.{Slot}
 use Rattle.raven_world.specs.Opened.{read_as}
 use Rattle.raven_world.proofs.Openings.{if-ok, too-many, unfiled, plain, defines}
 use Rattle.raven_world.proofs.opening.take_row.Goals as goal

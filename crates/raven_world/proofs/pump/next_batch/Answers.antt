@@ -1,7 +1,7 @@
 use Rattle.std.proofs.Common.{◌∙◌, ap, subst, sym}
-use Rattle.raven_model.specs.World.{Version}
-use Rattle.index_lang.specs.DefinitionView.{definition_view}
-use Rattle.index_lang.specs.declared.definition.Definition.{Definition}
+use Rattle.spec_index.specs.World.{Version}
+use Rattle.index_definition.specs.DefinitionView.{definition_view}
+use Rattle.index_definition.specs.declared.definition.Definition.{Definition}
 use Rattle.index_version.specs.Meaning.{Means, found_meaning}
 use Rattle.index_version.proofs.Meanings.{definition_means}
 use Rattle.raven_world.proofs.pump.next_batch.Goals as goal

@@ -1,5 +1,5 @@
 use Rattle.std.proofs.Common.{◌≡◌, ◌++◌, drop, map}
-use Rattle.raven_model.specs.Machine.{brought_on_if}
+use Rattle.spec_server.specs.Machine.{brought_on_if}
 use Rattle.raven_world.proofs.pump.one_brought_on.Given as goal
 
 abbrev pub invariant-loop-slot : goal.invariant-loop-slot

@@ -1,6 +1,6 @@
 use Rattle.std.proofs.Common.{◌≡◌, ◌++◌, drop}
 use Rattle.std.specs.Prelude.{filter, not}
-use Rattle.raven_model.specs.World.{is_named}
+use Rattle.spec_index.specs.World.{is_named}
 use Rattle.raven_world.proofs.slot.others.Given as goal
 
 abbrev pub invariant-loop-slot : goal.invariant-loop-slot

@@ -1,5 +1,5 @@
 use Rattle.std.proofs.Common.{◌≡◌, drop}
-use Rattle.raven_model.specs.World.{serving}
+use Rattle.spec_index.specs.World.{serving}
 use Rattle.raven_world.proofs.slot.serving.Given as goal
 
 abbrev pub invariant-loop-slot : goal.invariant-loop-slot

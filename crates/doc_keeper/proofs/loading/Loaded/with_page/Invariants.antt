@@ -1,5 +1,5 @@
 use Rattle.std.proofs.Common.{◌≡◌, drop}
-use Rattle.raven_model.specs.Kept.{rows_behind}
+use Rattle.spec_store.specs.Kept.{rows_behind}
 use Rattle.doc_keeper.proofs.loading.Loaded.with_page.Given as goal
 
 -- the rest goes behind what went in so far

@@ -1,6 +1,6 @@
 use Rattle.std.proofs.Common.{◌≡◌, List, subst, sym, true, arith}
 use Rattle.raven_data.specs.Rows.{Row}
-use Rattle.raven_model.specs.Kept.{may_stand_behind}
+use Rattle.spec_store.specs.Kept.{may_stand_behind}
 use Rattle.doc_keeper.proofs.LoadLemmas.{stays_within, stays_of}
 use Rattle.doc_keeper.proofs.loading.Loaded.with_row.Goals as goal
 

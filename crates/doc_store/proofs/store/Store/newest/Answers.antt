@@ -1,6 +1,6 @@
 use Rattle.std.proofs.Common.{nat_lt, ◌∙◌, ap, sym}
-use Rattle.raven_model.specs.Index.{newest}
-use Rattle.raven_laws.proofs.StaleLemmas.{stale-newest}
+use Rattle.spec_store.specs.Stale.{newest}
+use Rattle.spec_store.proofs.StaleLemmas.{stale-newest}
 use Rattle.doc_store.proofs.store.Store.newest.Goals as goal
 
 pub returns-clause-stale : goal.returns-clause-stale

@@ -1,5 +1,5 @@
 use Rattle.std.proofs.Common.{◌∙◌, ap}
-use Rattle.raven_model.specs.Store.{Store}
+use Rattle.spec_store.specs.Store.{Store}
 use Rattle.doc_store.specs.Maps.{Shows, rows_in}
 use Rattle.doc_store.proofs.MapLemmas.{shown}
 use Rattle.doc_store.proofs.IdLemmas.{in_order}

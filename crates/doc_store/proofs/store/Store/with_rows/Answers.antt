@@ -1,5 +1,5 @@
 use Rattle.std.proofs.Common.{◌∙◌, ap, sym}
-use Rattle.raven_model.specs.Store.{with_rows}
+use Rattle.spec_store.specs.Store.{with_rows}
 use Rattle.doc_store.proofs.Grown.{IsWithin-step}
 use Rattle.doc_store.proofs.store.Store.with_rows.Goals as goal
 

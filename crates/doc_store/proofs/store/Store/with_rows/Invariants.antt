@@ -1,6 +1,6 @@
 use Rattle.std.proofs.Common.{◌≡◌, drop}
-use Rattle.raven_model.specs.Store.{IsStore, with_rows}
-use Rattle.raven_model.specs.Later.{MayFollowAll}
+use Rattle.spec_store.specs.Store.{IsStore, with_rows}
+use Rattle.spec_store.specs.Later.{MayFollowAll}
 use Rattle.doc_store.proofs.store.Store.with_rows.Given as goal
 
 -- what is still to be put in may follow, and leads to the same store

@@ -1,8 +1,8 @@
 use Rattle.std.proofs.Common.{◌≡◌, None, ◌∙◌, sym, rules}
-use Rattle.raven_model.specs.Commit.{refusal_of}
+use Rattle.spec_store.specs.Commit.{refusal_of}
 use Rattle.doc_txn.specs.CommandView.{command_view, writer_view}
 use Rattle.doc_txn.specs.SettingView.{setting_of}
-use Rattle.raven_laws.proofs.CommitLemmas.{row_of-follows}
+use Rattle.spec_store.proofs.CommitLemmas.{row_of-follows}
 use Rattle.doc_txn.proofs.transaction.Transaction.take.Goals as goal
 
 pub write_if-requires-clause-follows : goal.write_if-requires-clause-follows

@@ -1,7 +1,7 @@
 use Rattle.std.proofs.Common.{◌≡◌, ◌+◌, ◌≤◌, length}
 use Rattle.std.specs.List.{count_by}
 use Rattle.std.specs.Map.{values_of}
-use Rattle.raven_model.specs.Mapping.{has_failed}
+use Rattle.spec_index.specs.Mapping.{has_failed}
 use Rattle.index_version.specs.Kept.{Given}
 use Rattle.index_version.proofs.kept.Kept.errors.Given as goal
 

@@ -1,7 +1,7 @@
 use Rattle.std.proofs.Common.{◌≡◌, ◌++◌}
 use Rattle.std.specs.List.{filter_map}
 use Rattle.std.specs.Map.{values_of}
-use Rattle.raven_model.specs.Machine.{found}
+use Rattle.spec_index.specs.Find.{found}
 use Rattle.index_version.specs.Kept.{entry_given}
 use Rattle.index_version.proofs.kept.Kept.find.Given as goal
 

@@ -1,6 +1,6 @@
 use Rattle.std.proofs.Common.{ap}
-use Rattle.index_lang.specs.declared.definition.Definition.{Definition}
-use Rattle.index_lang.specs.DefinitionView.{definition_view}
+use Rattle.index_definition.specs.declared.definition.Definition.{Definition}
+use Rattle.index_definition.specs.DefinitionView.{definition_view}
 use Rattle.index_version.proofs.Taking.{kept_taken, maps_taken}
 use Rattle.index_version.proofs.version.IndexVersion.after.Goals as goal
 

@@ -1,7 +1,8 @@
 use Rattle.std.proofs.Common.{◌∙◌, ap, sym, length}
 use Rattle.std.specs.List.{filter_map}
-use Rattle.raven_model.specs.Mapping.{mapper_of, scratch}
-use Rattle.raven_model.specs.World.{Version}
+use Rattle.index_tree.specs.Mapper.{mapper_of}
+use Rattle.spec_index.specs.Mapping.{scratch}
+use Rattle.spec_index.specs.World.{Version}
 use Rattle.index_version.specs.Kept.{entry_given}
 use Rattle.index_version.proofs.FoldedMaps.{values-by_folded}
 use Rattle.index_version.proofs.Keeping.{entries_kept}

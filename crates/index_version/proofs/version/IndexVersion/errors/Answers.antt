@@ -1,7 +1,8 @@
 use Rattle.std.proofs.Common.{◌∙◌, ap, sym}
 use Rattle.std.specs.List.{count_by}
-use Rattle.raven_model.specs.Mapping.{failures, has_failed, mapper_of}
-use Rattle.raven_model.specs.World.{Version}
+use Rattle.spec_index.specs.Mapping.{failures, has_failed}
+use Rattle.index_tree.specs.Mapper.{mapper_of}
+use Rattle.spec_index.specs.World.{Version}
 use Rattle.index_version.specs.Kept.{Given}
 use Rattle.index_version.proofs.FoldedMaps.{values-by_folded}
 use Rattle.index_version.proofs.Keeping.{failures_kept}

@@ -1,8 +1,8 @@
 use Rattle.std.proofs.Common.{◌∙◌, ap, sym}
 use Rattle.std.specs.List.{filter_map}
-use Rattle.raven_model.specs.Machine.{found, found_in}
-use Rattle.raven_model.specs.Mapping.{mapper_of}
-use Rattle.raven_model.specs.World.{Version}
+use Rattle.spec_index.specs.Find.{found, found_in}
+use Rattle.index_tree.specs.Mapper.{mapper_of}
+use Rattle.spec_index.specs.World.{Version}
 use Rattle.index_version.specs.Kept.{entry_given}
 use Rattle.index_version.proofs.FoldedMaps.{values-by_folded}
 use Rattle.index_version.proofs.Keeping.{entries_kept}

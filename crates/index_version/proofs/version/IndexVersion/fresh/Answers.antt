@@ -1,5 +1,5 @@
-use Rattle.raven_model.specs.Mapping.{mapper_of}
-use Rattle.index_lang.specs.DefinitionView.{definition_view}
+use Rattle.index_tree.specs.Mapper.{mapper_of}
+use Rattle.index_definition.specs.DefinitionView.{definition_view}
 use Rattle.index_version.proofs.Keeping.{nothing_kept}
 use Rattle.index_version.proofs.version.IndexVersion.fresh.Goals as goal
 

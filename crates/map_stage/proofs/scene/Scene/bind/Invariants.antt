@@ -1,5 +1,5 @@
 use Rattle.std.proofs.Common.{◌≡◌, drop}
-use Rattle.map_meaning.specs.Meaning.{bound_after}
+use Rattle.index_tree.specs.Meaning.{bound_after}
 use Rattle.map_stage.specs.Reached.{bindings_of, from_there}
 use Rattle.map_stage.proofs.scene.Scene.bind.Given as goal
 

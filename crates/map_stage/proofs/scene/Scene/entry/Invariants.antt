@@ -1,5 +1,5 @@
 use Rattle.std.proofs.Common.{◌≡◌, [], drop}
-use Rattle.map_meaning.specs.Meaning.{fields_with}
+use Rattle.index_tree.specs.Meaning.{fields_with}
 use Rattle.map_stage.specs.MappedView.{fields_of}
 use Rattle.map_stage.specs.Reached.{bindings_of, from_there}
 use Rattle.map_stage.proofs.scene.Scene.entry.Given as goal

@@ -1,5 +1,5 @@
 use Rattle.std.proofs.Common.{ap, ◌∙◌}
-use Rattle.raven_model.specs.Machine.{Machine, change_of}
+use Rattle.spec_server.specs.Machine.{Machine, change_of}
 use Rattle.raven_script.specs.RequestView.{request_view}
 use Rattle.raven_console.proofs.Kept.{past}
 use Rattle.raven_console.proofs.machine.Machine.perform.Goals as goal

@@ -1,9 +1,9 @@
 use Rattle.std.proofs.Common.{◌≡◌, ◌∙◌, IfSome, Ok, ap, is_some, subst, sym}
-use Rattle.raven_model.specs.Machine.{reslotted}
-use Rattle.raven_model.specs.Replies.{Index}
-use Rattle.raven_model.specs.World.{World, added, serving}
-use Rattle.index_lang.specs.DefinitionView.{definition_view}
-use Rattle.index_lang.specs.declared.definition.Definition.{Definition}
+use Rattle.spec_server.specs.Machine.{reslotted}
+use Rattle.spec_server.specs.Replies.{Index}
+use Rattle.spec_index.specs.World.{World, added, serving}
+use Rattle.index_definition.specs.DefinitionView.{definition_view}
+use Rattle.index_definition.specs.declared.definition.Definition.{Definition}
 use Rattle.raven_world.specs.Told.{machine_of, told}
 use Rattle.raven_world.proofs.Steps.{make-told}
 use Rattle.raven_world.proofs.world.World.make.Goals as goal

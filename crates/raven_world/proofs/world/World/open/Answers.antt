@@ -1,7 +1,7 @@
 use Rattle.std.proofs.Common.{◌<◌, ◌∙◌, List, Some, None, get_or, if◌then◌else◌, inr, length, ap, subst, sym}
 use Rattle.raven_data.specs.Rows.{Row}
 use Rattle.doc_txn.specs.SettingView.{setting_of}
-use Rattle.raven_reading.specs.Openings.{EndsAt}
+use Rattle.index_lang.specs.Openings.{EndsAt}
 use Rattle.raven_world.specs.Opened.{read_as}
 use Rattle.raven_world.proofs.Openings.{ends-here, one-read}
 use Rattle.raven_world.proofs.world.World.open.Goals as goal

@@ -1,9 +1,9 @@
 use Rattle.std.proofs.Common.{◌≡◌, ◌∙◌, ◌∷◌, [], IfSome, ap, subst, sym}
 use Rattle.std.specs.Prelude.{filter, not}
-use Rattle.raven_model.specs.Commit.{AnyVector, Delete, Server, commit}
-use Rattle.raven_model.specs.Machine.{rewrote}
-use Rattle.raven_model.specs.Replies.{Removed}
-use Rattle.raven_model.specs.World.{Slot, World, index_id, is_named, serving}
+use Rattle.spec_store.specs.Commit.{AnyVector, Delete, Server, commit}
+use Rattle.spec_server.specs.Machine.{rewrote}
+use Rattle.spec_server.specs.Replies.{Removed}
+use Rattle.spec_index.specs.World.{Slot, World, index_id, is_named, serving}
 use Rattle.raven_world.specs.Told.{machine_of, told}
 use Rattle.raven_world.proofs.Steps.{remove-some}
 use Rattle.raven_world.proofs.world.World.remove.Goals as goal

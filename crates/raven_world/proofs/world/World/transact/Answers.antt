@@ -1,6 +1,6 @@
 use Rattle.std.proofs.Common.{◌≡◌, Err, map, subst}
-use Rattle.raven_model.specs.Commit.{Client, commit}
-use Rattle.raven_model.specs.World.{World}
+use Rattle.spec_store.specs.Commit.{Client, commit}
+use Rattle.spec_index.specs.World.{World}
 use Rattle.doc_txn.specs.CommandView.{command_view}
 use Rattle.doc_txn.specs.FaultView.{Refuses, kind_view}
 use Rattle.doc_txn.specs.SettingView.{setting_of}

@@ -1,0 +1,4 @@
+pub mod Adding
+pub mod DefinitionView
+pub mod RefusalView
+pub mod Shape

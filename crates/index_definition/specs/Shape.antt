@@ -1,0 +1,39 @@
+-- What is told of a definition.
+use Rattle.std.specs.Prelude.{◌≡◌, ℕ, List, [], ◌∷◌, map, Option, Some, None}
+use Rattle.raven_data.specs.Data.{null}
+use Rattle.raven_data.specs.Rising.{Pairs, put}
+use Rattle.index_tree.specs.declared.reduce_query.ReduceQuery.{ReduceQuery}
+use Rattle.index_tree.specs.Scope as meaning
+use Rattle.index_tree.specs.Mapper.{joined}
+use Rattle.index_definition.specs.declared.definition.DefBody.{DefBody}
+use Rattle.index_definition.specs.declared.definition.DefBody.TheVariants.{Static, Auto}
+
+-- ---- the same definition, whatever its name and its texts
+
+-- but for the names that they give a group
+abbrev pub SameReduce : Option ReduceQuery → Option ReduceQuery → Type 0
+SameReduce None None = Unit {0}
+SameReduce (Some a) (Some b) = (a.var ≡ b.var) × (a.key ≡ b.key) × (a.members ≡ b.members)
+SameReduce _ _ = ⊥
+
+abbrev pub Same : DefBody → DefBody → Type 0
+Same (Static a reduce text reduce_text) (Static b other other_text other_reduce_text) = (a ≡ b) × SameReduce reduce other
+Same (Auto collection fields) (Auto other others) = (collection ≡ other) × (fields ≡ others)
+Same _ _ = ⊥
+
+-- ---- the fields of its entries
+
+abbrev pub names : DefBody → List (List ℕ)
+names (Static query reduce text reduce_text) = meaning.fields_of query
+names (Auto collection fields) = map joined fields
+
+-- the names as those of the members of an object, which rise by their bytes, and each of which is there once
+abbrev pub put_all : List (List ℕ) → Pairs → Pairs
+put_all [] found = found
+put_all (name ∷ more) found = put_all more (put name null found)
+
+abbrev pub in_order : List (List ℕ) → List (List ℕ)
+in_order all = map (λ m. m.0) (put_all all [])
+
+abbrev pub fields : DefBody → List (List ℕ)
+fields body = in_order (names body)

@@ -1,0 +1,92 @@
+-- What bodies of rows say.
+use Rattle.std.proofs.Common.{◌≡◌, ◌<◌, ℕ, suc, List, [], ◌∷◌, length, Bool, true, false, cond, Option, Some, None, Result, Ok, Err, map, refl, sym, ap, ◌∙◌, subst, arith, codes}
+use Rattle.std.proofs.lemmas.Grind.{common_steps}
+use Rattle.std.specs.Prelude.{◌==◌, if◌then◌else◌}
+use Rattle.raven_data.specs.Data.{Data, Entries, array, object, pairs_of, entries_of, items_of}
+use Rattle.raven_data.specs.Rising.{Pairs}
+use Rattle.raven_value.specs.View.{data_of, pair_of}
+use Rattle.raven_value.specs.declared.text.Text.{Text}
+use Rattle.raven_value.specs.declared.value.Value.{Value}
+use Rattle.index_tree.specs.Language as is
+use Rattle.index_tree.specs.Definitions.{Definition}
+use Rattle.spec_server.specs.Opening.{BodyForm, NoForm, body_form, form_of}
+use Rattle.index_definition.specs.DefinitionView.{definition_view}
+use Rattle.index_lang.specs.Parse.{IsParsed}
+use Rattle.index_definition.specs.RefusalView.{refusal_view}
+use Rattle.index_definition.specs.declared.definition.Definition as program
+use Rattle.index_definition.specs.declared.refusal.Part.{Part}
+use Rattle.index_definition.specs.declared.refusal.LangKind.{LangKind}
+use Rattle.index_definition.specs.declared.refusal.LangRefusal.TheVariants.{At}
+use Rattle.index_lang.specs.Bodies.{form_in, is_bare, only_item}
+use Rattle.index_lang.specs.Openings.{IsOfForm, IsSaid}
+
+bare : (ps : List (Text × Value)) → (length ps == 0) ≡ is_bare (Some (object (entries_of (map pair_of ps))))
+bare [] = refl
+bare (p ∷ ps) = let some : (length (p ∷ ps) == 0) ≡ false = grind (arith, common_steps) in some
+
+pub bare-members : (ps : List (Text × Value)) (ms : Pairs) (b : Bool) → map pair_of ps ≡ ms → b ≡ (length ps == 0) → b ≡ is_bare (Some (object (entries_of ms)))
+bare-members ps ms b is h = h ∙ bare ps ∙ ap (λ xs. is_bare (Some (object (entries_of xs)))) is
+
+fewer : (vs : List Value) → length vs < 1 → (let x : Option Data = None in x) ≡ only_item (Some (array (items_of (map data_of vs))))
+fewer [] h = refl
+fewer (v ∷ vs) h = absurd (omega arith)
+
+more : (vs : List Value) → (length vs < 2 → ⊥) → (let x : Option Data = None in x) ≡ only_item (Some (array (items_of (map data_of vs))))
+more [] h = refl
+more (v ∷ []) h = absurd (h (omega arith))
+more (v ∷ w ∷ vs) h = refl
+
+pub fewer-items : (vs : List Value) (ds : List Data) → map data_of vs ≡ ds → length vs < 1 → None ≡ only_item (Some (array (items_of ds)))
+fewer-items vs ds is h = fewer vs h ∙ ap (λ xs. only_item (Some (array (items_of xs)))) is
+
+pub more-items : (vs : List Value) (ds : List Data) → map data_of vs ≡ ds → (length vs < 2 → ⊥) → None ≡ only_item (Some (array (items_of ds)))
+more-items vs ds is h = more vs h ∙ ap (λ xs. only_item (Some (array (items_of xs)))) is
+
+as_many : (ps : List (Text × Value)) → length (pairs_of (entries_of (map pair_of ps))) ≡ length ps
+as_many [] = refl
+as_many (p ∷ ps) = ap suc (as_many ps)
+
+pub ruleset bodies = (bare-members, fewer-items, more-items)
+
+-- TEXTS
+
+pub says-definition : (name map : List ℕ) (definition : program.Definition) → IsParsed name map None (Ok definition) → IsSaid map (Some (definition_view definition.body))
+says-definition name map definition h = record {
+  answer = Ok (definition_view definition.body);
+  says = record { name = name; definition = definition; given = h; seen = refl };
+  told = refl;
+}
+
+pub says-nothing : (name map : List ℕ) (part : Part) (at : ℕ) (kind : LangKind) → IsParsed name map None (Err (At part at kind)) → IsSaid map None
+says-nothing name map part at kind h = record {
+  answer = Err (refusal_view part at kind);
+  says = record { name = name; part = part; at = at; kind = kind; given = h; seen = refl };
+  told = refl;
+}
+
+pub ruleset sayings = (says-definition, says-nothing)
+
+-- FORMS
+
+pub form-auto : (auto : Option Definition) (map : Option (List ℕ)) (d : Definition) → Some d ≡ auto → IsOfForm (form_of auto map) (Some d)
+form-auto auto map d h = subst (λ o. IsOfForm (form_of o map) (Some d)) h refl
+
+pub form-text : (auto : Option Definition) (map : Option (List ℕ)) (text : List ℕ) (d : Option Definition) → None ≡ auto → Some text ≡ map → IsSaid text d → IsOfForm (form_of auto map) d
+form-text auto map text d h g said = subst (λ o. IsOfForm (form_of o map) d) h (subst (λ m. IsOfForm (form_of None m) d) g said)
+
+pub form-none : (auto : Option Definition) (map : Option (List ℕ)) → None ≡ auto → None ≡ map → IsOfForm (form_of auto map) None
+form-none auto map h g = subst (λ o. IsOfForm (form_of o map) None) h (subst (λ m. IsOfForm (form_of None m) None) g refl)
+
+members_in : (ps : List (Text × Value)) (ms : Pairs) → map pair_of ps ≡ ms → (if length ps == 4 then form_in (entries_of ms) else NoForm) ≡ body_form (object (entries_of ms))
+members_in ps ms is = ap (λ n. if n == 4 then form_in (entries_of ms) else NoForm) (sym (as_many ps) ∙ ap (λ xs. length (pairs_of (entries_of xs))) is)
+
+pub body-other : (ps : List (Text × Value)) (ms : Pairs) → map pair_of ps ≡ ms → (length ps ≡ 4 → ⊥) → IsOfForm (body_form (object (entries_of ms))) None
+body-other ps ms is h =
+    let other : (length ps == 4) ≡ false = grind (arith, common_steps) in
+    subst (λ form. IsOfForm form None) (ap (λ b. if b then form_in (entries_of ms) else NoForm) (sym other) ∙ members_in ps ms is) refl
+
+pub body-four : (ps : List (Text × Value)) (ms : Pairs) (d : Option Definition) → map pair_of ps ≡ ms → length ps ≡ 4 → IsOfForm (form_in (entries_of ms)) d → IsOfForm (body_form (object (entries_of ms))) d
+body-four ps ms d is h said =
+    subst (λ form. IsOfForm form d) (ap (λ n. if n == 4 then form_in (entries_of ms) else NoForm) (sym h) ∙ members_in ps ms is) said
+
+pub ruleset forms = (form-auto, form-text, form-none, body-other, body-four)

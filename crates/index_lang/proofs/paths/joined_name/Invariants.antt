@@ -1,7 +1,0 @@
-use Rattle.std.proofs.Common.{◌≡◌, ◌++◌, drop, string_bytes}
-use Rattle.raven_model.specs.Mapping.{joined}
-use Rattle.index_lang.proofs.Joins.{dotted}
-use Rattle.index_lang.proofs.paths.joined_name.Given as goal
-
-abbrev pub invariant-loop-part : goal.invariant-loop-part
-invariant-loop-part l = string_bytes l.name ++ dotted (drop l.part-index l.more) ≡ joined l.path

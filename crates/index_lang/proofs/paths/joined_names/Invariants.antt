@@ -1,6 +1,0 @@
-use Rattle.std.proofs.Common.{◌≡◌, take, map}
-use Rattle.raven_model.specs.Mapping.{joined}
-use Rattle.index_lang.proofs.paths.joined_names.Given as goal
-
-abbrev pub invariant-loop-path : goal.invariant-loop-path
-invariant-loop-path l = l.names ≡ map joined (take l.path-index l.paths)

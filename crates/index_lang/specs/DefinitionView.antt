@@ -1,8 +1,0 @@
--- The body of a `Definition` of the program, and what it is.
-use Rattle.raven_model.specs.Mapping as is
-use Rattle.index_lang.specs.declared.definition.DefBody.{DefBody}
-use Rattle.index_lang.specs.declared.definition.DefBody.TheVariants.{Static, Auto}
-
-abbrev pub definition_view : DefBody → is.Definition
-definition_view (Static map reduce map_text reduce_text) = is.Static map reduce map_text reduce_text
-definition_view (Auto collection fields) = is.Auto collection fields

@@ -1,0 +1,24 @@
+-- What a line of a script comes to.
+use Rattle.std.specs.Prelude.{◌≡◌, ℕ, List, [], ◌∷◌, Result}
+use Rattle.index_tree.specs.Language.{LangRefusal}
+use Rattle.index_tree.specs.Definitions.{Definition}
+use Rattle.spec_server.specs.Script.{Asked, Plain, Defining, Given, LineRead, asked_of, defined_by}
+use Rattle.index_lang.specs.Says.{Says}
+
+-- what is asked to be defined is what the text says
+pub record IsDefining (name map : List ℕ) (told : LineRead) : Type 0 where
+  pub answer : Result Definition LangRefusal
+  pub says : Says map answer
+  pub read : told ≡ defined_by name answer
+
+abbrev pub Comes : Asked → LineRead → Type 0
+Comes (Plain told) read = read ≡ told
+Comes (Defining name map) read = IsDefining name map read
+
+abbrev pub IsLine : List ℕ → LineRead → Type 0
+IsLine line read = Comes (asked_of line) read
+
+-- each line was read as it is
+abbrev pub AreLines : List Given → Type 0
+AreLines [] = Unit {0}
+AreLines (g ∷ more) = IsLine g.line g.read × AreLines more

@@ -1,0 +1,180 @@
+//! The definition in the body of its row.
+ghost use Rattle.std.specs.Prelude.{◌≡◌, ◌==◌, ◌||◌, IfOk, option_map};
+ghost use Rattle.std.specs.List.{list_any};
+ghost use Rattle.raven_data.specs.Data.{entries_of};
+ghost use Rattle.raven_data.specs.Members.{member as spec_member};
+ghost use Rattle.raven_value.specs.View.{data_of};
+ghost use Rattle.spec_server.specs.Opening.{auto_read, body_form, is_part as spec_is_part, map_read};
+ghost use Rattle.index_lang.specs.Openings.{IsOfForm, IsSaid};
+ghost use Rattle.index_definition.specs.DefinitionView.{definition_view};
+ghost use Rattle.index_lang.specs.Bodies.{form_in, is_bare as spec_is_bare, only_item as spec_only_item, text_in as spec_text_in};
+
+use crate::parsing::parse;
+use index_definition::{DefBody, LangRefusal, auto_body};
+use raven_base::NoMemory;
+use raven_value::{Members, Name, Text, Value};
+use std::alloc::Global;
+
+// Whether the byte cannot stand in a part of a path.
+fn is_break(byte: u8) -> bool
+    ensures { result ≡ ((byte == 46) || (byte == 40) || (byte == 41)) }
+{
+    byte == b'.' || byte == b'(' || byte == b')'
+}
+
+fn has_break(text: &str) -> bool
+    ensures { result ≡ list_any (λ b. (b == 46) || (b == 40) || (b == 41)) text.now }
+{
+    text.as_bytes().iter().any(|byte| is_break(*byte))
+}
+
+fn is_part(text: &str) -> bool
+    ensures { result ≡ spec_is_part text.now }
+{
+    !text.is_empty() && !has_break(text)
+}
+
+// Whether the value is an object without members.
+#[tactic(auto, using(crate::proofs::Forms::bodies))]
+fn is_bare(value: Option<&Value>) -> bool
+    ensures { result ≡ spec_is_bare (option_map (λ v. data_of v.now) value.entry) }
+{
+    match value {
+        Some(Value::Map(members)) => members.as_slice().is_empty(),
+        _ => false,
+    }
+}
+
+/// The text, where the value is one.
+pub fn text_in(value: Option<&Value>) -> Option<&Text>
+    ensures { option_map (λ t. t.now) result ≡ spec_text_in (option_map (λ v. data_of v.now) value.entry) }
+{
+    match value {
+        Some(Value::Text(text)) => Some(text),
+        _ => None,
+    }
+}
+
+/// The item of a list that has one.
+#[tactic(auto, using(crate::proofs::Forms::bodies))]
+pub fn only_item(value: Option<&Value>) -> Option<&Value>
+    ensures { option_map (λ v. data_of v.now) result ≡ spec_only_item (option_map (λ v. data_of v.now) value.entry) }
+{
+    let Some(Value::List(items)) = value else {
+        return None;
+    };
+    match items.as_slice() {
+        [item] => Some(item),
+        _ => None,
+    }
+}
+
+fn member<'a>(
+    alloc: Global,
+    members: &'a Members,
+    name: &str,
+) -> Result<Option<&'a Value>, NoMemory>
+    ensures { IfOk result (λ found. option_map (λ v. data_of v.now) found ≡ spec_member name.now (entries_of members.now)) }
+{
+    Ok(members.get(&Text::of(alloc, name)?))
+}
+
+// The automatic definition that these four members make, if they make one.
+fn auto_of(
+    alloc: Global,
+    metadata: Option<&Value>,
+    collection: Option<&Value>,
+    fields: Option<&Value>,
+    kind: Option<&Value>,
+) -> Result<Option<DefBody>, NoMemory>
+    ensures { IfOk result (λ body. option_map definition_view body ≡ auto_read (option_map (λ v. data_of v.now) metadata.entry) (option_map (λ v. data_of v.now) collection.entry) (option_map (λ v. data_of v.now) fields.entry) (option_map (λ v. data_of v.now) kind.entry)) }
+{
+    if !is_bare(metadata) {
+        return Ok(None);
+    }
+    let Some(collection) = text_in(collection) else {
+        return Ok(None);
+    };
+    let Some(field) = text_in(only_item(only_item(fields))) else {
+        return Ok(None);
+    };
+    let Some(kind) = text_in(kind) else {
+        return Ok(None);
+    };
+    if kind.as_str() != "auto" || !is_part(field.as_str()) {
+        return Ok(None);
+    }
+    Ok(Some(auto_body(alloc, collection, field)?))
+}
+
+// The text of a map that these four members hold, if they do.
+fn map_of<'a>(
+    metadata: Option<&'a Value>,
+    kind: Option<&'a Value>,
+    map: Option<&'a Value>,
+    reduce: Option<&'a Value>,
+) -> Option<&'a Text>
+    ensures { option_map (λ t. t.now) result ≡ map_read (option_map (λ v. data_of v.now) metadata.entry) (option_map (λ v. data_of v.now) kind.entry) (option_map (λ v. data_of v.now) map.entry) (option_map (λ v. data_of v.now) reduce.entry) }
+{
+    if !is_bare(metadata) {
+        return None;
+    }
+    let Some(kind) = text_in(kind) else {
+        return None;
+    };
+    let map = text_in(map)?;
+    match reduce {
+        Some(Value::Null) if kind.as_str() == "static" => Some(map),
+        _ => None,
+    }
+}
+
+// What the text of a map says, and nothing where it is refused. It says the same under each name.
+#[tactic(auto, using(crate::proofs::Forms::sayings))]
+fn said(alloc: Global, map: &Text) -> Result<Option<DefBody>, NoMemory>
+    ensures { IfOk result (λ body. IsSaid map.now (option_map definition_view body)) }
+{
+    let name = match Name::new(alloc, "map") {
+        Ok(name) => name,
+        Err(_) => return Err(NoMemory),
+    };
+    match parse(alloc, name, map.as_str(), None) {
+        Ok(definition) => Ok(Some(definition.body)),
+        Err(LangRefusal::At { .. }) => Ok(None),
+        Err(LangRefusal::NoMemory) => Err(NoMemory),
+    }
+}
+
+#[tactic(auto, using(crate::proofs::Forms::forms))]
+fn definition_in(alloc: Global, members: &Members) -> Result<Option<DefBody>, NoMemory>
+    ensures { IfOk result (λ body. IsOfForm (form_in (entries_of members.now)) (option_map definition_view body)) }
+{
+    let metadata = member(alloc, members, "@metadata")?;
+    let kind = member(alloc, members, "Kind")?;
+    let collection = member(alloc, members, "Collection")?;
+    let fields = member(alloc, members, "Fields")?;
+    if let Some(body) = auto_of(alloc, metadata, collection, fields, kind)? {
+        return Ok(Some(body));
+    }
+    let map = member(alloc, members, "Map")?;
+    let reduce = member(alloc, members, "Reduce")?;
+    match map_of(metadata, kind, map, reduce) {
+        Some(map) => said(alloc, map),
+        None => Ok(None),
+    }
+}
+
+/// The definition that the body of a row says: an automatic one of one field, or a map by its text. Nothing where it says none, or where it has
+/// something else.
+#[tactic(auto, using(crate::proofs::Forms::forms))]
+pub fn of_row_body(alloc: Global, body: &Value) -> Result<Option<DefBody>, NoMemory>
+    ensures { IfOk result (λ found. IsOfForm (body_form (data_of body.now)) (option_map definition_view found)) }
+{
+    let Value::Map(members) = body else {
+        return Ok(None);
+    };
+    if members.as_slice().len() != 4 {
+        return Ok(None);
+    }
+    definition_in(alloc, members)
+}

@@ -1,4 +1,0 @@
-pub mod Says
-pub mod Lines
-pub mod Openings
-pub mod Bodies

@@ -1,0 +1,29 @@
+-- What a query finds over the documents that an index has recorded.
+use Rattle.std.specs.Prelude.{ℕ, List, [], ◌∷◌, Bool, false, if◌then◌else◌, Option, Some, None, filter, map}
+use Rattle.std.specs.Str.{bytes_eq}
+use Rattle.raven_data.specs.Scalars.{Scalar, words, Is, holds}
+use Rattle.raven_data.specs.Tables.{Table}
+use Rattle.index_tree.specs.Mapper.{Mapper}
+use Rattle.index_tree.specs.Meaning.{Fields}
+use Rattle.spec_index.specs.Mapping.{scratch}
+
+abbrev pub field_named : List ℕ → Fields → Option Scalar
+field_named name [] = None
+field_named name (f ∷ fields) = if bytes_eq name f.0 then Some f.1 else field_named name fields
+
+-- a field that an entry lacks meets no test
+abbrev pub is_words : List ℕ → Option Scalar → Bool
+is_words ws None = false
+is_words ws (Some v) = holds (Is (words ws)) false v
+
+-- the field of that name is that text, without regard to case
+abbrev pub has_words : List ℕ → List ℕ → Fields → Bool
+has_words name ws fields = is_words ws (field_named name fields)
+
+-- the ids of the entries that a query finds, by id
+abbrev pub found : List (List ℕ × Fields) → List ℕ → List ℕ → List (List ℕ)
+found entries name ws = map (λ e. e.0) (filter (λ e. has_words name ws e.1) entries)
+
+-- what is found over the documents of a table
+abbrev pub found_in : Mapper → Table → List ℕ → List ℕ → List (List ℕ)
+found_in m T name ws = found (scratch m T) name ws

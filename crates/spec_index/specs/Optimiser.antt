@@ -1,0 +1,107 @@
+-- Which automatic index answers a query, and what a new one is called. A slot is fresh where it is not stale without a cutoff.
+use Rattle.std.specs.Prelude.{ℕ, ◌+◌, suc, zero, List, [], ◌∷◌, ◌++◌, Bool, false, not, ◌&&◌, ◌||◌, nat_lt, if◌then◌else◌, Option, Some, None, is_some, length, codes, filter}
+use Rattle.std.specs.List.{list_any, list_all}
+use Rattle.std.specs.Str.{bytes_eq}
+use Rattle.std.specs.Fmt.{decimal}
+use Rattle.std.specs.Cmp.Lexicographic.{pointwise}
+use Rattle.raven_data.specs.Faults.{is_fit}
+use Rattle.raven_data.specs.Members.{Path}
+use Rattle.spec_store.specs.Store.{Store}
+use Rattle.spec_store.specs.Stale.{stale}
+use Rattle.index_tree.specs.Definitions.{Definition, Static, Auto}
+use Rattle.index_tree.specs.Mapper.{joined}
+use Rattle.spec_index.specs.World.{Slot, reads, serving}
+
+-- what a query asks of an index
+pub record Shape : Type 0 where
+  pub collection : List ℕ
+  pub fields : List Path
+
+-- an automatic index has a shape, and no other has one
+abbrev pub shape_of : Definition → Option Shape
+shape_of (Static map reduce map_text reduce_text) = None
+shape_of (Auto collection fields) = Some (record { collection = collection; fields = fields })
+
+abbrev pub slot_shape : Slot → Option Shape
+slot_shape s = shape_of s.version.definition
+
+abbrev pub is_fresh : Store → Slot → Bool
+is_fresh S s = not (stale S (reads s.version) s.version.etag None)
+
+abbrev pub has_path : List Path → Path → Bool
+has_path fields path = list_any (pointwise bytes_eq path) fields
+
+-- an index of the shape a can answer what the shape b asks
+abbrev pub covers : Option Shape → Shape → Bool
+covers None b = false
+covers (Some a) b = bytes_eq a.collection b.collection && list_all (has_path a.fields) b.fields
+
+abbrev pub fields_in : Option Shape → ℕ
+fields_in None = 0
+fields_in (Some a) = length a.fields
+
+abbrev pub width : Slot → ℕ
+width s = fields_in (slot_shape s)
+
+-- the fresh before the stale, then the fewer fields
+abbrev pub beats : Store → Slot → Slot → Bool
+beats S a b = (is_fresh S a && not (is_fresh S b)) || ((is_fresh S a || not (is_fresh S b)) && nat_lt (width a) (width b))
+
+-- the first that no later one beats
+abbrev pub better : Store → Slot → Option Slot → Option Slot
+better S a None = Some a
+better S a (Some b) = if beats S b a then Some b else Some a
+
+abbrev pub best : Store → List Slot → Option Slot
+best S [] = None
+best S (a ∷ more) = better S a (best S more)
+
+pub data Choice : Type 0 where
+  -- this index
+  Use : (slot : Slot) → Choice
+  -- a new one for this shape
+  Make : (shape : Shape) → Choice
+  -- a new one that takes in the fields of the others of its collection, which is not built yet
+  Merge : Choice
+
+abbrev pub has_collection : List ℕ → Option Shape → Bool
+has_collection collection None = false
+has_collection collection (Some a) = bytes_eq a.collection collection
+
+-- an automatic index of the collection
+abbrev pub is_of : List ℕ → Slot → Bool
+is_of collection s = has_collection collection (slot_shape s)
+
+abbrev pub chosen : Shape → List Slot → Option Slot → Choice
+chosen shape slots (Some s) = Use s
+chosen shape slots None = if list_any (is_of shape.collection) slots then Merge else Make shape
+
+-- of the live automatic indexes, by number
+abbrev pub pick : Shape → Store → List Slot → Choice
+pick shape S slots = chosen shape slots (best S (filter (λ s. covers (slot_shape s) shape) slots))
+
+-- NAMES
+
+abbrev pub and_joined : List Path → List ℕ
+and_joined [] = []
+and_joined (p ∷ []) = joined p
+and_joined (p ∷ more) = joined p ++ (codes "And" ++ and_joined more)
+
+abbrev pub plain_name : Shape → List ℕ
+plain_name shape = codes "Auto/" ++ (shape.collection ++ (codes "/By" ++ and_joined shape.fields))
+
+-- the name with the least number behind it that is free
+abbrev pub free_name : ℕ → ℕ → List ℕ → List Slot → List ℕ
+free_name zero n name slots = name ++ (codes "/" ++ decimal n)
+free_name (suc more) n name slots =
+    if is_some (serving slots (name ++ (codes "/" ++ decimal n))) then free_name more (n + 1) name slots else name ++ (codes "/" ++ decimal n)
+
+-- as many tries as there are slots are enough
+abbrev pub first_free : List ℕ → List Slot → List ℕ
+first_free name slots = if is_some (serving slots name) then free_name (length slots) 2 name slots else name
+
+-- of a new slot of this number; where the plain name is too long or has control characters, the number stands in its place
+abbrev pub name_of : List Slot → ℕ → Shape → List ℕ
+name_of slots number shape =
+    if is_fit 200 (first_free (plain_name shape) slots) then first_free (plain_name shape) slots
+    else first_free (codes "Auto/" ++ decimal number) slots

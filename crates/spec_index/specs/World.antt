@@ -1,0 +1,176 @@
+-- A database: its store, its indexes and the notes of their switches.
+use Rattle.std.specs.Prelude.{ℕ, ◌+◌, List, [], ◌∷◌, ◌++◌, Bool, not, ◌||◌, nat_lt, nat_le, nat_eq, ◌==◌, if◌then◌else◌, Option, Some, None, is_some, Result, Ok, Err, length, codes, filter, find, map}
+use Rattle.std.specs.List.{starts_with}
+use Rattle.std.specs.FinMap.{empty}
+use Rattle.raven_data.specs.Data.{Data, null, text, array, object, items_of, entries_of}
+use Rattle.raven_data.specs.Folding.{folded, same_key}
+use Rattle.raven_data.specs.Members.{Path}
+use Rattle.raven_data.specs.Rows.{Row}
+use Rattle.spec_store.specs.Store.{Store, last}
+use Rattle.raven_data.specs.Tables.{Table, Scope, note_rows}
+use Rattle.spec_store.specs.Stale.{taken}
+use Rattle.spec_index.specs.Index.{etag_of_batch}
+use Rattle.index_tree.specs.Definitions.{Definition, Static, Auto, same_definition}
+use Rattle.index_tree.specs.Mapper.{mapper_of, scope_of}
+use Rattle.spec_store.specs.Commit.{Command, Put, Delete, AnyVector, Setting}
+
+-- an index as far as it has come: it has recorded this table up to this etag
+pub record Version : Type 0 where
+  pub definition : Definition
+  pub etag : ℕ
+  pub table : Table
+
+-- a live index: the etag at which it was made, its name, how far it is, and the etag of the row of its definition
+pub record Slot : Type 0 where
+  pub number : ℕ
+  pub name : List ℕ
+  pub version : Version
+  pub row : ℕ
+
+-- a switch: its etag, whose name, from which number to which, how far the new index was, and the newest row that it reads
+pub record Note : Type 0 where
+  pub etag : ℕ
+  pub name : List ℕ
+  pub old : ℕ
+  pub new : ℕ
+  pub index_etag : ℕ
+  pub newest : ℕ
+
+pub record World : Type 0 where
+  pub setting : Setting
+  pub store : Store
+  pub slots : List Slot
+  pub notes : List Note
+
+abbrev pub reads : Version → Scope
+reads v = scope_of (mapper_of v.definition)
+
+abbrev pub fresh : Definition → Version
+fresh d = record { definition = d; etag = 0; table = empty }
+
+-- BATCHES
+
+-- with these rows; nothing where there are none
+abbrev pub advanced : Version → List Row → ℕ → Option Version
+advanced v [] etag = None
+advanced v (r ∷ rows) etag = Some (record { definition = v.definition; etag = etag; table = note_rows v.table (r ∷ rows) })
+
+-- with the first `max` rows that the index has not seen
+abbrev pub batch : Version → Store → ℕ → Option Version
+batch v S max = advanced v (taken (reads v) v.etag S max) (etag_of_batch (reads v) v.etag S max)
+
+-- SLOTS
+
+-- names are compared as ids are
+abbrev pub serving : List Slot → List ℕ → Option Slot
+serving slots name = find (λ s. same_key (folded name) (folded s.name)) slots
+
+abbrev pub numbered : List Slot → ℕ → Option Slot
+numbered slots n = find (λ s. s.number == n) slots
+
+-- the id of the row of a definition
+abbrev pub index_id : List ℕ → List ℕ
+index_id name = codes "@index/" ++ name
+
+abbrev pub text_list : List (List ℕ) → Data
+text_list texts = array (items_of (map text texts))
+
+abbrev pub path_list : List Path → Data
+path_list paths = array (items_of (map text_list paths))
+
+abbrev pub text_or_null : Option (List ℕ) → Data
+text_or_null None = null
+text_or_null (Some t) = text t
+
+-- what is kept of a definition, and shown of it
+abbrev pub definition_members : Definition → List (List ℕ × Data)
+definition_members (Static map reduce map_text reduce_text) =
+    (codes "Kind", text (codes "static"))
+    ∷ (codes "Map", text map_text)
+    ∷ (codes "Reduce", text_or_null reduce_text)
+    ∷ []
+definition_members (Auto collection fields) =
+    (codes "Collection", text collection)
+    ∷ (codes "Fields", path_list fields)
+    ∷ (codes "Kind", text (codes "auto"))
+    ∷ []
+
+abbrev pub definition_data : Definition → Data
+definition_data d = object (entries_of (definition_members d))
+
+-- the body by which a definition is put into the collection `@indexes`
+abbrev pub row_body : Definition → Data
+row_body d = object (entries_of ((codes "@metadata", object (entries_of ((codes "@collection", text (codes "@indexes")) ∷ []))) ∷ definition_members d))
+
+-- new slots, the commands for their rows, which the server writes, and the name of the slot that was asked for
+pub record SlotChange : Type 0 where
+  pub slots : List Slot
+  pub commands : List Command
+  pub name : List ℕ
+
+pub data SlotRefusal : Type 0 where
+  -- the name serves with another definition, which is no refusal once replacements are built
+  NameServes : SlotRefusal
+  NoIndex ReservedName TooManyIndexes : SlotRefusal
+  NameTooLong : (len : ℕ) → SlotRefusal
+
+-- MAKING ONE
+
+-- a new slot behind the others, under the next etag
+abbrev pub added : World → List ℕ → Definition → SlotChange
+added W name d = record {
+  slots = W.slots ++ record { number = last W.store + 1; name = name; version = fresh d; row = last W.store + 1 } ∷ [];
+  commands = Put (index_id name) AnyVector (row_body d) ∷ [];
+  name = name;
+}
+
+abbrev pub added_if_room : World → List ℕ → Definition → Result SlotChange SlotRefusal
+added_if_room W name d = if nat_le W.setting.max_slots (length W.slots) then Err TooManyIndexes else Ok (added W name d)
+
+-- an automatic index, whose name is chosen by the server
+abbrev pub define : World → List ℕ → Definition → Result SlotChange SlotRefusal
+define W name d =
+    if nat_le W.setting.max_slots (length W.slots) then Err TooManyIndexes else (
+    if is_some (serving W.slots name) then Err NameServes else Ok (added W name d))
+
+-- names that the server gives
+abbrev pub is_reserved_name : List ℕ → Bool
+is_reserved_name name = starts_with nat_eq (folded name) (codes "auto/") || starts_with nat_eq (folded name) (codes "replacementof/")
+
+-- the longest name of a definition, in bytes
+abbrev pub max_index_name : ℕ
+max_index_name = 200
+
+abbrev pub name_refusal : List ℕ → Option SlotRefusal
+name_refusal name =
+    if is_reserved_name name then Some ReservedName else (
+    if nat_lt max_index_name (length name) then Some (NameTooLong (length name)) else None)
+
+-- where the name serves with the same definition, nothing changes
+abbrev pub define_at : World → List ℕ → Definition → Option Slot → Result SlotChange SlotRefusal
+define_at W name d None = added_if_room W name d
+define_at W name d (Some s) = if same_definition d s.version.definition then Ok (record { slots = W.slots; commands = []; name = s.name }) else Err NameServes
+
+abbrev pub unless_refused : Option SlotRefusal → Result SlotChange SlotRefusal → Result SlotChange SlotRefusal
+unless_refused None change = change
+unless_refused (Some refusal) change = Err refusal
+
+-- an index that a client defines
+abbrev pub define_named : World → List ℕ → Definition → Result SlotChange SlotRefusal
+define_named W name d = unless_refused (name_refusal name) (define_at W name d (serving W.slots name))
+
+-- REMOVING ONE
+
+abbrev pub is_named : List ℕ → Slot → Bool
+is_named name s = same_key (folded name) (folded s.name)
+
+abbrev pub removed : World → List ℕ → Option Slot → Result SlotChange SlotRefusal
+removed W name None = Err NoIndex
+removed W name (Some s) = Ok (record {
+  slots = filter (λ t. not (is_named name t)) W.slots;
+  commands = Delete (index_id s.name) AnyVector ∷ [];
+  name = s.name;
+})
+
+abbrev pub remove : World → List ℕ → Result SlotChange SlotRefusal
+remove W name = removed W name (serving W.slots name)

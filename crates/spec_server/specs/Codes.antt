@@ -1,0 +1,22 @@
+-- Codes of what the types of the crates above are seen as.
+use Rattle.std.specs.Prelude.{ℕ, List, Bool, refl}
+use Rattle.std.specs.Coded.{Coded, coded_ℕ, coded_bool, coded×, code_by}
+use Rattle.raven_data.specs.Codes.{text_code}
+use Rattle.raven_data.specs.DataCode.{data_code}
+use Rattle.raven_data.specs.Data.{Data}
+use Rattle.spec_index.specs.World.{World}
+use Rattle.spec_server.specs.Replies.{Pumping, Listing}
+use Rattle.spec_server.specs.Machine.{Machine}
+use Rattle.spec_index.specs.Codes.{world_code}
+
+abbrev pub machine_code : Coded Machine
+machine_code = code_by World world_code (λ m. m.world) (λ w. record { world = w }) (λ _. refl)
+
+abbrev pub pumping_code : Coded Pumping
+pumping_code = code_by (ℕ × (List ℕ × ℕ)) (coded× coded_ℕ (coded× text_code coded_ℕ))
+    (λ p. (p.from, (p.index, p.to))) (λ q. record { from = q.0; index = q.1.0; to = q.1.1 }) (λ _. refl)
+
+abbrev pub listing_code : Coded Listing
+listing_code = code_by (Data × (ℕ × (ℕ × (ℕ × (Bool × List ℕ))))) (coded× data_code (coded× coded_ℕ (coded× coded_ℕ (coded× coded_ℕ (coded× coded_bool text_code)))))
+    (λ l. (l.definition, (l.entries, (l.errors, (l.etag, (l.is_stale, l.name))))))
+    (λ p. record { definition = p.0; entries = p.1.0; errors = p.1.1.0; etag = p.1.1.1.0; is_stale = p.1.1.1.1.0; name = p.1.1.1.1.1 }) (λ _. refl)

@@ -1,0 +1,307 @@
+-- The plain machine: one request after another.
+use Rattle.std.specs.Prelude.{ℕ, ◌+◌, List, [], ◌∷◌, Bool, true, not, ◌&&◌, if◌then◌else◌, Option, Some, None, is_some, Result, Ok, Err, length, codes, filter, map}
+use Rattle.std.specs.Str.{bytes_eq}
+use Rattle.raven_data.specs.Data.{Data, text, object, entries_of, pairs_of}
+use Rattle.raven_data.specs.Folding.{folded}
+use Rattle.raven_data.specs.Members.{member}
+use Rattle.raven_data.specs.Moments.{moment_text}
+use Rattle.raven_data.specs.Rising.{Pairs, put}
+use Rattle.raven_data.specs.Rows.{Row, doc, gone, is_document}
+use Rattle.raven_data.specs.Scalars.{words}
+use Rattle.spec_store.specs.Store.{Store, row_at, last, empty_store}
+use Rattle.spec_store.specs.Stale.{stale, newest}
+use Rattle.index_tree.specs.Definitions.{Definition}
+use Rattle.spec_index.specs.Mapping.{failures, scratch}
+use Rattle.index_tree.specs.Mapper.{mapper_of}
+use Rattle.spec_store.specs.Commit.{Command, Expect, Client, Server, Setting, Refusal, Written, Refused, commit, vector_of, kept_spelling, etags_taken}
+use Rattle.spec_index.specs.Optimiser.{Shape, Choice, Use, Make, Merge, pick, name_of}
+use Rattle.spec_server.specs.Replies.{Reply, Index, Removed, Pumped, Pumping, Listing, Found, NoIndex, UnknownLine}
+use Rattle.spec_server.specs.Replies as told
+use Rattle.spec_index.specs.World.{Version, Slot, World, reads, batch, serving, SlotChange, SlotRefusal, define, define_named, remove, is_named, definition_data}
+use Rattle.spec_index.specs.Find.{found, found_in}
+
+pub record Machine : Type 0 where
+  pub world : World
+
+pub data Request : Type 0 where
+  Put : (id : List ℕ) (expected : Expect) (body : Data) → Request
+  Delete : (id : List ℕ) (expected : Expect) → Request
+  Bulk : (commands : List Command) → Request
+  Get : (id : List ℕ) → Request
+  Define : (name : List ℕ) (definition : Definition) → Request
+  Remove : (name : List ℕ) → Request
+  Auto : (collection field : List ℕ) → Request
+  Find : (index field words : List ℕ) → Request
+  -- one batch for each index, or for the one of this name
+  Pump : (max : ℕ) (index : Option (List ℕ)) → Request
+  Stale : (name : List ℕ) (cutoff : Option ℕ) → Request
+  Indexes Stats : Request
+
+-- the commands that a request asks to write
+abbrev pub commands_in : Request → List Command
+commands_in (Put id expected body) = Command.Put id expected body ∷ []
+commands_in (Delete id expected) = Command.Delete id expected ∷ []
+commands_in (Bulk commands) = commands
+commands_in other = []
+
+-- What the keeper of the rows does in one step: of each time that it is asked to keep rows, in order, whether it takes them, and its counts of
+-- faults before and after. It is asked once for each change that has rows, and takes what the list does not tell.
+pub record Keeping : Type 0 where
+  pub takes : List Bool
+  pub before : ℕ
+  pub after : ℕ
+
+-- a keeper that takes all
+abbrev pub untroubled : Keeping
+untroubled = record { takes = []; before = 0; after = 0 }
+
+-- a request, the moment at which it comes, and what the keeper does
+pub record Event : Type 0 where
+  pub request : Request
+  pub now : ℕ
+  pub keeping : Keeping
+
+pub record Replied : Type 0 where
+  pub reply : Reply
+  pub machine : Machine
+
+abbrev pub same_machine : Machine → Reply → Replied
+same_machine M reply = record { reply = reply; machine = M }
+
+-- a change as it is asked of the keeper: the reply and the machine where it is kept, and the rows to keep
+pub record Change : Type 0 where
+  pub reply : Reply
+  pub machine : Machine
+  pub rows : List Row
+
+abbrev pub no_change : Machine → Reply → Change
+no_change M reply = record { reply = reply; machine = M; rows = [] }
+
+abbrev pub is_first_taken : List Bool → Bool
+is_first_taken [] = true
+is_first_taken (taken ∷ more) = taken
+
+-- a change without rows is not asked of the keeper
+abbrev pub is_taken : Keeping → List Row → Bool
+is_taken k [] = true
+is_taken k (r ∷ rows) = is_first_taken k.takes
+
+-- where the keeper fails, nothing is changed
+abbrev pub settled : Machine → Keeping → Change → Replied
+settled M k c = if is_taken k c.rows then record { reply = c.reply; machine = c.machine } else same_machine M (told.KeeperFault k.before k.after)
+
+abbrev pub in_world : World → Store → List Slot → World
+in_world W store slots = record { setting = W.setting; store = store; slots = slots; notes = W.notes }
+
+abbrev pub with_slots : World → List Slot → World
+with_slots W slots = in_world W W.store slots
+
+-- the reply to a transaction that is refused at this place
+abbrev pub refused_at : ℕ → Refusal → Reply
+refused_at at Refusal.ReservedId = told.ReservedId at
+refused_at at (Refusal.TooLarge len) = told.TooLarge at len
+refused_at at (Refusal.CollectionChanged from) = told.CollectionChanged at from
+refused_at at (Refusal.Conflict expected found) = told.Conflict at expected found
+refused_at at (Refusal.StoreFull rows) = told.StoreFull at rows
+refused_at at (Refusal.EtagsSpent etag) = told.EtagsSpent at etag
+
+abbrev pub write_refused : Refused → Reply
+write_refused refused = refused_at refused.at refused.kind
+
+-- the reply where an index of this name is refused; that the name serves with another definition gets its own once replacements are built
+abbrev pub slot_refused : List ℕ → SlotRefusal → Reply
+slot_refused name SlotRefusal.NameServes = UnknownLine
+slot_refused name SlotRefusal.NoIndex = NoIndex name
+slot_refused name SlotRefusal.ReservedName = told.ReservedName
+slot_refused name SlotRefusal.TooManyIndexes = told.TooManyIndexes
+slot_refused name (SlotRefusal.NameTooLong len) = told.NameTooLong len
+
+-- WRITES
+
+-- an id as its row spells it, or as it was given where no row stands
+abbrev pub spelling : Store → List ℕ → List ℕ
+spelling S id = kept_spelling id (row_at (folded id) S.rows)
+
+-- what a command did that took this etag, told of the store after the transaction
+abbrev pub result_of : List ℕ → Store → Command → Option ℕ → told.Result
+result_of base N (Command.Put id expected body) (Some etag) = told.Result.Put (vector_of base etag) (spelling N id)
+result_of base N (Command.Put id expected body) None = told.Result.Put [] (spelling N id)
+result_of base N (Command.Delete id expected) taken = told.Result.Deleted (is_some taken) (spelling N id)
+
+abbrev pub results_of : List ℕ → Store → List Command → List (Option ℕ) → List told.Result
+results_of base N [] etags = []
+results_of base N (c ∷ cs) [] = []
+results_of base N (c ∷ cs) (etag ∷ etags) = result_of base N c etag ∷ results_of base N cs etags
+
+-- the reply to one command, and to several
+abbrev pub single_reply : List told.Result → Reply
+single_reply [] = UnknownLine
+single_reply (told.Result.Put vector id ∷ more) = told.Put vector id
+single_reply (told.Result.Deleted deleted id ∷ more) = told.Deleted deleted id
+
+-- the commands of a client, all or none
+abbrev pub wrote : Machine → (List told.Result → Reply) → ℕ → List Command → Result Written Refused → Change
+wrote M reply now commands (Err refused) = no_change M (write_refused refused)
+wrote M reply now commands (Ok w) = record {
+  reply = reply (results_of M.world.setting.base w.store commands (etags_taken now commands M.world.store));
+  machine = record { world = in_world M.world w.store M.world.slots };
+  rows = w.rows;
+}
+
+abbrev pub write : Machine → (List told.Result → Reply) → ℕ → List Command → Change
+write M reply now commands = wrote M reply now commands (commit M.world.setting Client now commands M.world.store)
+
+-- INDEXES, whose rows are written by the server
+
+abbrev pub rewrote : Machine → Reply → List Slot → Result Written Refused → Change
+rewrote M reply slots (Err refused) = no_change M (write_refused refused)
+rewrote M reply slots (Ok w) = record { reply = reply; machine = record { world = in_world M.world w.store slots }; rows = w.rows }
+
+-- the reply tells the name of the index, which may be spelled in another way than in the request
+abbrev pub reslotted : Machine → ℕ → (List ℕ → Reply) → List ℕ → Result SlotChange SlotRefusal → Change
+reslotted M now reply name (Err refusal) = no_change M (slot_refused name refusal)
+reslotted M now reply name (Ok c) = rewrote M (reply c.name) c.slots (commit M.world.setting Server now c.commands M.world.store)
+
+-- the index that is picked, or a new one
+abbrev pub use_or_make : Machine → ℕ → Choice → Change
+use_or_make M now (Use s) = no_change M (Index s.name)
+use_or_make M now (Make shape) =
+    let name = name_of M.world.slots (last M.world.store + 1) shape in
+    reslotted M now Index name (define M.world name (Definition.Auto shape.collection shape.fields))
+use_or_make M now Merge = no_change M UnknownLine
+
+-- the shape of one field
+abbrev pub one_field : List ℕ → List ℕ → Shape
+one_field collection field = record { collection = collection; fields = (field ∷ []) ∷ [] }
+
+-- BATCHES
+
+abbrev pub or_as_before : Version → Option Version → Version
+or_as_before v None = v
+or_as_before v (Some new) = new
+
+-- the slot after one batch
+abbrev pub brought_on : Store → ℕ → Slot → Slot
+brought_on S max s = record { number = s.number; name = s.name; version = or_as_before s.version (batch s.version S max); row = s.row }
+
+abbrev pub pumping : Store → ℕ → Slot → Pumping
+pumping S max s = record { from = s.version.etag; index = s.name; to = (brought_on S max s).version.etag }
+
+-- one batch for each slot, by number
+abbrev pub pump : Machine → ℕ → Change
+pump M max = record {
+  reply = Pumped (map (pumping M.world.store max) M.world.slots);
+  machine = record { world = with_slots M.world (map (brought_on M.world.store max) M.world.slots) };
+  rows = [];
+}
+
+abbrev pub brought_on_if : Store → ℕ → List ℕ → Slot → Slot
+brought_on_if S max name s = if is_named name s then brought_on S max s else s
+
+-- one batch for the slot that serves the name
+abbrev pub pump_at : Machine → ℕ → List ℕ → Option Slot → Change
+pump_at M max name None = no_change M (NoIndex name)
+pump_at M max name (Some s) = record {
+  reply = Pumped (pumping M.world.store max s ∷ []);
+  machine = record { world = with_slots M.world (map (brought_on_if M.world.store max name) M.world.slots) };
+  rows = [];
+}
+
+abbrev pub pump_for : Machine → ℕ → Option (List ℕ) → Change
+pump_for M max None = pump M max
+pump_for M max (Some name) = pump_at M max name (serving M.world.slots name)
+
+-- ANSWERS, which change nothing
+
+abbrev pub is_stale : Store → Slot → Bool
+is_stale S s = stale S (reads s.version) s.version.etag None
+
+abbrev pub answer_find : World → List ℕ → List ℕ → List ℕ → Option Slot → Reply
+answer_find W index name ws None = NoIndex index
+answer_find W index name ws (Some s) = Found (found_in (mapper_of s.version.definition) s.version.table name ws) s.version.etag (is_stale W.store s)
+
+abbrev pub answer_stale : World → List ℕ → Option ℕ → Option Slot → Reply
+answer_stale W name cutoff None = NoIndex name
+answer_stale W name cutoff (Some s) =
+    told.Stale s.version.etag (stale W.store (reads s.version) s.version.etag cutoff) (newest W.store (reads s.version) cutoff)
+
+-- what is told of a slot: its entries and the documents whose map fails, over what it has recorded
+abbrev pub listing : Store → Slot → Listing
+listing S s = record {
+  definition = definition_data s.version.definition;
+  entries = length (scratch (mapper_of s.version.definition) s.version.table);
+  errors = failures (mapper_of s.version.definition) s.version.table;
+  etag = s.version.etag;
+  is_stale = is_stale S s;
+  name = s.name;
+}
+
+-- by number
+abbrev pub answer_indexes : World → Reply
+answer_indexes W = told.Indexes (map (listing W.store) W.slots)
+
+-- the members of an object, and none of any other value
+abbrev pub members_of : Option Data → Pairs
+members_of (Some (object ms)) = pairs_of ms
+members_of other = []
+
+-- a document as it is shown: in its metadata stands what the server knows of it
+abbrev pub shown_metadata : List ℕ → Row → Option Data → Pairs
+shown_metadata base r metadata =
+    put (codes "@change-vector") (text (vector_of base r.etag)) (put (codes "@collection") (text r.collection)
+    (put (codes "@id") (text r.id) (put (codes "@last-modified") (text (moment_text r.changed)) (members_of metadata))))
+
+abbrev pub shown : List ℕ → Row → Data → Data
+shown base r (object ms) = object (entries_of (put (codes "@metadata") (object (entries_of (shown_metadata base r (member (codes "@metadata") ms)))) (pairs_of ms)))
+shown base r other = other
+
+abbrev pub shown_row : Store → List ℕ → List ℕ → Option Row → Reply
+shown_row S base id None = told.NoDocument (spelling S id)
+shown_row S base id (Some r) = elim r.body [ doc d ↦ told.Document (shown base r d) | gone ↦ told.NoDocument (spelling S id) ]
+
+abbrev pub answer_get : World → List ℕ → Reply
+answer_get W id = shown_row W.store W.setting.base id (row_at (folded id) W.store.rows)
+
+-- the rows that are no definitions of indexes
+abbrev pub is_own_row : Row → Bool
+is_own_row r = not (bytes_eq r.collection (codes "@indexes"))
+
+abbrev pub count_documents : Store → ℕ
+count_documents S = length (filter (λ r. is_own_row r && is_document r) S.rows)
+
+abbrev pub count_tombstones : Store → ℕ
+count_tombstones S = length (filter (λ r. is_own_row r && not (is_document r)) S.rows)
+
+abbrev pub answer_stats : World → Reply
+answer_stats W = told.Stats (count_documents W.store) (length W.slots) (count_tombstones W.store) (last W.store)
+
+-- THE STEP
+
+-- what a request changes if the keeper takes it
+abbrev pub change_of : Machine → ℕ → Request → Change
+change_of M now (Put id expected body) = write M single_reply now (Command.Put id expected body ∷ [])
+change_of M now (Delete id expected) = write M single_reply now (Command.Delete id expected ∷ [])
+change_of M now (Bulk commands) = write M told.Bulk now commands
+change_of M now (Get id) = no_change M (answer_get M.world id)
+change_of M now (Define name definition) = reslotted M now Index name (define_named M.world name definition)
+change_of M now (Remove name) = reslotted M now Removed name (remove M.world name)
+change_of M now (Auto collection field) = use_or_make M now (pick (one_field collection field) M.world.store M.world.slots)
+change_of M now (Find index field ws) = no_change M (answer_find M.world index field ws (serving M.world.slots index))
+change_of M now (Pump max index) = pump_for M max index
+change_of M now (Stale name cutoff) = no_change M (answer_stale M.world name cutoff (serving M.world.slots name))
+change_of M now Indexes = no_change M (answer_indexes M.world)
+change_of M now Stats = no_change M (answer_stats M.world)
+
+abbrev pub step : Machine → Keeping → ℕ → Request → Replied
+step M k now request = settled M k (change_of M now request)
+
+abbrev pub start : Setting → Machine
+start setting = record { world = record { setting = setting; store = empty_store; slots = []; notes = [] } }
+
+abbrev pub after : Machine → Event → Machine
+after M e = (step M e.keeping e.now e.request).machine
+
+-- the state after a list of events
+abbrev pub run : List Event → Machine → Machine
+run [] M = M
+run (e ∷ es) M = run es (after M e)

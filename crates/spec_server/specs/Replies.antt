@@ -1,0 +1,134 @@
+-- Replies, and what is printed of them.
+use Rattle.std.specs.Prelude.{ℕ, pos, List, [], ◌∷◌, ◌++◌, Bool, codes, map}
+use Rattle.raven_data.specs.Data.{Data, flag, num, text, array, object, items_of, entries_of}
+use Rattle.raven_data.specs.Written.{text_of}
+use Rattle.index_tree.specs.Language.{LangRefusal, kind_name, part_name}
+
+-- what one command of a transaction did
+pub data Result : Type 0 where
+  Put : (change_vector id : List ℕ) → Result
+  Deleted : (deleted : Bool) (id : List ℕ) → Result
+
+-- how far a batch brought an index
+pub record Pumping : Type 0 where
+  pub from : ℕ
+  pub index : List ℕ
+  pub to : ℕ
+
+-- what is told of an index
+pub record Listing : Type 0 where
+  pub definition : Data
+  pub entries : ℕ
+  pub errors : ℕ
+  pub etag : ℕ
+  pub is_stale : Bool
+  pub name : List ℕ
+
+pub data Reply : Type 0 where
+  Put : (change_vector id : List ℕ) → Reply
+  Deleted : (deleted : Bool) (id : List ℕ) → Reply
+  Bulk : (results : List Result) → Reply
+  Document : (document : Data) → Reply
+  Index : (name : List ℕ) → Reply
+  Removed : (name : List ℕ) → Reply
+  Found : (ids : List (List ℕ)) (index_etag : ℕ) (is_stale : Bool) → Reply
+  Pumped : (pumped : List Pumping) → Reply
+  Stale : (index_etag : ℕ) (is_stale : Bool) (newest : ℕ) → Reply
+  Indexes : (results : List Listing) → Reply
+  Stats : (documents indexes tombstones last : ℕ) → Reply
+  -- refusals of a line
+  UnknownLine : Reply
+  NotJson NumberNotWhole TooDeep : Reply
+  Empty : Reply
+  TooLong : (len : ℕ) → Reply
+  Control : (at : ℕ) → Reply
+  BadMember : (name : List ℕ) → Reply
+  -- refusals of what is not there
+  NoDocument : (id : List ℕ) → Reply
+  NoIndex : (name : List ℕ) → Reply
+  -- refusals of a definition
+  Lang : LangRefusal → Reply
+  ReservedName : Reply
+  NameTooLong : (len : ℕ) → Reply
+  TooManyIndexes : Reply
+  -- refusals of a transaction, each with the place of the command
+  ReservedId : (at : ℕ) → Reply
+  TooLarge : (at len : ℕ) → Reply
+  CollectionChanged : (at : ℕ) (from : List ℕ) → Reply
+  Conflict : (at : ℕ) (expected found : List ℕ) → Reply
+  StoreFull : (at rows : ℕ) → Reply
+  EtagsSpent : (at last : ℕ) → Reply
+  -- the keeper failed: its counts of faults before and after
+  KeeperFault : (before after : ℕ) → Reply
+
+abbrev pub number : ℕ → Data
+number n = num (pos n)
+
+abbrev pub texts : List (List ℕ) → Data
+texts list = array (items_of (map text list))
+
+abbrev pub members : List (List ℕ × Data) → Data
+members list = object (entries_of list)
+
+abbrev pub result_data : Result → Data
+result_data (Result.Put vector id) = members ((codes "ChangeVector", text vector) ∷ (codes "Id", text id) ∷ (codes "Type", text (codes "PUT")) ∷ [])
+result_data (Result.Deleted deleted id) = members ((codes "Deleted", flag deleted) ∷ (codes "Id", text id) ∷ (codes "Type", text (codes "DELETE")) ∷ [])
+
+abbrev pub pumping_data : Pumping → Data
+pumping_data p = members ((codes "From", number p.from) ∷ (codes "Index", text p.index) ∷ (codes "To", number p.to) ∷ [])
+
+abbrev pub listing_data : Listing → Data
+listing_data l = members (
+    (codes "Definition", l.definition)
+    ∷ (codes "Entries", number l.entries)
+    ∷ (codes "Errors", number l.errors)
+    ∷ (codes "Etag", number l.etag)
+    ∷ (codes "IsStale", flag l.is_stale)
+    ∷ (codes "Name", text l.name)
+    ∷ [])
+
+abbrev pub error : List ℕ → List (List ℕ × Data) → Data
+error name more = members ((codes "Error", text name) ∷ more)
+
+-- a refusal of the command at this place
+abbrev pub error_at : ℕ → List ℕ → List (List ℕ × Data) → Data
+error_at at name more = members ((codes "At", number at) ∷ (codes "Error", text name) ∷ more)
+
+abbrev pub reply_data : Reply → Data
+reply_data (Put vector id) = members ((codes "ChangeVector", text vector) ∷ (codes "Id", text id) ∷ [])
+reply_data (Deleted deleted id) = members ((codes "Deleted", flag deleted) ∷ (codes "Id", text id) ∷ [])
+reply_data (Bulk results) = members ((codes "Results", array (items_of (map result_data results))) ∷ [])
+reply_data (Document document) = document
+reply_data (Index name) = members ((codes "Index", text name) ∷ [])
+reply_data (Removed name) = members ((codes "Removed", text name) ∷ [])
+reply_data (Found ids etag is_stale) = members ((codes "Ids", texts ids) ∷ (codes "IndexEtag", number etag) ∷ (codes "IsStale", flag is_stale) ∷ [])
+reply_data (Pumped pumped) = members ((codes "Pumped", array (items_of (map pumping_data pumped))) ∷ [])
+reply_data (Stale etag is_stale newest) = members ((codes "IndexEtag", number etag) ∷ (codes "IsStale", flag is_stale) ∷ (codes "Newest", number newest) ∷ [])
+reply_data (Indexes results) = members ((codes "Results", array (items_of (map listing_data results))) ∷ [])
+reply_data (Stats documents indexes tombstones last) =
+    members ((codes "CountOfDocuments", number documents) ∷ (codes "CountOfIndexes", number indexes) ∷ (codes "CountOfTombstones", number tombstones) ∷ (codes "LastDocEtag", number last) ∷ [])
+reply_data UnknownLine = error (codes "UnknownLine") []
+reply_data NotJson = error (codes "NotJson") []
+reply_data NumberNotWhole = error (codes "NumberNotWhole") []
+reply_data TooDeep = error (codes "TooDeep") []
+reply_data Empty = error (codes "Empty") []
+reply_data (TooLong len) = error (codes "TooLong") ((codes "Len", number len) ∷ [])
+reply_data (Control at) = error_at at (codes "Control") []
+reply_data (BadMember name) = error (codes "BadMember") ((codes "Name", text name) ∷ [])
+reply_data (NoDocument id) = error (codes "NoDocument") ((codes "Id", text id) ∷ [])
+reply_data (NoIndex name) = error (codes "NoIndex") ((codes "Name", text name) ∷ [])
+reply_data (Lang refusal) = members ((codes "At", number refusal.at) ∷ (codes "Error", text (kind_name refusal.kind)) ∷ (codes "Part", text (part_name refusal.part)) ∷ [])
+reply_data ReservedName = error (codes "ReservedName") []
+reply_data (NameTooLong len) = error (codes "NameTooLong") ((codes "Len", number len) ∷ [])
+reply_data TooManyIndexes = error (codes "TooManyIndexes") []
+reply_data (ReservedId at) = error_at at (codes "ReservedId") []
+reply_data (TooLarge at len) = error_at at (codes "TooLarge") ((codes "Len", number len) ∷ [])
+reply_data (CollectionChanged at from) = error_at at (codes "CollectionChanged") ((codes "From", text from) ∷ [])
+reply_data (Conflict at expected found) = error_at at (codes "Conflict") ((codes "Expected", text expected) ∷ (codes "Found", text found) ∷ [])
+reply_data (StoreFull at rows) = error_at at (codes "StoreFull") ((codes "Rows", number rows) ∷ [])
+reply_data (EtagsSpent at last) = error_at at (codes "EtagsSpent") ((codes "Last", number last) ∷ [])
+reply_data (KeeperFault before after) = error (codes "KeeperFault") []
+
+-- the reply as one line
+abbrev pub printed : Reply → List ℕ
+printed reply = text_of (reply_data reply) ++ 10 ∷ []

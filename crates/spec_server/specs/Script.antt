@@ -1,0 +1,371 @@
+-- What the lines of a script ask, and what is written for them.
+use Rattle.std.specs.Prelude.{ℕ, ◌+◌, ◌-◌, ◌*◌, List, [], ◌∷◌, ◌++◌, Bool, not, ◌&&◌, ◌||◌, ◌==◌, nat_lt, nat_le, if◌then◌else◌, Option, Some, None, Result, Ok, Err, length, codes}
+use Rattle.std.specs.List.{list_any, list_all, filter_map}
+use Rattle.std.specs.Str.{bytes_eq, is_utf8}
+use Rattle.raven_data.specs.Data.{Data, Entries, list_of}
+use Rattle.raven_data.specs.Data as json
+use Rattle.raven_data.specs.Faults.{Fault, empty, too_long, control, fault_of, max_id, max_name}
+use Rattle.raven_data.specs.Json.{JsonRefusal, not_json, number_not_whole, too_deep, reading}
+use Rattle.raven_data.specs.Members.{member}
+use Rattle.spec_store.specs.Commit.{Command, Expect, AnyVector, Vector}
+use Rattle.index_tree.specs.Language.{LangRefusal}
+use Rattle.index_tree.specs.Definitions.{Definition}
+use Rattle.spec_server.specs.Replies.{Reply, printed}
+use Rattle.spec_server.specs.Replies as told
+use Rattle.spec_server.specs.Machine.{Machine, Request, Put, Delete, Bulk, Get, Define, Remove, Auto, Find, Pump, Stale, Indexes, Stats, Keeping, Event, step}
+use Rattle.spec_server.specs.Lines.{begins_with}
+
+-- what one line asks
+pub data Line : Type 0 where
+  Do : Request → Line
+
+-- why a line is refused
+pub data ReadRefusal : Type 0 where
+  UnknownLine : ReadRefusal
+  BadJson : JsonRefusal → ReadRefusal
+  BadId : Fault → ReadRefusal
+  BadName : Fault → ReadRefusal
+  BadMember : (name : List ℕ) → ReadRefusal
+  BadDefinition : LangRefusal → ReadRefusal
+
+-- what a line comes to: a request, or nothing where it has no bytes, or its refusal
+abbrev pub LineRead : Type 0
+LineRead = Result (Option Line) ReadRefusal
+
+-- a value, unless something before it is refused
+abbrev pub then_read : {A B : Type 0} → Result A ReadRefusal → (A → Result B ReadRefusal) → Result B ReadRefusal
+then_read (Err refusal) more = Err refusal
+then_read (Ok a) more = more a
+
+-- WORDS: one space stands between them, and each has a byte
+
+abbrev pub before_space : List ℕ → List ℕ
+before_space [] = []
+before_space (b ∷ bs) = if b == 32 then [] else b ∷ before_space bs
+
+-- what stands behind the first space, if there is one
+abbrev pub after_space : List ℕ → Option (List ℕ)
+after_space [] = None
+after_space (b ∷ bs) = if b == 32 then Some bs else after_space bs
+
+abbrev pub both_parts : List ℕ → Option (List ℕ) → Option (List ℕ × List ℕ)
+both_parts [] rest = None
+both_parts (b ∷ bs) None = None
+both_parts (b ∷ bs) (Some []) = None
+both_parts (b ∷ bs) (Some (c ∷ cs)) = Some (b ∷ bs, c ∷ cs)
+
+-- the first word and the rest of the text behind its space, each with a byte
+abbrev pub word_and_rest : List ℕ → Option (List ℕ × List ℕ)
+word_and_rest text = both_parts (before_space text) (after_space text)
+
+abbrev pub has_byte : ℕ → List ℕ → Bool
+has_byte b text = list_any (λ c. c == b) text
+
+abbrev pub is_digit : ℕ → Bool
+is_digit b = nat_le 48 b && nat_le b 57
+
+-- the digits behind those of n
+abbrev pub number_from : ℕ → List ℕ → ℕ
+number_from n [] = n
+number_from n (b ∷ bs) = number_from (n * 10 + (b - 48)) bs
+
+-- 1 to 16 digits
+abbrev pub number_of : List ℕ → Option ℕ
+number_of text = if nat_lt 0 (length text) && nat_le (length text) 16 && list_all is_digit text then Some (number_from 0 text) else None
+
+-- IDS AND BODIES
+
+abbrev pub unless_fault : Option Fault → List ℕ → Result (List ℕ) ReadRefusal
+unless_fault None id = Ok id
+unless_fault (Some fault) id = Err (BadId fault)
+
+abbrev pub id_read : List ℕ → Result (List ℕ) ReadRefusal
+id_read text = unless_fault (fault_of max_id text) text
+
+abbrev pub json_read : Result Data JsonRefusal → Result Data ReadRefusal
+json_read (Err refusal) = Err (BadJson refusal)
+json_read (Ok value) = Ok value
+
+-- a member, or the whole body, that has to be an object
+abbrev pub object_read : List ℕ → Option Data → Result Data ReadRefusal
+object_read name (Some (json.object ms)) = Ok (json.object ms)
+object_read name other = Err (BadMember name)
+
+-- the JSON is read first, then the id, and then the body has to be an object
+abbrev pub put_read : List ℕ → Expect → Result Data JsonRefusal → Result Request ReadRefusal
+put_read id expected value =
+    then_read (json_read value) (λ value.
+    then_read (id_read id) (λ id.
+    then_read (object_read (codes "body") (Some value)) (λ body. Ok (Put id expected body))))
+
+abbrev pub delete_read : Expect → List ℕ → Result Request ReadRefusal
+delete_read expected id = then_read (id_read id) (λ id. Ok (Delete id expected))
+
+-- THE COMMANDS OF A TRANSACTION, in JSON
+
+abbrev pub id_member : Option Data → Result (List ℕ) ReadRefusal
+id_member (Some (json.text id)) = id_read id
+id_member other = Err (BadMember (codes "Id"))
+
+-- without a vector any will do
+abbrev pub vector_member : Option Data → Result Expect ReadRefusal
+vector_member None = Ok AnyVector
+vector_member (Some json.null) = Ok AnyVector
+vector_member (Some (json.text vector)) = Ok (Vector vector)
+vector_member other = Err (BadMember (codes "ChangeVector"))
+
+abbrev pub put_command : Entries → Result Command ReadRefusal
+put_command ms =
+    then_read (id_member (member (codes "Id") ms)) (λ id.
+    then_read (vector_member (member (codes "ChangeVector") ms)) (λ expected.
+    then_read (object_read (codes "Document") (member (codes "Document") ms)) (λ body. Ok (Command.Put id expected body))))
+
+abbrev pub delete_command : Entries → Result Command ReadRefusal
+delete_command ms =
+    then_read (id_member (member (codes "Id") ms)) (λ id.
+    then_read (vector_member (member (codes "ChangeVector") ms)) (λ expected. Ok (Command.Delete id expected)))
+
+abbrev pub typed_command : Option Data → Entries → Result Command ReadRefusal
+typed_command (Some (json.text type)) ms =
+    if bytes_eq type (codes "PUT") then put_command ms else (
+    if bytes_eq type (codes "DELETE") then delete_command ms else Err (BadMember (codes "Type")))
+typed_command other ms = Err (BadMember (codes "Type"))
+
+abbrev pub command_read : Data → Result Command ReadRefusal
+command_read (json.object ms) = typed_command (member (codes "Type") ms) ms
+command_read other = Err (BadMember (codes "Commands"))
+
+-- one after another; the first that is refused decides
+abbrev pub commands_read : List Data → Result (List Command) ReadRefusal
+commands_read [] = Ok []
+commands_read (d ∷ ds) = then_read (command_read d) (λ c. then_read (commands_read ds) (λ cs. Ok (c ∷ cs)))
+
+abbrev pub list_member : Option Data → Result (List Command) ReadRefusal
+list_member (Some (json.array ds)) = commands_read (list_of ds)
+list_member other = Err (BadMember (codes "Commands"))
+
+abbrev pub commands_of : Data → Result (List Command) ReadRefusal
+commands_of (json.object ms) = list_member (member (codes "Commands") ms)
+commands_of other = Err (BadMember (codes "body"))
+
+abbrev pub bulk_read : List ℕ → Result Request ReadRefusal
+bulk_read rest = then_read (json_read (reading rest)) (λ value. then_read (commands_of value) (λ commands. Ok (Bulk commands)))
+
+-- THE FORMS OF A LINE
+
+abbrev pub or_unknown : {A : Type 0} → Option A → Result A ReadRefusal
+or_unknown None = Err UnknownLine
+or_unknown (Some a) = Ok a
+
+abbrev pub parts_read : List ℕ → Result (List ℕ × List ℕ) ReadRefusal
+parts_read text = or_unknown (word_and_rest text)
+
+-- PUT <id> <body>
+abbrev pub put_of : List ℕ → Result Request ReadRefusal
+put_of more = then_read (parts_read more) (λ parts. put_read parts.0 AnyVector (reading parts.1))
+
+-- PUTIF <id> <vector> <body>
+abbrev pub put_if_of : List ℕ → Result Request ReadRefusal
+put_if_of more = then_read (parts_read more) (λ parts. then_read (parts_read parts.1) (λ rest. put_read parts.0 (Vector rest.0) (reading rest.1)))
+
+-- DELIF <vector> <id>
+abbrev pub delete_if_of : List ℕ → Result Request ReadRefusal
+delete_if_of more = then_read (parts_read more) (λ parts. delete_read (Vector parts.0) parts.1)
+
+-- GET <id>
+abbrev pub get_of : List ℕ → Result Request ReadRefusal
+get_of more = then_read (id_read more) (λ id. Ok (Get id))
+
+-- a collection does not begin with `@`, unless it is `@empty`
+abbrev pub is_collection : List ℕ → Bool
+is_collection text = nat_lt 0 (length text) && (not (begins_with 64 text) || bytes_eq text (codes "@empty"))
+
+-- a path of one part: a word without `.`, `(` and `)`
+abbrev pub is_field : List ℕ → Bool
+is_field text = nat_lt 0 (length text) && not (has_byte 32 text || has_byte 46 text || has_byte 40 text || has_byte 41 text)
+
+-- AUTO <collection> <field>
+abbrev pub auto_of : List ℕ → Result Request ReadRefusal
+auto_of more = then_read (parts_read more) (λ parts. if is_collection parts.0 && is_field parts.1 then Ok (Auto parts.0 parts.1) else Err UnknownLine)
+
+abbrev pub unless_name_fault : Option Fault → List ℕ → Result (List ℕ) ReadRefusal
+unless_name_fault None name = Ok name
+unless_name_fault (Some fault) name = Err (BadName fault)
+
+-- the name of an index
+abbrev pub name_read : List ℕ → Result (List ℕ) ReadRefusal
+name_read text = unless_name_fault (fault_of max_name text) text
+
+-- how many rows a batch may take
+abbrev pub max_read : List ℕ → Result ℕ ReadRefusal
+max_read text = then_read (or_unknown (number_of text)) (λ max. if nat_le 1 max && nat_le max 65536 then Ok max else Err UnknownLine)
+
+abbrev pub pump_read : List ℕ → Option (List ℕ × List ℕ) → Result Request ReadRefusal
+pump_read more None = then_read (max_read more) (λ max. Ok (Pump max None))
+pump_read more (Some parts) = then_read (max_read parts.0) (λ max. then_read (name_read parts.1) (λ name. Ok (Pump max (Some name))))
+
+-- PUMP <max>, PUMP <max> <index>
+abbrev pub pump_of : List ℕ → Result Request ReadRefusal
+pump_of more = pump_read more (word_and_rest more)
+
+-- FIND <index> <field> <text>
+abbrev pub find_of : List ℕ → Result Request ReadRefusal
+find_of more =
+    then_read (parts_read more) (λ parts. then_read (parts_read parts.1) (λ rest. then_read (name_read parts.0) (λ index. Ok (Find index rest.0 rest.1))))
+
+-- DROP <index>
+abbrev pub drop_of : List ℕ → Result Request ReadRefusal
+drop_of more = then_read (name_read more) (λ name. Ok (Remove name))
+
+-- STALE <index>
+abbrev pub stale_of : List ℕ → Result Request ReadRefusal
+stale_of more = then_read (name_read more) (λ name. Ok (Stale name None))
+
+abbrev pub by_word : List ℕ → List ℕ → Result Request ReadRefusal
+by_word word more =
+    if bytes_eq word (codes "PUT") then put_of more else (
+    if bytes_eq word (codes "PUTIF") then put_if_of more else (
+    if bytes_eq word (codes "DEL") then delete_read AnyVector more else (
+    if bytes_eq word (codes "DELIF") then delete_if_of more else (
+    if bytes_eq word (codes "BULK") then bulk_read more else (
+    if bytes_eq word (codes "GET") then get_of more else (
+    if bytes_eq word (codes "DROP") then drop_of more else (
+    if bytes_eq word (codes "AUTO") then auto_of more else (
+    if bytes_eq word (codes "PUMP") then pump_of more else (
+    if bytes_eq word (codes "FIND") then find_of more else (
+    if bytes_eq word (codes "STALE") then stale_of more else Err UnknownLine))))))))))
+
+-- a line is the word STATS or INDEXES alone, or a word and what stands behind it
+abbrev pub request_of : List ℕ → Result Request ReadRefusal
+request_of line =
+    if bytes_eq line (codes "STATS") then Ok Stats else if bytes_eq line (codes "INDEXES") then Ok Indexes else then_read (parts_read line) (λ parts. by_word parts.0 parts.1)
+
+-- a line without bytes asks nothing
+abbrev pub line_of : List ℕ → LineRead
+line_of [] = Ok None
+line_of (b ∷ bs) = if is_utf8 (b ∷ bs) then then_read (request_of (b ∷ bs)) (λ request. Ok (Some (Do request))) else Err UnknownLine
+
+-- THE DEFINITION OF AN INDEX, in JSON
+
+abbrev pub name_member : Option Data → Result (List ℕ) ReadRefusal
+name_member (Some (json.text name)) = name_read name
+name_member other = Err (BadMember (codes "Name"))
+
+-- a list of one text, or a text
+abbrev pub map_member : (maps map : Option Data) → Result (List ℕ) ReadRefusal
+map_member (Some (json.array (json.item (json.text map) json.no_items))) other = Ok map
+map_member (Some maps) other = Err (BadMember (codes "Maps"))
+map_member None (Some (json.text map)) = Ok map
+map_member None (Some other) = Err (BadMember (codes "Map"))
+map_member None None = Err (BadMember (codes "Maps"))
+
+-- a definition with a reduce is not built yet
+abbrev pub reduce_member : {A : Type 0} → Option Data → A → Result A ReadRefusal
+reduce_member None a = Ok a
+reduce_member (Some json.null) a = Ok a
+reduce_member (Some (json.text reduce)) a = Err UnknownLine
+reduce_member other a = Err (BadMember (codes "Reduce"))
+
+-- the name and the text of the map
+abbrev pub texts_in : Entries → Result (List ℕ × List ℕ) ReadRefusal
+texts_in ms =
+    then_read (name_member (member (codes "Name") ms)) (λ name.
+    then_read (map_member (member (codes "Maps") ms) (member (codes "Map") ms)) (λ map.
+    reduce_member (member (codes "Reduce") ms) (name, map)))
+
+abbrev pub texts_of_body : Data → Result (List ℕ × List ℕ) ReadRefusal
+texts_of_body (json.object ms) = texts_in ms
+texts_of_body other = Err (BadMember (codes "body"))
+
+-- INDEX <definition>
+abbrev pub index_of : List ℕ → Result (List ℕ × List ℕ) ReadRefusal
+index_of rest = then_read (json_read (reading rest)) texts_of_body
+
+-- what a line asks, as far as no text of a definition has to be read
+pub data Asked : Type 0 where
+  Plain : LineRead → Asked
+  -- an index of this name by the text of a map
+  Defining : (name map : List ℕ) → Asked
+
+abbrev pub asked_to_define : Result (List ℕ × List ℕ) ReadRefusal → Asked
+asked_to_define (Err refusal) = Plain (Err refusal)
+asked_to_define (Ok texts) = Defining texts.0 texts.1
+
+abbrev pub asked_by : List ℕ → Option (List ℕ × List ℕ) → Asked
+asked_by line None = Plain (line_of line)
+asked_by line (Some parts) = if bytes_eq parts.0 (codes "INDEX") && is_utf8 line then asked_to_define (index_of parts.1) else Plain (line_of line)
+
+abbrev pub asked_of : List ℕ → Asked
+asked_of line = asked_by line (word_and_rest line)
+
+-- what comes of the definition that the text says, or of its refusal
+abbrev pub defined_by : (name : List ℕ) → Result Definition LangRefusal → LineRead
+defined_by name (Ok d) = Ok (Some (Do (Define name d)))
+defined_by name (Err refusal) = Err (BadDefinition refusal)
+
+-- WHAT IS WRITTEN
+
+abbrev pub json_reply : JsonRefusal → Reply
+json_reply not_json = told.NotJson
+json_reply number_not_whole = told.NumberNotWhole
+json_reply too_deep = told.TooDeep
+
+abbrev pub fault_reply : Fault → Reply
+fault_reply empty = told.Empty
+fault_reply (too_long len) = told.TooLong len
+fault_reply (control at) = told.Control at
+
+abbrev pub refusal_reply : ReadRefusal → Reply
+refusal_reply UnknownLine = told.UnknownLine
+refusal_reply (BadJson refusal) = json_reply refusal
+refusal_reply (BadId fault) = fault_reply fault
+refusal_reply (BadName fault) = fault_reply fault
+refusal_reply (BadMember name) = told.BadMember name
+refusal_reply (BadDefinition refusal) = told.Lang refusal
+
+-- what the outside gives to one line: the moment at which it comes, and what the keeper does
+pub record Circumstance : Type 0 where
+  pub now : ℕ
+  pub keeping : Keeping
+
+-- a request is answered by the machine
+abbrev pub written_for : Machine → Circumstance → LineRead → List ℕ
+written_for M c (Err refusal) = printed (refusal_reply refusal)
+written_for M c (Ok None) = []
+written_for M c (Ok (Some (Do request))) = printed (step M c.keeping c.now request).reply
+
+abbrev pub left_by : Machine → Circumstance → LineRead → Machine
+left_by M c (Err refusal) = M
+left_by M c (Ok None) = M
+left_by M c (Ok (Some (Do request))) = (step M c.keeping c.now request).machine
+
+-- a line, what it comes to, and what the outside gives to it
+pub record Given : Type 0 where
+  pub line : List ℕ
+  pub read : LineRead
+  pub circumstance : Circumstance
+
+-- what is written for a line, and the state after it
+abbrev pub reply_to : Given → Machine → List ℕ
+reply_to g M = written_for M g.circumstance g.read
+
+abbrev pub after_line : Given → Machine → Machine
+after_line g M = left_by M g.circumstance g.read
+
+-- what is written for lines, one after another, and the state after them
+abbrev pub replies_to : List Given → Machine → List ℕ
+replies_to [] M = []
+replies_to (g ∷ more) M = reply_to g M ++ replies_to more (after_line g M)
+
+abbrev pub after_lines : List Given → Machine → Machine
+after_lines [] M = M
+after_lines (g ∷ more) M = after_lines more (after_line g M)
+
+-- the events that lines make of the machine
+abbrev pub event_of : Circumstance → LineRead → Option Event
+event_of c (Err refusal) = None
+event_of c (Ok None) = None
+event_of c (Ok (Some (Do request))) = Some (record { request = request; now = c.now; keeping = c.keeping })
+
+abbrev pub events_of : List Given → List Event
+events_of all = filter_map (λ g. event_of g.circumstance g.read) all
