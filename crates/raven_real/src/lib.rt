@@ -1,8 +1,8 @@
 //! The real input, output and clock, and the arguments of the program.
 #![tactic(auto)]
 
-mod arguments;
+mod args;
 mod ports;
 
-pub use arguments::arguments;
+pub use args::arguments;
 pub use ports::{RealClock, RealSink, RealSource};
