@@ -2,7 +2,7 @@
 
 A case begins with `== NAME`. These lines stand before its script, in any order:
 
-    words W W ..         the arguments; without the line `run`, and none at all if nothing stands behind it
+    arguments A A ..     the arguments; without the line `run`, and none at all if nothing stands behind it
     clock M [+S]         the first call of the clock gives M, and each further one S more; without the line 0
     reads N .., writes N .., keeps N ..      the calls of the input, of the output and of the keeper that fail
     row ETAG MOMENT      a row that the keeper holds at the start, with `id`, `collection` and `body` lines behind it
@@ -135,8 +135,8 @@ class Reader:
         self.case.rows.append(keeping.KeptRow(etag, "", "@empty", None, changed))
 
     def given(self, word, value):
-        if word == "words":
-            self.outside.words = tuple(written_out(value).decode().split(" ")) if value else ()
+        if word == "arguments":
+            self.outside.arguments = tuple(written_out(value).decode().split(" ")) if value else ()
         elif word == "clock":
             self.outside.clock = clock_of(value)
         elif word in ("reads", "writes"):

@@ -25,18 +25,18 @@ class Clock:
 class Outside:
     """What a run is given besides the keeper. The calls that fail are counted from 1."""
 
-    words: tuple = ("run",)
+    arguments: tuple = ("run",)
     clock: Clock = Clock()
     reads: frozenset = frozenset()
     writes: frozenset = frozenset()
     script: bytes = b""
 
 
-def options(words):
+def options(arguments):
     """The options, or None if the arguments are not the command and then pairs of a name and a value, no name twice."""
-    if not words or words[0] != "run" or len(words) % 2 == 0:
+    if not arguments or arguments[0] != "run" or len(arguments) % 2 == 0:
         return None
-    names, values = words[1::2], words[2::2]
+    names, values = arguments[1::2], arguments[2::2]
     found = dict(zip(names, values))
     if len(found) < len(names) or not found.keys() <= {"--data", "--id"}:
         return None
@@ -82,7 +82,7 @@ def answered(database, given):
 
 def run(given, keeper):
     """The status and what was written. The causes come in this order; the keeper is left as the run leaves it."""
-    found = options(given.words)
+    found = options(given.arguments)
     if found is None:
         return "Usage", b""
     if not is_read(given.script, given.reads):

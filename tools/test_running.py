@@ -46,7 +46,7 @@ row 3 0 "a" "@empty" deleted
 
 CLOCK = """\
 == The clock ticks
-words run --id ⟨22*b⟩
+arguments run --id ⟨22*b⟩
 clock 1234567890123456 +1000000
 > PUT a {"⟨c3a9⟩":1}
 >2 PUT ⟨n⟩
@@ -68,13 +68,13 @@ status Done
 """
 
 STATUSES = """\
-== Wrong words come first
-words run x
+== Wrong arguments come first
+arguments run x
 reads 1
 keeps 1
 > STATS
 again
-words
+arguments
 again
 reads 2
 > STATS
@@ -101,7 +101,7 @@ collection @indexes
 body {"@metadata":{},"Collection":"C","Fields":[["F"]],"Kind":"auto"}
 > STALE AUTO/X
 """, """\
-== Wrong words come first
+== Wrong arguments come first
 status Usage
 again
 status Usage
@@ -135,7 +135,7 @@ def test_worked_cases():
 
 def test_mistakes():
     """A line that is not valid is reported by its number."""
-    lines = ["words", "x", ">x", ">0 x", "> ⟨x⟩", "> ⟨n⟩", "> ⟨", "reads", "reads x", "clock +1", "clock 1 2", "row 1", "id a",
+    lines = ["arguments", "x", ">x", ">0 x", "> ⟨x⟩", "> ⟨n⟩", "> ⟨", "reads", "reads x", "clock +1", "clock 1 2", "row 1", "id a",
              "rows x", "again 1", "|", "|x", "keeps 1\nagain\nkeeps 2", "again\nrow 1 1", "row 2 0\nrow 2 0"]
     for line in lines[1:]:
         try:

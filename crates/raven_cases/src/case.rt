@@ -19,7 +19,7 @@ pub struct Case {
 #[derive(Drop)]
 pub struct Run {
     /// The arguments of the program.
-    pub words: Vec<String>,
+    pub arguments: Vec<String>,
 
     pub clock: CaseClock,
 

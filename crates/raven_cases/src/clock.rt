@@ -4,7 +4,7 @@ ghost use Rattle.std.specs.Prelude.{◌≡◌, ◌<◌, None};
 use raven_ports::{Clock, StillClock};
 use std::cell::Cell;
 
-/// The last moment that a clock may tell: the last microsecond of the year 9998.
+/// The last moment that a clock may return: the last microsecond of the year 9998.
 const LAST_MOMENT: u64 = 253_370_764_799_999_999;
 
 /// The clock of a run.
@@ -15,7 +15,7 @@ pub enum CaseClock {
 }
 
 impl CaseClock {
-    /// A clock that always tells this moment, if a clock may tell it.
+    /// A clock that always returns this moment, if a clock may return it.
     pub fn still(moment: u64) -> Option<CaseClock> {
         if moment <= LAST_MOMENT {
             Some(CaseClock::Still(StillClock::at(moment)))
@@ -24,7 +24,7 @@ impl CaseClock {
         }
     }
 
-    /// A clock that tells this moment first, if a clock may tell it, and then moves on by a step with each call.
+    /// A clock that returns this moment first, if a clock may return it, and then moves on by a step with each call.
     pub fn ticking(first: u64, step: u64) -> Option<CaseClock> {
         if first <= LAST_MOMENT {
             let next = Cell::new(first);

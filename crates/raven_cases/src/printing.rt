@@ -19,7 +19,7 @@ pub fn print_status<W: Write>(out: &mut W, status: Status) -> io::Result<()> {
     writeln!(out)
 }
 
-/// Prints what was written to the output: its lines, and what stands behind the last of them.
+/// Prints what was written to the output: its lines, and what follows the last of them.
 pub fn print_written<W: Write>(out: &mut W, written: &[u8]) -> io::Result<()> {
     for line in written.split_inclusive(|byte| *byte == b'\n') {
         if line.ends_with(b"\n") {

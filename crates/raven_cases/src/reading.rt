@@ -2,7 +2,7 @@
 use crate::case::{Case, Run};
 use crate::fault::LineFault;
 use crate::marks::write_out;
-use crate::values::{clock_in, number_in, numbers_in, row_in, text_in, words_in};
+use crate::values::{arguments_in, clock_in, number_in, numbers_in, row_in, text_in};
 use raven_base::{Numbers, Sequence};
 use raven_ports::{KeptRow, MemKeeper, etags_rise};
 use std::alloc::Global;
@@ -123,7 +123,7 @@ impl Draft {
             return self.add_lines(alloc, copies, value);
         }
         match word {
-            "words" => self.run.words = words_in(alloc, value)?,
+            "arguments" => self.run.arguments = arguments_in(alloc, value)?,
             "clock" => self.run.clock = clock_in(value)?,
             "reads" => self.run.reads = numbers_in(alloc, value)?,
             "writes" => self.run.writes = numbers_in(alloc, value)?,
@@ -164,7 +164,7 @@ impl Draft {
         Ok(())
     }
 
-    /// Reads what the keeper is given, which stands before the first `again`.
+    /// Reads what the keeper is given, which comes before the first `again`.
     fn read_kept(&mut self, alloc: Global, word: &str, value: &str) -> Result<(), LineFault> {
         match word {
             "keeps" => self.keeps = numbers_in(alloc, value)?,
@@ -185,7 +185,7 @@ impl Draft {
 /// A run without any line of its own.
 fn new_run(alloc: Global) -> Result<Run, LineFault> {
     Ok(Run {
-        words: words_in(alloc, "run")?,
+        arguments: arguments_in(alloc, "run")?,
         clock: clock_in("0")?,
         reads: Numbers::new(alloc),
         writes: Numbers::new(alloc),

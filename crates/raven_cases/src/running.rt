@@ -31,7 +31,7 @@ fn print_run<R: AllocGlobal, W: Write>(
     out: &mut W,
 ) -> io::Result<MemKeeper> {
     let Run {
-        words,
+        arguments,
         clock,
         reads,
         writes,
@@ -42,8 +42,22 @@ fn print_run<R: AllocGlobal, W: Write>(
     let mut input = ByteSource::of(Bytes::of(script), reads);
     let mut output = ByteSink::of(Bytes::new(alloc), writes);
     let (status, keeper) = match clock {
-        CaseClock::Still(clock) => run_over(rt, &words, &mut input, &mut output, keeper, clock)?,
-        CaseClock::Ticking(clock) => run_over(rt, &words, &mut input, &mut output, keeper, clock)?,
+        CaseClock::Still(clock) => run_over(
+            rt,
+            &arguments,
+            &mut input,
+            &mut output,
+            keeper,
+            clock,
+        )?,
+        CaseClock::Ticking(clock) => run_over(
+            rt,
+            &arguments,
+            &mut input,
+            &mut output,
+            keeper,
+            clock,
+        )?,
     };
     print_status(out, status)?;
     print_written(out, output.held())?;
@@ -56,13 +70,13 @@ fn print_run<R: AllocGlobal, W: Write>(
 
 fn run_over<R: AllocGlobal, C: Clock + Drop>(
     rt: &R,
-    words: &[String],
+    arguments: &[String],
     input: &mut ByteSource,
     output: &mut ByteSink,
     keeper: MemKeeper,
     clock: C,
 ) -> io::Result<(Status, MemKeeper)> {
     let clock = Arc::new(rt.alloc(), clock)?;
-    let finish = raven(rt, words, input, output, keeper, clock);
+    let finish = raven(rt, arguments, input, output, keeper, clock);
     Ok((finish.status, finish.keeper.unwrap()))
 }

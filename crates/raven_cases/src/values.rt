@@ -15,7 +15,7 @@ pub fn number_in(value: &str) -> Result<u64, LineFault> {
     value.parse::<u64>().map_err(|_| LineFault::Mistake)
 }
 
-/// Numbers that are parted by single spaces.
+/// Numbers that are separated by single spaces.
 pub fn numbers_in(alloc: Global, value: &str) -> Result<Numbers, LineFault> {
     let mut numbers = Numbers::new(alloc);
     for number in value.split(' ') {
@@ -36,15 +36,15 @@ pub fn text_in(alloc: Global, value: &str) -> Result<Text, LineFault> {
     Ok(Text::of_string(string_in(alloc, value)?))
 }
 
-/// Arguments that are parted by single spaces, and none if there is no value.
-pub fn words_in(alloc: Global, value: &str) -> Result<Vec<String>, LineFault> {
-    let mut words = Vec::new(alloc);
+/// Arguments that are separated by single spaces, and none if there is no value.
+pub fn arguments_in(alloc: Global, value: &str) -> Result<Vec<String>, LineFault> {
+    let mut arguments = Vec::new(alloc);
     if !value.is_empty() {
-        for word in string_in(alloc, value)?.split(' ') {
-            words.push(String::from_str(alloc, word)?)?;
+        for argument in string_in(alloc, value)?.split(' ') {
+            arguments.push(String::from_str(alloc, argument)?)?;
         }
     }
-    Ok(words)
+    Ok(arguments)
 }
 
 /// A clock, as `5` or `5 +1`.
