@@ -59,7 +59,7 @@ def test_limits():
     assert isinstance(answer(limit_maps.with_member("(u ? 1 : 2) ? 1 : " * 32 + "2")), language.Map)
 
 
-# The grammar, read by all its rules at once. It stands here as it is written for people.
+# The grammar, read by all its rules at once. It is written here as people read it.
 
 GRAMMAR = """
 map = from VAR in docs . NAME clauses select new { members END
@@ -82,7 +82,7 @@ primary = NUMBER | TEXT | true | false | null | VAR | ( expr ) | LoadDocument ( 
 
 
 def rules_of(grammar):
-    """By each left side its right sides; where a part stands before `|` alone it is no sign of the language."""
+    """By each left side its right sides; a part before `|` alone is no sign of the language."""
     rules = {}
     for line in grammar.strip().split("\n"):
         name, _, rest = line.partition(" = ")
@@ -92,7 +92,7 @@ def rules_of(grammar):
 
 
 RULES = rules_of(GRAMMAR)
-# What can stand for nothing.
+# What can be empty.
 EMPTY = {name for name, sides in RULES.items() if () in sides}
 
 
@@ -105,7 +105,7 @@ def fits(sign, token):
 
 
 def closed(items, columns):
-    """All that follows at one place from what stands there: an item is a rule, how far it has come, and where it began."""
+    """All that follows at one place from what is there: an item is a rule, how far it has come, and where it began."""
     here = len(columns)
     found, waiting = set(items), list(items)
     while waiting:

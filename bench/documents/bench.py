@@ -29,8 +29,7 @@ import tempfile
 sys.dont_write_bytecode = True
 sys.path.append(str(pathlib.Path(__file__).resolve().parents[1]))
 import harness
-from raven_tools import model
-from raven_tools import program as programs
+from raven_tools import model, programs
 from raven_tools.making import lines as spelled
 
 HEADS = ["Documents", "In", "PUT per second", "GET per second", "BULK of 100 per second", "Seconds to fill or open"]

@@ -30,8 +30,7 @@ import sys
 sys.dont_write_bytecode = True
 sys.path.append(str(pathlib.Path(__file__).resolve().parents[1]))
 import harness
-from raven_tools import model
-from raven_tools import program as programs
+from raven_tools import model, programs
 from raven_tools.making.lines import bulk, put_command
 
 INDEX = "Orders/ByCompany"

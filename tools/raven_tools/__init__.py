@@ -1,7 +1,7 @@
 """What the tools of this repository share.
 
 - `model` answers scripts as the program has to, and models whole runs of it;
-- `language` is the language of index definitions, which `model` stands on;
+- `language` is the language of index definitions, which `model` uses;
 - `making` makes scripts: random ones, ones at each limit, and cases that were worked out by hand;
 - `checks` has one module for each tool that compares something.
 

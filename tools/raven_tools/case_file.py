@@ -130,7 +130,7 @@ class Reader:
 
     def row(self, etag, changed):
         if len(self.case.runs) > 1 or self.case.rows and self.case.rows[-1].etag >= etag:
-            raise ValueError("the rows that the keeper holds at the start stand before `again`, and their etags rise")
+            raise ValueError("the rows that the keeper holds at the start come before `again`, and their etags rise")
         self.case.rows.append(keeping.KeptRow(etag, "", "@empty", None, changed))
 
     def given(self, word, value):
@@ -167,7 +167,7 @@ def printed_row(row: keeping.KeptRow) -> str:
 
 
 def printed_output(written: bytes) -> str:
-    """Each line that was written, and what stands behind the last of them."""
+    """Each line that was written, and what follows the last of them."""
     *lines, last = written.decode().split("\n")
     return "".join(f"> {line}\n" for line in lines) + (f"| {last}\n" if last else "")
 

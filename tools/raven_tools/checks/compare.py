@@ -9,8 +9,7 @@ import shutil
 import sys
 import tempfile
 
-from raven_tools import model
-from raven_tools import program as programs
+from raven_tools import model, programs
 from raven_tools.checks.outside import outside
 from raven_tools.making import MAKERS, case_scripts, limit_scripts
 from raven_tools.places import PROGRAM

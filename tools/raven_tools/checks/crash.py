@@ -10,8 +10,7 @@ import subprocess
 import tempfile
 import time
 
-from raven_tools import model
-from raven_tools import program as programs
+from raven_tools import model, programs
 from raven_tools.checks.killable import PATIENCE, Run
 from raven_tools.making.crash_scripts import CrashMaker, questions
 from raven_tools.places import PROGRAM
@@ -172,19 +171,19 @@ class Trial:
                 self.judge_document(asked[at], found[at], wanted[0][at], states[0].store.last)
         other = [[at for at in gets if found[at] != replies[at]] for replies in wanted]
         if len(wanted) == 2 and all(other):
-            told = [f"{asked[places[0]]!r} shows {found[places[0]][:200]!r}" for places in other]
-            raise Crash("halves", ", but ".join(told))
+            shown = [f"{asked[places[0]]!r} shows {found[places[0]][:200]!r}" for places in other]
+            raise Crash("halves", ", but ".join(shown))
         at = next(at for at, _ in enumerate(asked) if all(found[at] != replies[at] for replies in wanted))
-        told = f"{asked[at][:80]!r} gives {found[at][:200]!r} in place of {wanted[0][at][:200]!r}"
-        raise Crash("losses" if self.is_less(found[0], wanted[0][0]) else "inventions", told)
+        why = f"{asked[at][:80]!r} gives {found[at][:200]!r} in place of {wanted[0][at][:200]!r}"
+        raise Crash("losses" if self.is_less(found[0], wanted[0][0]) else "inventions", why)
 
     def judge_document(self, line: bytes, found: bytes, wanted: bytes, last: int) -> None:
         """A document that neither state has: it is lost if nothing or an older one is in its place."""
         vector = VECTOR.search(found)
         etag = int(vector.group(1)) if vector else 0
         is_old = not vector or (etag <= last and self.history.get((model.folded(line[4:].decode()), etag)) == found)
-        told = f"{line!r} shows {found[:200]!r} in place of {wanted[:200]!r}"
-        raise Crash("losses" if is_old else "inventions", told)
+        why = f"{line!r} shows {found[:200]!r} in place of {wanted[:200]!r}"
+        raise Crash("losses" if is_old else "inventions", why)
 
     @staticmethod
     def is_less(found: bytes, wanted: bytes) -> bool:

@@ -6,18 +6,18 @@ import shutil
 import sys
 import tempfile
 
-from raven_tools import model, program
+from raven_tools import model, programs
 from raven_tools.examples import Example, every
 from raven_tools.places import PROGRAM
 
 
 def by_trying(examples: list[Example]) -> tuple[dict[str, bytes], str]:
     with tempfile.TemporaryDirectory() as folder:
-        return program.tried({example.name: example.script for example in examples}, pathlib.Path(folder))
+        return programs.tried({example.name: example.script for example in examples}, pathlib.Path(folder))
 
 
 def by_program(path: str, examples: list[Example]) -> tuple[dict[str, bytes], str]:
-    runs = {example.name: program.run(path, example.script) for example in examples}
+    runs = {example.name: programs.run(path, example.script) for example in examples}
     messages = "".join(ended.stderr.decode(errors="replace") for ended in runs.values())
     return {name: ended.stdout for name, ended in runs.items()}, messages
 
@@ -31,7 +31,7 @@ def main() -> int:
     examples = sorted(every(), key=lambda example: example.name)
     if given.model:
         written, messages = {example.name: model.replies(example.script) for example in examples}, ""
-    elif program.is_built(given.program):
+    elif programs.is_built(given.program):
         written, messages = by_program(given.program, examples)
     elif given.program == str(PROGRAM) and shutil.which("rt"):
         written, messages = by_trying(examples)
@@ -47,7 +47,7 @@ def main() -> int:
         else:
             failed += 1
             print(f"differs  {example.name}")
-            print(program.first_difference(example.expected, found, ("example", "program")))
+            print(programs.first_difference(example.expected, found, ("example", "program")))
     if failed:
         print("\n".join(messages.splitlines()[-5:]), file=sys.stderr)
     print(f"{failed} of {len(examples)} differ")

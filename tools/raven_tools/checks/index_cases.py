@@ -16,7 +16,7 @@ MARK = re.compile("⟨(?:([0-9]+)\\*([^⟩]*)|([0-9a-f]+))⟩")
 
 
 def written_out(line: str) -> str:
-    """The line with what its marks stand for."""
+    """The line with what its marks mean."""
     return MARK.sub(lambda m: m[2] * int(m[1]) if m[1] else bytes.fromhex(m[3]).decode(), line)
 
 

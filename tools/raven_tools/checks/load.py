@@ -5,8 +5,7 @@ import pathlib
 import tempfile
 import time
 
-from raven_tools import model
-from raven_tools import program as programs
+from raven_tools import model, programs
 from raven_tools.making.load_scripts import LoadMaker
 from raven_tools.places import PROGRAM
 

@@ -7,7 +7,7 @@ import tempfile
 
 from raven_tools import model
 from raven_tools.making import MAKERS
-from raven_tools.program import STATUSES, first_difference, run
+from raven_tools.programs import STATUSES, first_difference, run
 
 
 def has_status(program: str, arguments: list, wanted: int, name: str, given=None, taken=None) -> bool:

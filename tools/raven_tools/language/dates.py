@@ -4,7 +4,7 @@ import re
 
 FRACTION = r"(?:[.,][0-9]{1,9})?"
 MINUTE = r"[0-5][0-9]"
-# A second of 60 may stand, and reads as 59; no second is asked for here.
+# A second may be 60, and is read as 59; no second is asked for here.
 SECOND = rf"(?:{MINUTE}|60){FRACTION}"
 HOUR = r"(?:[01][0-9]|2[0-3])"
 # Colons are between all parts or between none, and each part may be the last.

@@ -13,7 +13,7 @@ class Reduce:
     var: str
     group: str = dataclasses.field(compare=False)  # the name behind `into` does not distinguish reduces
     key: tuple[str, ...]
-    members: tuple  # of (name, value), where a value is ("key", part) or ("fold", kind, variable, field)
+    members: tuple  # of (name, value); a value is ("key", part) or ("fold", kind, variable, field)
 
 
 class Reader(maps.Reader):

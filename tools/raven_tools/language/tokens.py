@@ -17,7 +17,7 @@ LEVEL_OF = {mark: level for level, marks in enumerate(LEVELS) for mark in marks}
 
 
 class Refusal(Exception):
-    """A text that is none of the language: the kind, and how many bytes stand before what is refused."""
+    """A text that is none of the language: the kind, and how many bytes are before what is refused."""
 
     def __init__(self, at: int, kind: str):
         super().__init__(f"{kind} at {at}")

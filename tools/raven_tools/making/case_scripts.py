@@ -24,8 +24,8 @@ def refusals() -> Named:
     yield "maps that are refused", "\n".join(definition("N", text) for text, *_ in worked.REFUSED)
     tokens = [text for text, *_ in worked.TOKENS] + maps.STRANGE
     before = "from u in docs.U select new { "
-    fronts = ["", "from ", before, before + "A = ", before + "A = u"]
-    lines = [definition("N", front + token) for token in tokens for front in fronts]
+    prefixes = ["", "from ", before, before + "A = ", before + "A = u"]
+    lines = [definition("N", prefix + token) for token in tokens for prefix in prefixes]
     lines += [definition("N", f"from u in docs.U select new {{ A = u {token} u }}") for token in tokens]
     yield "each token at each place", "\n".join(lines)
 

@@ -29,7 +29,7 @@ class Auto:
 
 
 class Static:
-    """An index by the text of a map. Whether two are the same hangs on their trees alone."""
+    """An index by the text of a map. Whether two are the same depends on their trees alone."""
 
     def __init__(self, text):
         try:

@@ -218,7 +218,7 @@ def quoted(text: str) -> str:
 
 
 def write_json(value: Json) -> str:
-    """The compact text. Members stand in the order of the bytes of their names, which is that of their characters."""
+    """The compact text. Members are in the order of the bytes of their names, which is that of their characters."""
     if value is None:
         return "null"
     if value is True:

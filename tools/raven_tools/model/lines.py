@@ -147,7 +147,7 @@ def drop_line(database, rest):
 
 
 def pump_line(database, rest):
-    """The number is tested before the name, which may stand behind it."""
+    """The number is tested before the name, which may follow it."""
     first, *name = rest.split(" ", 1)
     most = number(first)
     if most is None or not 1 <= most <= MAX_BATCH or name == [""]:
