@@ -26,7 +26,7 @@ class Process(typing.NamedTuple):
     parent: int
     cpu: float  # seconds
     memory: int  # bytes
-    start: str  # with the process id, tells it from a later process of this id
+    start: str  # with the process id, distinguishes it from a later process of this id
 
 
 class Cost:

@@ -23,7 +23,7 @@ def links_of(page, text):
 
 
 def paths_of(text):
-    """The paths in backticks, each with what stands there or the pattern that has to find something."""
+    """The paths in backticks, each with what is there or the pattern that has to find something."""
     paths = [path.rstrip(".,:") for path in PATH.findall(text)]
     return [(path, TOP / path) for path in paths if "/out/" not in path]
 

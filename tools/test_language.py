@@ -1,22 +1,19 @@
 #!/usr/bin/env python3
-"""Tests of `tools/language.py` and `tools/dates.py`: cases worked out by hand, and the grammar read in quite another way.
+"""Tests of `raven_tools.language`: cases worked out by hand, and the grammar read in quite another way.
 
     tools/test_language.py [ROUNDS]
 
-It needs no program. It ends with 0 where every test holds, and otherwise at the first assertion that does not.
+It needs no program. It ends with 0 if every test holds, and otherwise at the first assertion that does not.
 """
 
 import collections
-import pathlib
 import random
 import sys
 
 sys.dont_write_bytecode = True
-sys.path.insert(0, str(pathlib.Path(__file__).resolve().parent))
-import cases
-import dates
-import language
-import maps
+from raven_tools import language
+from raven_tools.language import dates
+from raven_tools.making import limit_maps, maps, worked
 
 
 def answer(text):
@@ -31,7 +28,7 @@ def answer(text):
 
 
 def test_tokens():
-    for text, kinds, places in cases.TOKENS:
+    for text, kinds, places in worked.TOKENS:
         tokens = language.tokens_of(text)
         assert [token.kind for token in tokens] == kinds.split(), (text, tokens)
         assert [token.at for token in tokens] == places, (text, tokens)
@@ -43,7 +40,7 @@ def test_tokens():
 
 
 def test_refusals():
-    for text, at, kind in cases.REFUSED:
+    for text, at, kind in worked.REFUSED:
         found = answer(text)
         assert isinstance(found, language.Map) if at is None else found == (at, kind), (text[:100], at, kind, found)
 
@@ -51,18 +48,18 @@ def test_refusals():
 def test_limits():
     """Each limit is reached, and then passed at its own token."""
     kinds = collections.Counter()
-    for name, text in maps.at_the_limits():
+    for name, text in limit_maps.at_the_limits():
         found = answer(text)
         kind = "read" if isinstance(found, language.Map) else found[1]
         kinds[kind] += 1
         assert kind != "TooLarge" or not name.endswith("-1"), name
     assert all(kinds[kind] > 10 for kind in ("read", "TooLarge")), kinds
     chain = "u ? 1 : " * 65 + "2"
-    assert answer(maps.with_member(chain)) == (34 + 64 * 8 + 2, "TooLarge")
-    assert isinstance(answer(maps.with_member("(u ? 1 : 2) ? 1 : " * 32 + "2")), language.Map)
+    assert answer(limit_maps.with_member(chain)) == (34 + 64 * 8 + 2, "TooLarge")
+    assert isinstance(answer(limit_maps.with_member("(u ? 1 : 2) ? 1 : " * 32 + "2")), language.Map)
 
 
-# The grammar, read by all its rules at once. It stands here as it is written for people.
+# The grammar, read by all its rules at once. It is written here as people read it.
 
 GRAMMAR = """
 map = from VAR in docs . NAME clauses select new { members END
@@ -85,7 +82,7 @@ primary = NUMBER | TEXT | true | false | null | VAR | ( expr ) | LoadDocument ( 
 
 
 def rules_of(grammar):
-    """By each left side its right sides; where a part stands before `|` alone it is no sign of the language."""
+    """By each left side its right sides; a part before `|` alone is no sign of the language."""
     rules = {}
     for line in grammar.strip().split("\n"):
         name, _, rest = line.partition(" = ")
@@ -95,7 +92,7 @@ def rules_of(grammar):
 
 
 RULES = rules_of(GRAMMAR)
-# What can stand for nothing.
+# What can be empty.
 EMPTY = {name for name, sides in RULES.items() if () in sides}
 
 
@@ -108,7 +105,7 @@ def fits(sign, token):
 
 
 def closed(items, columns):
-    """All that follows at one place from what stands there: an item is a rule, how far it has come, and where it began."""
+    """All that follows at one place from what is there: an item is a rule, how far it has come, and where it began."""
     here = len(columns)
     found, waiting = set(items), list(items)
     while waiting:
@@ -129,7 +126,7 @@ def closed(items, columns):
 
 
 def first_unexpected(tokens):
-    """The place of the first token with which no text of the grammar goes on, or None where the tokens are one."""
+    """The place of the first token with which no text of the grammar goes on, or None if the tokens are one."""
     columns = []
     items = {("map", side, 0, 0) for side in RULES["map"]}
     for token in tokens:
@@ -154,7 +151,7 @@ def test_grammar(rounds=400):
         kinds[kind] += 1
         expected = found[0] if kind == "Unexpected" else None
         assert first_unexpected(language.tokens_of(text)) == expected, (seed, text, found)
-    for text, at, kind in cases.REFUSED:
+    for text, at, kind in worked.REFUSED:
         if kind != "TooLarge":
             assert first_unexpected(language.tokens_of(text)) == (at if kind == "Unexpected" else None), text
     assert all(kinds[kind] > rounds // 100 for kind in ("read", "Unexpected", "UnknownName", "DuplicateField")), kinds
@@ -164,8 +161,8 @@ def test_grammar(rounds=400):
 
 
 def test_spellings():
-    for text, printed in cases.PRINTED:
-        assert language.printed(language.parse(cases.AROUND + text + " }")) == cases.AROUND + printed + " }", text
+    for text, printed in worked.PRINTED:
+        assert language.printed(language.parse(worked.AROUND + text + " }")) == worked.AROUND + printed + " }", text
     first = 'from u in docs.Users where u.Age >= 18 select new { u.Name, Old = u.Age > 64 ? "yes" : "no" }'
     spelled = 'from u in docs.Users where u.Age >= 18 select new { Name = u.Name, Old = (u.Age > 64) ? "yes" : "no" }'
     assert language.printed(language.parse(first)) == spelled
@@ -195,12 +192,12 @@ def test_scopes():
 
 
 def test_meaning():
-    for text, value in cases.MEANING:
-        tree = language.parse(maps.with_member(text))
+    for text, value in worked.MEANING:
+        tree = language.parse(limit_maps.with_member(text))
         try:
-            (found,) = language.entry_of(tree, cases.BODY, None).values()
+            (found,) = language.entry_of(tree, worked.BODY, None).values()
         except language.Failed:
-            found = cases.FAILS
+            found = worked.FAILS
         assert type(found) is type(value) and found == value, (text, found, value)
 
 
@@ -214,7 +211,7 @@ def entry(rest, asked=None):
         found = documents.get(name)
         return found[1] if found and found[0] == collection else None
 
-    return language.entry_of(language.parse("from u in docs.U " + rest), cases.BODY, load)
+    return language.entry_of(language.parse("from u in docs.U " + rest), worked.BODY, load)
 
 
 def fails(rest, asked=None):
@@ -226,7 +223,7 @@ def fails(rest, asked=None):
 
 
 def test_clauses():
-    """Clauses run in order: what fails behind a `where` that leaves the document out does not count."""
+    """Clauses run in order: what fails after a `where` that leaves the document out does not count."""
     assert entry("where u.T select new { u.N }") == {"N": 7}
     assert entry("where u.N select new { u.N }") is None
     assert entry("where u.Gone select new { u.N }") is None
@@ -260,11 +257,11 @@ def test_loads():
 
 
 def test_dates():
-    for text in cases.LEAP_DAYS:
+    for text in worked.LEAP_DAYS:
         assert dates.date_of(text) == (2020, 2, 29), text
-    for text in cases.NO_DATES:
+    for text in worked.NO_DATES:
         assert dates.date_of(text) is None, text
-    for text, year in cases.YEARS:
+    for text, year in worked.YEARS:
         assert dates.date_of(text)[0] == year, text
     assert dates.date_of("1997-09-19T10:11") == (1997, 9, 19)
 

@@ -3,21 +3,18 @@
 
     tools/test_model.py
 
-It needs no program. It ends with 0 where every test holds, and otherwise at the first assertion that does not.
+It needs no program. It ends with 0 if every test holds, and otherwise at the first assertion that does not.
 """
 
 import collections
-import pathlib
 import re
 import sys
 
 sys.dont_write_bytecode = True
-TOP = pathlib.Path(__file__).resolve().parents[1]
-sys.path.insert(0, str(TOP / "tools"))
-import cases
-import map_scripts
-import model
-import scripts
+from raven_tools import examples, model
+from raven_tools.making import MAKERS, case_scripts, limit_scripts, worked
+from raven_tools.making.lines import definition
+from raven_tools.making.random_scripts import kind_of
 
 ADULTS = """
 > INDEX {"Map":"from u in docs.Users where u.Age >= 18 select new { u.Name, Old = u.Age > 64 ? \\"yes\\" : \\"no\\" }",\
@@ -127,11 +124,10 @@ def test_worked_scripts():
 
 
 def test_examples():
-    found = sorted((TOP / "examples").glob("*.raven"))
+    found = examples.in_files()
     assert found
-    for path in found:
-        expected = path.with_suffix(".expected").read_bytes()
-        assert model.replies(path.read_bytes()) == expected, path
+    for example in found:
+        assert model.replies(example.script) == example.expected, example.name
 
 
 def replies_of(*lines):
@@ -159,12 +155,12 @@ def test_names():
         ("auto", good, {"Index": "auto"}),
     ]
     for name, text, reply in cases:
-        line = "INDEX " + model.write_json({"Name": name, "Map": text})
-        assert replies_of(line) == [reply], (name, replies_of(line))
+        found = replies_of(definition(name, text))
+        assert found == [reply], (name, found)
 
 
 def test_places_of_indexes():
-    """A place that a removal leaves is free again. Another definition under a live name is told before the limit."""
+    """A place that a removal leaves is free again. Another definition under a live name is reported before the limit."""
     autos = [f"AUTO c{number} F" for number in range(model.MAX_SLOTS)]
     index = 'INDEX {"Map":"from u in docs.U select new { u.%s }","Name":"N"}'
     unknown, full, made = {"Error": "UnknownLine"}, {"Error": "TooManyIndexes"}, {"Index": "N"}
@@ -188,24 +184,24 @@ def test_openings():
 
 def test_scripts():
     """The scripts for `tools/compare.py` can be made, and those of maps reach each reply that a definition can get."""
-    assert len(dict(scripts.at_the_limits())) > 40
+    assert len(dict(limit_scripts.at_the_limits())) > 40
     kinds = collections.Counter()
-    for name, script in map_scripts.at_the_limits():
+    for name, script in case_scripts.at_the_limits():
         replies = [model.read_json(reply) for reply in model.replies(script).split(b"\n")[:-1]]
-        kinds.update(map(scripts.kind_of, replies))
+        kinds.update(map(kind_of, replies))
         if name == "what each expression gives":
             found = [reply["Ids"] for reply in replies if "Ids" in reply]
             assert found.count(["u"]) > 100
         if name == "each date":
             counts = [len(reply["Ids"]) for reply in replies if "Ids" in reply]
-            assert counts == [len(cases.LEAP_DAYS) + len(cases.NO_DATES), len(cases.YEARS), 0], counts
+            assert counts == [len(worked.LEAP_DAYS) + len(worked.NO_DATES), len(worked.YEARS), 0], counts
     expected = "Index Removed indexes BadMember Empty TooLong Control Unexpected TooLarge UnknownName DuplicateField"
     for kind in [*expected.split(), "ReservedName", "NameTooLong", "NoIndex", "TooManyIndexes", "UnknownLine", "TooDeep", "NotJson"]:
         assert kinds[kind], kind
 
 
 def agrees(database, index):
-    """Whether the index has recorded exactly what the store has up to its etag, as far as that still stands."""
+    """Whether the index has recorded exactly what the store has up to its etag, as far as that is still there."""
     scope = index.definition.scope()
     rows = {key: row for key, row in database.store.rows.items() if row.collection in scope}
     for key, row in rows.items():
@@ -226,7 +222,7 @@ def test_what_holds_of_each_script():
     fresh = 0
     for seed in range(48):
         database = model.Database()
-        script = map_scripts.MAKERS[seed % len(map_scripts.MAKERS)](seed).script(40)
+        script = MAKERS[seed % len(MAKERS)](seed).script(40)
         for line in filter(None, model.lines(script)):
             before = database.store.last
             model.answer(database, line)

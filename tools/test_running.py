@@ -3,16 +3,14 @@
 
     tools/test_running.py
 
-It needs no program. It ends with 0 where every test holds, and otherwise at the first assertion that does not.
+It needs no program. It ends with 0 if every test holds, and otherwise at the first assertion that does not.
 """
 
-import pathlib
 import sys
 
 sys.dont_write_bytecode = True
-sys.path.insert(0, str(pathlib.Path(__file__).resolve().parent))
-import case_file
-import running
+from raven_tools import case_file
+from raven_tools.model import running
 
 KEEPER = """\
 == A commit fails

@@ -7,56 +7,56 @@ PROGRAM is the built program, by default that of crates/raven. With --data the s
 FOLDER or in a new one that goes away. The table that is printed belongs into docs/performance.md.
 
 Each cost is a difference of two runs over a store of the same size: one that only fills it, or opens its file, and one that
-then does so many operations more, all of them on documents that stand there already. So reading the script, filling and
+then does so many operations more, all of them on documents that are there already. So reading the script, filling and
 opening do not count. Of several runs of each kind the quickest counts.
 
 The memory of a document is a difference of two peaks, divided by the documents: that of a run that fills the store, less
 that of a run that gets as many bytes of input and keeps nothing; or with a file, that of a run that only opens it, less that
 of a run that opens an empty one.
 
-Where the program is not built, or GNU time is missing, it says `skipped` and ends with 0. It ends with 1 where a reply is wrong.
+If the program is not built, or GNU time is missing, it says `skipped` and ends with 0. It ends with 1 if a reply is wrong.
 """
 
 import argparse
+import collections.abc
 import os
 import pathlib
 import random
 import shutil
-import subprocess
 import sys
 import tempfile
-import time
 
-TOP = pathlib.Path(__file__).resolve().parents[2]
 sys.dont_write_bytecode = True
-sys.path[:0] = [str(TOP / "tools"), str(TOP / "bench")]
-import machine
-import model
+sys.path.append(str(pathlib.Path(__file__).resolve().parents[1]))
+import harness
+from raven_tools import model, programs
+from raven_tools.making import lines as spelled
 
-NAMES = ["Ada", "Alan", "Barbara", "Donald", "Edsger", "Frances", "Grace", "John", "Margaret", "Niklaus"]
+HEADS = ["Documents", "In", "PUT per second", "GET per second", "BULK of 100 per second", "Seconds to fill or open"]
+HEADS += ["Memory a document", "JSON text", "Ratio"]
+BELOW = "\nIn brackets: out of how many. Memory and text are in bytes; the text is the document as it is kept, "
+BELOW += "without what the server adds."
 AT_ONCE = 500
 BULK = 100
 # A difference shorter than this is measured again with more operations.
 LEAST = 0.4
-ROOM = model.MAX_SCRIPT - 1_000
 
 
-def body_of(number, turn=0):
-    name = NAMES[(number + turn) % len(NAMES)]
+def body_of(number: int, turn: int = 0) -> str:
+    name = harness.NAMES[(number + turn) % len(harness.NAMES)]
     return f'{{"Name":"{name}","Age":{20 + (number + turn) % 60},"City":"Nowhere","@metadata":{{"@collection":"Users"}}}}'
 
 
-def bulk_of(numbers, turn=0):
-    commands = [f'{{"Id":"users/{number}","Type":"PUT","Document":{body_of(number, turn)}}}' for number in numbers]
-    return f'BULK {{"Commands":[{",".join(commands)}]}}'
+def bulk_of(numbers: collections.abc.Iterable[int], turn: int = 0) -> str:
+    return spelled.bulk(*(spelled.put_command(f"users/{number}", body_of(number, turn)) for number in numbers))
 
 
-def filling(count):
+def filling(count: int) -> list[str]:
     return [bulk_of(range(first, min(first + AT_ONCE, count))) for first in range(0, count, AT_ONCE)]
 
 
-def operations(kind, count, documents):
-    """So many lines, each on documents that stand in the store."""
+def operations(kind: str, count: int, documents: int) -> list[str]:
+    """So many lines, each on documents that are in the store."""
     chance = random.Random(documents * 1_000 + count)
     if kind == "PUT":
         return [f"PUT users/{(number := chance.randrange(documents))} {body_of(number, turn + 1)}" for turn in range(count)]
@@ -65,45 +65,20 @@ def operations(kind, count, documents):
     return [bulk_of(chance.sample(range(documents), min(BULK, documents)), turn + 1) for turn in range(count)]
 
 
-def writes_of(lines):
+def writes_of(lines: list[str]) -> int:
     """How many etags the lines take."""
     return sum(line.startswith("PUT ") or line.count('"Type":"PUT"') for line in lines)
 
 
-class Wrong(Exception):
-    """The program did not write what it has to."""
-
-
-def run(program, script, words=()):
-    """The output, the seconds on the clock, and the peak of memory in KiB."""
-    with tempfile.TemporaryFile() as given, tempfile.TemporaryFile() as taken, tempfile.NamedTemporaryFile("r") as told:
-        given.write(script)
-        given.seek(0)
-        # GNU time starts the program out of a small process of its own. Started from here, Python's memory would count.
-        command = ["/usr/bin/time", "--quiet", "-f", "%M", "-o", told.name, program, "run", *words]
-        began = time.monotonic()
-        ended = subprocess.run(command, stdin=given, stdout=taken, stderr=subprocess.PIPE)
-        seconds = time.monotonic() - began
-        taken.seek(0)
-        if ended.returncode:
-            raise Wrong(f"status {ended.returncode}, {ended.stderr!r}")
-        return taken.read(), seconds, int(told.read().split()[-1])
-
-
-def script_of(lines):
-    script = "".join(line + "\n" for line in lines).encode()
+def checked(program: str, lines: list[str], documents: int, last: int, *options: str) -> harness.Outcome:
+    """Runs the lines and a STATS, and checks that all were taken."""
+    script = harness.script_of([*lines, "STATS"])
     if len(script) > model.MAX_SCRIPT:
-        raise Wrong(f"a script of {len(script)} bytes is too long")
-    return script
-
-
-def checked(program, lines, documents, last, words=()):
-    """Runs the lines and a STATS, and looks that all were taken."""
-    output, seconds, peak = run(program, script_of([*lines, "STATS"]), words)
-    counts = f'{{"CountOfDocuments":{documents},"CountOfIndexes":0,"CountOfTombstones":0,"LastDocEtag":{last}}}\n'
-    if output.count(b"\n") != len(lines) + 1 or b'"Error"' in output or not output.endswith(counts.encode()):
-        raise Wrong(f"{output.count(10)} replies to {len(lines) + 1} lines, the last {output[-200:]!r} in place of {counts!r}")
-    return seconds, peak
+        raise harness.Wrong(f"a script of {len(script)} bytes is too long")
+    taken = harness.run(program, script, *options)
+    counts = {"CountOfDocuments": documents, "CountOfIndexes": 0, "CountOfTombstones": 0, "LastDocEtag": last}
+    harness.check_counts(taken.output, len(lines) + 1, model.write_json(counts))
+    return taken
 
 
 class InMemory:
@@ -111,20 +86,20 @@ class InMemory:
 
     name = "memory"
 
-    def __init__(self, program, documents):
+    def __init__(self, program: str, documents: int):
         self.program, self.documents, self.first = program, documents, filling(documents)
 
-    def run(self, lines):
+    def run(self, lines: list[str]) -> harness.Outcome:
         last = self.documents + writes_of(lines)
         return checked(self.program, [*self.first, *lines], self.documents, last)
 
-    def room(self):
-        return ROOM - len(script_of(self.first))
+    def room(self) -> int:
+        return harness.ROOM - len(harness.script_of(self.first))
 
-    def memory(self):
+    def memory(self) -> tuple[int, int]:
         """The peak of a run that fills the store, and of one that gets as many bytes and keeps nothing."""
-        filled = self.run([])[1]
-        return filled, run(self.program, b"x" * len(script_of(self.first)))[2]
+        as_many = b"x" * len(harness.script_of(self.first))
+        return self.run([]).peak, harness.run(self.program, as_many).peak
 
 
 class InFile:
@@ -132,7 +107,7 @@ class InFile:
 
     name = "file"
 
-    def __init__(self, program, documents, folder):
+    def __init__(self, program: str, documents: int, folder: str):
         self.program, self.documents, self.folder = program, documents, pathlib.Path(folder)
         shutil.rmtree(self.folder / "filled", ignore_errors=True)
         (self.folder / "filled").mkdir(parents=True)
@@ -140,9 +115,9 @@ class InFile:
         for first in range(0, len(lines), 64):
             part = lines[first : first + 64]
             last = min(documents, (first + len(part)) * AT_ONCE)
-            checked(program, part, last, last, ["--data", str(self.folder / "filled/store")])
+            checked(program, part, last, last, "--data", str(self.folder / "filled/store"))
 
-    def run(self, lines):
+    def run(self, lines: list[str]) -> harness.Outcome:
         copy = self.folder / "copy"
         shutil.rmtree(copy, ignore_errors=True)
         shutil.copytree(self.folder / "filled", copy)
@@ -151,24 +126,25 @@ class InFile:
             with open(path, "rb") as file:
                 os.fsync(file.fileno())
         last = self.documents + writes_of(lines)
-        return checked(self.program, lines, self.documents, last, ["--data", str(copy / "store")])
+        return checked(self.program, lines, self.documents, last, "--data", str(copy / "store"))
 
-    def room(self):
-        return ROOM
+    def room(self) -> int:
+        return harness.ROOM
 
-    def memory(self):
+    def memory(self) -> tuple[int, int]:
         empty = self.folder / "empty"
         shutil.rmtree(empty, ignore_errors=True)
         empty.mkdir()
-        return self.run([])[1], run(self.program, b"STATS\n", ["--data", str(empty / "store")])[2]
+        return self.run([]).peak, harness.run(self.program, b"STATS\n", "--data", str(empty / "store")).peak
 
 
-def quickest(store, lines, repeat):
-    return min(store.run(lines)[0] for _ in range(repeat))
+def quickest(store: InMemory | InFile, lines: list[str], repeat: int) -> float:
+    (seconds,) = harness.quickest(repeat, lambda: store.run(lines).seconds)
+    return seconds
 
 
-def seconds_each(store, kind, start, base, repeat):
-    """What one operation takes, and out of how many that was told."""
+def seconds_each(store: InMemory | InFile, kind: str, start: int, base: float, repeat: int) -> tuple[float, int]:
+    """What one operation takes, and of how many that was measured."""
     count = start
     while True:
         lines = operations(kind, count, store.documents)
@@ -179,67 +155,52 @@ def seconds_each(store, kind, start, base, repeat):
         count *= 4
 
 
-def per_second(seconds):
-    return f"{1 / seconds:,.0f}" if seconds > 0 else "too quick to tell"
-
-
-def row(store, repeat):
+def row(store: InMemory | InFile, repeat: int) -> list[str]:
     base = quickest(store, [], repeat)
     cells = [f"{store.documents:,}", store.name]
     for kind, start in (("PUT", 500), ("GET", 500), ("BULK", 10)):
         each, count = seconds_each(store, kind, start, base, repeat)
-        cells.append(f"{per_second(each)} ({count:,})")
+        cells.append(f"{harness.per_second(1, each)} ({count:,})")
     filled, empty = store.memory()
     memory = (filled - empty) * 1024 / store.documents
     text = sum(len(model.write_json(model.stored(model.read_json(body_of(number).encode())))) for number in range(1_000)) / 1_000
-    cells += [f"{base:.2f}", f"{memory:,.0f}", f"{text:,.0f}", f"{memory / text:.1f}"]
-    return "| " + " | ".join(cells) + " |"
+    return [*cells, f"{base:.2f}", f"{memory:,.0f}", f"{text:,.0f}", f"{memory / text:.1f}"]
 
 
-def stores(options, program, folder):
-    for count in map(int, options.sizes.split(",")):
-        yield InMemory(program, count)
+def stores(options: argparse.Namespace, folder: str | None) -> collections.abc.Iterator[InMemory | InFile]:
+    for count in options.sizes:
+        yield InMemory(options.program, count)
         if folder:
-            yield InFile(program, count, folder)
+            yield InFile(options.program, count, folder)
 
 
-def takes_data(program, folder):
-    words = [program, "run", "--data", os.path.join(folder, "first")]
-    return subprocess.run(words, stdin=subprocess.DEVNULL, stdout=subprocess.PIPE, stderr=subprocess.PIPE).returncode != 2
-
-
-def main():
-    options = argparse.ArgumentParser(description="Measures PUT, GET and BULK over stores of several sizes.")
-    options.add_argument("program", nargs="?", default=str(TOP / "crates/raven/out/raven"))
-    options.add_argument("--sizes", default="1000,16000,64000")
+def main() -> int:
+    options = harness.parser("Measures PUT, GET and BULK over stores of several sizes.")
+    options.add_argument("--sizes", type=harness.numbers, default=[1_000, 16_000, 64_000])
     options.add_argument("--data", action="store_true")
-    options.add_argument("--folder", help="where the files are made, with --data")
+    options.add_argument("--folder", help="the folder in which the files are made, with --data")
     options.add_argument("--repeat", type=int, default=3)
     options = options.parse_args()
-    program = os.path.abspath(options.program)
-    if not os.access(program, os.X_OK):
-        print(f"skipped: no program at {program}")
+    if not programs.is_built(options.program):
+        print(f"skipped: no program at {options.program}")
         return 0
-    if not os.access("/usr/bin/time", os.X_OK):
-        print("skipped: no /usr/bin/time, which tells the peak of memory")
+    if not harness.reports_peaks():
+        print(f"skipped: no {harness.GNU_TIME}, which reports the peak of memory")
         return 0
     if options.folder:
         os.makedirs(options.folder, exist_ok=True)
     with tempfile.TemporaryDirectory(prefix="documents-", dir=options.folder) as made:
         folder = made if options.data else None
-        if folder and not takes_data(program, folder):
+        if folder and not programs.takes_data(options.program):
             print("skipped with a file: this program takes no --data\n")
             folder = None
-        print(f"{os.cpu_count()} cores, {machine.processor()}; load before: {os.getloadavg()[0]:.1f}", end="\n\n")
-        print("| Documents | In | PUT per second | GET per second | BULK of 100 per second | Seconds to fill or open | Memory a document | JSON text | Ratio |")
-        print("|---:|---|---:|---:|---:|---:|---:|---:|---:|")
+        harness.print_machine()
         try:
-            for store in stores(options, program, folder):
-                print(row(store, options.repeat), flush=True)
-        except Wrong as wrong:
+            harness.table(HEADS, (row(store, options.repeat) for store in stores(options, folder)), texts=["In"])
+        except harness.Wrong as wrong:
             print(wrong, file=sys.stderr)
             return 1
-    print("\nIn brackets: out of how many. Memory and text are in bytes; the text is the document as it is kept, without what the server adds.")
+    print(BELOW)
     return 0
 
 

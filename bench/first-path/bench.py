@@ -7,88 +7,60 @@ A script has an AUTO, N PUTs, a PUMP that takes all that a batch may take, and t
 by default that of crates/raven. The table that is printed belongs into docs/performance.md. GNU time is needed.
 """
 
-import argparse
+import collections.abc
 import os
 import pathlib
-import subprocess
 import sys
-import tempfile
-import time
 
-TOP = pathlib.Path(__file__).resolve().parents[2]
 sys.dont_write_bytecode = True
-sys.path[:0] = [str(TOP / "tools"), str(TOP / "bench")]
-import machine
-import model
+sys.path.append(str(pathlib.Path(__file__).resolve().parents[1]))
+import harness
+from raven_tools import model
 
-NAMES = ["Ada", "Alan", "Barbara", "Donald", "Edsger", "Frances", "Grace", "John", "Margaret", "Niklaus"]
+HEADS = ["Documents", "Lines", "Seconds", "Processor seconds", "Lines per second", "Peak memory", "Replies"]
 
 
-def script_of(count):
+def script_of(count: int) -> bytes:
     lines = ["AUTO Users Name"]
     for number in range(1, count + 1):
-        name = NAMES[number % len(NAMES)]
-        body = f'{{"Name":"{name}","Age":{20 + number % 60},"@metadata":{{"@collection":"Users"}}}}'
-        lines.append(f"PUT users/{number} {body}")
+        name = harness.NAMES[number % len(harness.NAMES)]
+        lines.append(f'PUT users/{number} {{"Name":"{name}","Age":{20 + number % 60},"@metadata":{{"@collection":"Users"}}}}')
     lines.append("PUMP 65536")
-    lines += [f"FIND Auto/Users/ByName Name {name.lower()}" for name in NAMES]
-    return "".join(line + "\n" for line in lines).encode()
+    return harness.script_of(lines + [f"FIND Auto/Users/ByName Name {name.lower()}" for name in harness.NAMES])
 
 
-def run(program, script):
-    """The status, what was written, the seconds on the clock and on the processor, and the peak of memory in KiB."""
-    with tempfile.TemporaryFile() as given, tempfile.TemporaryFile() as taken, tempfile.NamedTemporaryFile("r") as told:
-        given.write(script)
-        given.seek(0)
-        # GNU time starts the program out of a small process of its own. Started from here, Python's memory would count.
-        words = ["/usr/bin/time", "--quiet", "-f", "%U %S %M", "-o", told.name, program, "run"]
-        began = time.monotonic()
-        status = subprocess.run(words, stdin=given, stdout=taken).returncode
-        seconds = time.monotonic() - began
-        user, system, peak = told.read().split()
-        taken.seek(0)
-        return status, taken.read(), seconds, float(user) + float(system), int(peak)
-
-
-def first_wrong(expected, found):
-    for at, (left, right) in enumerate(zip(expected.split(b"\n"), found.split(b"\n"))):
-        if left != right:
-            return f"reply {at + 1}: {right[:120]!r} in place of {left[:120]!r}"
-    return f"{found.count(10)} replies in place of {expected.count(10)}"
-
-
-def main():
-    options = argparse.ArgumentParser(description="Measures `raven run`, and checks its replies.")
-    options.add_argument("program", nargs="?", default=str(TOP / "crates/raven/out/raven"))
-    options.add_argument("--sizes", default="1000,4000,16000")
-    options = options.parse_args()
-    program = os.path.abspath(options.program)
-    if not os.access(program, os.X_OK):
-        print(f"no program: {program}", file=sys.stderr)
-        return 2
-
-    if not os.access("/usr/bin/time", os.X_OK):
-        print("no /usr/bin/time, which tells the peak of memory", file=sys.stderr)
-        return 2
-    print(f"{os.cpu_count()} cores, {machine.processor()}; load before: {os.getloadavg()[0]:.1f}", end="\n\n")
-    print("| Documents | Lines | Seconds | Processor seconds | Lines per second | Peak memory | Replies |")
-    print("|---:|---:|---:|---:|---:|---:|---|")
-    failed = False
-    for count in map(int, options.sizes.split(",")):
+def rows(program: str, sizes: list[int], wrong: list[str]) -> collections.abc.Iterator[list[str]]:
+    """A row for each size. What is wrong is put into the list, and printed."""
+    for count in sizes:
         script = script_of(count)
-        status, found, seconds, busy, peak = run(program, script)
         expected = model.replies(script)
-        right = status == 0 and found == expected
-        failed = failed or not right
-        lines = script.count(b"\n")
-        print(
-            f"| {count:,} | {lines:,} | {seconds:.2f} | {busy:.2f} | {lines / seconds:,.0f} | {peak / 1024:,.1f} MiB |"
-            f" {'all right' if right else 'WRONG'} |",
-            flush=True,
-        )
-        if not right:
-            print(f"status {status}; {first_wrong(expected, found)}", file=sys.stderr)
-    return 1 if failed else 0
+        taken = harness.run(program, script)
+        lines, is_right = script.count(b"\n"), taken.output == expected
+        cells = [f"{count:,}", f"{lines:,}", f"{taken.seconds:.2f}", f"{taken.cpu:.2f}", harness.per_second(lines, taken.seconds)]
+        yield [*cells, f"{taken.peak / 1024:,.1f} MiB", "all right" if is_right else "WRONG"]
+        if not is_right:
+            wrong.append(harness.first_wrong(expected, taken.output))
+            print(wrong[-1], file=sys.stderr)
+
+
+def main() -> int:
+    options = harness.parser("Measures `raven run`, and checks its replies.")
+    options.add_argument("--sizes", type=harness.numbers, default=[1_000, 4_000, 16_000])
+    options = options.parse_args()
+    if not os.access(options.program, os.X_OK):
+        print(f"no program: {options.program}", file=sys.stderr)
+        return 2
+    if not harness.reports_peaks():
+        print(f"no {harness.GNU_TIME}, which reports the peak of memory", file=sys.stderr)
+        return 2
+    harness.print_machine()
+    wrong: list[str] = []
+    try:
+        harness.table(HEADS, rows(options.program, options.sizes, wrong), texts=["Replies"])
+    except harness.Wrong as fault:
+        print(fault, file=sys.stderr)
+        return 1
+    return 1 if wrong else 0
 
 
 if __name__ == "__main__":

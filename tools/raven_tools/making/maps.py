@@ -1,11 +1,9 @@
-"""Random maps: good ones, other spellings of one, ones that are broken at some place, and ones at each limit."""
+"""Random maps: good ones, other spellings of one, and ones that are broken at some place."""
 
-import pathlib
-import sys
+import random
 
-sys.dont_write_bytecode = True
-sys.path.insert(0, str(pathlib.Path(__file__).resolve().parent))
-import language
+from raven_tools import language
+from raven_tools.making.chance import Chance
 
 VARIABLES = ["u", "o", "_", "U", "docs1"]
 LETS = ["a", "b", "c", "Key", "Sum", "u1"]
@@ -23,7 +21,7 @@ STRANGE += [";", "é", "\U0001f426", "\0", "\x0b", "\f", "\u00a0", "@", "#", "1.
 BLANKS = [" "] * 12 + ["  ", "\t", "\n", "\r\n", " \n\t"]
 
 
-def strength(tree):
+def strength(tree: tuple) -> int:
     """How much an expression binds: a conditional least, then the binary operators in their order, then unary ones."""
     if tree[0] == "if":
         return 0
@@ -32,15 +30,15 @@ def strength(tree):
     return 7 if tree[0] == "unary" else 8
 
 
-def path_of(tree):
-    """The names of a variable and the points behind it, or None where it is something else."""
+def path_of(tree: tuple) -> list[str] | None:
+    """The names of a variable and the points behind it, or None if it is something else."""
     if tree[0] == "var":
         return [tree[1]]
     before = path_of(tree[1]) if tree[0] == "dot" else None
     return before and [*before, tree[2]]
 
 
-def literal(value):
+def literal(value: object) -> tuple:
     """The expression of a value that is no list and no object."""
     if value is None:
         return ("null",)
@@ -53,19 +51,13 @@ def literal(value):
     return ("number", value) if value >= 0 else ("unary", "-", ("number", -value))
 
 
-class Maps:
-    """Makes maps by chance. Trees are those of `tools/language.py`."""
+class Maps(Chance):
+    """Makes maps by chance. Trees are those of `raven_tools.language`."""
 
-    def __init__(self, random):
-        self.random = random
+    def __init__(self, source: random.Random):
+        super().__init__(source)
         self.collections = COLLECTIONS
-        self.variables = []
-
-    def one_of(self, choices):
-        return self.random.choice(choices)
-
-    def chance(self, percent):
-        return self.random.random() * 100 < percent
+        self.variables: list[str] = []
 
     # trees
 
@@ -153,7 +145,7 @@ class Maps:
         self.variables.append(name)
         return ("let", name, value)
 
-    def tree(self):
+    def tree(self) -> language.Map:
         self.variables = [self.one_of(VARIABLES)]
         collection = self.one_of(self.collections)
         clauses = tuple(self.clause() for _ in range(self.one_of([0, 0, 1, 1, 2, 3])))
@@ -163,8 +155,8 @@ class Maps:
             members[path[2] if path else self.one_of(MEMBERS)] = path or self.expression()
         return language.Map(self.variables[0], collection, clauses, tuple(members.items()))
 
-    def loading(self, collection=None, loaded=None):
-        """A map of which most entries hang on another document."""
+    def loading(self, collection: str | None = None, loaded: str | None = None) -> language.Map:
+        """A map of which most entries depend on another document."""
         name = ("dot", ("var", "o"), "Ref")
         second = self.one_of(self.collections)
         clauses = [("let", "c", ("load", name, loaded or self.one_of(self.collections)))]
@@ -179,7 +171,7 @@ class Maps:
         members["X"] = ("if", known, ("text", "none"), ("dot", ("var", "c"), "Name"))
         return language.Map("o", collection or self.one_of(self.collections), tuple(clauses), tuple(members.items()))
 
-    def probed(self, tree, body, load):
+    def probed(self, tree: language.Map, body: dict, load) -> language.Map:
         """The map with members that say by a text whether they give what they give of this document now."""
         try:
             entry = language.entry_of(tree, body, load) or {}
@@ -196,7 +188,7 @@ class Maps:
     # spellings
 
     def spelled(self, tree, least=0):
-        """The tokens of an expression that has to bind at least so much. Parentheses stand where they have to, or by chance."""
+        """The tokens of an expression that has to bind at least so much. Parentheses are put if they have to be, or by chance."""
         if strength(tree) < least or self.chance(4):
             return ["(", *self.spelled(tree), ")"]
         kind, *parts = tree
@@ -234,7 +226,7 @@ class Maps:
         return [*tokens, "}"]
 
     def joined(self, tokens):
-        """The tokens with blanks between them where they have to stand, and by chance elsewhere."""
+        """The tokens with blanks between them if they have to be there, and by chance elsewhere."""
         text = self.one_of(BLANKS) if self.chance(5) else ""
         for token in tokens:
             is_word = text[-1:].isalnum() or text[-1:] == "_"
@@ -242,7 +234,7 @@ class Maps:
             text += (self.one_of(BLANKS) if must or self.chance(60) else "") + token
         return text + (self.one_of(BLANKS) if self.chance(5) else "")
 
-    def text_of(self, tree):
+    def text_of(self, tree: language.Map) -> str:
         return self.joined(self.tokens(tree))
 
     # broken maps
@@ -265,7 +257,7 @@ class Maps:
         return parts[:at] if self.chance(40) else parts[:at] + parts[at + 1 : at + 2] + parts[at : at + 1] + parts[at + 2 :]
 
     def misnamed(self, tree):
-        """The tokens with a variable or two in place of others, or with a member that stands twice."""
+        """The tokens with a variable or two in place of others, or with a member that is there twice."""
         tokens = self.tokens(tree)
         if self.chance(35):
             name = self.one_of([name for name, _ in tree.members])
@@ -279,7 +271,7 @@ class Maps:
             tokens[self.one_of(places)] = self.one_of(VARIABLES + LETS)
         return tokens
 
-    def broken(self, tree):
+    def broken(self, tree: language.Map) -> str:
         """A text that is mostly none of the language, or that has a name too many or too few."""
         if self.chance(30):
             return self.joined(self.misnamed(tree))
@@ -289,68 +281,3 @@ class Maps:
                 tokens = self.replaced(tokens, STRANGE) or ["from"]
             return self.joined(tokens)
         return "".join(self.replaced(list(self.joined(tokens)), list("\"\\ .,(){}=!<>&|+-?:_aZ09é\x00\n\x7f")))
-
-
-# Maps at the limits
-
-
-def with_member(value):
-    return f"from u in docs.U select new {{ A = {value} }}"
-
-
-def nested(depth):
-    """Maps with so many parts open within one another, with the names of their kinds."""
-    half = depth // 2
-    yield "parentheses", with_member("(" * depth + "u" + ")" * depth)
-    yield "minus signs", with_member("- " * depth + "u.A.B")
-    yield "exclamation marks", with_member("!" * depth + "u")
-    yield "conditionals on the left", with_member("u ? " * depth + "1" + " : 2" * depth)
-    yield "conditionals on the right", with_member("u ? 1 : " * depth + "2")
-    yield "loads", with_member("LoadDocument(" * depth + "u" + ', "C")' * depth)
-    yield "mixed parts", with_member("-(" * half + ("!" * (depth % 2)) + "u" + ")" * half)
-    yield "parts one after the other", with_member(" + ".join(["(-u)"] * depth))
-    yield "a part behind those that are closed", with_member(f"{'(' * depth}u{')' * depth} ? -u : {'(' * depth}u{')' * depth}")
-    yield "parts of a where", f"from u in docs.U where {'(' * depth}u{')' * depth} select new {{ u }}"
-
-
-def counted(count):
-    """Maps with so many operators and points in one clause or member."""
-    points, half = ".A" * count, count // 2
-    yield "operators", with_member("1" + " + 1" * count)
-    yield "points", with_member("u" + points)
-    yield "points of a path", f"from u in docs.U select new {{ u{points} }}"
-    yield "operators and points", with_member("u" + ".A" * half + " == 1" * (count - half))
-    yield "operators of a where", f"from u in docs.U where u{' && u' * count} select new {{ u }}"
-    yield "operators of a let", f"from u in docs.U let v = u{' < u' * count} select new {{ u }}"
-    two = f"1{' - 1' * count}"
-    clauses = f"where {two} let v = {two} let w = {two}"
-    yield "operators of each part", f"from u in docs.U {clauses} select new {{ A = {two}, B = {two} }}"
-    yield "operators within parts", with_member("(" * 60 + "u" + ".A)" * 60 + " * 1" * (count - 60))
-    yield "other marks do not count", with_member("u ? " * 30 + "- 1" + " : 2" * 30 + " * 1" * count)
-
-
-def of_members(count):
-    names = [f"A{number} = 1" for number in range(count)]
-    yield "members", f"from u in docs.U select new {{ {', '.join(names)} }}"
-    yield "members and a comma", f"from u in docs.U select new {{ {', '.join(names)}, }}"
-    yield "members and two commas", f"from u in docs.U select new {{ {', '.join(names)},, }}"
-    yield "members and a mark", f"from u in docs.U select new {{ {', '.join(names)}, = 1 }}"
-    yield "members of one name", f"from u in docs.U select new {{ {', '.join(['u'] * count)} }}"
-
-
-def of_length(length):
-    good = "from u in docs.U select new { u.A }"
-    yield "blanks", good + " " * (length - len(good))
-    yield "a text", with_member('"' + "x" * (length - len(with_member('""'))) + '"')
-    room = length - len(with_member('""'))
-    yield "letters of two bytes", with_member('"' + "é" * (room // 2) + '"' + " " * (room % 2))
-    yield "nothing of the language", "x" * length
-
-
-def at_the_limits():
-    """Texts of maps that are at, below or past a limit, with their names."""
-    for extra in (-1, 0, 1, 2):
-        cases = [*nested(language.DEEPEST + extra), *counted(language.MOST_OPERATORS + extra)]
-        cases += [*of_members(language.MOST_MEMBERS + extra), *of_length(language.LONGEST + extra)]
-        for name, text in cases:
-            yield f"{name} {extra:+}", text

@@ -1,10 +1,11 @@
 """A whole run of the program: what it is called with, what is read, opened and written, and how it ends."""
 
+import collections.abc
 import dataclasses
 import re
 
-import keeping
-import model
+from raven_tools import model
+from raven_tools.model import keeping
 
 BASE = re.compile(r"[A-Za-z0-9]{22}", re.ASCII)
 
@@ -25,14 +26,14 @@ class Clock:
 class Outside:
     """What a run is given besides the keeper. The calls that fail are counted from 1."""
 
-    arguments: tuple = ("run",)
+    arguments: tuple[str, ...] = ("run",)
     clock: Clock = Clock()
-    reads: frozenset = frozenset()
-    writes: frozenset = frozenset()
+    reads: frozenset[int] = frozenset()
+    writes: frozenset[int] = frozenset()
     script: bytes = b""
 
 
-def options(arguments):
+def options(arguments: tuple[str, ...]) -> dict[str, str] | None:
     """The options, or None if the arguments are not the command and then pairs of a name and a value, no name twice."""
     if not arguments or arguments[0] != "run" or len(arguments) % 2 == 0:
         return None
@@ -45,7 +46,7 @@ def options(arguments):
     return found if BASE.fullmatch(found.get("--id", model.BASE)) else None
 
 
-def is_read(script, fails):
+def is_read(script: bytes, fails: frozenset[int]) -> bool:
     """Whether no call fails. How much a call gives is left open: there is at least one for the bytes, and one for the end."""
     if not fails:
         return True
@@ -57,7 +58,7 @@ def is_read(script, fails):
     return True
 
 
-def moments(clock, lines):
+def moments(clock: Clock, lines: list[bytes]) -> collections.abc.Iterator[tuple[bytes, int]]:
     """Each line that has bytes, with the moment at which its turn comes."""
     moment = clock.moment
     for line in lines:
@@ -68,7 +69,7 @@ def moments(clock, lines):
             raise LeftOpen("whether the clock is asked at an empty line")
 
 
-def answered(database, given):
+def answered(database: model.Database, given: Outside) -> tuple[str, bytes]:
     """The status, and the replies: each is one call of the output, and no line behind a failing one is executed."""
     written = []
     for line, moment in moments(given.clock, model.lines(given.script)):
@@ -80,7 +81,7 @@ def answered(database, given):
     return "Done", b"".join(written)
 
 
-def run(given, keeper):
+def run(given: Outside, keeper: keeping.Keeper) -> tuple[str, bytes]:
     """The status and what was written. The causes come in this order; the keeper is left as the run leaves it."""
     found = options(given.arguments)
     if found is None:

@@ -1,8 +1,8 @@
 """The cases of runs in `crates/raven_cases/stdin`: how they are written, and what is printed of them.
 
-A case begins with `== NAME`. These lines stand before its script, in any order:
+A case begins with `== NAME`. These lines come before its script, in any order:
 
-    arguments A A ..     the arguments; without the line `run`, and none at all if nothing stands behind it
+    arguments A A ..     the arguments; without the line `run`, and none at all if nothing follows it
     clock M [+S]         the first call of the clock gives M, and each further one S more; without the line 0
     reads N .., writes N .., keeps N ..      the calls of the input, of the output and of the keeper that fail
     row ETAG MOMENT      a row that the keeper holds at the start, with `id`, `collection` and `body` lines behind it
@@ -10,15 +10,14 @@ A case begins with `== NAME`. These lines stand before its script, in any order:
 
 The script has `> LINE`, a line with its LF; `>N LINE`, N such lines; and `| TEXT`, a piece without one. `again` begins a
 further run over the keeper that was handed back. In values `⟨0d⟩` is a byte, `⟨3*ab⟩` is `ababab`, and `⟨n⟩` is the number
-of the copy of a line that stands several times. Empty lines, and lines that begin with `#`, are passed over.
+of the copy of a line that is there several times. Empty lines, and lines that begin with `#`, are passed over.
 """
 
 import dataclasses
 import re
 
-import keeping
-import model
-import running
+from raven_tools import model
+from raven_tools.model import keeping, running
 
 MARK = re.compile(r"⟨(?:(?P<bytes>(?:[0-9a-f]{2})+)|(?P<count>[0-9]+)\*(?P<text>[^⟨⟩]*)|(?P<number>n))⟩|[⟨⟩]")
 COPIES = re.compile(r">([1-9][0-9]*) (.*)")
@@ -42,12 +41,12 @@ class Run:
 @dataclasses.dataclass
 class Case:
     name: str
-    runs: list
-    rows: list = dataclasses.field(default_factory=list)
-    keeps: tuple = ()
+    runs: list[Run]
+    rows: list[keeping.KeptRow] = dataclasses.field(default_factory=list)
+    keeps: tuple[int, ...] = ()
 
 
-def written_out(value, number=None):
+def written_out(value: str, number: int | None = None) -> bytes:
     """The bytes that a value stands for."""
 
     def meant(found):
@@ -66,13 +65,13 @@ def written_out(value, number=None):
     return b"".join([*parts, value[at:].encode()])
 
 
-def numbers_of(value):
+def numbers_of(value: str) -> tuple[int, ...]:
     if not NUMBERS.fullmatch(value):
         raise ValueError(f"not numbers: {value}")
     return tuple(map(int, value.split(" ")))
 
 
-def clock_of(value):
+def clock_of(value: str) -> running.Clock:
     found = CLOCK.fullmatch(value)
     if not found:
         raise ValueError(f"not a clock: {value}")
@@ -83,19 +82,19 @@ class Reader:
     """Reads the cases line by line."""
 
     def __init__(self):
-        self.cases = []
+        self.cases: list[Case] = []
 
     @property
-    def case(self):
+    def case(self) -> Case:
         if not self.cases:
             raise ValueError("no case has begun")
         return self.cases[-1]
 
     @property
-    def outside(self):
+    def outside(self) -> running.Outside:
         return self.case.runs[-1].outside
 
-    def line(self, line):
+    def line(self, line: str) -> None:
         if not line or line.startswith("#"):
             return
         if line.startswith(("== ", ">", "| ")):
@@ -131,7 +130,7 @@ class Reader:
 
     def row(self, etag, changed):
         if len(self.case.runs) > 1 or self.case.rows and self.case.rows[-1].etag >= etag:
-            raise ValueError("the rows that the keeper holds at the start stand before `again`, and their etags rise")
+            raise ValueError("the rows that the keeper holds at the start come before `again`, and their etags rise")
         self.case.rows.append(keeping.KeptRow(etag, "", "@empty", None, changed))
 
     def given(self, word, value):
@@ -147,7 +146,7 @@ class Reader:
             raise ValueError(f"not a line of a case: {word} {value}")
 
 
-def read(text):
+def read(text: str) -> list[Case]:
     """The cases of a file, whose lines each end with a LF."""
     reader = Reader()
     for number, line in enumerate(text.split("\n")[:-1], 1):
@@ -161,25 +160,25 @@ def read(text):
 # What is printed
 
 
-def printed_row(row):
+def printed_row(row: keeping.KeptRow) -> str:
     """A row that the keeper is left with."""
     id_and_collection = f"{model.quoted(row.id)} {model.quoted(row.collection)}"
     return f"row {row.etag} {row.changed} {id_and_collection} {'deleted' if row.body is None else row.body}\n"
 
 
-def printed_output(written):
-    """Each line that was written, and what stands behind the last of them."""
+def printed_output(written: bytes) -> str:
+    """Each line that was written, and what follows the last of them."""
     *lines, last = written.decode().split("\n")
     return "".join(f"> {line}\n" for line in lines) + (f"| {last}\n" if last else "")
 
 
-def printed_run(run, keeper):
+def printed_run(run: Run, keeper: keeping.Keeper) -> str:
     status, written = running.run(run.outside, keeper)
     rows = "".join(map(printed_row, keeper.rows)) if run.shows_rows else ""
     return f"status {status}\n" + printed_output(written) + rows
 
 
-def printed(case):
+def printed(case: Case) -> str:
     """What has to be printed of a case, by the rules."""
     keeper = keeping.Keeper(case.rows, case.keeps)
     return f"== {case.name}\n" + "again\n".join(printed_run(run, keeper) for run in case.runs) + "\n"

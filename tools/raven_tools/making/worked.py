@@ -1,7 +1,7 @@
-"""Cases of the language of definitions that were worked out by hand. `tools/test_language.py` holds the language against them,
-`tools/check-index-cases.py` the table of `crates/index_cases`, and `tools/scripts.py` makes scripts of them."""
+"""Cases of the language of definitions that were worked out by hand. `tools/test_language.py` compares the language with them,
+`tools/check-index-cases.py` the table of `crates/index_cases`, and `case_scripts` makes scripts of them."""
 
-import language
+from raven_tools import language
 
 BEFORE = "from u in docs.U select new { A = "
 # Before an expression in which `a`, `b` and `c` are bound.
@@ -69,14 +69,14 @@ REFUSED = [
     ("from u in docs.U let v 1 select new { u }", 23, "Unexpected"),
     ("from u in docs.U let where = 1 select new { u }", 21, "Unexpected"),
     ("from u in docs.U where u where select new { u }", 31, "Unexpected"),
-    # Of names the first in the text counts. The name of a `let` is bound behind its value.
+    # Of names the first in the text counts. The name of a `let` is bound after its value.
     ("from u in docs.U let v = v select new { u }", 25, "UnknownName"),
     ("from u in docs.U let u = x select new { u }", 21, "UnknownName"),
     ("from u in docs.U let v = x let u = 1 select new { u }", 25, "UnknownName"),
     ("from u in docs.U let v = 1 let v = 2 select new { v }", 31, "UnknownName"),
     ("from u in docs.U where v let v = 2 select new { v }", 23, "UnknownName"),
     ("from u in docs.U select new { A = U.B }", 34, "UnknownName"),
-    # A member that stands twice is told behind any name, and before it stands what no rule takes.
+    # A member that is there twice is reported after any name, and before both what no rule takes.
     ("from u in docs.U select new { u.A, A = 1, B = v }", 46, "UnknownName"),
     ("from u in docs.U select new { u.A, A = v, B = ; }", 46, "Unexpected"),
     ("from u in docs.U select new { u.A, A = 1, B = 2, B = 3 }", 35, "DuplicateField"),
@@ -193,7 +193,7 @@ REDUCED = [
     (FROM + "Company = g.Key, Total = g.Sum(x => x.Cents) }", "Reduce", 76, "NotReducible"),
     (FROM + "Company = g.Key, Total = g.Key }", "Reduce", 76, "NotReducible"),
     (FROM + "Company = g.Min(x => x.Company), Total = g.Sum(x => x.Total) }", "Reduce", 29, "NotReducible"),
-    # A member comes before the key, though the key stands first.
+    # A member comes before the key, though the key is first in the text.
     (FROM + "Total = g.Key, Company = g.Min(x => x.Company) }", "Reduce", 59, "NotReducible"),
     (
         "from r in results group r by new { r.Company, r.Total } into g select new { g.Key.Company, Total = g.Max(x => x.Total) }",
@@ -379,7 +379,7 @@ Z | T10 | 10:11 | 2020 | 2020-02 | 202002 | 2020-02-9 | 2020-2-29 | 2020-02-30 |
 """
 
 
-def texts_of(table):
+def texts_of(table: str) -> list[str]:
     return [text for line in table.strip().split("\n") for text in line.split(" | ")]
 
 

@@ -1,20 +1,17 @@
-"""Scripts for `tools/compare.py`: random ones, each out of its seed, and ones that stand at each limit."""
+"""Random scripts in which each line that a script may have comes, and something is wrong now and then."""
 
 import collections
-import pathlib
 import random
-import sys
 
-sys.dont_write_bytecode = True
-sys.path.insert(0, str(pathlib.Path(__file__).resolve().parent))
-import maps
-import model
+from raven_tools import model
+from raven_tools.making import maps
+from raven_tools.making.maker import Maker
 
 IDS = ["users/1", "USERS/1", "Users/1", "users/2", "users/10", "a", "A", "Z", "zz", "é", "É", "@index/x", "@INDEX/y",
        "@indexer", "orders/1", "x.y(z)", "users/\u212a", "\U0001f426", '"', "\\", "a\\b", "tab\tid", "del\x7f", "nul\0"]
 COLLECTIONS = ["Users", "users", "Orders", "C", "c", "@empty", "@indexes", "@Indexes", "@other", "", "É", "C/ByF", "a\"b"]
 FIELDS = ["Name", "name", "Age", "F", "F/2", "@metadata", "N.A", "N(A)", "\u00e9", "a\tb", "x" * 190, "\\", "é\"", "by"]
-# No word of a line, but a DEL, DELIF or GET takes what goes to the end of the line, and a BULK has its ids in JSON.
+# A space ends an argument, but the last one of a DEL, DELIF or GET goes to the end of the line, and a BULK has its ids in JSON.
 SPACED = ["a b", " a", "a ", " ", "users/1 ", "a\rb"]
 TEXTS = ["Ada", "ADA", "ada", "ada ", " ada", "Bo", "", "É", "é", "null", "true", "36", "\U0001f426", "a\"b", "K", "\u212a"]
 USUAL = {"u": "Users", "a": "C", "z": "c", "o": "Orders", "é": "@empty"}
@@ -35,7 +32,6 @@ SIZES = ["1", "2", "3", "64", "65536", "0", "65537", "001", "0000000000000064", 
 BAD_JSON = ["", "{", "}", "[1,]", "{\"a\":1,}", "{\"a\"}", "{a:1}", "{'a':1}", "nul", "True", "[1 2]", "{} {}", "{}x",
             "\ufeff{}", "\"\\x\"", "\"\\u12\"", "\"\\ud800\"", "\"\\udc00\"", "\"\\ud800\\u0041\"", "\"a", "// x", "[]]",
             "{\"a\":1 \"b\":2}", "\"\t\"", "{,}", "[,1]", "\"\\ud800x\"", "\"\\ud83d\\ud83d\""]
-
 # Texts that are dates, or nearly.
 DATES = ["1815-12-10", "1997-09-19T10:11:12.0000000Z", "2017-02-29", "2016-02-29", "-000044-03-15", "+002020-01-31 23:59:60",
          "20200131T1011-05", "2020-01-31T10+25:59[Europe/Paris][u-ca=hebrew]", "2020-01-31Z", "2020-01-31ZZ",
@@ -44,8 +40,8 @@ INDEX_NAMES = ["O", "o", "O", "Adults", "U/1", "u/1", "é", "É", "By Name", "N"
 ODD_NAMES = ["", "a\tb", "x\x7f", "n" * 200, "n" * 201, "n" * 214, "n" * 215, "é" * 100, "é" * 100 + "n", "é" * 107, "é" * 108,
              "auto/x", "AUTO/x", "Auto/Users/ByName", "Auto/" + "n" * 200, "ReplacementOf/O", "replacementof/", "ReplacementOf", "auto",
              " O", "O "]
+# Values of a wrong kind.
 NO_MAPS = ["null", "7", "[]", "{}", '["from","from"]', "[7]", '"from"', "true"]
-
 NO_TEXTS = ["null", "7", "true", "[]", "{}", "1.5"]
 NO_OBJECTS = ["null", "7", "true", "[]", "[{}]", '"{}"']
 NO_LISTS = ["null", "7", "{}", '"[]"', '{"Id":"a","Type":"DELETE"}']
@@ -60,9 +56,11 @@ OTHERS = ["", "", " ", "\r", "PUT", "PUT ", "PUT a", "PUT a ", "AUTO", "AUTO C",
           "PUBLISH 0", "INDEX", "INDEX ", "INDEX  {}", "INDEX{}", "INDEXES ", "INDEXES x", "indexes", "DROP", "DROP ",
           "DROP  x", "DROPx", "PUMP 1 ", "PUMP 1  x", "PUMP 1 x y", "PUMP 0 x", "PUMP x y", "PUMP x a\tb", "PUMP 1 a\tb", "#",
           "\ufeffPUMP 1", "PUT  a {}", "AUTO  C F", "FIND  x y z", "FIND x  y z", "PUMP  1", "PUTa {}"]
+# The fill of the longest document.
+FILL = model.MAX_BODY - len(model.write_json(model.stored({"F": ""})))
 
 
-def kind_of(reply):
+def kind_of(reply: dict) -> str:
     """The name of an error, or else the members that a reply has."""
     if "@metadata" in reply:
         return "a document"
@@ -71,24 +69,21 @@ def kind_of(reply):
     return reply.get("Error") or " ".join(sorted(reply))
 
 
-class Maker:
-    """Makes the lines of one script out of a seed."""
+def padded(fill: int) -> str:
+    """A document whose stored text has so many bytes more than that of an empty one."""
+    return f'{{"F":"{"x" * fill}"}}'
 
-    def __init__(self, seed):
-        self.random = random.Random(seed)
+
+class RandomMaker(Maker):
+    """Makes one script out of a seed. Its database is what the lines so far lead to."""
+
+    def __init__(self, seed: int):
+        super().__init__(random.Random(seed), model.Database())
         self.maps = maps.Maps(self.random)
-        # What the lines so far lead to, by which later lines find something.
-        self.database = model.Database()
         # How many in a hundred maps are of those that load.
         self.loading = 30
         # How often the model gives each kind of reply.
-        self.kinds = collections.Counter()
-
-    def one_of(self, choices):
-        return self.random.choice(choices)
-
-    def chance(self, percent):
-        return self.random.random() * 100 < percent
+        self.kinds: collections.Counter[str] = collections.Counter()
 
     def words(self):
         return self.one_of(TEXTS[:4] if self.chance(70) else TEXTS)
@@ -199,29 +194,11 @@ class Maker:
         return self.body(USUAL.get(model.folded(name)[:1], "Users"))
 
     def vector(self, name):
-        """Mostly the vector of the row, which is also that of the document where the row is no tombstone."""
+        """Mostly the vector of the row, which is also that of the document if the row is no tombstone."""
         row = self.database.store.row(name)
         if row and self.chance(70):
             return model.vector_of(row.etag)
         return self.one_of(VECTORS)
-
-    def put(self):
-        name = self.word_id()
-        return f"PUT {name} {self.usual_body(name)}"
-
-    def put_if(self):
-        name = self.word_id()
-        return f"PUTIF {name} {self.vector(name)} {self.usual_body(name)}"
-
-    def delete(self):
-        return f"DEL {self.known_id()}"
-
-    def delete_if(self):
-        name = self.known_id()
-        return f"DELIF {self.vector(name)} {name}"
-
-    def get(self):
-        return f"GET {self.known_id()}"
 
     def member(self, name, right, wrong):
         """A member, now and then one that is wrong or of another name."""
@@ -258,9 +235,7 @@ class Maker:
         return f"BULK {body if self.chance(97) else self.value()}"
 
     def stale(self):
-        if self.chance(15) or not self.database.indexes:
-            return f"STALE {self.no_index()}"
-        return f"STALE {self.in_other_case(self.one_of(self.database.indexes).name)}"
+        return f"STALE {self.live_name(15)}"
 
     def stats(self):
         return "STATS"
@@ -278,9 +253,9 @@ class Maker:
     def pump(self):
         return f"PUMP {self.size()}"
 
-    def live_name(self):
-        """Mostly the name of an index, in some case of letters."""
-        if self.chance(10) or not self.database.indexes:
+    def live_name(self, missing=10):
+        """Mostly the name of an index, in some case of letters. So many in a hundred are of none."""
+        if self.chance(missing) or not self.database.indexes:
             return self.no_index()
         return self.in_other_case(self.one_of(self.database.indexes).name)
 
@@ -378,10 +353,10 @@ class Maker:
         kinds += [self.auto] * 2 + [self.pump] * 3 + [self.find] * 6 + [self.stale] * 2 + [self.stats, self.other]
         return kinds + [self.index] * 5 + [self.drop] + [self.listed] * 2 + [self.pump_one] * 2
 
-    def line(self):
+    def line(self) -> bytes:
         return self.spoiled(self.one_of(self.kinds_of_lines())().encode())
 
-    def script(self, count):
+    def script(self, count: int) -> bytes:
         parts = []
         for _ in range(count):
             line = self.line()
@@ -391,134 +366,3 @@ class Maker:
         if self.chance(30):
             parts.pop()
         return b"".join(parts)
-
-
-def put(name, body="{}"):
-    return f"PUT {name} {body}\n"
-
-
-def delete(name):
-    return f"DEL {name}\n"
-
-
-def bulk(*commands):
-    return f'BULK {{"Commands":[{",".join(commands)}]}}\n'
-
-
-def command(kind, name, members=""):
-    """A command of a transaction; further members begin with a comma."""
-    return f'{{"Id":"{name}","Type":"{kind}"{members}}}'
-
-
-def put_command(name, document="{}"):
-    return command("PUT", name, f',"Document":{document}')
-
-
-def of(collection):
-    return f'{{"F":"x","@metadata":{{"@collection":"{collection}"}}}}'
-
-
-def padded(fill):
-    """A document whose stored text has so many bytes more than that of an empty one."""
-    return f'{{"F":"{"x" * fill}"}}'
-
-
-# The fill of the longest document.
-FILL = model.MAX_BODY - len(model.write_json(model.stored({"F": ""})))
-
-
-def nested(depth):
-    return f'{{"D":{"[" * (depth - 1)}{"]" * (depth - 1)}}}'
-
-
-def at_an_id(name):
-    """Each line that has an id, with this one."""
-    first, second = model.vector_of(1), model.vector_of(2)
-    lines = [put(name), f"GET {name}\n", f"PUTIF {name} {first} {{}}\n", f"DELIF {second} {name}\n", put(name), delete(name)]
-    return "".join(lines) + bulk(command("DELETE", "a"), put_command(name), command("DELETE", name)) + "STATS\n"
-
-
-def sizes(extra):
-    """Scripts with something that is so much longer than may be."""
-    yield "a body", put("a", padded(FILL + extra)) + "STATS\n"
-    yield "a body in a transaction", bulk(put_command("a"), put_command("b", padded(FILL + extra))) + "GET b\nSTATS\n"
-    yield "an id", at_an_id("i" * (model.MAX_ID + extra))
-    name = "n" * (model.MAX_NAME + extra)
-    yield "a name", f"FIND {name} F x\nSTALE {name}\n"
-    yield "an automatic name", f"AUTO {'c' * (model.MAX_NEW_NAME - 9 + extra)} F\nFIND Auto/1 F x\n"
-    body = {"@metadata": {}, "Collection": "C", "Fields": [[""]], "Kind": "auto"}
-    yield "a definition", f"AUTO C {'f' * (model.MAX_BODY - len(model.write_json(body)) + extra)}\nSTATS\n"
-    yield "brackets", put("a", nested(model.MAX_DEPTH + extra)) + "GET a\n"
-    yield "brackets in a transaction", bulk(put_command("a", nested(model.MAX_DEPTH - 3 + extra))) + "GET a\n"
-    first = put("a")
-    yield "a script", first + "\n" * (model.MAX_SCRIPT - len(first) + extra)
-
-
-def bodies():
-    """Scripts with bodies that are written in another way than they are read."""
-    yield "a body that is as long written as read", put("a", '{"F":"' + '\\"' * (FILL // 2) + '"}')
-    yield "a body that is longer written than read", put("a", '{"F":"' + "\\b" * (FILL // 2 + 1) + '"}')
-    yield "a body that is shorter written than read", put("a", '{"F":"' + "\\u0041" * (FILL - 1) + '"' + " " * 1000 + "}")
-    for name in model.OWN:
-        yield f"a member {name} that goes out", put("a", f'{{"F":"{"x" * FILL}","@metadata":{{"{name}":"y"}}}}') + "STATS\n"
-    yield "a member that stays", put("a", f'{{"F":"{"x" * FILL}","@metadata":{{"@other":"y"}}}}') + "STATS\n"
-    yield "each number", "".join(put("a", f'{{"N":{n}}}') + put("a", f'{{"N":{n},"N":1}}') + "GET a\n" for n in NUMBERS)
-    texts = [(put("a", n), put("a", f'{{"N":{n}}}'), f"BULK {n}\n", bulk(put_command("a", n))) for n in BAD_JSON]
-    yield "each text that is no JSON", "".join("".join(lines) for lines in texts)
-
-
-def indexes():
-    """Scripts with many indexes, and with many batches."""
-    many = "".join(f"AUTO c{number} F\n" for number in range(model.MAX_SLOTS + 2))
-    yield "more indexes than may be", many + "AUTO c0 F\nPUMP 1\nSTATS\n"
-    letters = [[mark.upper() if number >> at & 1 else mark for at, mark in enumerate("abcdefgh")] for number in range(256)]
-    same = "".join(f"AUTO {''.join(marks)} F\n" for marks in letters)
-    yield "names that differ in case alone", same + "AUTO ABCDEFGH F\nPUMP 1\nFIND auto/abcdefgh/byf/255 F x\n"
-    yield "names of control characters", "".join(f"AUTO c{at}\tx F\nFIND Auto/{at + 1} F x\n" for at in range(4))
-    yield "each size of a batch", "".join(f"PUMP {number}\n" for number in SIZES)
-    rows = "".join(put(f"u/{number}", of("U")) for number in range(300))
-    yield "batches", f"AUTO U F\n{rows}" + "PUMP 1\nPUMP 7\nSTALE Auto/U/ByF\n" * 20 + "PUMP 65536\nFIND Auto/U/ByF F X\n"
-    gone = "".join(delete(f"U/{number}") + "STALE Auto/U/ByF\nPUMP 1\n" for number in range(0, 300, 9))
-    found = "FIND Auto/U/ByF F x\nSTALE Auto/U/ByF\nSTATS\n"
-    yield "batches of tombstones", f"AUTO U F\n{rows}PUMP 280\n{gone}{found}PUMP 5\n{found}PUMP 200\n{found}"
-
-
-def transactions():
-    """Scripts with long transactions."""
-    many = [put_command(f"u/{number % 500}", padded(1)) for number in range(2000)]
-    found = "STATS\nPUMP 100\nFIND Auto/@empty/ByF F X\n"
-    late = command("DELETE", "u/1", ',"ChangeVector":""')
-    yield "a long transaction", "AUTO @empty F\n" + bulk(*many) + found + bulk(*many, late) + found
-    twice = [put_command("a"), command("DELETE", "A"), command("DELETE", "a"), put_command("A")] * 100
-    yield "an id over and over", bulk(*twice) + bulk(*twice, command("DELETE", "a")) + "GET a\nSTATS\n"
-
-
-def faults():
-    """Scripts with several faults in one line, of which the first in order has to be told."""
-    names = ["", "i" * 513, "a\\tb", "@index/a", "a"]
-    texts = ["[" * 101, "[", "[1.5]", "[1]", "{}", padded(FILL + 1)]
-    yield "faults of a body and an id", "".join(put(name or "b", text) for name in [*names, "a\tb"] for text in texts)
-    members = [',"ChangeVector":7,"Document":[]', ',"ChangeVector":"x","Document":[]', ',"ChangeVector":"","Document":{}']
-    members += [',"ChangeVector":null', ""]
-    items = ["7", "[]", "{}", '{"Type":7,"Id":7}', command("put", ""), '{"Type":"PUT","Id":7,"ChangeVector":7}']
-    items += [command(kind, name, more) for kind in ("PUT", "DELETE") for name in names for more in members]
-    yield "faults of a command", "".join(bulk(item) + bulk(command("DELETE", "b"), item, "7") for item in items)
-    whole = ["[" * 101, "[", "1.5", "[]", "7", "{}", '{"Commands":null}', '{"Commands":{}}', '{"commands":[]}']
-    whole += [' {"Commands" : [ ] } ', '{"Commands":[],"Commands":[7]}', '{"Commands":[7],"Commands":[]}']
-    yield "faults of a transaction", "".join(f"BULK {text}\n" for text in whole)
-    bodies = [padded(FILL + 1), "{}", of("C")]
-    vectors = ["x", model.vector_of(1), model.vector_of(3)]
-    puts = [f"PUTIF {name} {vector} {body}\n" for name in "abc" for vector in vectors for body in bodies]
-    deletions = [f"DELIF {vector} {name}\n" for name in ("@index/a", *"abc") for vector in vectors]
-    rest = [f"PUTIF @INDEX/a x {bodies[0]}\n", "DEL b\n", "DEL c\n", "DEL @INDEX/c\n", "GET @index/c\n", "STATS\n"]
-    yield "faults of a write", put("a", of("C")) + put("b", of("C")) + delete("b") + "".join(puts + rest + deletions + rest)
-
-
-def at_the_limits():
-    """Scripts at the limits, with their names."""
-    for extra in (-1, 0, 1):
-        for name, script in sizes(extra):
-            yield f"{name} at the limit {extra:+}", script.encode()
-    others = [("nothing", ""), ("a blank line without an end", "\r"), ("each line of an id", at_an_id("users/1"))]
-    for name, script in [*others, *bodies(), *indexes(), *transactions(), *faults()]:
-        yield name, script.encode()

@@ -1,9 +1,9 @@
 """Rows as they are kept: a keeper in memory, and the database that the rows of a keeper open."""
 
+import collections.abc
 import dataclasses
-import typing
 
-import model
+from raven_tools import model
 
 # The rows that are loaded by one call.
 PAGE = 1_024
@@ -16,7 +16,7 @@ class KeptRow:
     etag: int
     id: str
     collection: str
-    body: typing.Optional[str]  # None of a tombstone
+    body: str | None  # None of a tombstone
     changed: int
 
 
@@ -27,7 +27,7 @@ class Failed(Exception):
 class KeptBad(Exception):
     """The keeper holds a row that no database can have."""
 
-    def __init__(self, etag):
+    def __init__(self, etag: int):
         super().__init__(etag)
         self.etag = etag
 
@@ -35,7 +35,7 @@ class KeptBad(Exception):
 class Keeper:
     """Rows in order of etag. Its calls are counted together, from 1; those of some numbers fail."""
 
-    def __init__(self, rows=(), fails=()):
+    def __init__(self, rows: collections.abc.Iterable[KeptRow] = (), fails: collections.abc.Iterable[int] = ()):
         self.rows = list(rows)
         self.fails = frozenset(fails)
         self.calls = 0
@@ -45,11 +45,11 @@ class Keeper:
         if self.calls in self.fails:
             raise Failed
 
-    def load(self, after, most):
+    def load(self, after: int | None, most: int) -> list[KeptRow]:
         self.call()
         return [row for row in self.rows if after is None or row.etag > after][:most]
 
-    def commit(self, rows):
+    def commit(self, rows: list[model.Row]) -> None:
         """Puts each row in place of the row of its id, or behind the others. A failure is the reply to the line."""
         try:
             self.call()
@@ -59,7 +59,7 @@ class Keeper:
         self.rows = [row for row in self.rows if model.folded(row.id) not in replaced] + [kept(row) for row in rows]
 
 
-def kept(row):
+def kept(row: model.Row) -> KeptRow:
     body = model.write_json(row.body) if row.is_document() else None
     return KeptRow(row.etag, row.spelling, row.collection, body, row.changed)
 
@@ -67,7 +67,7 @@ def kept(row):
 # Reading rows
 
 
-def document_of(text):
+def document_of(text: str) -> dict | None:
     """The document whose text this is, byte for byte, or None."""
     try:
         value = model.read_json(text.encode())
@@ -77,7 +77,7 @@ def document_of(text):
     return value if is_stored and model.write_json(value) == text and model.size(text) <= model.MAX_BODY else None
 
 
-def row_of(kept_row):
+def row_of(kept_row: KeptRow) -> model.Row:
     """The row, if it passes the tests of a single row."""
     body = None if kept_row.body is None else document_of(kept_row.body)
     is_good = (
@@ -92,7 +92,7 @@ def row_of(kept_row):
     return model.Row(kept_row.etag, kept_row.id, kept_row.collection, body, kept_row.changed)
 
 
-def pages(keeper):
+def pages(keeper: Keeper) -> collections.abc.Iterator[list[KeptRow]]:
     """Page after page, up to an empty one, since only that says that the keeper has no more rows."""
     after = None
     while page := keeper.load(after, PAGE):
@@ -100,7 +100,7 @@ def pages(keeper):
         after = page[-1].etag
 
 
-def load_all(keeper):
+def load_all(keeper: Keeper) -> tuple[dict[str, model.Row], int]:
     """The rows by folded id, each tested by itself and against those before it."""
     rows, last = {}, 0
     for kept_row in (kept_row for page in pages(keeper) for kept_row in page):
@@ -115,7 +115,7 @@ def load_all(keeper):
 # Definitions
 
 
-def auto_of(body):
+def auto_of(body: dict) -> model.Auto | None:
     """An automatic definition of one field."""
     fields = body["Fields"]
     is_one = isinstance(fields, list) and len(fields) == 1 and isinstance(fields[0], list) and len(fields[0]) == 1
@@ -125,7 +125,7 @@ def auto_of(body):
     return model.Auto(body["Collection"], field) if isinstance(body["Collection"], str) else None
 
 
-def static_of(body):
+def static_of(body: dict) -> model.Static | None:
     """A definition by the text of a map. Reduces are of a later stage."""
     if not isinstance(body["Map"], str) or body["Reduce"] is not None:
         return None
@@ -135,7 +135,7 @@ def static_of(body):
         return None
 
 
-def definition_of(body):
+def definition_of(body: dict) -> model.Auto | model.Static | None:
     """The definition in the body of its row, or None."""
     members, kind = set(body), body.get("Kind")
     if body["@metadata"] != {}:
@@ -145,7 +145,7 @@ def definition_of(body):
     return static_of(body) if kind == "static" and members == {"@metadata", "Kind", "Map", "Reduce"} else None
 
 
-def index_of(row):
+def index_of(row: model.Row) -> model.Index:
     """The index of a live row of a definition. Replacements are of a later stage."""
     name = row.spelling[len("@index/") :]
     definition = definition_of(row.body)
@@ -155,7 +155,7 @@ def index_of(row):
     return model.Index(row.etag, name, definition)
 
 
-def opened(keeper, base=model.BASE):
+def opened(keeper: Keeper, base: str = model.BASE) -> model.Database:
     """The database of the rows that the keeper has. Each index begins at etag 0."""
     rows, last = load_all(keeper)
     database = model.Database(model.Store(rows, last, base), keeper)

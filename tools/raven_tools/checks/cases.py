@@ -1,0 +1,67 @@
+"""Compares what is expected of the cases of runs with the model."""
+
+import argparse
+import pathlib
+import sys
+
+from raven_tools import case_file, examples
+from raven_tools.model import running
+from raven_tools.places import CRATES
+
+CASES = CRATES / "raven_cases"
+
+
+def missing(cases: list[case_file.Case]) -> list[str]:
+    """The scripts of examples/ and docs/script.md that are no case."""
+    there = {run.outside.script for case in cases for run in case.runs}
+    return [example.name for example in examples.every() if example.script not in there]
+
+
+def parts_of(printed: bytes) -> dict[str, list[str]]:
+    """The lines of each case, by its name."""
+    parts = ("\n" + printed.decode(errors="replace")).split("\n== ")[1:]
+    return {part.split("\n", 1)[0]: part.split("\n")[1:] for part in parts}
+
+
+def first_difference(expected: list[str], found: list[str]) -> str:
+    for at, (left, right) in enumerate(zip(expected, found)):
+        if left != right:
+            return f"line {at + 1}:\n  the model  {left[:300]}\n  the file   {right[:300]}"
+    return f"the model has {len(expected)} lines and the file {len(found)}"
+
+
+def differing(cases: list[case_file.Case], expected: bytes, found: bytes) -> int:
+    """How many cases differ. If none does and the files are not the same, that counts as one."""
+    expected_parts, found_parts = parts_of(expected), parts_of(found)
+    count = 0
+    for case in cases:
+        left, right = expected_parts[case.name], found_parts.get(case.name, [])
+        if left != right:
+            count += 1
+            print(f"differs  {case.name}: {first_difference(left, right)}")
+    return count or int(expected != found)
+
+
+def main() -> int:
+    sys.setrecursionlimit(10_000)
+    given = argparse.ArgumentParser(description="Compares what is expected of the cases with the model.")
+    given.add_argument("folder", nargs="?", type=pathlib.Path, default=CASES)
+    given.add_argument("--write", action="store_true")
+    given = given.parse_args()
+    try:
+        cases = case_file.read((given.folder / "stdin").read_bytes().decode())
+        expected = "".join(map(case_file.printed, cases)).encode()
+    except (case_file.Mistake, running.LeftOpen, OSError, UnicodeDecodeError) as fault:
+        print(fault)
+        return 1
+    if len({case.name for case in cases}) < len(cases):
+        print("two cases have one name")
+        return 1
+    if given.write:
+        (given.folder / "stdout").write_bytes(expected)
+    found = differing(cases, expected, (given.folder / "stdout").read_bytes())
+    print(f"{found} of {len(cases)} cases differ")
+    lacking = missing(cases) if given.folder == CASES else []
+    for name in lacking:
+        print(f"no case: {name}")
+    return 1 if found or lacking else 0

@@ -1,0 +1,95 @@
+"""Compares statuses, options and files: what no single script shows."""
+
+import os
+import pathlib
+import subprocess
+import tempfile
+
+from raven_tools import model
+from raven_tools.making import MAKERS
+from raven_tools.programs import STATUSES, first_difference, run
+
+
+def has_status(program: str, arguments: list, wanted: int, name: str, given=None, taken=None) -> bool:
+    """Whether the program, called with these arguments, input and output, writes nothing and reports this status."""
+    script = b"PUT a {}\n"
+    ways = {"stdin": given} if given is not None else {"input": script}
+    ended = subprocess.run([program, *arguments], stdout=taken or subprocess.PIPE, stderr=subprocess.PIPE, timeout=60, **ways)
+    message = f"raven: {STATUSES[wanted]}".encode()
+    if ended.returncode == wanted and not ended.stdout and ended.stderr.strip() == message:
+        return True
+    print(f"{name}: status {ended.returncode} in place of {wanted}, {ended.stderr!r} in place of {message!r}, output {ended.stdout!r}")
+    return False
+
+
+def statuses(program: str) -> int:
+    """How many of the statuses that no script can have are wrong."""
+    calls = [[], ["RUN"], ["run", "run"], ["run", ""], [""], [b"run\xff"], ["--data", "x"], ["run", "--db", "x"]]
+    calls += [["run", "--data"], ["run", "--data", ""], ["run", "--data", "-x"], ["run", "--data=x"], ["run", "--data", "x", "y"]]
+    calls += [["run", "--id", text] for text in ("short", "A" * 21, "A" * 23, "A" * 21 + "-", "A" * 21 + "\u00e9")]
+    calls += [["run", "--data", "x", "--data", "x"], ["run", "--id", "A" * 22, "--id", "A" * 22]]
+    wrong = sum(not has_status(program, arguments, 2, f"arguments {arguments}") for arguments in calls)
+    with open("/dev/full", "wb") as full:
+        wrong += not has_status(program, ["run"], 4, "a full output", taken=full)
+    with tempfile.TemporaryFile() as large:
+        large.write(b"PUT a {}\n" * (model.MAX_SCRIPT // 9 + 1))
+        large.seek(0)
+        wrong += not has_status(program, ["run"], 9, "an input that is too large", given=large)
+    folder = os.open("/", os.O_RDONLY)
+    try:
+        wrong += not has_status(program, ["run"], 3, "an input that cannot be read", given=folder)
+    finally:
+        os.close(folder)
+    return wrong
+
+
+def options(program: str) -> int:
+    """How many of the calls with `--id` and `--data` are wrong."""
+    base, other = model.BASE, "0123456789abcdefghiXYZ"
+    with tempfile.TemporaryDirectory() as folder:
+        kept, text, link = (os.path.join(folder, name) for name in ("kept", "text", "no/file"))
+        pathlib.Path(text).write_bytes(b"PUT a {}\n" * 1_000)
+        stats = '{"CountOfDocuments":2,"CountOfIndexes":0,"CountOfTombstones":0,"LastDocEtag":3}\n'
+        cases = [
+            (["--id", other], "PUT a {}\n", 0, f'{{"ChangeVector":"A:1-{other}","Id":"a"}}\n'),
+            (["--data", kept], "PUT a {}\n", 0, f'{{"ChangeVector":"A:1-{base}","Id":"a"}}\n'),
+            (["--data", kept], "PUT b {}\n", 0, f'{{"ChangeVector":"A:2-{base}","Id":"b"}}\n'),
+            (["--id", other, "--data", kept], f"PUTIF A A:1-{other} {{}}\n", 0, f'{{"ChangeVector":"A:3-{other}","Id":"a"}}\n'),
+            (["--data", kept, "--id", base], "STATS\n", 0, stats),
+            (["--data", folder], "STATS\n", 5, ""),
+            (["--data", link], "STATS\n", 5, ""),
+            (["--data", text], "STATS\n", 5, ""),
+        ]
+        wrong = 0
+        for arguments, script, status, written in cases:
+            ended = run(program, script.encode(), *arguments, timeout=60)
+            is_right = (ended.returncode, ended.stdout.decode()) == (status, written)
+            if not is_right or f"raven: {STATUSES[status]}" not in ended.stderr.decode():
+                wrong += 1
+                message = f"status {ended.returncode} in place of {status}, {ended.stderr!r}"
+                print(f"arguments {arguments}: {message}, {ended.stdout!r} in place of {written!r}")
+        return wrong
+
+
+def openings(program: str, seed: int, lines: int) -> int:
+    """How many files are wrong over which some scripts run one after another. A file keeps the rows: each index begins anew."""
+    wrong = 0
+    for round_ in range(12):
+        database = model.Database()
+        with tempfile.TemporaryDirectory() as folder:
+            for part in range(4):
+                maker = MAKERS[(round_ + part) % len(MAKERS)](seed * 2_000_003 + round_ * 7 + part)
+                script = maker.script(lines)
+                expected = model.replies(script, database)
+                ended = run(program, script, "--data", os.path.join(folder, "kept"))
+                found = model.at_no_moment(ended.stdout)
+                if ended.returncode or found != expected:
+                    wrong += 1
+                    print(f"file {round_}, script {part}: status {ended.returncode}, {first_difference(expected, found)}")
+                    break
+                database = database.opened()
+    return wrong
+
+
+def outside(program: str, seed: int, lines: int) -> int:
+    return statuses(program) + options(program) + openings(program, seed, lines)

@@ -1,0 +1,118 @@
+"""Scripts of maps and their definitions at each limit, and of each case that was worked out by hand."""
+
+import collections.abc
+
+from raven_tools import language, model
+from raven_tools.making import limit_maps, limit_scripts, maps, worked
+from raven_tools.making.lines import definition
+from raven_tools.making.random_scripts import INDEX_NAMES, ODD_NAMES
+
+Named = collections.abc.Iterator[tuple[str, str]]
+
+
+def limits() -> Named:
+    """Scripts at the limits of the language. Each text that is read makes an index of its own."""
+    found = {}
+    for name, text in limit_maps.at_the_limits():
+        found.setdefault(name.rsplit(" ", 1)[1], []).append((name, text))
+    for extra, texts in found.items():
+        lines = [definition(f"{number} {name}", text) for number, (name, text) in enumerate(texts)]
+        yield f"maps at the limits {extra}", "\n".join(["PUT u " + limit_scripts.of("U"), *lines, "PUMP 64", "INDEXES"])
+
+
+def refusals() -> Named:
+    yield "maps that are refused", "\n".join(definition("N", text) for text, *_ in worked.REFUSED)
+    tokens = [text for text, *_ in worked.TOKENS] + maps.STRANGE
+    before = "from u in docs.U select new { "
+    prefixes = ["", "from ", before, before + "A = ", before + "A = u"]
+    lines = [definition("N", prefix + token) for token in tokens for prefix in prefixes]
+    lines += [definition("N", f"from u in docs.U select new {{ A = u {token} u }}") for token in tokens]
+    yield "each token at each place", "\n".join(lines)
+
+
+def words() -> Named:
+    """Each word as each kind of name."""
+    ways = ["from {w} in docs.U select new { A = 1 }", "from u in docs.{w} select new { u.A }"]
+    ways += ["from u in docs.U let {w} = 1 select new { u.A }", "from u in docs.U where {w} select new { u }"]
+    ways += [f"from u in docs.U select new {{ {member} }}" for member in ("{w}", "{w} = 1", "u.{w}", "A = {w}", "A = u.{w}.A")]
+    every = sorted(language.RESERVED | {"Key", "Sum", "Min", "Max", "_", "a1", "From", "load", "LoadDocuments"})
+    lines = []
+    for word in every:
+        lines += [definition(f"{word} {at}", way.replace("{w}", word)) for at, way in enumerate(ways)]
+        lines += [f"DROP {word} {at}" for at in range(len(ways))]
+    yield "each word as each name", "\n".join([*lines, "INDEXES"])
+
+
+def meanings() -> Named:
+    """An index for each expression, which says by a text whether it gives what it has to, and another text of what it gives."""
+    body = {**worked.BODY, "@metadata": {"@collection": "U"}}
+    lines = ["PUT u " + model.write_json(body)]
+    for number, (text, value) in enumerate(worked.MEANING):
+        expected = "null" if value == worked.FAILS else language.printed_expression(maps.literal(value))
+        tested = f'X = ({text}) == ({expected}) ? "same" : "other"'
+        lines.append(definition(f"M{number}", f"from u in docs.U select new {{ {tested}, Y = {text} }}"))
+    lines.append("PUMP 1")
+    for number, (_, value) in enumerate(worked.MEANING):
+        lines.append(f"FIND M{number} X same")
+        if isinstance(value, str):
+            lines.append(f"FIND M{number} Y {value}")
+    yield "what each expression gives", "\n".join([*lines, "INDEXES"])
+
+
+def dates() -> Named:
+    """A document for each text, and what an index makes of its parts."""
+    texts = [*((text, 20200229) for text in worked.LEAP_DAYS), *((text, None) for text in worked.NO_DATES)]
+    texts += [(text, year) for text, year in worked.YEARS]
+    lines = []
+    for number, (text, value) in enumerate(texts):
+        body = {"Text": text, "Value": value, "@metadata": {"@collection": "D"}}
+        lines.append(f"PUT d/{number} " + model.write_json(body))
+    whole = "d.Text.Year * 10000 + d.Text.Month * 100 + d.Text.Day"
+    kind = f'{whole} == d.Value ? "same" : d.Text.Year == d.Value ? "year" : "other"'
+    lines.append(definition("Dates", f"from d in docs.D select new {{ X = {kind} }}"))
+    found = [f"FIND Dates X {kind}" for kind in ("same", "year", "other")]
+    yield "each date", "\n".join([*lines, "PUMP 512", *found, "INDEXES"])
+
+
+def members() -> Named:
+    """Definitions with several faults, of which the first in order has to be reported."""
+    names = ['"Name":7', '"Name":null', "", '"Name":""', '"Name":"a\\tb"', f'"Name":"{"n" * 215}"', f'"Name":"{"n" * 201}"']
+    names += ['"Name":"auto/x"', f'"Name":"ReplacementOf/{"n" * 200}"', '"Name":"Live"', '"Name":"N"']
+    good, bad, long = "from u in docs.U select new { u.A }", "from u in docs.U select new { v.A }", " " * 65_537
+    texts = ["", '"Map":7', '"Map":null', '"Maps":"from"', '"Maps":[]', '"Maps":[7]', f'"Maps":["{good}","{good}"]']
+    texts += [f'"Map":"{good}","Maps":null', f'"Map":7,"Maps":["{good}"]', f'"Maps":["{bad}"],"Map":"{good}"']
+    texts += [f'"Map":"{text}"' for text in (good, bad, long)]
+    reduces = ["", '"Reduce":null', '"Reduce":7', '"Reduce":""', '"Reduce":"from r in results"']
+    lines = [definition("Live", "from u in docs.U select new { u.B }")]
+    for name in names:
+        for text in texts:
+            tried = reduces[:1] if long in text else reduces
+            lines += ["INDEX {" + ",".join(part for part in (reduce, text, name) if part) + "}" for reduce in tried]
+            lines.append("DROP N")
+    yield "faults of a definition", "\n".join([*lines, "INDEXES", "STATS"])
+    whole = ["[" * 101, "[", "1.5", "[]", "7", "{}", '{"Name":"N"}', "null", '"text"']
+    yield "definitions that are no objects", "\n".join(f"INDEX {text}" for text in whole)
+
+
+def names() -> Named:
+    """Each line of a name, with names at each limit, and definitions that come again in another spelling."""
+    lines = []
+    good = "from u in docs.U select new { u.A }"
+    for name in [*INDEX_NAMES, *ODD_NAMES]:
+        for given in (name, name.upper(), name.lower()):
+            lines += [definition(given, good), f"PUMP 64 {given}", f"STALE {given}", f"FIND {given} A x", f"GET @index/{given}"]
+        lines += [definition(name, good.replace("A", "B")), f"DROP {name.upper()}", f"DROP {name}"]
+        lines += [definition(name.upper(), good), f"PUMP 1 {name}", "INDEXES", f"GET @index/{name}", f"DROP {name}", "STATS"]
+    yield "each name in each line", "\n".join(lines)
+    full = [definition(f"N{number}", good) for number in range(model.MAX_SLOTS - 1)] + ["AUTO C F"]
+    more = [definition("n7", good), definition("N7", good.replace("A", "B")), definition("More", good)]
+    more += ["AUTO D F", "AUTO C G", "AUTO C F"]
+    more += ["AUTO D " + "f" * model.MAX_BODY, definition("auto/x", good), definition("n" * 201, good), "DROP Auto/C/ByF"]
+    more += ["AUTO D F", "AUTO E F", "DROP N9", definition("More", good), "AUTO E F", "STATS"]
+    yield "more indexes by text than may be", "\n".join([*full, *more])
+
+
+def at_the_limits() -> collections.abc.Iterator[tuple[str, bytes]]:
+    for scripts_of in (limits, refusals, words, meanings, dates, members, names):
+        for name, script in scripts_of():
+            yield name, script.encode() + b"\n"

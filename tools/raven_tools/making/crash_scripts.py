@@ -1,0 +1,100 @@
+"""Writes over a file, during which the program is killed, and what is asked afterwards."""
+
+import random
+
+from raven_tools import model
+from raven_tools.making import lines
+from raven_tools.making.maker import Maker
+
+COLLECTIONS = ["Users", "Orders", "Events", "@empty"]
+FIELDS = ["Name", "City", "Kind"]
+NAMES = ["Ada", "Grace", "Linus", "Barbara", "Edsger", "Niklaus", "É", "\U0001f426"]
+# Each id belongs to one collection, since an id keeps the collection of its first write.
+IDS = [f"{COLLECTIONS[number % 4].strip('@').lower()}/{number}" for number in range(48)]
+COLLECTION_OF = {name: COLLECTIONS[number % 4] for number, name in enumerate(IDS)}
+AUTOS = [f"Auto/{collection}/By{field}" for collection in COLLECTIONS for field in FIELDS]
+# Names that clients give indexes, the last of them the first one spelled anew, and what these may map.
+NAMED = ["Named", "Owners", "Shares", "NAMED"]
+MAPS = [
+    "from u in docs.Users where u.Number >= 500000 select new { u.Name, u.City }",
+    'from o in docs.Orders let u = LoadDocument(o.Owner, "Users") select new { u.Name, Own = u.City == o.City }',
+    "from e in docs.Events select new { e.Name, Share = 1000 / (e.Number % 3) }",
+]
+
+
+class CrashMaker(Maker):
+    """Makes the lines of one round out of its seed. Its database is what the file holds when the round begins."""
+
+    def __init__(self, seed: int, database: model.Database):
+        super().__init__(random.Random(seed), database)
+
+    def known_id(self) -> str:
+        name = self.one_of(IDS)
+        return name.upper() if self.chance(8) else name
+
+    def usual_body(self, name: str) -> str:
+        collection = COLLECTION_OF[name.lower()]
+        if self.chance(3):
+            collection = self.one_of(COLLECTIONS)
+        size = self.one_of([0, 3, 40, 40, 300, 3_000]) if self.chance(97) else self.one_of([20_000, 200_000])
+        members = {field: self.one_of(NAMES) for field in FIELDS if self.chance(60)}
+        members["Number"] = self.random.randrange(1_000_000)
+        members["Owner"] = self.one_of(IDS)
+        members["Fill"] = "x" * self.random.randint(0, size)
+        if collection != "@empty":
+            members["@metadata"] = {"@collection": collection}
+        return model.write_json(members)
+
+    def vector(self, name: str) -> str:
+        """Mostly the one that the document had when the round began."""
+        document = self.database.store.document(name)
+        etag = document.etag if document and self.chance(80) else self.random.randint(0, 9)
+        return model.vector_of(etag)
+
+    def command(self):
+        name = self.known_id()
+        expected = f',"ChangeVector":"{self.vector(name)}"' if self.chance(2) else ""
+        if self.chance(30):
+            return lines.command("DELETE", name, expected)
+        return lines.put_command(name, self.usual_body(name), expected)
+
+    def bulk(self):
+        count = self.one_of([1, 2, 3, 5, 10, 30, 100])
+        return lines.bulk(*(self.command() for _ in range(count)))
+
+    def auto(self):
+        return f"AUTO {self.one_of(COLLECTIONS)} {self.one_of(FIELDS)}"
+
+    def define(self):
+        """Mostly a name has one map, so that it is seldom defined otherwise while it serves."""
+        at = self.random.randrange(len(NAMED))
+        text = MAPS[at % len(MAPS)] if self.chance(90) else self.one_of(MAPS)
+        return lines.definition(NAMED[at], text)
+
+    def drop(self):
+        return f"DROP {self.one_of(NAMED + AUTOS)}"
+
+    def pump(self):
+        return f"PUMP {self.one_of([1, 2, 7, 64])}"
+
+    def look(self):
+        return self.one_of(["STATS", self.get(), f"FIND {self.one_of(AUTOS + NAMED)} Name ada", "INDEXES"])
+
+    def script(self) -> list[bytes]:
+        kinds = [self.put] * 8 + [self.put_if] * 2 + [self.delete] * 3 + [self.delete_if] + [self.bulk] * 5
+        kinds += [self.auto, self.define, self.drop, self.pump, self.pump, self.look]
+        count = 1 if self.chance(25) else self.one_of([2, 5, 10, 20, 40, 80])
+        return [self.one_of(kinds)().encode() for _ in range(count)]
+
+
+def ids_asked() -> list[str]:
+    return [*IDS, "nobody/1", *("@index/" + name for name in AUTOS + NAMED)]
+
+
+def questions(number: int) -> list[bytes]:
+    """What is asked after a crash, and a document that is written after it."""
+    asked = ["STATS", *(lines.get(name) for name in ids_asked()), "PUMP 65536"]
+    asked += [f"FIND {index} {field} ada" for index in AUTOS for field in FIELDS if index.endswith(field)]
+    asked += [*(f"FIND {name} Name ada" for name in NAMED), "INDEXES"]
+    asked += [f'PUT {IDS[number % len(IDS)]} {{"Round":{number},"@metadata":{{"@collection":"{COLLECTIONS[number % 4]}"}}}}', "STATS"]
+    return [line.encode() for line in asked]

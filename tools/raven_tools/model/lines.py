@@ -1,0 +1,210 @@
+"""The lines of a script: what each asks, and the reply to it."""
+
+import re
+
+from raven_tools.model.database import Database, Reply
+from raven_tools.model.definitions import Static
+from raven_tools.model.documents import fault_of
+from raven_tools.model.json import read_json, write_json
+from raven_tools.model.limits import MAX_BATCH, MAX_ID, MAX_NAME
+from raven_tools.model.refused import Refused
+from raven_tools.model.transactions import Command
+
+
+def lines(data: bytes) -> list[bytes]:
+    """Each line ends at a LF, which the last may lack; one CR before the LF is taken off."""
+    pieces = data.split(b"\n")
+    last = pieces.pop()
+    ended = [piece[:-1] if piece.endswith(b"\r") else piece for piece in pieces]
+    return ended + [last] if last else ended
+
+
+def arguments(text: str, count: int) -> list[str]:
+    """So many arguments, one space behind each, and the rest; none of them is empty."""
+    parts = text.split(" ", count)
+    if len(parts) <= count or not all(parts):
+        raise Refused("UnknownLine")
+    return parts
+
+
+def number(text):
+    return int(text) if re.fullmatch(r"[0-9]{1,16}", text, re.ASCII) else None
+
+
+def id_of(text):
+    fault = fault_of(text, MAX_ID)
+    if fault:
+        raise fault
+    return text
+
+
+def name_of(text):
+    fault = fault_of(text, MAX_NAME)
+    if fault:
+        raise fault
+    return text
+
+
+def object_of(value, member):
+    if not isinstance(value, dict):
+        raise Refused("BadMember", Name=member)
+    return value
+
+
+def text_of(value, member):
+    if not isinstance(value, str):
+        raise Refused("BadMember", Name=member)
+    return value
+
+
+def is_collection(text):
+    return not text.startswith("@") or text == "@empty"
+
+
+def is_field(text):
+    return not any(mark in text for mark in " .()")
+
+
+def put_of(name, expected, text):
+    """A fault of the JSON is reported before one of the id, and that before a body that is no object."""
+    body = read_json(text.encode())
+    return Command(id_of(name), expected, object_of(body, "body"))
+
+
+def put_line(database, rest):
+    name, text = arguments(rest, 1)
+    return database.write(put_of(name, None, text))
+
+
+def put_if_line(database, rest):
+    name, vector, text = arguments(rest, 2)
+    return database.write(put_of(name, vector, text))
+
+
+def delete_line(database, rest):
+    return database.write(Command(id_of(rest), None))
+
+
+def delete_if_line(database, rest):
+    vector, name = arguments(rest, 1)
+    return database.write(Command(id_of(name), vector))
+
+
+def command_of(item):
+    """A command of a transaction. Its members are tested in this order."""
+    item = object_of(item, "Commands")
+    if item.get("Type") not in ("PUT", "DELETE"):
+        raise Refused("BadMember", Name="Type")
+    name = id_of(text_of(item.get("Id"), "Id"))
+    vector = item.get("ChangeVector")
+    if vector is not None:
+        text_of(vector, "ChangeVector")
+    body = object_of(item.get("Document"), "Document") if item["Type"] == "PUT" else None
+    return Command(name, vector, body)
+
+
+def bulk_line(database, rest):
+    commands = object_of(read_json(rest.encode()), "body").get("Commands")
+    if not isinstance(commands, list):
+        raise Refused("BadMember", Name="Commands")
+    return database.bulk([command_of(item) for item in commands])
+
+
+def get_line(database, rest):
+    return database.get(id_of(rest))
+
+
+def auto_line(database, rest):
+    collection, field = arguments(rest, 1)
+    if not is_collection(collection) or not is_field(field):
+        raise Refused("UnknownLine")
+    return database.auto(collection, field)
+
+
+def map_of(members):
+    """The text of the map. `Maps`, a list of one text, counts if both are there, and is missed if none is."""
+    if "Map" in members and "Maps" not in members:
+        return text_of(members["Map"], "Map")
+    maps = members.get("Maps")
+    if not isinstance(maps, list) or len(maps) != 1:
+        raise Refused("BadMember", Name="Maps")
+    return text_of(maps[0], "Maps")
+
+
+def index_line(database, rest):
+    """The members are tested in this order, and the map is read behind them. Reduces are of a later stage."""
+    members = object_of(read_json(rest.encode()), "body")
+    name = name_of(text_of(members.get("Name"), "Name"))
+    text = map_of(members)
+    if members.get("Reduce") is not None:
+        text_of(members["Reduce"], "Reduce")
+        raise Refused("UnknownLine")
+    return database.define(name, Static(text))
+
+
+def drop_line(database, rest):
+    return database.remove(name_of(rest))
+
+
+def pump_line(database, rest):
+    """The number is tested before the name, which may follow it."""
+    first, *name = rest.split(" ", 1)
+    most = number(first)
+    if most is None or not 1 <= most <= MAX_BATCH or name == [""]:
+        raise Refused("UnknownLine")
+    return database.pump(most, *map(name_of, name))
+
+
+def find_line(database, rest):
+    index, field, text = arguments(rest, 2)
+    return database.find(name_of(index), field, text)
+
+
+def stale_line(database, rest):
+    return database.stale(name_of(rest))
+
+
+COMMANDS = {
+    "PUT": put_line,
+    "PUTIF": put_if_line,
+    "DEL": delete_line,
+    "DELIF": delete_if_line,
+    "BULK": bulk_line,
+    "GET": get_line,
+    "AUTO": auto_line,
+    "INDEX": index_line,
+    "DROP": drop_line,
+    "PUMP": pump_line,
+    "FIND": find_line,
+    "STALE": stale_line,
+}
+# Lines without arguments.
+ALONE = {"STATS": Database.stats, "INDEXES": Database.listed}
+
+
+def asked(database: Database, line: bytes) -> Reply:
+    try:
+        text = line.decode("utf-8")
+    except UnicodeDecodeError:
+        raise Refused("UnknownLine") from None
+    if text in ALONE:
+        return ALONE[text](database)
+    word, rest = arguments(text, 1)
+    if word not in COMMANDS:
+        raise Refused("UnknownLine")
+    return COMMANDS[word](database, rest)
+
+
+def answer(database: Database, line: bytes) -> Reply:
+    """The reply to a line with bytes."""
+    try:
+        return asked(database, line)
+    except Refused as refused:
+        return refused.reply
+
+
+def replies(data: bytes, database: Database | None = None) -> bytes:
+    """The bytes that are written for a script, over an empty database if none is given."""
+    database = database or Database()
+    written = [write_json(answer(database, line)) + "\n" for line in lines(data) if line]
+    return "".join(written).encode()

@@ -1,0 +1,12 @@
+"""Texts: how they are compared, and how long they are."""
+
+UPPER = {code: code + 32 for code in range(ord("A"), ord("Z") + 1)}
+
+
+def folded(text: str) -> str:
+    """Ids and names are compared as this: ASCII letters in lower case, all else as it is."""
+    return text.translate(UPPER)
+
+
+def size(text: str) -> int:
+    return len(text.encode())
