@@ -1,5 +1,5 @@
 -- What queries answer after any run.
-use Rattle.std.proofs.Common.{◌≡◌, ℕ, List, [], ◌∷◌, Bool, true, false, cond, ◌&&◌, T, Option, Some, None, filter, refl, sym, ap, ◌∙◌, subst, ◌⊎◌, inl, inr}
+use Rattle.std.proofs.Common.{◌≡◌, ℕ, List, [], ◌∷◌, Bool, true, false, cond, ◌&&◌, T, Option, Some, None, filter, map, refl, sym, ap, ◌∙◌, subst, ◌⊎◌, inl, inr}
 use Rattle.std.specs.declared.cmp.Ordering.{Ordering}
 use Rattle.std.specs.declared.cmp.Ordering.TheVariants.{Less, Equal, Greater}
 use Rattle.std.specs.Ordering.{is_lt, eq_by_cmp}
@@ -9,6 +9,7 @@ use Rattle.std.specs.FinMap.{get, values, entries, find as entry_at, is_sorted, 
 use Rattle.std.specs.FinMap.Entries.{below_all}
 use Rattle.raven_data.specs.Folding.{key_cmp}
 use Rattle.raven_data.specs.Rows.{Row}
+use Rattle.spec_store.specs.Stale.{stale}
 use Rattle.spec_store.specs.Store.{row_at}
 use Rattle.raven_data.specs.Tables.{Table}
 use Rattle.spec_index.specs.Index.{documents}
@@ -18,16 +19,16 @@ use Rattle.spec_index.specs.Mapping.{mapped_documents, entry_of, scratch}
 use Rattle.spec_store.specs.Commit.{Setting}
 use Rattle.spec_index.specs.World.{Slot, World, reads, serving}
 use Rattle.spec_server.specs.Replies.{Reply}
-use Rattle.spec_server.specs.Machine.{Machine, Event, start, run, answer_find, is_stale}
+use Rattle.spec_server.specs.Machine.{Machine, Event, Keeping, Request, Put, Delete, Bulk, Get, Define, Remove, Auto, Find, Pump, Stale, Indexes, Stats, start, run, step, answer_find, answer_stale, is_stale, listing}
 use Rattle.spec_index.specs.Find.{has_words, found_in}
 use Rattle.spec_server.specs.Sound.{Has, Sound}
-use Rattle.raven_laws.specs.Claims.{IsAsKept, ids_in, flag_in, find_reply, FreshIsFromScratch, FlagsAreExact, IdsAreAsKept}
+use Rattle.raven_laws.specs.Claims.{Flag, FlagIsExact, IsAsKept, flag, flags_in, ids_in, find_reply, listed_flag, FreshIsFromScratch, FlagsAreExact, IdsAreAsKept}
 use Rattle.spec_store.proofs.StoreLemmas.{same_itself}
 use Rattle.spec_store.proofs.TableLemmas.{tied}
 use Rattle.raven_laws.proofs.IndexLemmas.{fresh_whole}
 use Rattle.spec_store.proofs.KeyedLemmas.{differ_less}
 use Rattle.spec_store.proofs.StaleLemmas.{stale-Unseen, Unseen-stale, fresh-seen, seen-fresh}
-use Rattle.raven_laws.proofs.SlotLemmas.{Has-filter, Has-map, served, serves}
+use Rattle.raven_laws.proofs.SlotLemmas.{Has-filter, Has-map, Has-mapped, served, serves}
 use Rattle.raven_laws.proofs.MachineLemmas.{run-Sound}
 
 -- FRESH ANSWERS
@@ -44,22 +45,63 @@ Sound-fresh M o index field ws s h is_fresh =
 
 -- FLAGS
 
-flagged : (M : Machine) (index field ws : List ℕ) (s : Slot) → serving M.world.slots index ≡ Some s → flag_in (find_reply M index field ws) ≡ Some (is_stale M.world.store s)
-flagged M index field ws s h = ap flag_in (answered M index field ws s h)
+-- the flag that is computed is exact, up to any cutoff
+exact_flag : (M : Machine) (name : List ℕ) (cutoff : Option ℕ) (s : Slot) → Sound M.world → serving M.world.slots name ≡ Some s
+    → FlagIsExact M (flag name cutoff (stale M.world.store (reads s.version) s.version.etag cutoff))
+exact_flag M name cutoff s o h =
+    let S = M.world.store in
+    let scope = reads s.version in
+    record {
+      slot = s;
+      serves = h;
+      stale = (stale-Unseen S scope s.version.etag cutoff o.store, Unseen-stale S scope s.version.etag cutoff);
+      fresh = (fresh-seen S scope s.version.etag cutoff, seen-fresh S scope s.version.etag cutoff o.store);
+    }
 
-same_flag : (a b : Bool) → Some a ≡ Some b → a ≡ b
-same_flag a b h = cc
+find_flag : (M : Machine) (index field ws : List ℕ) (f : Flag) (there : Option Slot) → Sound M.world → serving M.world.slots index ≡ there
+    → Has (flags_in (Find index field ws) (answer_find M.world index field ws there)) f → FlagIsExact M f
+find_flag M index field ws f None o h at = absurd at
+find_flag M index field ws f (Some s) o h (inl same) = subst (FlagIsExact M) same (exact_flag M index None s o h)
+find_flag M index field ws f (Some s) o h (inr no_more) = absurd no_more
+
+stale_flag : (M : Machine) (name : List ℕ) (cutoff : Option ℕ) (f : Flag) (there : Option Slot) → Sound M.world → serving M.world.slots name ≡ there
+    → Has (flags_in (Stale name cutoff) (answer_stale M.world name cutoff there)) f → FlagIsExact M f
+stale_flag M name cutoff f None o h at = absurd at
+stale_flag M name cutoff f (Some s) o h (inl same) = subst (FlagIsExact M) same (exact_flag M name cutoff s o h)
+stale_flag M name cutoff f (Some s) o h (inr no_more) = absurd no_more
+
+listing_flag : (M : Machine) (f : Flag) → Sound M.world → Has (map listed_flag (map (listing M.world.store) M.world.slots)) f → FlagIsExact M f
+listing_flag M f o at =
+    let l = Has-map listed_flag (map (listing M.world.store) M.world.slots) f at in
+    let s = Has-map (listing M.world.store) M.world.slots l.0 l.1 in
+    subst (FlagIsExact M) (ap listed_flag s.2 ∙ l.2) (exact_flag M s.0.name None s.0 o (serves M.world.slots s.0 o.apart s.1))
+
+shown_flag : (M : Machine) (k : Keeping) (now : ℕ) (request : Request) (f : Flag) → Sound M.world → Has (flags_in request (step M k now request).reply) f → FlagIsExact M f
+shown_flag M k now (Put id expected body) f o at = absurd at
+shown_flag M k now (Delete id expected) f o at = absurd at
+shown_flag M k now (Bulk commands) f o at = absurd at
+shown_flag M k now (Get id) f o at = absurd at
+shown_flag M k now (Define name d) f o at = absurd at
+shown_flag M k now (Remove name) f o at = absurd at
+shown_flag M k now (Auto collection field) f o at = absurd at
+shown_flag M k now (Find index field ws) f o at = find_flag M index field ws f (serving M.world.slots index) o refl at
+shown_flag M k now (Pump max index) f o at = absurd at
+shown_flag M k now (Stale name cutoff) f o at = stale_flag M name cutoff f (serving M.world.slots name) o refl at
+shown_flag M k now Indexes f o at = listing_flag M f o at
+shown_flag M k now Stats f o at = absurd at
 
 pub Sound-flags : (M : Machine) → Sound M.world → FlagsAreExact M
 Sound-flags M o = record {
-  stale = λ index field ws s h. (
-    λ is. stale-Unseen M.world.store (reads s.version) s.version.etag None o.store (same_flag (is_stale M.world.store s) true (sym (flagged M index field ws s h) ∙ is)),
-    λ u. flagged M index field ws s h ∙ ap Some (Unseen-stale M.world.store (reads s.version) s.version.etag None u),
+  exact = λ k now request f at. shown_flag M k now request f o at;
+  find = λ index field ws s h. (
+    is_stale M.world.store s,
+    subst (λ there. Has (flags_in (Find index field ws) (answer_find M.world index field ws there)) (flag index None (is_stale M.world.store s))) (sym h) (inl refl),
   );
-  fresh = λ index field ws s h. (
-    λ is. fresh-seen M.world.store (reads s.version) s.version.etag None (same_flag (is_stale M.world.store s) false (sym (flagged M index field ws s h) ∙ is)),
-    λ never. flagged M index field ws s h ∙ ap Some (seen-fresh M.world.store (reads s.version) s.version.etag None o.store never),
+  cutoff = λ name cutoff s h. (
+    stale M.world.store (reads s.version) s.version.etag cutoff,
+    subst (λ there. Has (flags_in (Stale name cutoff) (answer_stale M.world name cutoff there)) (flag name cutoff (stale M.world.store (reads s.version) s.version.etag cutoff))) (sym h) (inl refl),
   );
+  listed = λ s h. (is_stale M.world.store s, Has-mapped listed_flag (map (listing M.world.store) M.world.slots) (listing M.world.store s) (Has-mapped (listing M.world.store) M.world.slots s h));
 }
 
 -- A DOCUMENT OF A TABLE IS FOUND UNDER ITS KEY

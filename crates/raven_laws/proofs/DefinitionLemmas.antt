@@ -113,7 +113,8 @@ module _ (M : Machine) (k : Keeping) (now : ℕ) (name : List ℕ) (d : Definiti
       elim (refusal_of M.world.setting Server M.world.store c) as (λ o. refusal_of M.world.setting Server M.world.store c ≡ o
       → IsDefineAnswer M k now name d (settled M k (rewrote M (Reply.Index name) slots (unless o 0 (Ok done))))) [
         | None ↦ λ e. inr (inr (inr (inr (inr (inr (elim (first_or_not k.takes) [
-          | inl taken ↦ inr (subst (λ b. IsDefined M name d (cond b kept (same_machine M (Reply.KeeperFault k.before k.after)))) (sym taken) (record {
+          | inl taken ↦ inr (subst (λ b. IsDefined M k name d (cond b kept (same_machine M (Reply.KeeperFault k.before k.after)))) (sym taken) (record {
+            allowed = record { unrefused = e; taken = taken };
             given = given;
             free = free;
             room = leb-false M.world.setting.max_slots (length M.world.slots) room;
@@ -191,9 +192,10 @@ removed-answered M k now name (Some s) serves o =
     elim (refusal_of M.world.setting Server M.world.store c) as (λ r. refusal_of M.world.setting Server M.world.store c ≡ r
     → IsRemoveAnswer M k now name (settled M k (rewrote M (Reply.Removed s.name) less (unless r 0 (Ok (done (document_at M.world.store (folded id)))))))) [
       | None ↦ λ e. subst (λ x. IsRemoveAnswer M k now name (settled M k (rewrote M (Reply.Removed s.name) less (Ok (done x))))) (sym there) (inr (inr (elim (first_or_not k.takes) [
-        | inl taken ↦ inr (subst (λ b. IsRemoved M now name (cond b kept (same_machine M (Reply.KeeperFault k.before k.after)))) (sym taken) (record {
+        | inl taken ↦ inr (subst (λ b. IsRemoved M k now name (cond b kept (same_machine M (Reply.KeeperFault k.before k.after)))) (sym taken) (record {
           slot = s;
           serves = serves;
+          allowed = record { unrefused = e; taken = taken };
           told = refl;
           gone = none-serves M.world.slots name;
           others = record {

@@ -14,6 +14,8 @@ pub mod WorkedRows
 pub mod WorkedScript
 pub mod WriteLemmas
 pub mod DefinitionLemmas
+pub mod ServedLemmas
+pub mod ChoiceLemmas
 pub mod KeepLemmas
 pub mod MemberLemmas
 pub mod OpenLemmas

@@ -70,10 +70,10 @@ put-answered M k now id expected body =
     elim (refusal_of M.world.setting Client M.world.store c) as (λ o.
     refusal_of M.world.setting Client M.world.store c ≡ o
     → let replied = settled M k (wrote M single_reply now (c ∷ []) (unless o 0 (Ok done))) in
-    IsRefused M now (c ∷ []) replied ⊎ (IsUnkept M k replied ⊎ IsPutKept M now id body replied)) [
-      | None ↦ λ e. inr (elim (first_or_not k.takes) as (λ _. let replied = settled M k (wrote M single_reply now (c ∷ []) (Ok done)) in IsUnkept M k replied ⊎ IsPutKept M now id body replied) [
-        | inl taken ↦ inr (subst (λ b. IsPutKept M now id body (cond b kept (same_machine M (Reply.KeeperFault k.before k.after)))) (sym taken) (record {
-          spelled = r.id;
+    IsRefused M now (c ∷ []) replied ⊎ (IsUnkept M k replied ⊎ IsPutKept M k now id expected body replied)) [
+      | None ↦ λ e. inr (elim (first_or_not k.takes) as (λ _. let replied = settled M k (wrote M single_reply now (c ∷ []) (Ok done)) in IsUnkept M k replied ⊎ IsPutKept M k now id expected body replied) [
+        | inl taken ↦ inr (subst (λ b. IsPutKept M k now id expected body (cond b kept (same_machine M (Reply.KeeperFault k.before k.after)))) (sym taken) (record {
+          allowed = record { unrefused = e; taken = taken };
           told = ap (λ o. Reply.Put (vector_of M.world.setting.base (last M.world.store + 1)) (kept_spelling id o)) (found_again (folded id) r rows under);
           kept = found_again (folded id) r rows under;
           others = record { rows = others_stay M id r under; indexes = refl };
@@ -96,10 +96,11 @@ deletion M now id expected d =
       rows = w.rows;
     }
 
-taken-deletion : (M : Machine) (k : Keeping) (now : ℕ) (id : List ℕ) (expected : Expect) (d : Option Row) → document_at M.world.store (folded id) ≡ d
-    → let replied = settled M k (deletion M now id expected d) in IsUnkept M k replied ⊎ (IsNotThere M id replied ⊎ IsDeleted M now id replied)
-taken-deletion M k now id expected None e = inr (inl (record { none = e; told = refl }))
-taken-deletion M k now id expected (Some d) e =
+taken-deletion : (M : Machine) (k : Keeping) (now : ℕ) (id : List ℕ) (expected : Expect) (d : Option Row)
+    → refusal_of M.world.setting Client M.world.store (Command.Delete id expected) ≡ None → document_at M.world.store (folded id) ≡ d
+    → let replied = settled M k (deletion M now id expected d) in IsUnkept M k replied ⊎ (IsNotThere M id expected replied ⊎ IsDeleted M k now id expected replied)
+taken-deletion M k now id expected None allowed e = inr (inl (record { unrefused = allowed; none = e; told = refl }))
+taken-deletion M k now id expected (Some d) allowed e =
     let r = tombstone (last M.world.store + 1) now d in
     let rows = M.world.store.rows in
     let under : key r ≡ folded id = sym (found_key (folded id) rows d (document_found M.world.store (folded id) d e)) in
@@ -107,8 +108,9 @@ taken-deletion M k now id expected (Some d) e =
       reply = Reply.Deleted true (kept_spelling id (row_at (folded id) (put r rows)));
       machine = record { world = record { setting = M.world.setting; store = record { rows = put r rows }; slots = M.world.slots; notes = M.world.notes } };
     } in
-    elim (first_or_not k.takes) as (λ _. let replied = settled M k (deletion M now id expected (Some d)) in IsUnkept M k replied ⊎ (IsNotThere M id replied ⊎ IsDeleted M now id replied)) [
-      | inl taken ↦ inr (inr (subst (λ b. IsDeleted M now id (cond b kept (same_machine M (Reply.KeeperFault k.before k.after)))) (sym taken) (record {
+    elim (first_or_not k.takes) as (λ _. let replied = settled M k (deletion M now id expected (Some d)) in IsUnkept M k replied ⊎ (IsNotThere M id expected replied ⊎ IsDeleted M k now id expected replied)) [
+      | inl taken ↦ inr (inr (subst (λ b. IsDeleted M k now id expected (cond b kept (same_machine M (Reply.KeeperFault k.before k.after)))) (sym taken) (record {
+        allowed = record { unrefused = allowed; taken = taken };
         row = d;
         there = e;
         told = ap (λ o. Reply.Deleted true (kept_spelling id o)) (found_again (folded id) r rows under);
@@ -125,8 +127,8 @@ delete-answered M k now id expected =
     elim (refusal_of M.world.setting Client M.world.store c) as (λ o.
     refusal_of M.world.setting Client M.world.store c ≡ o
     → let replied = settled M k (wrote M single_reply now (c ∷ []) (unless o 0 (Ok done))) in
-    IsRefused M now (c ∷ []) replied ⊎ (IsUnkept M k replied ⊎ (IsNotThere M id replied ⊎ IsDeleted M now id replied))) [
-      | None ↦ λ e. inr (taken-deletion M k now id expected (document_at M.world.store (folded id)) refl)
+    IsRefused M now (c ∷ []) replied ⊎ (IsUnkept M k replied ⊎ (IsNotThere M id expected replied ⊎ IsDeleted M k now id expected replied))) [
+      | None ↦ λ e. inr (taken-deletion M k now id expected (document_at M.world.store (folded id)) e refl)
       | Some kind ↦ λ e. inl (record { refused = record { at = 0; kind = kind }; cause = ap (λ o. unless o 0 (Ok done)) e; told = refl })
     ] refl
 
@@ -138,27 +140,31 @@ written M reply now commands w = record {
   machine = record { world = record { setting = M.world.setting; store = w.store; slots = M.world.slots; notes = M.world.notes } };
 }
 
-bulk-kept : (M : Machine) (now : ℕ) (commands : List Command) (w : Written) → commit M.world.setting Client now commands M.world.store ≡ Ok w
-    → AreWritten M now commands (written M Reply.Bulk now commands w)
-bulk-kept M now commands w e = record {
+bulk-kept : (M : Machine) (k : Keeping) (now : ℕ) (commands : List Command) (w : Written) → commit M.world.setting Client now commands M.world.store ≡ Ok w
+    → is_taken k w.rows ≡ true → AreWritten M k now commands (written M Reply.Bulk now commands w)
+bulk-kept M k now commands w e taken = record {
+  wrote = w;
+  unrefused = e;
+  taken = taken;
   told = refl;
   written = commit_from-applied 0 M.world.setting Client now commands (record { store = M.world.store; rows = [] }) w e;
   indexes = refl;
 }
 
 bulk-answered-of : (M : Machine) (k : Keeping) (now : ℕ) (commands : List Command) (o : Result Written Refused) → commit M.world.setting Client now commands M.world.store ≡ o
-    → let replied = settled M k (wrote M Reply.Bulk now commands o) in IsRefused M now commands replied ⊎ (IsUnkept M k replied ⊎ AreWritten M now commands replied)
+    → let replied = settled M k (wrote M Reply.Bulk now commands o) in IsRefused M now commands replied ⊎ (IsUnkept M k replied ⊎ AreWritten M k now commands replied)
 bulk-answered-of M k now commands (Err refused) e = inl (record { refused = refused; cause = e; told = refl })
 bulk-answered-of M k now commands (Ok w) e =
-    inr (elim w.rows as (λ rows. let replied = settled M k (record { reply = (written M Reply.Bulk now commands w).reply; machine = (written M Reply.Bulk now commands w).machine; rows = rows }) in
-    IsUnkept M k replied ⊎ AreWritten M now commands replied) [
-      | [] ↦ inr (bulk-kept M now commands w e)
-      | r ∷ rows ↦ elim (first_or_not k.takes) as (λ _. let replied = cond (is_first_taken k.takes) (written M Reply.Bulk now commands w) (same_machine M (Reply.KeeperFault k.before k.after)) in
-          IsUnkept M k replied ⊎ AreWritten M now commands replied) [
-            | inl taken ↦ inr (subst (λ b. AreWritten M now commands (cond b (written M Reply.Bulk now commands w) (same_machine M (Reply.KeeperFault k.before k.after)))) (sym taken) (bulk-kept M now commands w e))
+    inr (elim w.rows as (λ rows. w.rows ≡ rows
+    → let replied = settled M k (record { reply = (written M Reply.Bulk now commands w).reply; machine = (written M Reply.Bulk now commands w).machine; rows = rows }) in
+    IsUnkept M k replied ⊎ AreWritten M k now commands replied) [
+      | [] ↦ λ g. inr (bulk-kept M k now commands w e (ap (is_taken k) g))
+      | r ∷ rows ↦ λ g. elim (first_or_not k.takes) as (λ _. let replied = cond (is_first_taken k.takes) (written M Reply.Bulk now commands w) (same_machine M (Reply.KeeperFault k.before k.after)) in
+          IsUnkept M k replied ⊎ AreWritten M k now commands replied) [
+            | inl taken ↦ inr (subst (λ b. AreWritten M k now commands (cond b (written M Reply.Bulk now commands w) (same_machine M (Reply.KeeperFault k.before k.after)))) (sym taken) (bulk-kept M k now commands w e (ap (is_taken k) g ∙ taken)))
             | inr failed ↦ inl (unkept M k (written M Reply.Bulk now commands w) failed.0 failed.1)
           ]
-    ])
+    ] refl)
 
 pub bulk-answered : (M : Machine) (k : Keeping) (now : ℕ) (commands : List Command) → BulkIsAnswered M k now commands
 bulk-answered M k now commands = bulk-answered-of M k now commands (commit M.world.setting Client now commands M.world.store) refl

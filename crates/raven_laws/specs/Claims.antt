@@ -1,5 +1,5 @@
 -- What the laws say of the answers of a machine.
-use Rattle.std.specs.Prelude.{◌≡◌, ℕ, List, [], Bool, true, false, Option, Some, None, IsTrue, ◌↔◌}
+use Rattle.std.specs.Prelude.{◌≡◌, ℕ, List, [], ◌∷◌, Bool, true, false, Option, Some, None, IsTrue, ◌↔◌, map}
 use Rattle.raven_data.specs.Folding.{folded}
 use Rattle.raven_data.specs.Rows.{Row, is_document}
 use Rattle.spec_store.specs.Store.{row_at, Store}
@@ -8,8 +8,9 @@ use Rattle.index_tree.specs.Definitions.{Definition}
 use Rattle.index_tree.specs.Meaning.{Fields, Entry}
 use Rattle.index_tree.specs.Mapper.{mapper_of, scope_of, is_mapped}
 use Rattle.spec_index.specs.World.{Slot, reads, serving}
-use Rattle.spec_server.specs.Replies.{Reply, Found}
-use Rattle.spec_server.specs.Machine.{Machine, Find, step, untroubled, is_stale}
+use Rattle.spec_server.specs.Replies.{Reply, Listing, Found}
+use Rattle.spec_server.specs.Replies as told
+use Rattle.spec_server.specs.Machine.{Machine, Request, Find, Stale, Indexes, Keeping, step, untroubled, is_stale}
 use Rattle.spec_index.specs.Find.{has_words, found_in}
 use Rattle.spec_server.specs.Sound.{Has}
 use Rattle.spec_store.specs.Stale.{Unseen}
@@ -31,14 +32,10 @@ pub record IsMatch (S : Store) (d : Definition) (field words id : List ℕ) : Ty
   pub gives : ((mapper_of d).meaning row (documents (scope_of (mapper_of d)) S)).outcome ≡ Entry fields
   pub matches : IsTrue (has_words field words fields)
 
--- the ids and the flag of an answer
+-- the ids of an answer
 abbrev pub ids_in : Reply → List (List ℕ)
 ids_in (Found ids etag is_stale) = ids
 ids_in other = []
-
-abbrev pub flag_in : Reply → Option Bool
-flag_in (Found ids etag is_stale) = Some is_stale
-flag_in other = None
 
 abbrev pub find_reply : Machine → List ℕ → List ℕ → List ℕ → Reply
 find_reply M index field words = (step M untroubled 0 (Find index field words)).reply
@@ -53,12 +50,46 @@ abbrev pub FreshIsExact : Machine → Type 0
 FreshIsExact M = (index field words id : List ℕ) (s : Slot) → serving M.world.slots index ≡ Some s → is_stale M.world.store s ≡ false
     → Has (ids_in (find_reply M index field words)) id ↔ IsMatch M.world.store s.version.definition field words id
 
--- an answer is stale exactly where the store has a row that the index reads and has not seen
+-- FLAGS
+
+-- a flag that a reply shows: of the index of this name, up to this cutoff
+pub record Flag : Type 0 where
+  pub index : List ℕ
+  pub cutoff : Option ℕ
+  pub is_stale : Bool
+
+abbrev pub flag : List ℕ → Option ℕ → Bool → Flag
+flag index cutoff is_stale = record { index = index; cutoff = cutoff; is_stale = is_stale }
+
+abbrev pub listed_flag : Listing → Flag
+listed_flag l = flag l.name None l.is_stale
+
+-- all flags that the reply to a request shows: every request that reads an index is here
+abbrev pub flags_in : Request → Reply → List Flag
+flags_in (Find index field words) (Found ids etag is_stale) = flag index None is_stale ∷ []
+flags_in (Stale name cutoff) (told.Stale etag is_stale newest) = flag name cutoff is_stale ∷ []
+flags_in Indexes (told.Indexes listings) = map listed_flag listings
+flags_in other reply = []
+
+-- An index serves the name, and the flag is true exactly if the store has a row that the index reads and has not seen, no newer than the cutoff.
+pub record FlagIsExact (M : Machine) (f : Flag) : Type 0 where
+  pub slot : Slot
+  pub serves : serving M.world.slots f.index ≡ Some slot
+  pub stale : (f.is_stale ≡ true) ↔ Unseen M.world.store (reads slot.version) slot.version.etag f.cutoff
+  pub fresh : (f.is_stale ≡ false) ↔ (Unseen M.world.store (reads slot.version) slot.version.etag f.cutoff → ⊥)
+
+-- the reply to the request shows a flag of this index, up to this cutoff
+abbrev pub ShowsFlag : Machine → Request → List ℕ → Option ℕ → Type 0
+ShowsFlag M request index cutoff = (is_stale : Bool) × Has (flags_in request (step M untroubled 0 request).reply) (flag index cutoff is_stale)
+
+-- each flag that a reply shows is exact, and each question about an index shows one
 pub record FlagsAreExact (M : Machine) : Type 0 where
-  pub stale : (index field words : List ℕ) (s : Slot) → serving M.world.slots index ≡ Some s
-      → (flag_in (find_reply M index field words) ≡ Some true) ↔ Unseen M.world.store (reads s.version) s.version.etag None
-  pub fresh : (index field words : List ℕ) (s : Slot) → serving M.world.slots index ≡ Some s
-      → (flag_in (find_reply M index field words) ≡ Some false) ↔ (Unseen M.world.store (reads s.version) s.version.etag None → ⊥)
+  pub exact : (k : Keeping) (now : ℕ) (request : Request) (f : Flag) → Has (flags_in request (step M k now request).reply) f → FlagIsExact M f
+  pub find : (index field words : List ℕ) (s : Slot) → serving M.world.slots index ≡ Some s → ShowsFlag M (Find index field words) index None
+  pub cutoff : (name : List ℕ) (cutoff : Option ℕ) (s : Slot) → serving M.world.slots name ≡ Some s → ShowsFlag M (Stale name cutoff) name cutoff
+  pub listed : (s : Slot) → Has M.world.slots s → ShowsFlag M Indexes s.name None
+
+-- IDS
 
 -- each id of an answer is spelled as the store keeps it
 abbrev pub IdsAreAsKept : Machine → Type 0

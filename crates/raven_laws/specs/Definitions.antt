@@ -8,11 +8,11 @@ use Rattle.index_tree.specs.declared.map_query.MapQuery.{MapQuery}
 use Rattle.index_tree.specs.declared.reduce_query.ReduceQuery.{ReduceQuery}
 use Rattle.spec_store.specs.Store.{row_at, last}
 use Rattle.index_tree.specs.Definitions.{Definition, Static, Auto}
-use Rattle.spec_store.specs.Commit.{Command, AnyVector, Server, Refused, commit, document_at, tombstone}
+use Rattle.spec_store.specs.Commit.{Command, AnyVector, Server, Refused, commit, document_at, refusal_of, tombstone}
 use Rattle.spec_index.specs.World.{Slot, index_id, is_named, is_reserved_name, max_index_name, row_body, serving}
 use Rattle.spec_server.specs.Sound.{Has, IsListed}
 use Rattle.spec_server.specs.Replies.{Reply}
-use Rattle.spec_server.specs.Machine.{Machine, Keeping, Replied, Define, Remove, Pump, brought_on, pumping, same_machine, step, write_refused}
+use Rattle.spec_server.specs.Machine.{Machine, Keeping, Replied, Define, Remove, Pump, brought_on, is_first_taken, pumping, same_machine, step, write_refused}
 use Rattle.raven_laws.specs.Writes.{IsUnkept}
 
 -- WHICH DEFINITIONS SAY THE SAME
@@ -116,8 +116,14 @@ new_slot M name d = record {
   row = last M.world.store + 1;
 }
 
--- it stands behind the others and has its row, and all else is as it was
-pub record IsDefined (M : Machine) (name : List ℕ) (d : Definition) (replied : Replied) : Type 0 where
+-- no test refuses this command of the server, and the keeper takes its row
+pub record IsRowAllowed (M : Machine) (k : Keeping) (command : Command) : Type 0 where
+  pub unrefused : refusal_of M.world.setting Server M.world.store command ≡ None
+  pub taken : is_first_taken k.takes ≡ true
+
+-- Its row is allowed. The new index is behind the others and has its row, and all else is as it was.
+pub record IsDefined (M : Machine) (k : Keeping) (name : List ℕ) (d : Definition) (replied : Replied) : Type 0 where
+  pub allowed : IsRowAllowed M k (Command.Put (index_id name) AnyVector (row_body d))
   pub given : MayBeGiven name
   pub free : serving M.world.slots name ≡ None
   pub room : length M.world.slots < M.world.setting.max_slots
@@ -134,7 +140,7 @@ IsDefineAnswer M k now name d replied =
     ⊎ (ServesAnother M name d replied
     ⊎ (ServesTheSame M name d replied
     ⊎ (IsOneTooMany M name replied
-    ⊎ (DefinitionIsRefused M now name d replied ⊎ (IsUnkept M k replied ⊎ IsDefined M name d replied))))))
+    ⊎ (DefinitionIsRefused M now name d replied ⊎ (IsUnkept M k replied ⊎ IsDefined M k name d replied))))))
 
 abbrev pub DefineIsAnswered : Machine → Keeping → ℕ → List ℕ → Definition → Type 0
 DefineIsAnswered M k now name d = IsDefineAnswer M k now name d (step M k now (Define name d))
@@ -146,10 +152,11 @@ pub record RemovalIsRefused (M : Machine) (now : ℕ) (name : List ℕ) (replied
   pub serves : serving M.world.slots name ≡ Some slot
   pub row : IsRowRefused M now (Command.Delete (index_id slot.name) AnyVector ∷ []) replied
 
--- the index that served the name is told and is gone, the row of its definition is deleted, and all else is as it was
-pub record IsRemoved (M : Machine) (now : ℕ) (name : List ℕ) (replied : Replied) : Type 0 where
+-- The deletion is allowed. The index that served the name is reported and is gone, the row of its definition is deleted, and all else is as it was.
+pub record IsRemoved (M : Machine) (k : Keeping) (now : ℕ) (name : List ℕ) (replied : Replied) : Type 0 where
   pub slot : Slot
   pub serves : serving M.world.slots name ≡ Some slot
+  pub allowed : IsRowAllowed M k (Command.Delete (index_id slot.name) AnyVector)
   pub told : replied.reply ≡ Reply.Removed slot.name
   pub gone : serving replied.machine.world.slots name ≡ None
   pub others : OtherSlotsStay M name replied.machine
@@ -160,7 +167,7 @@ pub record IsRemoved (M : Machine) (now : ℕ) (name : List ℕ) (replied : Repl
 
 abbrev pub IsRemoveAnswer : Machine → Keeping → ℕ → List ℕ → Replied → Type 0
 IsRemoveAnswer M k now name replied =
-    IsNoIndex M name replied ⊎ (RemovalIsRefused M now name replied ⊎ (IsUnkept M k replied ⊎ IsRemoved M now name replied))
+    IsNoIndex M name replied ⊎ (RemovalIsRefused M now name replied ⊎ (IsUnkept M k replied ⊎ IsRemoved M k now name replied))
 
 abbrev pub RemoveIsAnswered : Machine → Keeping → ℕ → List ℕ → Type 0
 RemoveIsAnswered M k now name = IsRemoveAnswer M k now name (step M k now (Remove name))

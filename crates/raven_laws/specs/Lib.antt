@@ -3,3 +3,5 @@ pub mod Writes
 pub mod Definitions
 pub mod Keeping
 pub mod Opened
+pub mod Served
+pub mod Choices

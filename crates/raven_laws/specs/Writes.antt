@@ -1,12 +1,12 @@
 -- What the laws say of a machine's writes.
-use Rattle.std.specs.Prelude.{◌≡◌, ℕ, ◌+◌, List, [], ◌∷◌, ◌++◌, Bool, true, false, Some, None, Err, ◌⊎◌}
+use Rattle.std.specs.Prelude.{◌≡◌, ℕ, ◌+◌, List, [], ◌∷◌, ◌++◌, Bool, true, false, Some, None, Ok, Err, ◌⊎◌}
 use Rattle.raven_data.specs.Data.{Data}
 use Rattle.raven_data.specs.Folding.{folded, same_key}
 use Rattle.raven_data.specs.Rows.{Row, doc}
 use Rattle.spec_store.specs.Store.{Store, row_at, last}
-use Rattle.spec_store.specs.Commit.{Command, Expect, Client, Refused, after_commands, collection_of, commit, document_at, etags_taken, row_of, stored, tombstone, vector_of}
+use Rattle.spec_store.specs.Commit.{Command, Expect, Client, Refused, Written, after_commands, collection_of, commit, document_at, etags_taken, refusal_of, row_of, stored, tombstone, vector_of}
 use Rattle.spec_server.specs.Replies.{Reply}
-use Rattle.spec_server.specs.Machine.{Machine, Event, Keeping, Replied, Request, Put, Delete, Bulk, Get, Find, Stale, Indexes, Stats, after, commands_in, results_of, run, same_machine, spelling, step, write_refused}
+use Rattle.spec_server.specs.Machine.{Machine, Event, Keeping, Replied, Request, Put, Delete, Bulk, Get, Find, Stale, Indexes, Stats, after, commands_in, is_first_taken, is_taken, results_of, run, same_machine, spelling, step, write_refused}
 
 -- what a Put is to write: the body without what the server writes itself, under the next etag
 abbrev pub row_given : Store → ℕ → List ℕ → Data → Row
@@ -29,25 +29,32 @@ pub record OthersStay (M : Machine) (id : List ℕ) (N : Machine) : Type 0 where
   pub rows : (q : List ℕ) → same_key q (folded id) ≡ false → row_at q N.world.store.rows ≡ row_at q M.world.store.rows
   pub indexes : N.world.slots ≡ M.world.slots
 
--- the document stands under its id with the next etag, which the reply has
-pub record IsPutKept (M : Machine) (now : ℕ) (id : List ℕ) (body : Data) (replied : Replied) : Type 0 where
-  pub spelled : List ℕ
-  pub told : replied.reply ≡ Reply.Put (vector_of M.world.setting.base (last M.world.store + 1)) spelled
-  pub kept : row_at (folded id) replied.machine.world.store.rows ≡ Some (row_given M.world.store now spelled body)
+-- no test refuses one command of a client, and the keeper takes its row
+pub record IsAllowed (M : Machine) (k : Keeping) (command : Command) : Type 0 where
+  pub unrefused : refusal_of M.world.setting Client M.world.store command ≡ None
+  pub taken : is_first_taken k.takes ≡ true
+
+-- The write is allowed. The document is in the store under its id, as spelled by an earlier row or as given, with the next etag, which the reply has.
+pub record IsPutKept (M : Machine) (k : Keeping) (now : ℕ) (id : List ℕ) (expected : Expect) (body : Data) (replied : Replied) : Type 0 where
+  pub allowed : IsAllowed M k (Command.Put id expected body)
+  pub told : replied.reply ≡ Reply.Put (vector_of M.world.setting.base (last M.world.store + 1)) (spelling M.world.store id)
+  pub kept : row_at (folded id) replied.machine.world.store.rows ≡ Some (row_given M.world.store now (spelling M.world.store id) body)
   pub others : OthersStay M id replied.machine
 
 abbrev pub PutIsAnswered : Machine → Keeping → ℕ → List ℕ → Expect → Data → Type 0
 PutIsAnswered M k now id expected body =
     let replied = step M k now (Put id expected body) in
-    IsRefused M now (Command.Put id expected body ∷ []) replied ⊎ (IsUnkept M k replied ⊎ IsPutKept M now id body replied)
+    IsRefused M now (Command.Put id expected body ∷ []) replied ⊎ (IsUnkept M k replied ⊎ IsPutKept M k now id expected body replied)
 
--- there was no document to delete, which is told, and nothing is changed
-pub record IsNotThere (M : Machine) (id : List ℕ) (replied : Replied) : Type 0 where
+-- No test refuses. There was no document to delete, which the reply says, and nothing is changed.
+pub record IsNotThere (M : Machine) (id : List ℕ) (expected : Expect) (replied : Replied) : Type 0 where
+  pub unrefused : refusal_of M.world.setting Client M.world.store (Command.Delete id expected) ≡ None
   pub none : document_at M.world.store (folded id) ≡ None
   pub told : replied ≡ same_machine M (Reply.Deleted false (spelling M.world.store id))
 
--- the document was there, and its tombstone stands with the next etag
-pub record IsDeleted (M : Machine) (now : ℕ) (id : List ℕ) (replied : Replied) : Type 0 where
+-- The deletion is allowed. The document was there, and its tombstone is in its place with the next etag.
+pub record IsDeleted (M : Machine) (k : Keeping) (now : ℕ) (id : List ℕ) (expected : Expect) (replied : Replied) : Type 0 where
+  pub allowed : IsAllowed M k (Command.Delete id expected)
   pub row : Row
   pub there : document_at M.world.store (folded id) ≡ Some row
   pub told : replied.reply ≡ Reply.Deleted true row.id
@@ -58,10 +65,13 @@ abbrev pub DeleteIsAnswered : Machine → Keeping → ℕ → List ℕ → Expec
 DeleteIsAnswered M k now id expected =
     let replied = step M k now (Delete id expected) in
     IsRefused M now (Command.Delete id expected ∷ []) replied
-    ⊎ (IsUnkept M k replied ⊎ (IsNotThere M id replied ⊎ IsDeleted M now id replied))
+    ⊎ (IsUnkept M k replied ⊎ (IsNotThere M id expected replied ⊎ IsDeleted M k now id expected replied))
 
--- all commands were written, one after another, and the reply tells of each
-pub record AreWritten (M : Machine) (now : ℕ) (commands : List Command) (replied : Replied) : Type 0 where
+-- No test refuses, and the keeper takes the rows, if there are any. All commands were written, one after another, and the reply reports each.
+pub record AreWritten (M : Machine) (k : Keeping) (now : ℕ) (commands : List Command) (replied : Replied) : Type 0 where
+  pub wrote : Written
+  pub unrefused : commit M.world.setting Client now commands M.world.store ≡ Ok wrote
+  pub taken : is_taken k wrote.rows ≡ true
   pub told : replied.reply ≡ Reply.Bulk (results_of M.world.setting.base replied.machine.world.store commands (etags_taken now commands M.world.store))
   pub written : replied.machine.world.store ≡ after_commands now commands M.world.store
   pub indexes : replied.machine.world.slots ≡ M.world.slots
@@ -69,7 +79,7 @@ pub record AreWritten (M : Machine) (now : ℕ) (commands : List Command) (repli
 abbrev pub BulkIsAnswered : Machine → Keeping → ℕ → List Command → Type 0
 BulkIsAnswered M k now commands =
     let replied = step M k now (Bulk commands) in
-    IsRefused M now commands replied ⊎ (IsUnkept M k replied ⊎ AreWritten M now commands replied)
+    IsRefused M now commands replied ⊎ (IsUnkept M k replied ⊎ AreWritten M k now commands replied)
 
 -- the row is what one of the commands writes, on the store that those before it leave
 pub record IsCommanded (now : ℕ) (commands : List Command) (S : Store) (r : Row) : Type 0 where

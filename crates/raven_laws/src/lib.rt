@@ -27,6 +27,7 @@ pub use runs::{
     batches_move_what_is_stale, every_index_serves_its_name, every_run_goes_on, every_run_is_sound,
     flags_are_exact, fresh_answers_are_exact, fresh_answers_are_from_scratch, ids_are_as_kept,
     large_batches_are_enough, later_worlds_order, new_names_are_free,
+    new_names_have_the_least_number, picks_are_best, served_names_stay,
 };
 pub use scripts::{every_script_is_sound, scripts_are_runs};
 pub use stores::{commit_grows, later_orders};

@@ -1,15 +1,17 @@
 //! What holds after every run: whatever is asked, in whatever order.
 
 ghost use Rattle.std.specs.Prelude.{◌≡◌, ◌↔◌, ◌<◌, ◌≤◌, ◌^◌, ◌+◌, ◌++◌, ℕ, List, Some, None, false, length};
-ghost use Rattle.spec_store.specs.Store.{last};
+ghost use Rattle.spec_store.specs.Store.{Store, last};
 ghost use Rattle.index_tree.specs.Meaning.{Fields};
 ghost use Rattle.index_tree.specs.Mapper.{mapper_of};
 ghost use Rattle.spec_index.specs.Mapping.{scratch};
 ghost use Rattle.spec_store.specs.Commit.{Setting};
 ghost use Rattle.spec_index.specs.World.{Slot, World, serving};
-ghost use Rattle.spec_index.specs.Optimiser.{Shape, name_of};
-ghost use Rattle.spec_server.specs.Machine.{Event, is_stale, pump, pumping, run, start};
-ghost use Rattle.spec_server.specs.Sound.{Has, LaterW, Sound};
+ghost use Rattle.spec_index.specs.Optimiser.{Choice, Shape, first_free, name_of, pick};
+ghost use Rattle.spec_server.specs.Machine.{Event, Keeping, Machine, Request, is_stale, pump, pumping, run, start};
+ghost use Rattle.spec_server.specs.Sound.{Has, LaterW, NumbersRise, Sound};
+ghost use Rattle.raven_laws.specs.Choices.{IsChosen, IsFirstFree};
+ghost use Rattle.raven_laws.specs.Served.{ServedStays};
 ghost use Rattle.raven_laws.specs.Claims.{FlagsAreExact, FreshIsExact, FreshIsFromScratch, IdsAreAsKept, IsAsKept};
 
 /// Each index has recorded what the store has up to its etag, has its row among the indexes' rows, and shares its number and its name
@@ -46,7 +48,7 @@ pub fn fresh_answers_are_exact()
     ensures { (setting : Setting) (events : List Event) → FreshIsExact (run events (start setting)) }
 {}
 
-/// An answer is stale exactly where the store has a row that its index reads and has not seen.
+/// Each flag in a reply, of a query, of a question about staleness or in the list of all indexes, is exact, up to the cutoff that was asked.
 pub fn flags_are_exact()
     ensures { (setting : Setting) (events : List Event) → FlagsAreExact (run events (start setting)) }
 {}
@@ -59,10 +61,28 @@ pub fn ids_are_as_kept()
     ensures answers { (setting : Setting) (events : List Event) → IdsAreAsKept (run events (start setting)) }
 {}
 
+/// The index that serves a name goes on to serve it, with its number and its definition, in every step but its own removal.
+pub fn served_names_stay()
+    ensures { (M : Machine) (k : Keeping) (now : ℕ) (request : Request) → Sound M.world → ServedStays M k now request }
+{}
+
 /// The name that is chosen for a new index is free, so no index is refused for its name.
 pub fn new_names_are_free()
     ensures { (setting : Setting) (events : List Event) (shape : Shape) → setting.max_slots < 2 ^ 32 →
         let W = (run events (start setting)).world in serving W.slots (name_of W.slots (last W.store + 1) shape) ≡ None }
+{}
+
+/// The index that is picked for a query is the best of those that cover it: fresh before stale, then with fewer fields, then the earlier one.
+/// A new one is made only if the collection has no automatic index. There is only one such choice.
+pub fn picks_are_best()
+    ensures picked { (S : Store) (slots : List Slot) (shape : Shape) → NumbersRise 0 slots → IsChosen S slots shape (pick shape S slots) }
+    ensures one { (S : Store) (slots : List Slot) (shape : Shape) (c d : Choice) →
+        IsChosen S slots shape c → IsChosen S slots shape d → c ≡ d }
+{}
+
+/// A used name gets the least number from 2 on that makes it free.
+pub fn new_names_have_the_least_number()
+    ensures { (slots : List Slot) (name : List ℕ) → IsFirstFree slots name (first_free name slots) }
 {}
 
 /// A batch moves an index exactly where the index is stale.
