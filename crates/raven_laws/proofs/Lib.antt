@@ -16,6 +16,7 @@ pub mod WriteLemmas
 pub mod DefinitionLemmas
 pub mod ServedLemmas
 pub mod ChoiceLemmas
+pub mod WordLemmas
 pub mod KeepLemmas
 pub mod MemberLemmas
 pub mod OpenLemmas

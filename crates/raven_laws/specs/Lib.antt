@@ -5,3 +5,4 @@ pub mod Keeping
 pub mod Opened
 pub mod Served
 pub mod Choices
+pub mod Words

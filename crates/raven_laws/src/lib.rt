@@ -29,7 +29,9 @@ pub use runs::{
     large_batches_are_enough, later_worlds_order, new_names_are_free,
     new_names_have_the_least_number, picks_are_best, served_names_stay,
 };
-pub use scripts::{every_script_is_sound, scripts_are_runs};
+pub use scripts::{
+    arguments_are_split_at_spaces, every_script_is_sound, numbers_are_decimal, scripts_are_runs,
+};
 pub use stores::{commit_grows, later_orders};
 pub use writes::{
     deletes_are_kept, only_writes_write, puts_are_kept, rows_were_written, transactions_are_whole,
