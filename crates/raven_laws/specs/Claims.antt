@@ -1,4 +1,4 @@
--- What the laws say of the answers of a machine.
+-- What the laws claim of the answers of a machine.
 use Rattle.std.specs.Prelude.{◌≡◌, ℕ, List, [], Bool, true, false, Option, Some, None, IsTrue, ◌↔◌}
 use Rattle.raven_data.specs.Folding.{folded}
 use Rattle.raven_data.specs.Rows.{Row, is_document}
@@ -14,13 +14,13 @@ use Rattle.spec_index.specs.Find.{has_words, found_in}
 use Rattle.spec_server.specs.Sound.{Has}
 use Rattle.spec_store.specs.Stale.{Unseen}
 
--- the id is spelled as the store keeps it
+-- the id is spelled as the store spells it
 pub record IsAsKept (S : Store) (id : List ℕ) : Type 0 where
   pub row : Row
   pub found : row_at (folded id) S.rows ≡ Some row
   pub spelled : row.id ≡ id
 
--- a document that the store has, that the map of the definition gives an entry, and whose field is that text
+-- a document of the store that the map of the definition gives an entry, and whose field is the text
 pub record IsMatch (S : Store) (d : Definition) (field words id : List ℕ) : Type 0 where
   pub row : Row
   pub found : row_at (folded id) S.rows ≡ Some row
@@ -31,7 +31,7 @@ pub record IsMatch (S : Store) (d : Definition) (field words id : List ℕ) : Ty
   pub gives : ((mapper_of d).meaning row (documents (scope_of (mapper_of d)) S)).outcome ≡ Entry fields
   pub matches : IsTrue (has_words field words fields)
 
--- the ids and the flag of an answer
+-- the ids and the staleness flag of an answer
 abbrev pub ids_in : Reply → List (List ℕ)
 ids_in (Found ids etag is_stale) = ids
 ids_in other = []
@@ -48,18 +48,18 @@ abbrev pub FreshIsFromScratch : Machine → Type 0
 FreshIsFromScratch M = (index field words : List ℕ) (s : Slot) → serving M.world.slots index ≡ Some s → is_stale M.world.store s ≡ false
     → find_reply M index field words ≡ Found (found_in (mapper_of s.version.definition) (documents (reads s.version) M.world.store) field words) s.version.etag false
 
--- and so it has exactly the ids of the documents that match
+-- so its answer has exactly the ids of the documents that match
 abbrev pub FreshIsExact : Machine → Type 0
 FreshIsExact M = (index field words id : List ℕ) (s : Slot) → serving M.world.slots index ≡ Some s → is_stale M.world.store s ≡ false
     → Has (ids_in (find_reply M index field words)) id ↔ IsMatch M.world.store s.version.definition field words id
 
--- an answer is stale exactly where the store has a row that the index reads and has not seen
+-- an answer is stale exactly if the store has a row that the index reads and has not seen
 pub record FlagsAreExact (M : Machine) : Type 0 where
   pub stale : (index field words : List ℕ) (s : Slot) → serving M.world.slots index ≡ Some s
       → (flag_in (find_reply M index field words) ≡ Some true) ↔ Unseen M.world.store (reads s.version) s.version.etag None
   pub fresh : (index field words : List ℕ) (s : Slot) → serving M.world.slots index ≡ Some s
       → (flag_in (find_reply M index field words) ≡ Some false) ↔ (Unseen M.world.store (reads s.version) s.version.etag None → ⊥)
 
--- each id of an answer is spelled as the store keeps it
+-- each id of an answer is spelled as the store spells it
 abbrev pub IdsAreAsKept : Machine → Type 0
 IdsAreAsKept M = (index field words id : List ℕ) → Has (ids_in (find_reply M index field words)) id → IsAsKept M.world.store id

@@ -1,4 +1,4 @@
--- What the laws say of a machine's writes.
+-- What the laws claim of a machine's writes.
 use Rattle.std.specs.Prelude.{◌≡◌, ℕ, ◌+◌, List, [], ◌∷◌, ◌++◌, Bool, true, false, Some, None, Err, ◌⊎◌}
 use Rattle.raven_data.specs.Data.{Data}
 use Rattle.raven_data.specs.Folding.{folded, same_key}
@@ -8,28 +8,28 @@ use Rattle.spec_store.specs.Commit.{Command, Expect, Client, Refused, after_comm
 use Rattle.spec_server.specs.Replies.{Reply}
 use Rattle.spec_server.specs.Machine.{Machine, Event, Keeping, Replied, Request, Put, Delete, Bulk, Get, Find, Stale, Indexes, Stats, after, commands_in, results_of, run, same_machine, spelling, step, write_refused}
 
--- what a Put is to write: the body without what the server writes itself, under the next etag
+-- the row that a Put writes: the stored body under the next etag
 abbrev pub row_given : Store → ℕ → List ℕ → Data → Row
 row_given S now spelled body = record { etag = last S + 1; id = spelled; collection = collection_of body; body = doc (stored body); changed = now }
 
--- the commands have one of the causes of a refusal, which is told, and nothing is changed
+-- the commands are refused: the reply has the cause, and nothing changes
 pub record IsRefused (M : Machine) (now : ℕ) (commands : List Command) (replied : Replied) : Type 0 where
   pub refused : Refused
   pub cause : commit M.world.setting Client now commands M.world.store ≡ Err refused
   pub told : replied ≡ same_machine M (write_refused refused)
 
--- the keeper failed, which is told, and nothing is changed
+-- the keeper failed: the reply says so, and nothing changes
 pub record IsUnkept (M : Machine) (k : Keeping) (replied : Replied) : Type 0 where
   pub later : List Bool
   pub failed : k.takes ≡ false ∷ later
   pub told : replied ≡ same_machine M (Reply.KeeperFault k.before k.after)
 
--- the rows of all other ids, and the indexes, are as they were
+-- the rows of all other ids, and the indexes, stay as they were
 pub record OthersStay (M : Machine) (id : List ℕ) (N : Machine) : Type 0 where
   pub rows : (q : List ℕ) → same_key q (folded id) ≡ false → row_at q N.world.store.rows ≡ row_at q M.world.store.rows
   pub indexes : N.world.slots ≡ M.world.slots
 
--- the document stands under its id with the next etag, which the reply has
+-- the id has the document, with the next etag, which is that of the reply's change vector
 pub record IsPutKept (M : Machine) (now : ℕ) (id : List ℕ) (body : Data) (replied : Replied) : Type 0 where
   pub spelled : List ℕ
   pub told : replied.reply ≡ Reply.Put (vector_of M.world.setting.base (last M.world.store + 1)) spelled
@@ -41,12 +41,12 @@ PutIsAnswered M k now id expected body =
     let replied = step M k now (Put id expected body) in
     IsRefused M now (Command.Put id expected body ∷ []) replied ⊎ (IsUnkept M k replied ⊎ IsPutKept M now id body replied)
 
--- there was no document to delete, which is told, and nothing is changed
+-- there was no document to delete: the reply says so, and nothing changes
 pub record IsNotThere (M : Machine) (id : List ℕ) (replied : Replied) : Type 0 where
   pub none : document_at M.world.store (folded id) ≡ None
   pub told : replied ≡ same_machine M (Reply.Deleted false (spelling M.world.store id))
 
--- the document was there, and its tombstone stands with the next etag
+-- the document was there, and the id has its tombstone with the next etag
 pub record IsDeleted (M : Machine) (now : ℕ) (id : List ℕ) (replied : Replied) : Type 0 where
   pub row : Row
   pub there : document_at M.world.store (folded id) ≡ Some row
@@ -60,7 +60,7 @@ DeleteIsAnswered M k now id expected =
     IsRefused M now (Command.Delete id expected ∷ []) replied
     ⊎ (IsUnkept M k replied ⊎ (IsNotThere M id replied ⊎ IsDeleted M now id replied))
 
--- all commands were written, one after another, and the reply tells of each
+-- all commands were written, one after another, and the reply has the result of each
 pub record AreWritten (M : Machine) (now : ℕ) (commands : List Command) (replied : Replied) : Type 0 where
   pub told : replied.reply ≡ Reply.Bulk (results_of M.world.setting.base replied.machine.world.store commands (etags_taken now commands M.world.store))
   pub written : replied.machine.world.store ≡ after_commands now commands M.world.store
@@ -71,7 +71,7 @@ BulkIsAnswered M k now commands =
     let replied = step M k now (Bulk commands) in
     IsRefused M now commands replied ⊎ (IsUnkept M k replied ⊎ AreWritten M now commands replied)
 
--- the row is what one of the commands writes, on the store that those before it leave
+-- the row is what one of the commands writes to the store that those before it leave
 pub record IsCommanded (now : ℕ) (commands : List Command) (S : Store) (r : Row) : Type 0 where
   pub earlier : List Command
   pub command : Command
@@ -79,7 +79,7 @@ pub record IsCommanded (now : ℕ) (commands : List Command) (S : Store) (r : Ro
   pub among : commands ≡ earlier ++ command ∷ later
   pub given : row_of now (after_commands now earlier S) command ≡ Some r
 
--- one of the requests had the command that wrote this row, and its commands were taken, all of them
+-- a command of one of the requests wrote this row, and all commands of that request were taken
 pub record IsWritten (M : Machine) (events : List Event) (r : Row) : Type 0 where
   pub before : List Event
   pub event : Event
@@ -88,7 +88,7 @@ pub record IsWritten (M : Machine) (events : List Event) (r : Row) : Type 0 wher
   pub given : IsCommanded event.now (commands_in event.request) (run before M).world.store r
   pub taken : (after (run before M) event).world.store ≡ after_commands event.now (commands_in event.request) (run before M).world.store
 
--- the request asks a question
+-- the request asks, and writes nothing
 abbrev pub OnlyReads : Request → Type 0
 OnlyReads (Get id) = Unit {0}
 OnlyReads (Find index field words) = Unit {0}

@@ -30,7 +30,7 @@ pub fn later_worlds_order()
     ensures steps { (W N P : World) → LaterW W N → LaterW N P → LaterW W P }
 {}
 
-/// Each index is the one that is found under its name.
+/// Each index is the one that serves its name.
 pub fn every_index_serves_its_name()
     ensures { (setting : Setting) (events : List Event) (s : Slot) →
         let W = (run events (start setting)).world in Has W.slots s → serving W.slots s.name ≡ Some s }
@@ -46,12 +46,12 @@ pub fn fresh_answers_are_exact()
     ensures { (setting : Setting) (events : List Event) → FreshIsExact (run events (start setting)) }
 {}
 
-/// An answer is stale exactly where the store has a row that its index reads and has not seen.
+/// An answer is stale exactly if the store has a row that its index reads and has not seen.
 pub fn flags_are_exact()
     ensures { (setting : Setting) (events : List Event) → FlagsAreExact (run events (start setting)) }
 {}
 
-/// Ids are spelled as the store keeps them: in the entries of each index, and in each answer.
+/// Ids are spelled as the store spells them: in the entries of each index, and in each answer.
 pub fn ids_are_as_kept()
     ensures entries { (setting : Setting) (events : List Event) (s : Slot) (e : List ℕ × Fields) →
         let W = (run events (start setting)).world in
@@ -59,13 +59,13 @@ pub fn ids_are_as_kept()
     ensures answers { (setting : Setting) (events : List Event) → IdsAreAsKept (run events (start setting)) }
 {}
 
-/// The name that is chosen for a new index is free, so no index is refused for its name.
+/// The name that is chosen for a new index is free, so no new index is refused for its name.
 pub fn new_names_are_free()
     ensures { (setting : Setting) (events : List Event) (shape : Shape) → setting.max_slots < 2 ^ 32 →
         let W = (run events (start setting)).world in serving W.slots (name_of W.slots (last W.store + 1) shape) ≡ None }
 {}
 
-/// A batch moves an index exactly where the index is stale.
+/// A batch moves the etag of an index exactly if the index is stale.
 pub fn batches_move_what_is_stale()
     ensures { (setting : Setting) (events : List Event) (s : Slot) (max : ℕ) → 1 ≤ max →
         let W = (run events (start setting)).world in Has W.slots s →
