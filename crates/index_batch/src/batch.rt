@@ -1,4 +1,4 @@
-//! Batches: how an index is brought on.
+//! Batches: how an index catches up.
 ghost use Rattle.std.specs.Prelude.{◌≡◌, IfOk, cond, length};
 ghost use Rattle.raven_data.specs.Tables.{note_rows};
 ghost use Rattle.spec_store.specs.Stale.{taken};
@@ -23,10 +23,10 @@ fn etag_after(taken: &[Row], more: bool, store: &Store) -> u64
     if more { last_etag(taken) } else { store.last() }
 }
 
-/// The version after the first `max` rows that it has not seen, and nothing where there is none.
-/// Its etag is that of the last of them where more remain, and else the store's last.
+/// The version after the first `max` rows that it has not seen, or nothing if there are none.
+/// Its etag is that of the last of them if more remain, else the store's last.
 ///
-/// The map is asked for the documents that these rows touch, each at most once, and for no others.
+/// The mapper maps the documents that these rows touch, each at most once, and no others.
 pub fn next<M: Mapper, L: Ledger>(
     alloc: Global,
     version: &IndexVersion,

@@ -1,4 +1,4 @@
-//! How often a map is asked: over documents that load others, with a mapper that counts its own calls.
+//! How often a batch calls the map: over documents that load others, with a mapper that counts its calls.
 ghost use Rattle.std.specs.Prelude.{◌≡◌, ◌≤◌, ◌<◌, ◌^◌, length};
 ghost use Rattle.index_definition.specs.DefinitionView.{definition_view};
 ghost use Rattle.index_version.specs.Meaning.{found_local, found_meaning};
@@ -157,7 +157,7 @@ fn brought<L: Ledger>(
     next(alloc, version, store, &mapper, max, &mut steps)
 }
 
-// How often the map is asked in each batch, until there is none.
+// How often each batch calls the map, until there is nothing to take.
 fn calls_told(alloc: Global, fresh: IndexVersion, store: &Store, max: u32) -> Result<String, Fail> {
     let calls = Cell::new(0);
     let mut told = String::new(alloc);

@@ -1,4 +1,4 @@
--- What the tests on bytes lead to.
+-- What a reading gives, by the tests that the program makes of the bytes.
 use Rattle.std.proofs.Common.{◌≡◌, ℕ, List, Bool, true, false, Option, Some, None, Result, Ok, Err, ap, ◌∙◌, IfOk, IfErr, IsUtf8, refl}
 use Rattle.std.specs.Prelude.{if◌then◌else◌}
 use Rattle.std.specs.Str.{is_utf8}

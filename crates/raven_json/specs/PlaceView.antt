@@ -1,4 +1,4 @@
--- A `Place` of the program, and what it is.
+-- A `Place` of the program as one of the specification.
 use Rattle.raven_data.specs.Scan as is
 use Rattle.raven_json.specs.declared.scan.Place.{Place}
 use Rattle.raven_json.specs.declared.scan.Place.TheVariants as p

@@ -26,12 +26,12 @@ pub enum JsonRefusal {
     #[error("more than a hundred brackets are open at once")]
     TooDeep,
 
-    /// No memory was found.
+    /// Out of memory.
     #[error("no memory was found")]
     NoMemory,
 }
 
-/// The value that the bytes are. Of members of one name the last is kept.
+/// The value that the bytes spell. Of members with the same name the last counts.
 pub fn read(alloc: Global, bytes: &[u8]) -> Result<Value, JsonRefusal>
     ensures ok { IfOk result (λ value. reading bytes.now ≡ Ok (data_of value)) }
     ensures refused { IfErr result (λ refusal. Refuses refusal (reading bytes.now)) }

@@ -124,7 +124,7 @@ fn write_members(alloc: Global, out: &mut Vec<u8>, members: &Members) -> Result<
     Ok(())
 }
 
-/// The compact text of a value. Where the value is at most a hundred deep, the text is read as that value.
+/// The compact text of a value. If the value is at most a hundred deep, the text is read as that value.
 #[tactic(auto, using(crate::proofs::RoundTrip::read_back))]
 pub fn write(alloc: Global, value: &Value) -> Result<Vec<u8>, NoMemory>
     ensures text { IfOk result (λ bytes. bytes.items ≡ text_of (data_of value.now)) }
@@ -136,7 +136,7 @@ pub fn write(alloc: Global, value: &Value) -> Result<Vec<u8>, NoMemory>
     Ok(out)
 }
 
-/// Adds the JSON text of a text to bytes.
+/// Appends the JSON text of a text.
 pub fn write_text(out: &mut Vec<u8>, text: &str) -> Result<(), NoMemory>
     ensures { OnOk result (out.new.items ≡ out.old.items ++ quoted text.now) }
 {

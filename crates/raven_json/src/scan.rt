@@ -3,7 +3,7 @@ ghost use Rattle.std.specs.Prelude.{◌≡◌, ◌≤◌};
 ghost use Rattle.raven_data.specs.Scan.{outside, is_too_deep as spec_is_too_deep, place_after as spec_place_after, open_after as spec_open_after};
 ghost use Rattle.raven_json.specs.PlaceView.{place_view};
 
-/// Where a byte stands: outside texts, in a text, or behind a backslash in a text.
+/// Where a byte is: outside texts, in a text, or after a backslash in a text.
 #[derive(Clone, Copy, PartialEq, Eq)]
 pub(crate) enum Place {
     Outside,

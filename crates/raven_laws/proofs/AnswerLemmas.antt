@@ -153,7 +153,7 @@ named id (Entry fields) e h = let same : (let x : List ℕ × Fields = (id, fiel
 named id NoEntry e h = absurd cc
 named id Failed e h = absurd cc
 
--- each entry of an index stands under the id that the store keeps
+-- the id of each entry of an index is spelled as the store spells it
 pub entries-IsAsKept : (W : World) (s : Slot) (e : List ℕ × Fields) → Sound W → Has W.slots s → Has (scratch (mapper_of s.version.definition) s.version.table) e → IsAsKept W.store e.0
 entries-IsAsKept W s e o at h =
     let m = mapper_of s.version.definition in

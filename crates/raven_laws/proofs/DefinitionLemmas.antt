@@ -1,4 +1,4 @@
--- Definitions that say the same, and what is answered to a Define, a Remove and a batch for one index.
+-- Definitions that say the same, and the answers to a Define, a Remove and a batch for one index.
 use Rattle.std.proofs.Common.{◌≡◌, ℕ, ◌+◌, List, [], ◌∷◌, ◌++◌, Bool, true, false, not, cond, ◌&&◌, nat_lt, nat_le, length, map, Option, Some, None, option_map, Ok, Err, refl, sym, ap, ◌∙◌, subst, ◌⊎◌, inl, inr, ◌↔◌}
 use Rattle.std.proofs.lemmas.Bool.{eqb-true, eq-eqb, leb-true, leb-false, ltb-true, ltb-false}
 use Rattle.std.specs.Coded.{Coded, coded_list}
@@ -23,7 +23,7 @@ use Rattle.raven_laws.proofs.SlotLemmas.{Has-filter, Has-map, Has-mapped, into-f
 use Rattle.raven_laws.proofs.WorldLemmas.{other_name, others_of}
 use Rattle.raven_laws.proofs.WriteLemmas.{first_or_not, found_again, new_row, others_stay, unkept}
 
--- WHICH DEFINITIONS SAY THE SAME
+-- WHEN TWO DEFINITIONS SAY THE SAME
 
 same_codes-itself : (a : Gv) → same_codes a a ≡ true
 same_codes-itself gnil = refl
@@ -42,7 +42,7 @@ same_codes-means (gcons a b) (gnum n) h = absurd cc
 same_codes-means (gcons a b) (gcons c d) h =
     let both = both_true (same_codes a c) (same_codes b d) h in λ i. gcons (same_codes-means a c both.0 i) (same_codes-means b d both.1 i)
 
--- values of one code are told apart by their codes
+-- two values are equal exactly if their codes are found to be the same
 told-apart : {A : Type 0} (code : Coded A) (a b : A) → (is_same code a b ≡ true) ↔ (a ≡ b)
 told-apart code a b = (
   λ h. code.inj a b (same_codes-means (code.code a) (code.code b) h),
@@ -80,7 +80,7 @@ definitions-told (Auto c fields) (Auto d others) = (
 
 -- DEFINING AN INDEX
 
--- behind slots of other names
+-- a new slot at the end serves its name, if no other does
 served-pushed : (slots : List Slot) (new : Slot) (name : List ℕ) → serving slots name ≡ None → is_named name new ≡ true → serving (slots ++ new ∷ []) name ≡ Some new
 served-pushed [] new name none is = ap (λ b. cond b (Some new) None) is
 served-pushed (s ∷ slots) new name none is =

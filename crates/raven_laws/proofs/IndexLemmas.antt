@@ -1,4 +1,4 @@
--- What an index has recorded stays right, and a batch keeps it so.
+-- What an index has recorded stays right, also after a batch.
 use Rattle.std.proofs.Common.{◌≡◌, ℕ, ◌≤◌, List, [], ◌∷◌, ◌++◌, Bool, true, false, cond, ◌&&◌, nat_lt, Option, Some, None, filter, refl, sym, ap, ◌∙◌, subst, arith}
 use Rattle.std.specs.Bool.{IsTrue}
 use Rattle.std.proofs.lemmas.Bool.{ltb-true, ltb-false}
@@ -28,7 +28,7 @@ Agrees-later scope T S N e a l le = record {
   dated = a.dated;
 }
 
--- what a table has of an id after the last row of that id, if there is one
+-- what a table has under an id once the last row of that id is noted, if there is one
 unfoldable pub noted : Option Row → Option Row → Option Row
 noted None t = t
 noted (Some r) t = cond (is_document r) (Some r) None
@@ -43,7 +43,7 @@ get-note_rows T (r ∷ rows) q h =
       | false ↦ λ e. refl
     ] refl
 
--- the rows past an etag rise from it
+-- the etags of the rows past an etag rise from it
 past_rising : (scope : Scope) (e low : ℕ) (rows : List Row) → AreRising low rows → AreRising e (filter (λ r. in_scope scope r && nat_lt e r.etag) rows)
 past_rising scope e low [] up = tt
 past_rising scope e low (x ∷ rows) up =
@@ -52,7 +52,7 @@ past_rising scope e low (x ∷ rows) up =
       | false ↦ λ is. past_rising scope e x.etag rows up.1
     ] refl
 
--- a row of the store is either in scope or not recorded
+-- nothing is recorded under the id of a row that is not in scope
 pub unread : (scope : Scope) (T : Table) (S : Store) (e : ℕ) (q : List ℕ) (r : Row) → Agrees scope T S e → row_at q S.rows ≡ Some r → in_scope scope r ≡ false → get T q ≡ None
 unread scope T S e q r a h out =
     elim (get T q) as (λ o. get T q ≡ o → o ≡ None) [
@@ -70,7 +70,7 @@ same_found q rows a b h g = same_row a b (sym h ∙ g)
 no_wait : (e low : ℕ) → low ≤ e → nat_lt e low ≡ true → ⊥
 no_wait e low h t = let lt = ltb-true e low t in omega arith
 
--- what a batch has taken, of which the store is the only source
+-- the rows are what a batch takes: exactly the store's rows in scope past `e`, up to the etag `new`
 pub record Taken (scope : Scope) (S : Store) (e : ℕ) (rows : List Row) (new : ℕ) : Type 0 where
   pub apart : AreApart rows
   pub from : (q : List ℕ) (r : Row) → row_at q rows ≡ Some r → (row_at q S.rows ≡ Some r) × (in_scope scope r ≡ true) × (nat_lt e r.etag ≡ true) × (r.etag ≤ new)
@@ -120,7 +120,7 @@ Agrees-taken scope T S e rows new s a t = record {
       | Some x ↦ λ is. absurd (never (is ∙ ap Some (same_found q S.rows x r (t.from q x is).0 h)))
     ] refl
 
--- the rows that a batch takes are taken
+-- a batch takes such rows
 pub Taken-batch : (scope : Scope) (S : Store) (e max : ℕ) → IsStore S → e ≤ last S → Taken scope S e (taken scope e S max) (etag_of_batch scope e S max)
 Taken-batch scope S e max s le = record {
   apart = AreApart-front tk lo (subst AreApart (sym both) apart);
@@ -196,7 +196,7 @@ fresh_exact scope T S e cutoff a h q r is before =
       | false ↦ λ outside. unread scope T S e q r a is outside
     ] refl
 
--- the documents of a store in scope: under each id the row that the store has, where it is one
+-- the documents of a store in scope: under each id the store's row, if it is a document in scope
 pub get-documents : (scope : Scope) (S : Store) (q : List ℕ) → IsStore S → get (documents scope S) q ≡ option_and_then (record_of scope) (row_at q S.rows)
 unfolding noted
 get-documents scope S q s =

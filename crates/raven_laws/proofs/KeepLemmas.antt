@@ -1,4 +1,4 @@
--- What a keeper holds are the rows of the store.
+-- What a keeper stores is the rows of the store.
 use Rattle.std.proofs.Common.{◌≡◌, ℕ, ◌+◌, List, [], ◌∷◌, true, false, cond, Option, Some, None, Result, Ok, Err, refl, sym, ap, ◌∙◌, subst}
 use Rattle.std.specs.Option.{option_map}
 use Rattle.raven_data.specs.Folding.{folded}
@@ -20,7 +20,7 @@ use Rattle.spec_store.proofs.KeepLemmas.{kept-with_rows}
 
 -- TRANSACTIONS
 
--- what was written so far is a store with rows that follow on its last etag
+-- what was written so far: the old store with further rows, whose etags go on from its last
 record Adds (S : Store) (w : Written) : Type 0 where
   pub store : w.store ≡ with_rows S w.rows
   pub next : AreNext (last S) w.rows
@@ -124,7 +124,7 @@ settled-rows M k c a = elim (is_taken k c.rows) as (λ b.
       | false ↦ refl
     ]
 
--- after an event the keeper holds the rows of the store that the event leaves
+-- after an event the keeper stores the rows of the store that the event leaves
 pub held-next : (M : Machine) (e : Event) → keep_all (all_kept M.world.store.rows) (all_kept (rows_given M e)) ≡ all_kept (after M e).world.store.rows
 held-next M e =
     kept-with_rows M.world.store (rows_given M e)

@@ -1,4 +1,4 @@
--- A store never has more rows than its setting allows, and no etag past the last that there is.
+-- A store never has more rows than its setting allows, and no etag past the greatest.
 use Rattle.std.proofs.Common.{◌≡◌, ℕ, suc, ◌+◌, ◌<◌, ◌≤◌, List, [], ◌∷◌, length, Bool, true, false, not, cond, ◌&&◌, ◌==◌, nat_lt, nat_le, is_none, is_some, Option, Some, None, Ok, filter, map, refl, sym, ap, ◌∙◌, subst, arith, inl, inr, length-append}
 use Rattle.std.proofs.lemmas.Bool.{leb-false, ltb-true, ltb-false, eq-eqb}
 use Rattle.std.specs.Option.{option_map}

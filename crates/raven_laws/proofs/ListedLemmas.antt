@@ -150,7 +150,7 @@ unreserved s S c h =
     elim (is_reserved c) as (λ b. cond b (Some Refusal.ReservedId) None ≡ None → b ≡ false) [ true ↦ λ e. absurd cc | false ↦ λ e. refl ]
     (first_none (reserved Client c) (too_large c ∷ collection_changed S c ∷ conflict s S c ∷ store_full s S c ∷ etags_spent S c ∷ []) h)
 
--- a row of no index's id, which is no live row of `@indexes`, changes nothing
+-- a row whose id is no index's, and that is no live row of `@indexes`, changes nothing
 other-AreListed : (S : Store) (slots : List Slot) (r : Row) → AreListed S slots → starts_with nat_eq (key r) (codes "@index/") ≡ false → (is_document r ≡ true → r.collection ≡ codes "@indexes" → ⊥) → AreListed (with_row S r) slots
 other-AreListed S slots r l apart never = record {
   each = λ x h. let i = l.each x h in record {
@@ -193,7 +193,7 @@ clients-AreListed at s now (c ∷ cs) done new slots h l =
     written None k = k
     written (Some r) k = k
 
--- slots that keep their names, rows and definitions
+-- slots that keep their names, rows and definitions stay listed
 pub map-AreListed : (S : Store) (f : Slot → Slot) (slots : List Slot) → ((s : Slot) → Has slots s → ((f s).name ≡ s.name) × ((f s).row ≡ s.row) × ((f s).version.definition ≡ s.version.definition)) → AreListed S slots → AreListed S (map f slots)
 map-AreListed S f slots keeps l = record {
   each = λ y h.

@@ -30,7 +30,7 @@ Moves-itself W o = record { sound = o; later = LaterW-itself W }
 pub Moves-then : (W V X : World) → Moves W V → Moves V X → Moves W X
 Moves-then W V X f g = record { sound = g.sound; later = LaterW-then W V X f.later g.later }
 
--- what a change of the store and of the slots must show
+-- what has to be proved of a change of the store and of the slots
 pub record Turns (W : World) (S : Store) (slots : List Slot) : Type 0 where
   pub store : IsStore S
   pub later : Later W.store S
@@ -171,7 +171,7 @@ pub record Keeps (x y : Slot) : Type 0 where
   pub row : y.row ≡ x.row
   pub definition : y.version.definition ≡ x.version.definition
 
--- to be brought on keeps the definition
+-- a batch keeps the definition
 pub brought-Keeps : (S : Store) (max : ℕ) (x : Slot) → Keeps x (brought_on S max x)
 brought-Keeps S max x = record { number = refl; name = refl; row = refl; definition = by (taken (reads x.version) x.version.etag S max) }
   where
@@ -179,7 +179,7 @@ brought-Keeps S max x = record { number = refl; name = refl; row = refl; definit
     by [] = refl
     by (r ∷ rows) = refl
 
--- each slot is brought on or stays
+-- each slot is advanced by a batch or stays as it is
 mapped-Moves : (M : Machine) (f : Slot → Slot) → Sound M.world → ((x : Slot) → Has M.world.slots x → Comes M.world M.world.store [] (f x)) → ((x : Slot) → Keeps x (f x))
     → Moves M.world (with_slots M.world (map f M.world.slots))
 mapped-Moves M f o comes keeps = Turns-Moves M.world M.world.store (map f M.world.slots) o (record {

@@ -1,4 +1,4 @@
--- To map again what a batch touches is to map all from scratch.
+-- Mapping again what a batch touches gives what mapping all from scratch gives.
 use Rattle.std.proofs.Common.{◌≡◌, ℕ, ◌≤◌, List, [], ◌∷◌, ◌++◌, Bool, true, false, not, cond, ◌&&◌, ◌||◌, Option, Some, None, is_some, filter, map, refl, sym, ap, ◌∙◌, subst}
 use Rattle.std.specs.List.{list_any}
 use Rattle.std.specs.Str.{bytes_eq}
@@ -26,7 +26,7 @@ any-append p (x ∷ xs) ys h = elim (p x) as (λ b. b || list_any p (xs ++ ys) �
   | false ↦ λ g. any-append p xs ys g
 ] h
 
--- a row of a list whose ids lack q does not pass
+-- if q is none of the ids of the rows that pass, its row does not pass
 lacks : (p : Row → Bool) (q : List ℕ) (rows : List Row) (r : Row) → list_any (same_key q) (map key (filter p rows)) ≡ false → row_at q rows ≡ Some r → p r ≡ false
 lacks p q [] r h is = absurd cc
 lacks p q (x ∷ rows) r h is =
@@ -47,7 +47,7 @@ lacks p q (x ∷ rows) r h is =
       | false ↦ λ g. g
     ] h
 
--- the same of the documents of a table
+-- the same for the documents of a table
 lacks_entry : (p : Row → Bool) (q : List ℕ) (es : List (List ℕ × Row)) (r : Row) → list_any (same_key q) (map key (filter p (map (λ e. e.1) es))) ≡ false → entry_at key_cmp q es ≡ Some r → q ≡ key r → p r ≡ false
 lacks_entry p q [] r h is own = absurd cc
 lacks_entry p q (x ∷ es) r h is own =
@@ -71,7 +71,7 @@ lacks_entry p q (x ∷ es) r h is own =
       | false ↦ λ g. g
     ] h
 
--- what is loaded and was not taken is as it was
+-- an id that is looked up and was not taken has what it had
 alike : (T : Table) (rows : List Row) (loads : List (List ℕ)) → AreApart rows → list_any (is_taken rows) loads ≡ false → AlikeAt loads T (note_rows T rows)
 unfolding noted
 alike T rows [] apart h = tt
@@ -158,7 +158,7 @@ get-remapped m T (k ∷ qs) K q =
     either_way true x = refl
     either_way false x = refl
 
--- to map again what a batch touches gives what mapping all from scratch gives
+-- mapping again what a batch touches gives what mapping all from scratch gives
 pub remapped-AreResults : (m : Mapper) (T : Table) (S : Store) (e max : ℕ) (K : Results) → IsStore S → Agrees (scope_of m) T S e → e ≤ last S → AreResults m T K
     → let rows = taken (scope_of m) e S max in AreResults m (note_rows T rows) (remapped m (note_rows T rows) (touched m T rows) K)
 remapped-AreResults m T S e max K s a le k = λ q.

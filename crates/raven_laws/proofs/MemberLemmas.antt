@@ -1,4 +1,4 @@
--- Members that rise are known by their names, and what is read has members that rise.
+-- Members that rise are determined by what their names have, and what is read has members that rise.
 use Rattle.std.proofs.Common.{◌≡◌, ℕ, ◌≤◌, List, [], ◌∷◌, true, false, cond, length, Option, Some, None, option_map, option_and_then, Result, Ok, Err, Ordering, Less, Equal, Greater, refl, sym, ap, ◌∙◌, subst, arith}
 use Rattle.std.proofs.lemmas.Cmp.{nat_list_cmp_total}
 use Rattle.std.proofs.lemmas.Slice.Eq.{bytes_eq-Decides}
@@ -102,14 +102,14 @@ read_rises bytes d h = elim (is_too_deep outside 0 bytes) as (λ b. cond b (Err 
   | false ↦ λ g. whole_rises (cond (is_utf8 bytes) (read bytes) None) d g
 ] h
 
--- MEMBERS KNOWN BY THEIR NAMES
+-- MEMBERS DETERMINED BY THEIR NAMES
 
 -- each of these is a member
 abbrev pub AreMembers : Pairs → Entries → Type 0
 AreMembers [] ms = Unit {0}
 AreMembers (p ∷ ps) ms = (member p.0 ms ≡ Some p.1) × AreMembers ps ms
 
--- a name that is above the first is a name of the others
+-- a name above the first is looked up among the others
 past_first : (k q : List ℕ) (d : Data) (rest : Entries) → key_cmp k q ≡ Less → member q (entry k d rest) ≡ member q rest
 past_first k q d rest up = ap (λ b. cond b (Some d) (member q rest)) (nat_list_eq_equiv.symm q k ∙ differ_less k q up)
 
@@ -156,7 +156,7 @@ no_more_than (p ∷ ps) (entry k d rest) up rise h =
       | false ↦ λ e. let le = no_more_than (p ∷ ps) rest up rise.1 (behind_head p ps k d rest e up rise.0 h) in omega arith
     ] refl
 
--- members that rise, of which as many are known, are these
+-- members that rise are these, if they have these and are no more
 pub they_are : (ps : Pairs) (ms : Entries) → IsRising ps → IsRising (pairs_of ms) → AreMembers ps ms → length (pairs_of ms) ≤ length ps → ms ≡ entries_of ps
 they_are [] no_entries up rise h le = refl
 they_are [] (entry k d rest) up rise h le = absurd (omega arith)

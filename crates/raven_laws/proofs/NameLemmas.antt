@@ -1,4 +1,4 @@
--- The name of a new index serves none yet.
+-- The name of a new index is free.
 use Rattle.std.proofs.Common.{◌≡◌, ℕ, zero, suc, ◌+◌, ◌^◌, ◌<◌, ◌≤◌, List, [], ◌∷◌, ◌++◌, length, true, false, not, cond, nat_lt, is_some, Some, None, filter, refl, sym, ap, ◌∙◌, subst, arith, ◌⊎◌, inl, inr, codes}
 use Rattle.std.proofs.lemmas.Bool.{ltb-false, ltb-true}
 use Rattle.std.proofs.lemmas.Bool.Decides.{nat_tests}
@@ -45,7 +45,7 @@ numbered_apart name m n low high h =
 
 -- AS MANY SLOTS AS NAMES
 
--- a slot of each of the names from n on
+-- each of the k names from n on has a slot
 abbrev Serves : List ℕ → ℕ → ℕ → List Slot → Type 0
 Serves name n k slots = (m : ℕ) → n ≤ m → m < n + k → (s : Slot) × Has slots s × (folded s.name ≡ folded (numbered name m))
 

@@ -1,4 +1,4 @@
--- What kept rows open is a sound world.
+-- What stored rows open is a sound world.
 use Rattle.std.proofs.Common.{◌≡◌, ℕ, zero, suc, ◌+◌, ◌<◌, ◌≤◌, List, [], ◌∷◌, ◌++◌, Bool, true, false, cond, not, ◌&&◌, ◌||◌, ◌==◌, nat_lt, nat_le, is_none, length, take, drop, codes, Option, Some, None, option_map, Result, Ok, Err, refl, sym, ap, ◌∙◌, subst, arith, inl, inr, append_assoc, append-nil}
 use Rattle.std.proofs.lemmas.Bool.{ltb-true, leb-true, leb-false, eqb-true}
 use Rattle.std.proofs.lemmas.List.{length-append, take-append-drop}
@@ -76,7 +76,7 @@ body_in-IsBodyOf (Some words) b h = elim (document_in words) as (λ o. document_
       subst (IsBodyOf (Some words)) (same_body (doc d) b g) (record { written = ap Some f.written; rises = f.rises })
 ] refl h
 
--- the row of a kept row
+-- the row that a stored row is read as
 pub record IsRowOf (k : KeptRow) (r : Row) : Type 0 where
   pub kept : kept r ≡ k
   pub rises : BodyRises r.body
@@ -106,7 +106,7 @@ row_in-IsRowOf k r h = by (is_etag k.etag && is_fit max_id k.id && nat_lt 0 (len
     by true t g = with (both_true (is_etag k.etag) (is_fit max_id k.id) (both_true (is_etag k.etag && is_fit max_id k.id) (nat_lt 0 (length k.collection)) (both_true (is_etag k.etag && is_fit max_id k.id && nat_lt 0 (length k.collection)) (nat_lt k.changed moments_end) t).0).0).0 (body_in k.body) refl g
     by false t g = absurd cc
 
--- ROWS, ONE BEHIND ANOTHER
+-- ROWS, ONE AFTER ANOTHER
 
 pub AreRising-push : (low : ℕ) (rows : List Row) (r : Row) → AreRising low rows → last_of low rows < r.etag → AreRising low (rows ++ r ∷ [])
 AreRising-push low [] r up h = (h, tt)
@@ -128,7 +128,7 @@ AreApart-push (x ∷ rows) r apart none =
     let f = none_then (key r) x rows none in
     (none_pushed (key x) rows r apart.0 (nat_list_eq_equiv.symm (key x) (key r) ∙ f.0), AreApart-push rows r apart.1 f.1)
 
--- rows that may be a store, as far as they have come
+-- the rows so far may be those of a store
 pub record Stand (max : ℕ) (rows : List Row) : Type 0 where
   pub rising : AreRising 0 rows
   pub apart : AreApart rows
@@ -159,7 +159,7 @@ Stand-push max rows k r s is may =
       ];
     }
 
--- what was read so far, and what is still to be read
+-- the rows that stored rows are read as
 pub record AreRowsOf (max : ℕ) (held : List KeptRow) (rows : List Row) : Type 0 where
   pub kept : all_kept rows ≡ held
   pub stand : Stand max rows
@@ -202,7 +202,7 @@ rows_in-AreRowsOf max held rows h =
 
 -- THE BODY OF A DEFINITION
 
--- what the four members of the body of a definition are
+-- the four members of the body of an automatic index's definition
 record IsAuto (metadata collection fields kind : Option Data) (d : Definition) : Type 0 where
   pub name : List ℕ
   pub field : List ℕ
@@ -295,7 +295,7 @@ four c f = (codes "@metadata", object no_entries) ∷ (codes "Collection", text 
 four-rise : (c f : List ℕ) → IsRising (four c f)
 four-rise c f = ((refl, (refl, (refl, tt))), ((refl, (refl, tt)), ((refl, tt), (tt, tt))))
 
--- what the four members of the body of a definition by a text are
+-- the four members of the body of a definition by a text
 record IsStatic (metadata kind map reduce : Option Data) (words : List ℕ) : Type 0 where
   pub metadata_is : metadata ≡ Some (object no_entries)
   pub kind_is : kind ≡ Some (text (codes "static"))
@@ -410,7 +410,7 @@ indexed id h =
     let front = (bytes_eq-Decides (codes "@index/") (take 7 (folded id))).0 h in
     sym (take-append-drop 7 (folded id)) ∙ ap (λ xs. xs ++ drop 7 (folded id)) (sym front) ∙ ap (λ xs. codes "@index/" ++ xs) (sym (folded-drop 7 id))
 
--- SLOTS, ONE BEHIND ANOTHER
+-- SLOTS, ONE AFTER ANOTHER
 
 -- the slot is that of a row of a definition
 pub record IsMade (rows : List Row) (x : Slot) : Type 0 where
@@ -441,7 +441,7 @@ IsMade-further rows r x m = record {
   made = m.made;
 }
 
--- a row that is no definition's leaves the slots
+-- a row that is no definition leaves the slots as they are
 plain-AreMade : (max : ℕ) (rows : List Row) (slots : List Slot) (r : Row) → AreMade max rows slots → last_of 0 rows < r.etag → is_defining r ≡ false → AreMade max (rows ++ r ∷ []) slots
 plain-AreMade max rows slots r a up plain = record {
   rising = a.rising;
@@ -455,7 +455,7 @@ plain-AreMade max rows slots r a up plain = record {
   count = a.count;
 }
 
--- a row of a definition brings its slot
+-- the row of a definition adds its slot
 defining-AreMade : (max : ℕ) (rows : List Row) (slots : List Slot) (r : Row) (d : Definition) → AreMade max rows slots → last_of 0 rows < r.etag → length slots < max
     → is_defining r ≡ true → is_index_id r.id ≡ true → IsToldIn r.body d → AreMade max (rows ++ r ∷ []) (slots ++ slot_of r d ∷ [])
 defining-AreMade max rows slots r d a up room is filed means = record {
@@ -481,7 +481,7 @@ defining-AreMade max rows slots r d a up room is filed means = record {
 same_slots : (a b : List Slot) → Some a ≡ Some b → a ≡ b
 same_slots a b h = cc
 
--- what a row that is taken has met
+-- what holds of a row that was taken
 pub record IsTaken (s : Setting) (slots : List Slot) (x : ReadRow) (more : List Slot) : Type 0 where
   pub room : is_defining x.row && nat_le s.max_slots (length slots) ≡ false
   pub filed : is_filed x.row ≡ true
@@ -507,7 +507,7 @@ filed-indexed : (r : Row) → is_filed r ≡ true → is_defining r ≡ true →
 filed-indexed r filed is =
     sym (ap (λ b. cond b (is_index_id r.id) (not (is_index_id r.id))) (both_true (is_document r) (bytes_eq r.collection (codes "@indexes")) is).1) ∙ filed
 
--- a row of a definition brings one that may have the row's name
+-- the row of a definition adds a slot, and its definition may have the row's name
 pub record IsBrought (slots : List Slot) (r : Row) (o : Option Definition) (more : List Slot) : Type 0 where
   pub definition : Definition
   pub read : o ≡ Some definition
@@ -569,7 +569,7 @@ number-above low [] s up h = absurd h
 number-above low (x ∷ slots) s up (inl e) = subst (λ (y : Slot). low < y.number) e up.0
 number-above low (x ∷ slots) s up (inr h) = let first = up.0 in let later = number-above x.number slots s up.1 h in omega arith
 
--- slots of one number are one
+-- slots with the same number are the same
 same-number : (low : ℕ) (slots : List Slot) (s t : Slot) → NumbersRise low slots → Has slots s → Has slots t → s.number ≡ t.number → s ≡ t
 same-number low [] s t up h g e = absurd h
 same-number low (x ∷ slots) s t up (inl a) (inl b) e = sym a ∙ b

@@ -1,4 +1,4 @@
--- Runs and scripts from a state that kept rows open.
+-- Runs and scripts from a state that stored rows open.
 use Rattle.std.proofs.Common.{List, ◌++◌, sym, ◌∙◌, subst}
 use Rattle.raven_data.specs.Kept.{KeptRow}
 use Rattle.spec_store.specs.Commit.{Setting}
@@ -28,7 +28,7 @@ go-on M es more o =
 go-lines : (M : Machine) (all : List Given) → Sound M.world → Sound (after_lines all M).world
 go-lines M all o = subst (λ (N : Machine). Sound N.world) (sym (lines-run all M)) (go-Sound M (events_of all) o)
 
--- FROM KEPT ROWS
+-- FROM STORED ROWS
 
 pub kept-Sound : (setting : Setting) (held : List KeptRow) (M : Machine) (es : List Event) → OpenedAsTold setting held M → Sound (run es M).world
 kept-Sound setting held M es h = go-Sound M es (opened_from-Sound setting held M h)
@@ -48,7 +48,7 @@ kept-flags setting held M es h = Sound-flags (run es M) (kept-Sound setting held
 pub kept-ids : (setting : Setting) (held : List KeptRow) (M : Machine) (es : List Event) → OpenedAsTold setting held M → IdsAreAsKept (run es M)
 kept-ids setting held M es h = Sound-ids (run es M) (kept-Sound setting held M es h)
 
--- SCRIPTS FROM KEPT ROWS
+-- SCRIPTS FROM STORED ROWS
 
 pub lines-Sound : (setting : Setting) (held : List KeptRow) (M : Machine) (all : List Given) → OpenedAsTold setting held M → Sound (after_lines all M).world
 lines-Sound setting held M all h = go-lines M all (opened_from-Sound setting held M h)

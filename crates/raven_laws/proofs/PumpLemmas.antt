@@ -50,7 +50,7 @@ take_none : (max : ℕ) → (let xs : List Row = [] in take max xs) ≡ []
 take_none zero = refl
 take_none (suc max) = refl
 
--- nothing is taken exactly where nothing is unseen
+-- if a batch takes nothing, the index is not stale
 nothing_taken : (S : Store) (scope : Scope) (e max : ℕ) → 1 ≤ max → taken scope e S max ≡ [] → stale S scope e None ≡ false
 nothing_taken S scope e max some h = stale_past S scope e ∙ none_any (λ r. in_scope scope r && nat_lt e r.etag) S.rows (taken_none max (past scope e S) some h)
 
@@ -58,7 +58,7 @@ takes_nothing : (S : Store) (scope : Scope) (e max : ℕ) → stale S scope e No
 takes_nothing S scope e max h =
     ap (take max) (none_left (λ r. in_scope scope r && nat_lt e r.etag) S.rows (sym (stale_past S scope e) ∙ h)) ∙ take_none max
 
--- AN INDEX MOVES EXACTLY WHERE IT IS STALE
+-- AN INDEX MOVES EXACTLY IF IT IS STALE
 
 pub stays-fresh : (S : Store) (s : Slot) (max : ℕ) → IsStore S → s.version.etag ≤ last S → 1 ≤ max → ((pumping S max s).to ≡ (pumping S max s).from) ↔ (is_stale S s ≡ false)
 stays-fresh S s max o within some =

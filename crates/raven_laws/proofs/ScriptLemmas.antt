@@ -10,7 +10,7 @@ use Rattle.raven_laws.proofs.MachineLemmas.{run-Sound, run-Moves}
 use Rattle.raven_laws.proofs.MatchLemmas.{Sound-exact}
 use Rattle.raven_laws.proofs.AnswerLemmas.{Sound-fresh, Sound-flags, Sound-ids}
 
--- a line is no event or one
+-- a line makes one event or none
 one_line : (c : Circumstance) (r : LineRead) (events : List Event) (M : Machine) → run (cons_option (event_of c r) events) M ≡ run events (left_by M c r)
 one_line c (Err refusal) events M = refl
 one_line c (Ok None) events M = refl

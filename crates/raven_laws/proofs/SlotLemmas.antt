@@ -1,4 +1,4 @@
--- Lists of slots, and versions that are brought on.
+-- Lists of slots, and versions that a batch advances.
 use Rattle.std.proofs.Common.{◌≡◌, ℕ, ◌<◌, ◌≤◌, List, [], ◌∷◌, ◌++◌, Bool, true, false, cond, Some, None, filter, find, map, refl, sym, ap, ◌∙◌, subst, arith, ◌⊎◌, inl, inr}
 use Rattle.std.specs.FinMap.{get, get-empty}
 use Rattle.raven_data.specs.Folding.{folded, key_cmp, same_key}
@@ -54,7 +54,7 @@ into-filter p (y ∷ xs) x (inr h) is = elim (p y) as (λ b. Has (cond b (y ∷ 
   | false ↦ into-filter p xs x h is
 ]
 
--- what a mapped list has comes from what the list has
+-- an element of a mapped list comes from one of the list
 pub Has-map : {X Y : Type 0} (f : X → Y) (xs : List X) (y : Y) → Has (map f xs) y → (x : X) × Has xs x × (f x ≡ y)
 Has-map f [] y h = absurd h
 Has-map f (x ∷ xs) y (inl e) = (x, inl refl, e)
@@ -122,7 +122,7 @@ NamesApart-push slots new apart free s t h g e = elim (Has-append slots (new ∷
 pub NamesApart-filter : (p : Slot → Bool) (slots : List Slot) → NamesApart slots → NamesApart (filter p slots)
 NamesApart-filter p slots apart s t h g e = apart s t (Has-filter p slots s h) (Has-filter p slots t g) e
 
--- a name that nothing serves is no slot's
+-- if no slot serves a name, no slot has it
 pub unserved : (slots : List Slot) (name : List ℕ) → serving slots name ≡ None → (s : Slot) → Has slots s → folded s.name ≡ folded name → ⊥
 unserved [] name h s at e = at
 unserved (x ∷ slots) name h s (inl k) e =

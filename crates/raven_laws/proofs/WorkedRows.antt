@@ -1,4 +1,4 @@
--- The definitions at work: what is answered to requests that were worked out by hand, and what is printed.
+-- Examples that were worked out by hand: the replies to requests, and what is printed.
 use Rattle.std.proofs.Common.{◌≡◌, ℕ, List, [], ◌∷◌, ◌++◌, replicate, true, false, Some, None, filter, refl, ap, codes}
 use Rattle.std.specs.List.{filter_map}
 use Rattle.std.specs.Fmt.{digits}
@@ -50,7 +50,7 @@ other_collection : replies (Auto (codes "C") (codes "F") ∷ put (codes "D") (co
 unfolding digits
 other_collection = refl
 
--- without an index there is nothing to bring on, and nothing to ask
+-- without an index there is nothing to advance, and nothing to query
 no_index : replies (Pump 64 None ∷ Find (codes "X") (codes "F") (codes "a") ∷ []) ≡ Pumped [] ∷ NoIndex (codes "X") ∷ []
 no_index = refl
 
@@ -60,20 +60,20 @@ asked_again : replies (Auto (codes "Users") (codes "Name") ∷ Auto (codes "User
 unfolding digits
 asked_again = refl
 
--- collections are told apart by case, and names of indexes are not
+-- the case of letters matters in collections, and not in names of indexes
 one_name : replies (Auto (codes "Users") (codes "Name") ∷ Auto (codes "users") (codes "name") ∷ Auto (codes "USERS") (codes "NAME") ∷ [])
     ≡ Index (codes "Auto/Users/ByName") ∷ Index (codes "Auto/users/Byname/2") ∷ Index (codes "Auto/USERS/ByNAME/3") ∷ []
 unfolding digits
 one_name = refl
 
--- an id keeps its collection and its first spelling, and what belongs to an index is the server's
+-- an id keeps its collection and its first spelling, and a client may not write what belongs to indexes
 ids_kept : replies (put (codes "Users") (codes "users/1") (codes "Name") (codes "Ada") ∷ put (codes "Teams") (codes "Users/1") (codes "Name") (codes "Ada") ∷ put (codes "Users") (codes "USERS/1") (codes "Name") (codes "Bo")
     ∷ put (codes "Users") (codes "@Index/a") (codes "Name") (codes "Ada") ∷ put (codes "@indexes") (codes "a") (codes "Name") (codes "Ada") ∷ [])
     ≡ was_put (codes "1") (codes "users/1") ∷ CollectionChanged 0 (codes "Users") ∷ was_put (codes "2") (codes "users/1") ∷ ReservedId 0 ∷ ReservedId 0 ∷ []
 unfolding digits
 ids_kept = refl
 
--- one row of two is taken: the index is behind the other until the next batch
+-- one row of two is taken: the index is stale until the next batch takes the other
 behind_one : replies (Auto (codes "C") (codes "F") ∷ put (codes "C") (codes "x") (codes "F") (codes "a") ∷ put (codes "C") (codes "y") (codes "F") (codes "b") ∷ put (codes "C") (codes "x") (codes "F") (codes "c") ∷ Pump 1 None
     ∷ AskStale (codes "Auto/C/ByF") None ∷ AskStale (codes "Auto/C/ByF") (Some 3) ∷ AskStale (codes "Auto/C/ByF") (Some 4) ∷ Pump 1 None ∷ AskStale (codes "auto/c/byf") None ∷ AskStale (codes "B") None ∷ [])
     ≡ Index (codes "Auto/C/ByF") ∷ was_put (codes "2") (codes "x") ∷ was_put (codes "3") (codes "y") ∷ was_put (codes "4") (codes "x") ∷ Pumped (moved 0 (codes "Auto/C/ByF") 3 ∷ [])
@@ -81,7 +81,7 @@ behind_one : replies (Auto (codes "C") (codes "F") ∷ put (codes "C") (codes "x
 unfolding digits
 behind_one = refl
 
--- to delete what is not there takes no etag, and what was deleted keeps its spelling and its collection
+-- deleting what is not there takes no etag, and a deleted id keeps its spelling and its collection
 deletions : replies (put (codes "Users") (codes "users/1") (codes "Name") (codes "Ada") ∷ Delete (codes "users/9") AnyVector ∷ Delete (codes "USERS/1") AnyVector ∷ Delete (codes "USERS/1") AnyVector ∷ Get (codes "Users/1")
     ∷ put (codes "Teams") (codes "users/1") (codes "Name") (codes "Ada") ∷ put (codes "Users") (codes "USERS/1") (codes "Name") (codes "Bo") ∷ Delete (codes "@index/a") AnyVector ∷ AskStats ∷ [])
     ≡ was_put (codes "1") (codes "users/1") ∷ Deleted false (codes "users/9") ∷ Deleted true (codes "users/1") ∷ Deleted false (codes "users/1") ∷ NoDocument (codes "users/1")
@@ -100,7 +100,7 @@ transactions : replies (Bulk (Command.Put (codes "a") AnyVector (object no_entri
 unfolding digits
 transactions = refl
 
--- a document is shown with what the server knows of it
+-- a document is shown with the members that the server writes
 shown_document : replies (put (codes "Users") (codes "users/1") (codes "Name") (codes "Ada") ∷ Get (codes "USERS/1") ∷ [])
     ≡ was_put (codes "1") (codes "users/1") ∷ Document (object (entry (codes "@metadata") (object (entry (codes "@change-vector") (text (vector (codes "1")))
     (entry (codes "@collection") (text (codes "Users")) (entry (codes "@id") (text (codes "users/1")) (entry (codes "@last-modified") (text (moment_text 0)) no_entries)))))
@@ -108,11 +108,11 @@ shown_document : replies (put (codes "Users") (codes "users/1") (codes "Name") (
 unfolding digits
 shown_document = refl
 
--- where the keeper fails, nothing is changed
+-- if the keeper fails, nothing changes
 unkept : (step (start program) (record { takes = false ∷ []; before = 3; after = 4 }) 0 (put (codes "Users") (codes "users/1") (codes "Name") (codes "Ada"))) ≡ record { reply = KeeperFault 3 4; machine = start program }
 unkept = refl
 
--- a name that is removed serves nothing, however it was spelled, and may be taken again
+-- a removed name is free, however it was spelled, and may be given again
 removals : replies (Auto (codes "C") (codes "F") ∷ Remove (codes "AUTO/c/byf") ∷ Find (codes "Auto/C/ByF") (codes "F") (codes "a") ∷ Remove (codes "Auto/C/ByF") ∷ AskStats ∷ Auto (codes "C") (codes "F") ∷ AskStats ∷ [])
     ≡ Index (codes "Auto/C/ByF") ∷ Removed (codes "Auto/C/ByF") ∷ NoIndex (codes "Auto/C/ByF") ∷ NoIndex (codes "Auto/C/ByF") ∷ Stats 0 0 0 2 ∷ Index (codes "Auto/C/ByF") ∷ Stats 0 1 0 3 ∷ []
 unfolding digits
@@ -121,21 +121,21 @@ removals = refl
 abbrev by_field : List ℕ → Definition
 by_field field = Definition.Auto (codes "C") ((field ∷ []) ∷ [])
 
--- names of the server are none of a client's, and a name may be long, but not longer
+-- a client may not give the server's names, nor one of more than 200 bytes
 definitions : replies (Define (codes "N") (by_field (codes "F")) ∷ Define (codes "aUTO/x") (by_field (codes "F")) ∷ Define (codes "ReplacementOf/N") (by_field (codes "F"))
     ∷ Define (replicate 201 97) (by_field (codes "F")) ∷ Define (replicate 200 97) (by_field (codes "F")) ∷ AskStats ∷ [])
     ≡ Index (codes "N") ∷ ReservedName ∷ ReservedName ∷ NameTooLong 201 ∷ Index (replicate 200 97) ∷ Stats 0 2 0 2 ∷ []
 unfolding digits
 definitions = refl
 
--- a batch for one name leaves the others behind
+-- a batch for one name leaves the other indexes as they were
 one_batch : replies (Auto (codes "C") (codes "F") ∷ Auto (codes "D") (codes "F") ∷ put (codes "C") (codes "x") (codes "F") (codes "a") ∷ put (codes "D") (codes "y") (codes "F") (codes "b") ∷ Pump 64 (Some (codes "auto/c/byf")) ∷ Pump 64 (Some (codes "N")) ∷ Pump 64 None ∷ [])
     ≡ Index (codes "Auto/C/ByF") ∷ Index (codes "Auto/D/ByF") ∷ was_put (codes "3") (codes "x") ∷ was_put (codes "4") (codes "y") ∷ Pumped (moved 0 (codes "Auto/C/ByF") 4 ∷ []) ∷ NoIndex (codes "N")
     ∷ Pumped (moved 4 (codes "Auto/C/ByF") 4 ∷ moved 0 (codes "Auto/D/ByF") 4 ∷ []) ∷ []
 unfolding digits
 one_batch = refl
 
--- QUERIES: what a table lists is said of the list of its rows
+-- QUERIES, over the entries of a list of rows
 
 abbrev users_by_name : Mapper
 users_by_name = mapper_of (Definition.Auto (codes "Users") ((codes "Name" ∷ []) ∷ []))
@@ -146,7 +146,7 @@ found_among rows = found (filter_map (λ d. entry_of d.id (users_by_name.meaning
 abbrev pub ada : Row
 ada = record { etag = 1; id = codes "users/1"; collection = codes "Users"; body = doc (object (entry (codes "@metadata") (object no_entries) (entry (codes "Name") (text (codes "Ada")) no_entries))); changed = 0 }
 
--- a document that was brought in is found, whatever the case of its text
+-- after a batch a document is found, whatever the case of its text
 first_run : replies (put (codes "Users") (codes "users/1") (codes "Name") (codes "Ada") ∷ Auto (codes "Users") (codes "Name") ∷ Pump 64 None ∷ Find (codes "auto/users/byname") (codes "Name") (codes "ada") ∷ [])
     ≡ was_put (codes "1") (codes "users/1") ∷ Index (codes "Auto/Users/ByName") ∷ Pumped (moved 0 (codes "Auto/Users/ByName") 2 ∷ []) ∷ Found (codes "users/1" ∷ []) 2 false ∷ []
 unfolding digits

@@ -1,4 +1,4 @@
--- The definitions at work on bytes: lines, what they ask, and a whole script with all that is written for it.
+-- Examples on bytes: lines, what they ask, and a whole script with all that is written for it.
 use Rattle.std.proofs.Common.{◌≡◌, ℕ, zero, suc, List, [], ◌∷◌, ◌++◌, true, false, if◌then◌else◌, nat_lt, length, Some, None, Result, Ok, Err, map, refl, ap, ◌∙◌, codes, arith}
 use Rattle.std.specs.List.{list_all}
 use Rattle.std.specs.Fmt.{digits}
@@ -23,7 +23,7 @@ use Rattle.spec_store.proofs.StoreLemmas.{both_true}
 use Rattle.spec_store.proofs.KeyedLemmas.{values-table_of}
 use Rattle.raven_laws.proofs.WorkedRows.{put, found_among, ada}
 
--- LINES end at LF, which the last may lack; one CR goes out with it
+-- LINES end at LF, which the last may lack; one CR before it is left out
 
 ends : lines (codes "a\r\nb\n\nc\r\r\nd\re\r") ≡ codes "a" ∷ codes "b" ∷ [] ∷ codes "c\r" ∷ codes "d\re\r" ∷ []
 ends = refl
@@ -179,19 +179,19 @@ put_of_a_list : request_of (codes "PUT a []") ≡ Err (BadMember (codes "body"))
 unfolding value punctuate lex content
 put_of_a_list = ap (put_read (codes "a") AnyVector) (read_as (codes "[]") refl refl)
 
--- what is no JSON is told before what is no id
+-- invalid JSON is reported before an invalid id
 put_of_no_json : request_of (codes "PUT a\tb {") ≡ Err (BadJson not_json)
 unfolding value punctuate lex content
 put_of_no_json = ap (put_read (codes "a\tb") AnyVector) (read_as (codes "{") refl refl)
 
--- and what is no id before what is no object
+-- an invalid id is reported before a body that is no object
 put_of_no_id : request_of (codes "PUT a\tb []") ≡ Err (BadId (control 1))
 unfolding value punctuate lex content
 put_of_no_id = ap (put_read (codes "a\tb") AnyVector) (read_as (codes "[]") refl refl)
 
 -- THE DEFINITION OF AN INDEX
 
--- what comes of a line whose first word is INDEX, of ASCII
+-- what an ASCII line that begins with INDEX is read as
 defining_by : (line rest : List ℕ) (value : Result Data JsonRefusal) → list_all (λ b. nat_lt b 128) line ≡ true → reading rest ≡ value
     → (if is_utf8 line then asked_to_define (index_of rest) else Plain (line_of line)) ≡ asked_to_define (then_read (json_read value) texts_of_body)
 defining_by line rest value h e = ap (λ u. if u then asked_to_define (index_of rest) else Plain (line_of line)) (ascii line h) ∙ ap (λ v. asked_to_define (then_read (json_read v) texts_of_body)) e
@@ -213,7 +213,7 @@ index_of_two_maps = defining_by (codes "INDEX " ++ two_maps) two_maps (json_of t
 abbrev no_name : List ℕ
 no_name = codes "{\"Map\":[]}"
 
--- what is no name is told before what is no map
+-- an invalid name is reported before an invalid map
 index_of_no_name : asked_of (codes "INDEX " ++ no_name) ≡ Plain (Err (BadMember (codes "Name")))
 unfolding value punctuate lex content
 index_of_no_name = defining_by (codes "INDEX " ++ no_name) no_name (json_of no_name) refl (read_as no_name refl refl)
@@ -223,7 +223,7 @@ index_nothing = refl
 
 -- A WHOLE SCRIPT, from its bytes to what is written for it
 
--- a line that the outside gives nothing else
+-- a line at moment 0, with a keeper that takes all
 abbrev plainly : List ℕ → Given
 plainly line = record { line = line; read = line_of line; circumstance = record { now = 0; keeping = untroubled } }
 

@@ -54,7 +54,7 @@ LaterW-then W N P f g = record {
   ];
 }
 
--- what is to be shown of a slot of a later world
+-- what has to be proved of a slot of a later world
 pub record Comes (W : World) (S : Store) (noted : List Note) (s : Slot) : Type 0 where
   pub fits : Fits S s.version
   pub within : s.number ≤ last S
@@ -84,7 +84,7 @@ pub record Onto (W : World) (c : SlotChange) (S : Store) : Type 0 where
   pub now : ℕ
   pub written : S ≡ after_commands now c.commands W.store
 
--- what a change of the slots must show
+-- what has to be proved of a change of the slots
 pub record Settles (W : World) (c : SlotChange) (S : Store) : Type 0 where
   pub slots : (s : Slot) → Has c.slots s → Comes W S [] s
   pub rising : NumbersRise 0 c.slots
@@ -127,7 +127,7 @@ not_some : (o : Option Slot) → is_some o ≡ false → o ≡ None
 not_some None h = refl
 not_some (Some s) h = absurd cc
 
--- where the name serves nothing yet
+-- if no slot serves the name yet
 pub added_if_room-Settles : (W : World) (name : List ℕ) (d : Definition) (c : SlotChange) → added_if_room W name d ≡ Ok c → serving W.slots name ≡ None → Sound W → (S : Store) → Onto W c S → Settles W c S
 added_if_room-Settles W name d c h free o S =
     let room = past_test (nat_le W.setting.max_slots (length W.slots)) TooManyIndexes (Ok (added W name d)) c h in
@@ -174,7 +174,7 @@ define_named-Settles W name d c h =
 abbrev pub others_of : List ℕ → List Slot → List Slot
 others_of name slots = filter (λ t. not (is_named name t)) slots
 
--- the slots but that of this name
+-- the slots except that of this name
 abbrev pub taken_out : World → List ℕ → Slot → SlotChange
 taken_out W name s = record { slots = others_of name W.slots; commands = Delete (index_id s.name) AnyVector ∷ []; name = s.name }
 
@@ -185,7 +185,7 @@ other_name name slots x h e =
     let f = subst (λ k. same_key (folded name) k ≡ true) e (same_itself (folded name)) in
     let g : false ≡ true = sym (ap not f) ∙ p in cc
 
--- and each of another name is left
+-- each slot is left, or has the name
 pub left_over : (name : List ℕ) (slots : List Slot) (x : Slot) → Has slots x → Has (others_of name slots) x ⊎ (folded name ≡ folded x.name)
 left_over name slots x h = elim (is_named name x) as (λ b. is_named name x ≡ b → Has (others_of name slots) x ⊎ (folded name ≡ folded x.name)) [
   | true ↦ λ e. inr (same_means (folded name) (folded x.name) e)

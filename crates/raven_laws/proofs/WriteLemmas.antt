@@ -85,7 +85,7 @@ put-answered M k now id expected body =
 
 -- DELETIONS
 
--- the deletion of what stands at the id
+-- the deletion of the document at the id
 abbrev deletion : Machine → ℕ → List ℕ → Expect → Option Row → Change
 deletion M now id expected d =
     let row = option_map (tombstone (last M.world.store + 1) now) d in
@@ -204,7 +204,7 @@ written_key now S (Command.Delete id expected) x h =
       | Some d ↦ λ e g. ap key (sym (same_row _ x g)) ∙ sym (found_key (folded id) S.rows d (document_found S (folded id) d e))
     ] refl h
 
--- the row that a further row leaves under an id is this row, or was there
+-- after a further row, the row of an id is this one or was there before
 either_row : (q : List ℕ) (r x : Row) (rows : List Row) → row_at q (put r rows) ≡ Some x → (x ≡ r) ⊎ (row_at q rows ≡ Some x)
 either_row q r x rows h =
     elim (same_key q (key r)) as (λ b. cond b (Some r) (row_at q rows) ≡ Some x → (x ≡ r) ⊎ (row_at q rows ≡ Some x)) [

@@ -1,4 +1,4 @@
--- What the laws say of the answers of a machine.
+-- What the laws claim of the answers of a machine.
 use Rattle.std.specs.Prelude.{◌≡◌, ℕ, List, [], ◌∷◌, Bool, true, false, Option, Some, None, IsTrue, ◌↔◌, map}
 use Rattle.raven_data.specs.Folding.{folded}
 use Rattle.raven_data.specs.Rows.{Row, is_document}
@@ -15,13 +15,13 @@ use Rattle.spec_index.specs.Find.{has_words, found_in}
 use Rattle.spec_server.specs.Sound.{Has}
 use Rattle.spec_store.specs.Stale.{Unseen}
 
--- the id is spelled as the store keeps it
+-- the id is spelled as the store spells it
 pub record IsAsKept (S : Store) (id : List ℕ) : Type 0 where
   pub row : Row
   pub found : row_at (folded id) S.rows ≡ Some row
   pub spelled : row.id ≡ id
 
--- a document that the store has, that the map of the definition gives an entry, and whose field is that text
+-- a document of the store that the map of the definition gives an entry, and whose field is the text
 pub record IsMatch (S : Store) (d : Definition) (field words id : List ℕ) : Type 0 where
   pub row : Row
   pub found : row_at (folded id) S.rows ≡ Some row
@@ -45,7 +45,7 @@ abbrev pub FreshIsFromScratch : Machine → Type 0
 FreshIsFromScratch M = (index field words : List ℕ) (s : Slot) → serving M.world.slots index ≡ Some s → is_stale M.world.store s ≡ false
     → find_reply M index field words ≡ Found (found_in (mapper_of s.version.definition) (documents (reads s.version) M.world.store) field words) s.version.etag false
 
--- and so it has exactly the ids of the documents that match
+-- so its answer has exactly the ids of the documents that match
 abbrev pub FreshIsExact : Machine → Type 0
 FreshIsExact M = (index field words id : List ℕ) (s : Slot) → serving M.world.slots index ≡ Some s → is_stale M.world.store s ≡ false
     → Has (ids_in (find_reply M index field words)) id ↔ IsMatch M.world.store s.version.definition field words id
@@ -91,6 +91,6 @@ pub record FlagsAreExact (M : Machine) : Type 0 where
 
 -- IDS
 
--- each id of an answer is spelled as the store keeps it
+-- each id of an answer is spelled as the store spells it
 abbrev pub IdsAreAsKept : Machine → Type 0
 IdsAreAsKept M = (index field words id : List ℕ) → Has (ids_in (find_reply M index field words)) id → IsAsKept M.world.store id

@@ -1,4 +1,4 @@
--- What the laws say of defining an index, of removing one, and of a batch for one.
+-- What the laws claim of defining an index, of removing one, and of a batch for one.
 use Rattle.std.specs.Prelude.{◌≡◌, ℕ, ◌+◌, ◌<◌, ◌≤◌, List, [], ◌∷◌, ◌++◌, true, false, Option, Some, None, Err, length, ◌⊎◌}
 use Rattle.std.specs.FinMap.{empty}
 use Rattle.raven_data.specs.Folding.{folded, same_key}
@@ -15,9 +15,9 @@ use Rattle.spec_server.specs.Replies.{Reply}
 use Rattle.spec_server.specs.Machine.{Machine, Keeping, Replied, Define, Remove, Pump, brought_on, is_first_taken, pumping, same_machine, step, write_refused}
 use Rattle.raven_laws.specs.Writes.{IsUnkept}
 
--- WHICH DEFINITIONS SAY THE SAME
+-- WHEN TWO DEFINITIONS SAY THE SAME
 
--- the name that a reduce gives a group says nothing
+-- the name that a reduce gives a group does not matter
 pub record SameReduce (r s : ReduceQuery) : Type 0 where
   pub var : r.var ≡ s.var
   pub key : r.key ≡ s.key
@@ -36,37 +36,37 @@ pub record SameAuto (c d : List ℕ) (ps qs : List Path) : Type 0 where
   pub collection : c ≡ d
   pub fields : ps ≡ qs
 
--- how their texts are spelled says nothing
+-- the texts of the definitions do not matter
 abbrev pub SaysTheSame : Definition → Definition → Type 0
 SaysTheSame (Static m r t u) (Static n s v w) = SameStatic m n r s
 SaysTheSame (Auto c fields) (Auto d others) = SameAuto c d fields others
 SaysTheSame d e = ⊥
 
--- WHAT ALL SAY
+-- CASES OF SEVERAL ANSWERS
 
--- no index serves the name, which is told, and nothing is changed
+-- no index serves the name: the reply says so, and nothing changes
 pub record IsNoIndex (M : Machine) (name : List ℕ) (replied : Replied) : Type 0 where
   pub none : serving M.world.slots name ≡ None
   pub told : replied ≡ same_machine M (Reply.NoIndex name)
 
--- the row of a definition has one of the causes of a refusal, which is told, and nothing is changed
+-- the row of the definition is refused: the reply has the cause, and nothing changes
 pub record IsRowRefused (M : Machine) (now : ℕ) (commands : List Command) (replied : Replied) : Type 0 where
   pub refused : Refused
   pub cause : commit M.world.setting Server now commands M.world.store ≡ Err refused
   pub told : replied ≡ same_machine M (write_refused refused)
 
--- the slots of all other names are those that there were, each as it was
+-- the slots of all other names stay as they were, and there are no more of them
 pub record OtherSlotsStay (M : Machine) (name : List ℕ) (N : Machine) : Type 0 where
   pub kept : (s : Slot) → Has M.world.slots s → is_named name s ≡ false → Has N.world.slots s
   pub no_more : (s : Slot) → Has N.world.slots s → is_named name s ≡ false → Has M.world.slots s
 
--- the rows of all other ids are as they were
+-- the rows of all other ids stay as they were
 abbrev pub OtherRowsStay : Machine → List ℕ → Machine → Type 0
 OtherRowsStay M id N = (q : List ℕ) → same_key q (folded id) ≡ false → row_at q N.world.store.rows ≡ row_at q M.world.store.rows
 
 -- DEFINING AN INDEX
 
--- a name that a client may give: none of the server's, and not too long
+-- a client may give the name: it is none of the server's, and not too long
 pub record MayBeGiven (name : List ℕ) : Type 0 where
   pub unreserved : is_reserved_name name ≡ false
   pub short : length name ≤ max_index_name
@@ -80,7 +80,7 @@ pub record IsTooLong (M : Machine) (name : List ℕ) (replied : Replied) : Type 
   pub long : max_index_name < length name
   pub told : replied ≡ same_machine M (Reply.NameTooLong (length name))
 
--- the name serves with another definition, and nothing is changed
+-- the name serves another definition: the reply is UnknownLine, and nothing changes
 pub record ServesAnother (M : Machine) (name : List ℕ) (d : Definition) (replied : Replied) : Type 0 where
   pub given : MayBeGiven name
   pub slot : Slot
@@ -88,7 +88,7 @@ pub record ServesAnother (M : Machine) (name : List ℕ) (d : Definition) (repli
   pub other : SaysTheSame d slot.version.definition → ⊥
   pub told : replied ≡ same_machine M Reply.UnknownLine
 
--- the name serves with that definition, and nothing is changed
+-- the name serves the same definition: the reply has its name, and nothing changes
 pub record ServesTheSame (M : Machine) (name : List ℕ) (d : Definition) (replied : Replied) : Type 0 where
   pub given : MayBeGiven name
   pub slot : Slot
@@ -107,7 +107,7 @@ pub record DefinitionIsRefused (M : Machine) (now : ℕ) (name : List ℕ) (d : 
   pub free : serving M.world.slots name ≡ None
   pub row : IsRowRefused M now (Command.Put (index_id name) AnyVector (row_body d) ∷ []) replied
 
--- an index of the definition under the next etag, which has recorded nothing
+-- a slot of the definition whose number is the next etag, and whose index has recorded nothing
 abbrev pub new_slot : Machine → List ℕ → Definition → Slot
 new_slot M name d = record {
   number = last M.world.store + 1;
@@ -121,7 +121,7 @@ pub record IsRowAllowed (M : Machine) (k : Keeping) (command : Command) : Type 0
   pub unrefused : refusal_of M.world.setting Server M.world.store command ≡ None
   pub taken : is_first_taken k.takes ≡ true
 
--- Its row is allowed. The new index is behind the others and has its row, and all else is as it was.
+-- Its row is allowed. The new slot follows the others, serves the name and has its row; all other slots and rows stay as they were.
 pub record IsDefined (M : Machine) (k : Keeping) (name : List ℕ) (d : Definition) (replied : Replied) : Type 0 where
   pub allowed : IsRowAllowed M k (Command.Put (index_id name) AnyVector (row_body d))
   pub given : MayBeGiven name
@@ -152,7 +152,7 @@ pub record RemovalIsRefused (M : Machine) (now : ℕ) (name : List ℕ) (replied
   pub serves : serving M.world.slots name ≡ Some slot
   pub row : IsRowRefused M now (Command.Delete (index_id slot.name) AnyVector ∷ []) replied
 
--- The deletion is allowed. The index that served the name is reported and is gone, the row of its definition is deleted, and all else is as it was.
+-- The deletion is allowed. The index that served the name is gone, the row of its definition is deleted; all other slots and rows stay as they were.
 pub record IsRemoved (M : Machine) (k : Keeping) (now : ℕ) (name : List ℕ) (replied : Replied) : Type 0 where
   pub slot : Slot
   pub serves : serving M.world.slots name ≡ Some slot
@@ -174,7 +174,7 @@ RemoveIsAnswered M k now name = IsRemoveAnswer M k now name (step M k now (Remov
 
 -- A BATCH FOR ONE INDEX
 
--- the index that serves the name is brought on, and all else is as it was
+-- the index that serves the name is advanced by a batch; the other slots and the store stay as they were
 pub record IsBroughtOn (M : Machine) (max : ℕ) (name : List ℕ) (replied : Replied) : Type 0 where
   pub slot : Slot
   pub serves : serving M.world.slots name ≡ Some slot

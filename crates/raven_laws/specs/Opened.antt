@@ -1,4 +1,4 @@
--- What kept rows open, where each definition that was read of a row is one of which the row's body tells.
+-- What stored rows open, if each definition that was read of a row agrees with the row's body.
 use Rattle.std.specs.Prelude.{◌≡◌, List, [], ◌∷◌, Some, None, IsTrue}
 use Rattle.raven_data.specs.Kept.{KeptRow}
 use Rattle.raven_data.specs.Rows.{Body, doc, gone}
@@ -8,7 +8,7 @@ use Rattle.spec_server.specs.Machine.{Machine}
 use Rattle.index_tree.specs.Definitions.{Definition, Static}
 use Rattle.index_tree.specs.declared.map_query.MapQuery.{MapQuery}
 
--- of a text there is told a definition by this text, whatever the text says
+-- the definition agrees with what the body says; of a text it need only be some definition by that text
 abbrev pub IsTold : BodyForm → Definition → Type 0
 IsTold NoForm d = ⊥
 IsTold (AutoForm told) d = d ≡ told
@@ -18,7 +18,7 @@ abbrev pub IsToldIn : Body → Definition → Type 0
 IsToldIn (doc body) d = IsTold (body_form body) d
 IsToldIn gone d = ⊥
 
--- the definition that was read of the live row of one
+-- the definition that was read of a definition's row agrees with the row's body
 abbrev pub IsToldBy : ReadRow → Type 0
 IsToldBy x = (d : Definition) → IsTrue (is_defining x.row) → x.definition ≡ Some d → IsToldIn x.row.body d
 
@@ -26,7 +26,7 @@ abbrev pub AreTold : List ReadRow → Type 0
 AreTold [] = Unit {0}
 AreTold (x ∷ xs) = IsToldBy x × AreTold xs
 
--- the held rows open this machine
+-- the stored rows open this machine, with definitions that agree with the bodies of their rows
 pub record OpenedAsTold (s : Setting) (held : List KeptRow) (M : Machine) : Type 0 where
   pub opened : OpenedFrom s held M
   pub told : AreTold opened.read

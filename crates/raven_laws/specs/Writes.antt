@@ -1,4 +1,4 @@
--- What the laws say of a machine's writes.
+-- What the laws claim of a machine's writes.
 use Rattle.std.specs.Prelude.{◌≡◌, ℕ, ◌+◌, List, [], ◌∷◌, ◌++◌, Bool, true, false, Some, None, Ok, Err, ◌⊎◌}
 use Rattle.raven_data.specs.Data.{Data}
 use Rattle.raven_data.specs.Folding.{folded, same_key}
@@ -8,23 +8,23 @@ use Rattle.spec_store.specs.Commit.{Command, Expect, Client, Refused, Written, a
 use Rattle.spec_server.specs.Replies.{Reply}
 use Rattle.spec_server.specs.Machine.{Machine, Event, Keeping, Replied, Request, Put, Delete, Bulk, Get, Find, Stale, Indexes, Stats, after, commands_in, is_first_taken, is_taken, results_of, run, same_machine, spelling, step, write_refused}
 
--- what a Put is to write: the body without what the server writes itself, under the next etag
+-- the row that a Put writes: the stored body under the next etag
 abbrev pub row_given : Store → ℕ → List ℕ → Data → Row
 row_given S now spelled body = record { etag = last S + 1; id = spelled; collection = collection_of body; body = doc (stored body); changed = now }
 
--- the commands have one of the causes of a refusal, which is told, and nothing is changed
+-- the commands are refused: the reply has the cause, and nothing changes
 pub record IsRefused (M : Machine) (now : ℕ) (commands : List Command) (replied : Replied) : Type 0 where
   pub refused : Refused
   pub cause : commit M.world.setting Client now commands M.world.store ≡ Err refused
   pub told : replied ≡ same_machine M (write_refused refused)
 
--- the keeper failed, which is told, and nothing is changed
+-- the keeper failed: the reply says so, and nothing changes
 pub record IsUnkept (M : Machine) (k : Keeping) (replied : Replied) : Type 0 where
   pub later : List Bool
   pub failed : k.takes ≡ false ∷ later
   pub told : replied ≡ same_machine M (Reply.KeeperFault k.before k.after)
 
--- the rows of all other ids, and the indexes, are as they were
+-- the rows of all other ids, and the indexes, stay as they were
 pub record OthersStay (M : Machine) (id : List ℕ) (N : Machine) : Type 0 where
   pub rows : (q : List ℕ) → same_key q (folded id) ≡ false → row_at q N.world.store.rows ≡ row_at q M.world.store.rows
   pub indexes : N.world.slots ≡ M.world.slots
@@ -81,7 +81,7 @@ BulkIsAnswered M k now commands =
     let replied = step M k now (Bulk commands) in
     IsRefused M now commands replied ⊎ (IsUnkept M k replied ⊎ AreWritten M k now commands replied)
 
--- the row is what one of the commands writes, on the store that those before it leave
+-- the row is what one of the commands writes to the store that those before it leave
 pub record IsCommanded (now : ℕ) (commands : List Command) (S : Store) (r : Row) : Type 0 where
   pub earlier : List Command
   pub command : Command
@@ -89,7 +89,7 @@ pub record IsCommanded (now : ℕ) (commands : List Command) (S : Store) (r : Ro
   pub among : commands ≡ earlier ++ command ∷ later
   pub given : row_of now (after_commands now earlier S) command ≡ Some r
 
--- one of the requests had the command that wrote this row, and its commands were taken, all of them
+-- a command of one of the requests wrote this row, and all commands of that request were taken
 pub record IsWritten (M : Machine) (events : List Event) (r : Row) : Type 0 where
   pub before : List Event
   pub event : Event
@@ -98,7 +98,7 @@ pub record IsWritten (M : Machine) (events : List Event) (r : Row) : Type 0 wher
   pub given : IsCommanded event.now (commands_in event.request) (run before M).world.store r
   pub taken : (after (run before M) event).world.store ≡ after_commands event.now (commands_in event.request) (run before M).world.store
 
--- the request asks a question
+-- the request asks, and writes nothing
 abbrev pub OnlyReads : Request → Type 0
 OnlyReads (Get id) = Unit {0}
 OnlyReads (Find index field words) = Unit {0}

@@ -1,4 +1,4 @@
-//! Which definitions say the same, what defining an index does, what removing one does, and a batch for one.
+//! When two definitions say the same, and what defining an index, removing one, and a batch for one do.
 
 ghost use Rattle.std.specs.Prelude.{◌≡◌, ◌↔◌, ℕ, List, Some, true};
 ghost use Rattle.index_tree.specs.Definitions.{same_definition, Definition};
@@ -6,26 +6,26 @@ ghost use Rattle.spec_server.specs.Machine.{Keeping, Machine, Pump, step};
 ghost use Rattle.spec_server.specs.Sound.{Sound};
 ghost use Rattle.raven_laws.specs.Definitions.{BatchIsAnswered, DefineIsAnswered, OtherSlotsStay, RemoveIsAnswered, SaysTheSame};
 
-/// Two definitions are found to be the same exactly where they say the same: their maps and their reduces, but for the name of a group, or
-/// their collections and their fields, are equal, however their texts are spelled.
+/// Two definitions are found to be the same exactly if their maps and reduces are equal, except for the name of a group, or their
+/// collections and fields are. Their texts do not matter.
 pub fn definitions_are_told_apart()
     ensures { (d e : Definition) → (same_definition d e ≡ true) ↔ SaysTheSame d e }
 {}
 
-/// A Define is refused for its name, for a name that serves with another definition, for one index too many, or for its row, and changes
-/// nothing; or the keeper failed and nothing is changed; or the name serves with that definition and nothing is changed; or there is a new
-/// index of that definition behind the others, and all else is as it was.
+/// A Define is refused and changes nothing: for its name, because the name serves another definition, for one index too many, or for its row.
+/// Or the keeper failed and nothing changes; or the name serves that definition already and nothing changes; or there is a new index of that
+/// definition after the others, and all other slots and rows stay as they were.
 pub fn definitions_are_kept()
     ensures { (M : Machine) (k : Keeping) (now : ℕ) (name : List ℕ) (d : Definition) → DefineIsAnswered M k now name d }
 {}
 
-/// A Remove is refused where no index serves the name, or for its row, and changes nothing; or the keeper failed and nothing is changed; or
-/// the index is gone, the row of its definition is deleted, and all else is as it was.
+/// A Remove is refused and changes nothing, if no index serves the name, or for its row. Or the keeper failed and nothing changes; or the
+/// index is gone, the row of its definition is deleted, and all other slots and rows stay as they were.
 pub fn removals_are_kept()
     ensures { (M : Machine) (k : Keeping) (now : ℕ) (name : List ℕ) → Sound M.world → RemoveIsAnswered M k now name }
 {}
 
-/// A batch for one name brings on the index that serves it, and leaves every index of another name as it was.
+/// A batch for one name advances the index that serves it, and leaves every index of another name as it was.
 pub fn batches_for_one_leave_the_others()
     ensures answered { (M : Machine) (k : Keeping) (now max : ℕ) (name : List ℕ) → BatchIsAnswered M k now max name }
     ensures others { (M : Machine) (k : Keeping) (now max : ℕ) (name : List ℕ) → OtherSlotsStay M name (step M k now (Pump max (Some name))).machine }

@@ -14,23 +14,23 @@ ghost use Rattle.spec_store.specs.Stale.{taken, stale, newest, up_to, Unseen};
 ghost use Rattle.index_tree.specs.Mapper.{Mapper, scope_of};
 ghost use Rattle.spec_index.specs.Mapping.{Results, AreResults, remapped, touched};
 
-/// What an index has recorded stays right in every later store, which is not read again.
+/// What an index has recorded stays right in every later store, and need not be read again.
 pub fn agreement_survives()
     ensures { (scope : Scope) (T : Table) (S N : Store) (e : ℕ) → Agrees scope T S e → Later S N → e ≤ last S → Agrees scope T N e }
 {}
 
-/// A batch keeps agreement with the store that it read, up to the batch's etag.
+/// After a batch an index agrees with the store that the batch read, up to the batch's etag.
 pub fn batch_agrees()
     ensures { (scope : Scope) (T : Table) (S : Store) (e max : ℕ) → IsStore S → Agrees scope T S e → e ≤ last S →
         Agrees scope (note_rows T (taken scope e S max)) S (etag_of_batch scope e S max) }
 {}
 
-/// The documents of a store that an index reads: under each id the row that the store has, where it is such a document.
+/// The documents of a store in scope: under each id the store's row, if it is a document in scope.
 pub fn documents_are_all()
     ensures { (scope : Scope) (S : Store) (q : List ℕ) → IsStore S → get (documents scope S) q ≡ option_and_then (record_of scope) (row_at q S.rows) }
 {}
 
-/// An index that is not stale has recorded all documents of the store that it reads; for a cutoff, all up to the cutoff.
+/// An index that is not stale has recorded exactly the documents in its scope; with a cutoff, this holds of all rows up to the cutoff.
 pub fn fresh_is_whole()
     ensures whole { (scope : Scope) (T : Table) (S : Store) (e : ℕ) → IsStore S → Agrees scope T S e →
         stale S scope e None ≡ false → T ≡ documents scope S }
@@ -39,7 +39,7 @@ pub fn fresh_is_whole()
         up_to cutoff r.etag ≡ true → get T q ≡ record_of scope r }
 {}
 
-/// An index is stale exactly where the store has a row that it reads past its etag, and no newer than the cutoff.
+/// An index is stale exactly if the store has a row in its scope that is past its etag, and not past the cutoff.
 pub fn stale_is_unseen()
     ensures stale { (S : Store) (scope : Scope) (e : ℕ) (cutoff : Option ℕ) → IsStore S →
         (stale S scope e cutoff ≡ true) ↔ Unseen S scope e cutoff }
@@ -47,12 +47,12 @@ pub fn stale_is_unseen()
         (stale S scope e cutoff ≡ false) ↔ (Unseen S scope e cutoff → ⊥) }
 {}
 
-/// An index is stale exactly where the newest row that it reads, up to the cutoff, is past its etag.
+/// An index is stale exactly if the newest row in its scope, up to the cutoff, is past its etag.
 pub fn stale_by_newest()
     ensures { (S : Store) (scope : Scope) (e : ℕ) (cutoff : Option ℕ) → IsStore S → stale S scope e cutoff ≡ nat_lt e (newest S scope cutoff) }
 {}
 
-/// To map again what a batch touches, and no other document, leaves what mapping the new table from scratch gives.
+/// Mapping again what a batch touches, and no other document, gives what mapping the new table from scratch gives.
 pub fn touched_is_enough()
     ensures { (m : Mapper) (T : Table) (S : Store) (e max : ℕ) (K : Results) →
         IsStore S → Agrees (scope_of m) T S e → e ≤ last S → AreResults m T K →
@@ -60,7 +60,7 @@ pub fn touched_is_enough()
         AreResults m (note_rows T rows) (remapped m (note_rows T rows) (touched m T rows) K) }
 {}
 
-/// The order of scalars is total: any two compare, and in one way.
+/// The order of scalars is total.
 pub fn orders_are_total()
     ensures { IsTotalOrder order }
 {}

@@ -1,4 +1,4 @@
-//! What a keeper holds of the rows of a store, and of a machine.
+//! What a keeper stores for a store, and for a machine.
 
 ghost use Rattle.std.specs.Prelude.{◌≡◌, ℕ, List, None};
 ghost use Rattle.raven_data.specs.Rows.{Row};
@@ -9,8 +9,8 @@ ghost use Rattle.spec_server.specs.Script.{Given, after_lines, events_of};
 ghost use Rattle.spec_store.specs.Store.{IsStore, Store, last, with_rows};
 ghost use Rattle.raven_laws.specs.Keeping.{held_after};
 
-/// A keeper that holds the rows of a store and is given further ones holds those of the store with them; and rows whose etags follow on
-/// those of the store are in order behind what it holds.
+/// A keeper that stores the rows of a store and is given further rows stores those of the store with them. If the etags of the further rows
+/// go on from the store's last, they are in order after what it stores.
 pub fn keepers_follow_stores()
     ensures holds { (S : Store) (rows : List Row) → keep_all (all_kept S.rows) (all_kept rows) ≡ all_kept (with_rows S rows).rows }
     ensures rises { (S : Store) (rows : List Row) → AreNext (last S) rows → EtagsRise (last_kept None (all_kept S.rows)) (all_kept rows) }
@@ -18,15 +18,15 @@ pub fn keepers_follow_stores()
     ensures whole { (S : Store) → IsStore S → EtagsRise None (all_kept S.rows) }
 {}
 
-/// The store that a request leaves is the one that was there with the rows that the keeper is asked to keep, whose etags follow on its
-/// last one. Where there are none, the store is as it was.
+/// The store of a request's change is the one before it with the rows of the change, whose etags go on from the store's last.
+/// If there are none, the store is as it was.
 pub fn changes_are_their_rows()
     ensures store { (M : Machine) (now : ℕ) (request : Request) →
         let c = change_of M now request in c.machine.world.store ≡ with_rows M.world.store c.rows }
     ensures next { (M : Machine) (now : ℕ) (request : Request) → AreNext (last M.world.store) (change_of M now request).rows }
 {}
 
-/// A keeper that held the rows of a machine's store, and is given those of each change that it takes, holds those of the last store: after
+/// A keeper that stores the rows of a machine's store, and is given those of each change that it takes, stores those of the last store: after
 /// requests, and after the lines of a script.
 pub fn keepers_keep_on()
     ensures requests { (M : Machine) (events : List Event) → held_after events M (all_kept M.world.store.rows) ≡ all_kept (run events M).world.store.rows }

@@ -1,4 +1,5 @@
-//! The laws of the database, each the contract of a function without a body: they speak of no code, and every state that the model can reach meets them.
+//! The laws of the database, each the contract of a function without a body. They are about no code: they hold of every state that
+//! the machine can reach.
 #![tactic(auto)]
 
 mod definitions;

@@ -1,4 +1,4 @@
-//! What kept rows open, and what holds after every run from there.
+//! What stored rows open, and what holds after every run from there.
 
 ghost use Rattle.std.specs.Prelude.{◌≡◌, ◌⊎◌, ◌++◌, ℕ, List, [], Ok, Some, false};
 ghost use Rattle.raven_data.specs.Kept.{KeptRow, all_kept};
@@ -14,8 +14,8 @@ ghost use Rattle.raven_laws.specs.Claims.{FlagsAreExact, FreshIsExact, FreshIsFr
 ghost use Rattle.raven_laws.specs.Opened.{OpenedAsTold};
 ghost use Rattle.raven_laws.specs.Writes.{IsWritten};
 
-/// The database that kept rows open is sound, if each definition that was read of a row is one of which the row's body tells. Whatever was
-/// read, its rows are kept as those rows, it has the setting under which it was opened, and its indexes have recorded nothing yet.
+/// The database that stored rows open is sound, if each definition that was read of a row agrees with the row's body. Whatever was read,
+/// its rows are stored as those rows, it has the setting under which it was opened, and its indexes have recorded nothing yet.
 pub fn opened_is_sound()
     ensures sound { (setting : Setting) (held : List KeptRow) (M : Machine) → OpenedAsTold setting held M → Sound M.world }
     ensures kept { (setting : Setting) (held : List KeptRow) (M : Machine) → OpenedFrom setting held M → all_kept M.world.store.rows ≡ held }
@@ -39,7 +39,7 @@ pub fn sound_states_answer_truly()
     ensures ids { (M : Machine) → Sound M.world → IdsAreAsKept M }
 {}
 
-/// Whatever is asked of a database that kept rows open, each state is sound, is later than those before, and its answers are true.
+/// Whatever is asked of a database that stored rows opened, each state is sound, is later than those before, and its answers are true.
 pub fn every_run_from_kept_rows_is_sound()
     ensures sound { (setting : Setting) (held : List KeptRow) (M : Machine) (events : List Event) → OpenedAsTold setting held M → Sound (run events M).world }
     ensures goes_on { (setting : Setting) (held : List KeptRow) (M : Machine) (events more : List Event) → OpenedAsTold setting held M →
@@ -50,7 +50,7 @@ pub fn every_run_from_kept_rows_is_sound()
     ensures ids { (setting : Setting) (held : List KeptRow) (M : Machine) (events : List Event) → OpenedAsTold setting held M → IdsAreAsKept (run events M) }
 {}
 
-/// The same of the lines of a script.
+/// The same for the lines of a script.
 pub fn every_script_from_kept_rows_is_sound()
     ensures sound { (setting : Setting) (held : List KeptRow) (M : Machine) (lines : List Given) → OpenedAsTold setting held M → Sound (after_lines lines M).world }
     ensures goes_on { (setting : Setting) (held : List KeptRow) (M : Machine) (lines more : List Given) → OpenedAsTold setting held M →
@@ -61,8 +61,8 @@ pub fn every_script_from_kept_rows_is_sound()
     ensures ids { (setting : Setting) (held : List KeptRow) (M : Machine) (lines : List Given) → OpenedAsTold setting held M → IdsAreAsKept (after_lines lines M) }
 {}
 
-/// No row is invented: each, but those of the indexes' definitions, was there before the run, or is what a command of one of the requests
-/// wrote, and that request was taken whole.
+/// No row is invented: each, except those of definitions, was there before the run, or was written by a command of one of the requests,
+/// all of whose commands were taken.
 pub fn rows_were_there_or_written()
     ensures { (M : Machine) (events : List Event) (id : List ℕ) (r : Row) →
         row_at id (run events M).world.store.rows ≡ Some r → is_index_id r.id ≡ false → (row_at id M.world.store.rows ≡ Some r) ⊎ IsWritten M events r }

@@ -32,7 +32,7 @@ pub fn later_worlds_order()
     ensures steps { (W N P : World) → LaterW W N → LaterW N P → LaterW W P }
 {}
 
-/// Each index is the one that is found under its name.
+/// Each index is the one that serves its name.
 pub fn every_index_serves_its_name()
     ensures { (setting : Setting) (events : List Event) (s : Slot) →
         let W = (run events (start setting)).world in Has W.slots s → serving W.slots s.name ≡ Some s }
@@ -53,7 +53,7 @@ pub fn flags_are_exact()
     ensures { (setting : Setting) (events : List Event) → FlagsAreExact (run events (start setting)) }
 {}
 
-/// Ids are spelled as the store keeps them: in the entries of each index, and in each answer.
+/// Ids are spelled as the store spells them: in the entries of each index, and in each answer.
 pub fn ids_are_as_kept()
     ensures entries { (setting : Setting) (events : List Event) (s : Slot) (e : List ℕ × Fields) →
         let W = (run events (start setting)).world in
@@ -66,7 +66,7 @@ pub fn served_names_stay()
     ensures { (M : Machine) (k : Keeping) (now : ℕ) (request : Request) → Sound M.world → ServedStays M k now request }
 {}
 
-/// The name that is chosen for a new index is free, so no index is refused for its name.
+/// The name that is chosen for a new index is free, so no new index is refused for its name.
 pub fn new_names_are_free()
     ensures { (setting : Setting) (events : List Event) (shape : Shape) → setting.max_slots < 2 ^ 32 →
         let W = (run events (start setting)).world in serving W.slots (name_of W.slots (last W.store + 1) shape) ≡ None }
@@ -85,7 +85,7 @@ pub fn new_names_have_the_least_number()
     ensures { (slots : List Slot) (name : List ℕ) → IsFirstFree slots name (first_free name slots) }
 {}
 
-/// A batch moves an index exactly where the index is stale.
+/// A batch moves the etag of an index exactly if the index is stale.
 pub fn batches_move_what_is_stale()
     ensures { (setting : Setting) (events : List Event) (s : Slot) (max : ℕ) → 1 ≤ max →
         let W = (run events (start setting)).world in Has W.slots s →

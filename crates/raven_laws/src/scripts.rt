@@ -8,12 +8,13 @@ ghost use Rattle.spec_server.specs.Sound.{LaterW, Sound};
 ghost use Rattle.raven_laws.specs.Words.{IsNumber, IsSplit};
 ghost use Rattle.raven_laws.specs.Claims.{FlagsAreExact, FreshIsExact, FreshIsFromScratch, IdsAreAsKept};
 
-/// The state after lines is that of the run that they ask for.
+/// The state after lines is that of the run of the events that they make.
 pub fn scripts_are_runs()
     ensures { (lines : List Given) (M : Machine) → after_lines lines M ≡ run (events_of lines) M }
 {}
 
-/// Whatever lines come, at whatever moments and whatever the keeper does, the state after them is sound, is later than each state before, and its answers are true.
+/// Whatever lines come, at whatever moments and whatever the keeper does: the state after them is sound, is later than each state before,
+/// and its answers are true.
 pub fn every_script_is_sound()
     ensures sound { (setting : Setting) (lines : List Given) → Sound (after_lines lines (start setting)).world }
     ensures goes_on { (setting : Setting) (lines more : List Given) →

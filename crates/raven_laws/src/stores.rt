@@ -5,8 +5,8 @@ ghost use Rattle.spec_store.specs.Store.{Store, IsStore};
 ghost use Rattle.spec_store.specs.Later.{Later};
 ghost use Rattle.spec_store.specs.Commit.{Setting, Writer, Command, Written, Commits, commit};
 
-/// A transaction that is taken leaves a store with the rows that it wrote, under the next etags without a gap;
-/// all that was written before is as it was, or was replaced.
+/// A transaction that is taken leaves a valid store with the rows that it wrote, under the next etags without a gap.
+/// All that was written before is as it was, or was replaced.
 pub fn commit_grows()
     ensures { (s : Setting) (w : Writer) (now : ℕ) (commands : List Command) (S : Store) (new : Written) →
         IsStore S → commit s w now commands S ≡ Ok new → Commits S new }

@@ -1,4 +1,4 @@
--- What is read is read one way.
+-- What is read is read in one way.
 use Rattle.std.proofs.Common.{◌≡◌, ◌⊎◌, inl, inr, ◌+◌, ℕ, subst, List, [], ◌∷◌, ◌++◌, Bool, true, false, Option, Some, None, Result, Ok, Err, refl, sym, ap, ◌∙◌}
 use Rattle.raven_data.specs.Kept.{KeptRow}
 use Rattle.raven_data.specs.Rows.{Row, Body, doc, gone}
@@ -106,7 +106,7 @@ rows_once (a ∷ xs) (b ∷ ys) h x y =
     let read = read_once (is_defining b.row) b.row a.definition b.definition mine y.0 in
     λ i. (let r : ReadRow = record { row = rows i; definition = read i } in r) ∷ rows_once xs ys (ap rest_of h) x.1 y.1 i
 
--- what is read of the front of rows is read of the rows
+-- what is read of a prefix of the rows begins what is read of all rows
 prefix_once : (xs ys : List ReadRow) (more : List Row) → rows_of xs ++ more ≡ rows_of ys → AreReadRows xs → AreReadRows ys → (zs : List ReadRow) × (xs ++ zs ≡ ys)
 prefix_once [] ys more h x y = (ys, refl)
 prefix_once (a ∷ xs) [] more h x y = absurd cc
@@ -117,7 +117,7 @@ prefix_once (a ∷ xs) (b ∷ ys) more h x y =
     let behind = prefix_once xs ys more (ap rest_of h) x.1 y.1 in
     (behind.0, λ i. (let r : ReadRow = record { row = rows i; definition = read i } in r) ∷ behind.1 i)
 
--- of two fronts of the same rows, one is a front of the other
+-- of two prefixes of the same rows, one is a prefix of the other
 fronts : (xs ys : List ReadRow) (more other : List Row) → rows_of xs ++ more ≡ rows_of ys ++ other → AreReadRows xs → AreReadRows ys
     → ((zs : List ReadRow) × (xs ++ zs ≡ ys)) ⊎ ((zs : List ReadRow) × (ys ++ zs ≡ xs))
 fronts [] ys more other h x y = inl (ys, refl)
@@ -131,7 +131,7 @@ fronts (a ∷ xs) (b ∷ ys) more other h x y =
       | inr w ↦ inr (w.0, λ i. (let r : ReadRow = record { row = (sym rows) i; definition = (sym read) i } in r) ∷ w.1 i)
     ]
 
--- a bad row is told, whatever stands behind it
+-- a row that is not valid is reported, whatever follows it
 bad_stays : (s : Setting) (count : ℕ) (slots : List Slot) (xs zs : List ReadRow) (etag : ℕ) → slots_from s count slots xs ≡ Err etag → slots_from s count slots (xs ++ zs) ≡ Err etag
 bad_stays s count slots [] zs etag h = absurd cc
 bad_stays s count slots (x ∷ xs) zs etag h = by (or_bad x.row.etag (slots_after s count slots x)) (λ more g. bad_stays s (count + 1) more xs zs etag g) h

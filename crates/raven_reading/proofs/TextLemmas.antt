@@ -1,4 +1,4 @@
--- What a text says is a definition by that text, so what is read of a row is one of which its body tells.
+-- What a text says is a definition by that text, so what is read of a row agrees with its body.
 use Rattle.std.proofs.Common.{◌≡◌, ℕ, List, [], ◌∷◌, true, Option, Some, None, option_map, Result, Ok, Err, refl, sym, ap, ◌∙◌, subst}
 use Rattle.raven_data.specs.Kept.{KeptRow}
 use Rattle.raven_data.specs.Rows.{Body, doc, gone}

@@ -18,12 +18,12 @@ pub fn texts_say_one_thing()
     ensures { (map : List ℕ) (a b : Result Definition LangRefusal) → Says map a → Says map b → a ≡ b }
 {}
 
-/// A line comes to one thing.
+/// A line is read as one thing.
 pub fn lines_come_to_one_thing()
     ensures { (line : List ℕ) (a b : LineRead) → IsLine line a → IsLine line b → a ≡ b }
 {}
 
-/// What a keeper holds opens to one database, or one row is told as the first that is of no form, and not both.
+/// Stored rows open one database, or one row is reported as the first that is not valid, and not both.
 pub fn rows_open_one_way()
     ensures rows { (s : Setting) (rows : List Row) (a b : Result Machine ℕ) → Opens s rows a → Opens s rows b → a ≡ b }
     ensures held { (s : Setting) (held : List KeptRow) (a b : Result Machine ℕ) → IsOpened s held a → IsOpened s held b → a ≡ b }

@@ -1,4 +1,4 @@
-//! The laws of what lines of a script and rows of a keeper come to, where they hold texts of definitions: each has one answer.
+//! The laws that texts of definitions, and the lines and stored rows that hold such texts, are read in one way.
 #![tactic(auto)]
 
 mod laws;

@@ -1,4 +1,4 @@
--- A machine with whose rows a database can be opened stays one, whatever is asked.
+-- A machine whose rows open again stays one, whatever is asked.
 use Rattle.std.proofs.Common.{◌≡◌, ℕ, ◌+◌, ◌<◌, List, [], ◌∷◌, true, false, not, cond, nat_lt, nat_le, is_some, length, filter, Option, Some, None, Result, Ok, Err, refl, arith}
 use Rattle.std.proofs.lemmas.Bool.{ltb-false}
 use Rattle.std.specs.List.{list_any}
@@ -19,7 +19,7 @@ use Rattle.raven_reopening.proofs.FitLemmas.{few_slots, name_of-auto, named-fit}
 use Rattle.raven_reopening.proofs.LastLemmas.{AllLast, Stays, clients-Stay, removal-Stays, server-Stays}
 use Rattle.raven_reopening.proofs.RightLemmas.{AllRight, IsNew, added-right, auto-new, filter-right, pumped-right, pumped_at-right, static-new}
 
--- its rows can be read again, and what is read of those of its indexes are their definitions
+-- its rows can be read again, and those of its indexes are read as their definitions
 pub record Again (M : Machine) : Type 0 where
   pub all : AllLast M.world.store.rows
   pub slots : AllRight M.world.slots
@@ -52,7 +52,7 @@ added-Again M now name d new soon o a =
     let c = added M.world name d in
     rewrote-Again M now (told.Index name) c.slots name d (commit M.world.setting Server now c.commands M.world.store) refl new (added-right M.world name d new a.slots) soon o a
 
--- the name of a new index of a machine
+-- the name of a new index of a machine is valid
 new-name : (M : Machine) (shape : Shape) → Sound M.world → is_auto_name (name_of M.world.slots (last M.world.store + 1) shape) ≡ true
 new-name M shape o =
     let few = few_slots 0 (last M.world.store) M.world.slots (omega arith) o.rising o.numbers in
@@ -79,7 +79,7 @@ auto-Again M now c f None fits soon o a = elim (list_any (is_of c) M.world.slots
   | false ↦ made-Again M now c f fits soon o a
 ]
 
--- where the name serves with the same definition, nothing changes
+-- if the name serves the same definition, nothing changes
 defined_at-Again : (M : Machine) (now : ℕ) (name : List ℕ) (d : Definition) (there : Option Slot) → IsNew name d → now < moments_end → Sound M.world → Again M
     → Again (reslotted M now told.Index name (define_at M.world name d there)).machine
 defined_at-Again M now name d None new soon o a = elim (nat_le M.world.setting.max_slots (length M.world.slots)) as (λ b.

@@ -1,4 +1,4 @@
--- What is kept of a machine's rows opens the machine again.
+-- The stored rows of a machine open it again.
 use Rattle.std.proofs.Common.{◌≡◌, ℕ, ◌+◌, ◌<◌, ◌≤◌, List, [], ◌∷◌, ◌++◌, Bool, true, false, not, cond, ◌&&◌, ◌||◌, nat_le, length, codes, filter, Option, Some, None, option_map, Ok, refl, sym, ap, ◌∙◌, subst, arith, inl, inr, append_assoc, append-nil}
 use Rattle.std.proofs.lemmas.Bool.Decides.{nat_tests}
 use Rattle.std.proofs.lemmas.List.{length-append}
@@ -35,7 +35,7 @@ use Rattle.raven_reopening.proofs.OpenedLemmas.{machine_of, opened-Again}
 
 -- WHAT IS READ OF THE ROWS
 
--- the definition of the live row of one
+-- a definition was read of the row, and may have the row's name
 record IsMeant (x : ReadRow) : Type 0 where
   pub definition : Definition
   pub read : x.definition ≡ Some definition

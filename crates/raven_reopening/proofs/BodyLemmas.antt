@@ -1,4 +1,4 @@
--- What is kept of a body is read back.
+-- A stored body is read back.
 use Rattle.std.proofs.Common.{◌≡◌, ℕ, ◌≤◌, List, [], ◌∷◌, Bool, true, false, not, ◌||◌, cond, filter, length, codes, Option, Some, None, IsUtf8, Less, Equal, Greater, refl, sym, ap, ◌∙◌, subst, arith}
 use Rattle.std.proofs.lemmas.Slice.Eq.{bytes_eq-Decides}
 use Rattle.std.specs.List.{list_any}
@@ -174,7 +174,7 @@ stored-document ms s few small =
       small = small;
     }
 
--- what is kept of a body is read back
+-- a stored body is read back
 pub stored-back : (d : Data) → IsBody d → length (text_of (stored d)) ≤ max_body → IsReadBack (stored d)
 stored-back d b small =
     let same = b.an_object in
@@ -182,7 +182,7 @@ stored-back d b small =
     (document-back (stored (object b.members))
     (stored-document b.members (subst IsSound same b.sound) (subst (λ x. depth x ≤ 100) same b.shallow) (subst (λ x. length (text_of (stored x)) ≤ max_body) same small)))
 
--- the body of a definition is one
+-- the body of an automatic index's definition is a valid one
 pub definition-body : (c f : List ℕ) → IsUtf8 c → IsUtf8 f → IsBody (row_body (Auto c ((f ∷ []) ∷ [])))
 definition-body c f u v = record {
   sound = (

@@ -1,4 +1,4 @@
--- The names of automatic indexes, and the ids of their rows, are names and ids.
+-- The names of automatic indexes, and the ids of their rows, are valid.
 use Rattle.std.proofs.Common.{◌≡◌, ℕ, zero, suc, ◌+◌, ◌^◌, ◌<◌, ◌≤◌, List, [], ◌∷◌, ◌++◌, Bool, true, false, not, cond, ◌&&◌, ◌||◌, ◌==◌, nat_lt, nat_eq, is_none, is_some, length, codes, Option, Some, None, option_map, refl, sym, ap, ◌∙◌, subst, arith, ◌⊎◌, inl, inr}
 use Rattle.std.proofs.lemmas.Bool.{ltb-false, eq-eqb, cases_eq, ne_eqb}
 use Rattle.std.proofs.lemmas.Bool.Decides.{nat_tests}
@@ -23,7 +23,7 @@ abbrev IsPlain : List ℕ → Type 0
 IsPlain [] = Unit {0}
 IsPlain (b ∷ bs) = (is_control b ≡ false) × IsPlain bs
 
--- a text that can be one
+-- a text that can be an id or a name
 record IsText (limit : ℕ) (words : List ℕ) : Type 0 where
   pub some : 0 < length words
   pub few : length words ≤ limit
@@ -98,7 +98,7 @@ text-other limit a b same t =
       plain = folded-plain a (subst IsPlain (sym same) (plain-folded b t.plain));
     }
 
--- a spelling of the name of an automatic index is one
+-- another spelling of the name of an automatic index is one too
 pub auto_name-other : (a b : List ℕ) → folded a ≡ folded b → is_auto_name b ≡ true → is_auto_name a ≡ true
 auto_name-other a b same h = elim (is_fit 200 b) as (λ t. is_fit 200 b ≡ t → t && starts_with nat_eq (folded b) (codes "auto/") ≡ true → is_auto_name a ≡ true) [
   | true ↦ λ e g.
@@ -115,7 +115,7 @@ static_name-other a b same h = elim (is_fit 200 b) as (λ t. is_fit 200 b ≡ t 
   | false ↦ λ e g. absurd cc
 ] refl h
 
--- so with each name that the index of a definition may have
+-- the same for each name that the index of a definition may have
 pub named-other : (d : Definition) (a b : List ℕ) → folded a ≡ folded b → may_be_named d b ≡ true → may_be_named d a ≡ true
 named-other (Static map reduce map_text reduce_text) a b same h = static_name-other a b same h
 named-other (Auto collection fields) a b same h = auto_name-other a b same h
@@ -131,7 +131,7 @@ plain-append : (a b : List ℕ) → IsPlain a → IsPlain b → IsPlain (a ++ b)
 plain-append [] b h g = g
 plain-append (x ∷ a) b h g = (h.0, plain-append a b h.1 g)
 
--- the id of an index's row can be one
+-- the id of an index's row is a valid id
 pub index_id-fit : (name : List ℕ) → is_fit 200 name ≡ true → is_fit 512 (index_id name) ≡ true
 index_id-fit name h =
     let t = fit-text 200 name h in
@@ -156,7 +156,7 @@ decimal-plain n h = digits_plain (decimal n) (decimal_is_IsNumeral n h).0.1
 decimal-few : (n : ℕ) → n < 2 ^ 64 → length (decimal n) ≤ 20
 decimal-few n h = length-decimal-le 20 n (omega arith) (omega arith) h
 
--- the name itself, or with a number behind it
+-- the name itself, or with a number after it
 abbrev IsNumbered : List ℕ → ℕ → List ℕ → Type 0
 IsNumbered name most new = (new ≡ name) ⊎ ((m : ℕ) × (m ≤ most) × (new ≡ name ++ (codes "/" ++ decimal m)))
 
@@ -174,7 +174,7 @@ first_free-numbered name slots = elim (is_some (serving slots name)) as (λ b. I
   | false ↦ inl refl
 ]
 
--- a name that begins with `Auto/` is found to do so, and stays so with a number behind it
+-- a name that begins with `Auto/` is found to do so, and still with a number after it
 begins : (words : List ℕ) → starts_with nat_eq (folded (codes "Auto/" ++ words)) (codes "auto/") ≡ true
 begins words = refl
 
@@ -202,7 +202,7 @@ numbered-text name most new small t (inr m) =
       plain = plain-append name (codes "/" ++ decimal m.0) t.plain (refl, decimal-plain m.0 low);
     })
 
--- the name of a new index is that of an automatic one
+-- the name of a new index is a valid name of an automatic one
 pub name_of-auto : (slots : List Slot) (number : ℕ) (shape : Shape) → number < 2 ^ 64 → length slots + 2 < 2 ^ 64 → is_auto_name (name_of slots number shape) ≡ true
 name_of-auto slots number shape small few =
     let plain = first_free (plain_name shape) slots in

@@ -62,7 +62,7 @@ not_large s w S id expected body h =
       | false ↦ λ e g. ltb-false 1048576 (length (text_of (stored body))) e
     ] refl none
 
--- each collection has a name
+-- the name of a collection has a byte
 named-some : (o : Option Data) → 0 < length (named_collection o)
 named-some None = omega arith
 named-some (Some Data.null) = omega arith
@@ -73,7 +73,7 @@ named-some (Some (Data.object ms)) = omega arith
 named-some (Some (text [])) = omega arith
 named-some (Some (text (b ∷ bs))) = omega arith
 
--- the spelling that is kept can be an id
+-- the spelling that a row keeps is a valid id
 spelled-fit : (id : List ℕ) (rows : List Row) → AllLast rows → is_fit max_id id ≡ true → is_fit max_id (kept_spelling id (row_at (folded id) rows)) ≡ true
 spelled-fit id rows all fits = elim (row_at (folded id) rows) as (λ o. row_at (folded id) rows ≡ o → is_fit max_id (kept_spelling id o) ≡ true) [
   | None ↦ λ e. fits
@@ -90,7 +90,7 @@ and_false : (b : Bool) → b && false ≡ false
 and_false true = refl
 and_false false = refl
 
--- the mark of what was deleted, whoever deletes it
+-- the tombstone of what was deleted, whoever deletes it
 deleted-row : (s : Setting) (w : Writer) (now : ℕ) (S : Store) (id : List ℕ) (expected : Expect) (r : Row) → refusal_of s w S (Delete id expected) ≡ None → row_of now S (Delete id expected) ≡ Some r
     → now < moments_end → AllLast S.rows → last S ≤ 9007199254740991 → Lasts r
 deleted-row s w now S id expected r h is soon all le =
@@ -154,7 +154,7 @@ clients-Stay at s now (c ∷ cs) done new h fits soon k =
 
 -- THE ROW OF A DEFINITION
 
--- the name in the id of a row is that under which it stands, without regard to case
+-- the name in the id of an index's row is the index's name, without regard to case
 pub name-under : (r : Row) (name : List ℕ) → folded r.id ≡ folded (index_id name) → folded (name_in r) ≡ folded name
 name-under r name h = folded-drop 7 r.id ∙ ap (drop 7) h
 

@@ -17,7 +17,7 @@ use Rattle.raven_data.specs.Scan.{Place as Stand, outside, in_text, escaped, pla
 use Rattle.spec_store.proofs.StoreLemmas.{both_true, either_false}
 use Rattle.raven_reopening.proofs.Utf8Lemmas.{content-utf8}
 
--- GOOD TOKENS: with so many brackets open, no more than a hundred are ever; nothing is said of what stands behind a bad token
+-- GOOD TOKENS: from so many open brackets, no more than a hundred are ever open; nothing is said of what follows a bad token
 
 abbrev pub AreGood : ℕ → List Token → Type 0
 AreGood c [] = Unit {0}
@@ -49,7 +49,7 @@ AreGoodLexemes c (colon ∷ ls) = AreGoodLexemes c ls
 
 -- WORDS HAVE NO QUOTE
 
--- no quote stands before the next operator or space
+-- there is no quote before the next operator or space
 abbrev IsUnquoted : List ℕ → Type 0
 IsUnquoted [] = Unit {0}
 IsUnquoted (b ∷ bs) = ((is_operator b || is_space b) ≡ false) → ((b == 34) ≡ false) × IsUnquoted bs
@@ -65,7 +65,7 @@ unquoted-drop n (b ∷ bs) e u = elim (is_ascii_digit b) as (λ t. is_ascii_digi
   | false ↦ λ d f. subst (λ m. IsUnquoted (drop m (b ∷ bs))) (sym f) u
 ] refl e
 
--- what stands behind one byte that is no quote
+-- what follows one byte that is no quote
 unquoted-tail : (bs : List ℕ) → (head bs == 34) ≡ false → IsUnquoted (drop 1 bs) → IsUnquoted bs
 unquoted-tail [] h u = tt
 unquoted-tail (b ∷ bs) h u = λ _. (h, u)
@@ -168,7 +168,7 @@ word-good t = elim (head t == 116) as (λ b. WordIsGood t (cond b (literal ascii
 
 -- BYTES
 
--- what stands behind a front in a UTF-8 text
+-- what follows a prefix in a UTF-8 text
 abbrev IsTail : List ℕ → Type 0
 IsTail xs = (front : List ℕ) × IsUtf8 (front ++ xs)
 
@@ -225,7 +225,7 @@ no_bracket x h = (grind (arith, nat_tests, h), grind (arith, nat_tests, h), grin
 passed : (c x : ℕ) (xs : List ℕ) → (x == 34) ≡ false → is_operator x ≡ false → IsShallow outside c x xs → is_too_deep outside c xs ≡ false
 passed c x xs q o h = let n = no_bracket x o in plain-shallow c x xs q n.0 n.1 n.2 n.3 h
 
--- an operator, and what may stand behind it
+-- an operator, and what may follow it
 operator-good : (c x : ℕ) (xs : List ℕ) (ls : List Lexeme) → (x == 34) ≡ false → IsShallow outside c x xs → ((k : ℕ) → is_too_deep outside k xs ≡ false → AreGoodLexemes k ls) → AreGoodLexemes c (operator_lexeme x ∷ ls)
 operator-good c x xs ls q h more =
     elim (x == 123) as (λ b. x == 123 ≡ b → AreGoodLexemes c (cond b (token Token.begin_object) (cond (x == 125) (token Token.end_object) (cond (x == 91) (token Token.begin_array) (cond (x == 93) (token Token.end_array) (cond (x == 44) comma colon)))) ∷ ls)) [
@@ -250,7 +250,7 @@ stand_in in_word = outside
 stand_in in_string = in_text
 stand_in in_escape = escaped
 
--- in a word stands no quote
+-- a word has no quote
 abbrev IsAligned : Mode → List ℕ → Type 0
 IsAligned between xs = Unit {0}
 IsAligned in_word xs = IsUnquoted xs
@@ -263,7 +263,7 @@ text-good c xs ls u g = elim (content plain xs) as (λ o. content plain xs ≡ o
   | Some s ↦ λ e. (content-utf8 xs s u e, g)
 ] refl
 
--- what the lexemes behind a byte have to show
+-- what has to be proved of the lexemes after a byte
 abbrev Goes : List ℕ → Type 0
 Goes xs = (m : Mode) (c : ℕ) → IsAligned m xs → is_too_deep (stand_in m) c xs ≡ false → AreGoodLexemes c (lex m xs)
 
@@ -310,7 +310,7 @@ allowed : (b : Bool) (c : ℕ) (t : Token) (k : Place → List Token) (next : Pl
 allowed true c t k next g = g
 allowed false c t k next g = tt
 
--- a token in its place, where all that may stand behind it is good
+-- a token in its place is good, if all that may follow it is
 place-good : (p : Place) (t : Token) (b : Bool) (c : ℕ) (ls : List Lexeme) (k : Place → List Token) → AreGoodLexemes c (token t ∷ ls) → ((next : Place) (d : ℕ) → AreGoodLexemes d ls → AreGood d (k next)) → AreGood c (place_token p t b k)
 place-good p Token.begin_object b c ls k g more = allowed (may_begin p) c Token.begin_object k fresh (g.0, more fresh (c + 1) g.1)
 place-good p Token.end_object b c ls k g more = allowed (may_close p) c Token.end_object k after_value (more after_value (c - 1) g)

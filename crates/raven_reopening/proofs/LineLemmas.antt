@@ -1,4 +1,4 @@
--- What the lines of a script ask can be kept.
+-- What the lines of a script ask to write can be stored.
 use Rattle.std.proofs.Common.{◌≡◌, ℕ, ◌<◌, ◌≤◌, List, [], ◌∷◌, ◌++◌, Bool, true, false, not, cond, ◌&&◌, ◌||◌, ◌==◌, nat_lt, is_none, length, codes, Option, Some, None, Result, Ok, Err, IsUtf8, refl, sym, ap, ◌∙◌, subst, arith}
 use Rattle.std.proofs.Math.Utf8.{encode, encodes, scalar, scalars}
 use Rattle.std.proofs.lemmas.Bool.{ltb-true, ltb-false, ne_eqb}
@@ -31,9 +31,9 @@ use Rattle.raven_reopening.proofs.BodyLemmas.{member-sound, member-depth}
 use Rattle.raven_reopening.proofs.SoundLemmas.{AreFine, IsFine, reading-fine}
 use Rattle.raven_reopening.proofs.Utf8Lemmas.{AreHigh, encode-high, utf8-one}
 
--- WORDS OF A UTF-8 TEXT
+-- ARGUMENTS OF A UTF-8 TEXT
 
--- the word in front, and what stands behind its space
+-- the first argument, and what follows its space
 record AreWords (words : List ℕ) : Type 0 where
   pub front : IsUtf8 (before_space words)
   pub rest : (more : List ℕ) → after_space words ≡ Some more → IsUtf8 more
@@ -92,7 +92,7 @@ known : {A : Type 0} (o : Option A) (a : A) → or_unknown o ≡ Ok a → o ≡ 
 known None a h = absurd cc
 known (Some b) a h = ap Some (same_ok b a h)
 
--- both words are UTF-8
+-- both arguments are UTF-8
 record AreParts (p : List ℕ × List ℕ) : Type 0 where
   pub first : IsUtf8 p.0
   pub second : IsUtf8 p.1
@@ -111,7 +111,7 @@ parts-utf8 words p u h = let w = words-of words u in both-parts (before_space wo
 
 -- REQUESTS
 
--- what a request asks can be kept
+-- what a request asks to write can be stored
 record IsAsked (request : Request) : Type 0 where
   pub commands : AreCommands (commands_in request)
   pub indexing : IsIndexing request
@@ -252,7 +252,7 @@ bulk-asked words request h =
 
 -- INDEXES
 
--- a field has none of the bytes that a part of a path lacks
+-- a field has no byte that a part of a path may not have
 no_part_bytes : (words : List ℕ) → has_byte 46 words ≡ false → has_byte 40 words ≡ false → has_byte 41 words ≡ false → list_any (λ b. (b == 46) || (b == 40) || (b == 41)) words ≡ false
 no_part_bytes [] f g h = refl
 no_part_bytes (b ∷ bs) f g h =
@@ -349,7 +349,7 @@ request-asked line request u h =
 
 -- LINES WITHOUT A DEFINITION
 
--- what a line asks, if anything, can be kept
+-- what a line asks to write, if anything, can be stored
 abbrev CanBeKept : LineRead → Type 0
 CanBeKept (Err refusal) = Unit {0}
 CanBeKept (Ok None) = Unit {0}
@@ -451,7 +451,7 @@ index-texts words texts h =
     let v = then-ok (json_read (reading words)) texts_of_body texts h in
     body-texts v.0 texts (reading-fine words v.0 (json-ok (reading words) v.0 v.1)) v.2
 
--- what comes of a definition that a text says
+-- a line that defines what a text says
 defined-asked : (name map : List ℕ) (answer : Result Definition LangRefusal) → is_fit max_name name ≡ true → IsUtf8 map → Says map answer → CanBeKept (defined_by name answer)
 defined-asked name map (Err refusal) fit u says = tt
 defined-asked name map (Ok d) fit u says =

@@ -1,4 +1,4 @@
--- What is kept of rows in the form is read back as them.
+-- Valid rows are read back as they were stored.
 use Rattle.std.proofs.Common.{◌≡◌, ℕ, ◌<◌, ◌≤◌, List, [], ◌∷◌, ◌++◌, Bool, true, false, cond, ◌&&◌, nat_lt, is_none, length, Some, None, option_map, Ok, refl, sym, ap, ◌∙◌, subst, arith, append_assoc, append-nil}
 use Rattle.std.proofs.lemmas.Bool.{le-leb, lt-ltb}
 use Rattle.std.proofs.lemmas.List.{length-append}
@@ -22,7 +22,7 @@ use Rattle.raven_reopening.specs.Form.{IsDocument, IsBodyInForm, IsInForm, AreIn
 
 -- ONE ROW
 
--- a document whose text is read as it
+-- the text of the document is read as the document
 pub record IsReadBack (d : Data) : Type 0 where
   pub read : reading (text_of d) ≡ Ok d
   pub clean : is_stored d ≡ true
@@ -32,7 +32,7 @@ abbrev pub IsBodyBack : Body → Type 0
 IsBodyBack (doc d) = IsReadBack d
 IsBodyBack gone = Unit {0}
 
--- a row that is read from what is kept of it
+-- the row is read back as it was stored
 pub record IsBack (r : Row) : Type 0 where
   pub etag : is_etag r.etag ≡ true
   pub id : is_fit max_id r.id ≡ true
@@ -75,7 +75,7 @@ form-read r f = row_in-kept r (form-back r f)
 
 -- ALL ROWS
 
--- the row of an id that stands behind others is none of them
+-- the id of a row that follows others is none of theirs
 new_id : (earlier : List Row) (r : Row) (rows : List Row) → AreApart (earlier ++ r ∷ rows) → row_at (key r) earlier ≡ None
 new_id [] r rows h = refl
 new_id (x ∷ earlier) r rows h =

@@ -17,7 +17,7 @@ use Rattle.raven_reopening.specs.Form.{IsBody, IsByText, IsIndexing}
 use Rattle.raven_reopening.proofs.BodyLemmas.{auto-back, definition-body, static-body}
 use Rattle.raven_reopening.proofs.FitLemmas.{static_name-fit}
 
--- what is read of the body that the server keeps of a definition is that definition
+-- what is read of the body that the server stores for a definition is that definition
 abbrev pub IsReadOf : Definition → Type 0
 IsReadOf d = IsInBody (doc (stored (row_body d))) (Some d)
 
@@ -30,7 +30,7 @@ AllRight slots = (s : Slot) → Has slots s → IsRight s
 
 -- A NEW ONE
 
--- a definition that can be kept under the name
+-- a definition that can be stored under the name
 pub record IsNew (name : List ℕ) (d : Definition) : Type 0 where
   pub body : IsBody (row_body d)
   pub read : IsReadOf d

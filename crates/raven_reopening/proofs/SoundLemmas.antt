@@ -46,7 +46,7 @@ abbrev mutual
   MembersFit n tree.no_members = Unit {0}
   MembersFit n (tree.member k j ms) = IsUtf8 k × (Fits n j × MembersFit n ms)
 
--- with c brackets open before, what is read fits in what is left of a hundred, and what stands behind it is good
+-- after c open brackets, what is read fits in what is left of a hundred, and what follows it is good
 abbrev Reads : {A : Type 0} → (ℕ → A → Type 0) → (ℕ → ℕ) → Parse A → Type 0
 Reads {A} P after f = (ts rest : List Token) (a : A) (c : ℕ) → AreGood c ts → f ts ≡ Some (a, rest) → P (100 - c) a × AreGood (after c) rest
 
@@ -102,7 +102,7 @@ members-read f more zero ts rest a c g h = absurd cc
 members-read f more (suc k) ts rest a c g h =
     let p = both-read (read_key ts) (λ q. members_step f (members f k) q.0 q.1) (a, rest) h in by (members-read f more k) p.0.0 p.0.1 (at ts p.0.0 p.0.1 p.1 g) p.2
   where
-    -- what stands behind a key, or behind the end of the object
+    -- what follows a key, or the end of the object
     Behind : Option (List ℕ) → List Token → Type 0
     Behind None us = AreGood (c - 1) us
     Behind (Some s) us = IsUtf8 s × AreGood c us

@@ -1,4 +1,4 @@
--- The texts of a JSON text are UTF-8, where it is.
+-- The texts of a JSON text are UTF-8, if it is.
 use Rattle.std.proofs.Common.{◌≡◌, ℕ, zero, suc, ◌+◌, ◌*◌, ◌/◌, ◌%◌, ◌<◌, ◌≤◌, List, [], ◌∷◌, ◌++◌, true, false, cond, ◌&&◌, ◌==◌, nat_lt, length, Option, Some, None, option_and_then, IsUtf8, refl, sym, ap, ◌∙◌, subst, arith}
 use Rattle.std.proofs.Math.Utf8.{encode, encodes, scalar, scalars, low_scalar}
 use Rattle.std.proofs.lemmas.Bool.{ltb-false, ltb-true, eqb-true, ne_eqb}
@@ -17,7 +17,7 @@ utf8-past b bs low u = IsUtf8-past_char (b ∷ bs) bs b u (ap (λ xs. xs ++ bs) 
 pub utf8-one : (b : ℕ) → b < 128 → IsUtf8 (b ∷ [])
 utf8-one b low = subst IsUtf8 (encode_ascii b low) (IsUtf8-encode b (low_scalar b (omega arith)))
 
--- each byte is none of ASCII
+-- no byte is ASCII
 abbrev pub AreHigh : List ℕ → Type 0
 AreHigh [] = Unit {0}
 AreHigh (b ∷ bs) = (128 ≤ b) × AreHigh bs
@@ -57,7 +57,7 @@ prepend-more : (b : ℕ) (bs : List ℕ) (o : Option (List ℕ)) → prepend (b 
 prepend-more b bs None = refl
 prepend-more b bs (Some t) = refl
 
--- bytes that are none of ASCII stand for themselves
+-- bytes that are not ASCII stand for themselves
 content-high : (bs xs : List ℕ) → AreHigh bs → content plain (bs ++ xs) ≡ prepend bs (content plain xs)
 unfolding content
 content-high [] xs h = prepend-none (content plain xs)
@@ -110,7 +110,7 @@ unit-scalar u small high low = grind (arith, nat_tests, small, high, low)
 pair-scalar : (h l : ℕ) → is_high_surrogate h ≡ true → is_low_surrogate l ≡ true → IsScalar (surrogate_pair h l)
 pair-scalar h l high low = grind (arith, nat_tests, high, low)
 
--- where a surrogate waits for its other half, it is one
+-- if a surrogate waits for its other half, it is one
 abbrev IsWaiting : Within → Type 0
 IsWaiting plain = Unit {0}
 IsWaiting after_backslash = Unit {0}
@@ -236,6 +236,6 @@ content-holds (suc n) after_backslash xs s le wait u h = backslash-utf8 n xs s (
 content-holds (suc n) after_u xs s le wait u h = u-utf8 n xs s (content-holds n) le u h
 content-holds (suc n) (after_high h) xs s le wait u g = high-utf8 n h xs s (content-holds n) le wait u g
 
--- the content of a text is UTF-8, where what stands behind its quote is
+-- the content of a text is UTF-8, if what follows its quote is
 pub content-utf8 : (xs s : List ℕ) → IsUtf8 xs → content plain xs ≡ Some s → IsUtf8 s
 content-utf8 xs s u h = content-holds (length xs) plain xs s (omega arith) tt u h

@@ -1,4 +1,4 @@
--- Which rows can be kept and read again, and which requests write no others.
+-- Which rows can be stored and read again, and which requests write only such rows.
 use Rattle.std.specs.Prelude.{◌≡◌, ℕ, ◌<◌, ◌≤◌, List, [], ◌∷◌, None, Ok, IsTrue, IsUtf8, length}
 use Rattle.index_tree.specs.declared.map_query.MapQuery.{MapQuery}
 use Rattle.raven_data.specs.Data.{Data, Entries, object, depth}
@@ -17,7 +17,7 @@ use Rattle.index_lang.specs.Says.{Says}
 
 -- ROWS
 
--- a document as a row keeps it
+-- the document can be stored and read again
 pub record IsDocument (d : Data) : Type 0 where
   pub sound : IsSound d
   pub shallow : depth d ≤ 100
@@ -41,7 +41,7 @@ AreInForm (r ∷ rows) = IsInForm r × AreInForm rows
 
 -- REQUESTS
 
--- an object that the program can hold
+-- a body that the program can hold: a sound object at most a hundred deep
 pub record IsBody (d : Data) : Type 0 where
   pub sound : IsSound d
   pub shallow : depth d ≤ 100
@@ -56,7 +56,7 @@ abbrev pub AreCommands : List Command → Type 0
 AreCommands [] = Unit {0}
 AreCommands (c ∷ cs) = IsCommand c × AreCommands cs
 
--- what the text of a map says without a reduce, under a text that can be the name of an index
+-- the name is valid, and the definition is what some text of a map says, without a reduce
 pub record IsByText (name : List ℕ) (d : Definition) : Type 0 where
   pub fit : IsTrue (is_fit max_name name)
   pub query : MapQuery
@@ -65,7 +65,7 @@ pub record IsByText (name : List ℕ) (d : Definition) : Type 0 where
   pub by_text : d ≡ Static query None map None
   pub says : Says map (Ok d)
 
--- An automatic index is made for a field whose name can be a part of a path, and an index of a client by a text.
+-- the field of an Auto can be a part of a path; the definition of a Define is by a text
 abbrev pub IsIndexing : Request → Type 0
 IsIndexing (Auto collection field) = IsUtf8 collection × (IsUtf8 field × IsTrue (is_part field))
 IsIndexing (Define name definition) = IsByText name definition

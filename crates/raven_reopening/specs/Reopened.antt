@@ -8,7 +8,7 @@ use Rattle.spec_server.specs.Sound.{Has}
 use Rattle.spec_index.specs.World.{Slot, World, fresh}
 use Rattle.index_lang.specs.Openings.{IsOpened}
 
--- among the slots is one with the name, the number and the definition of this one, which has recorded nothing yet
+-- the slots have one with the name and the definition of s, whose number is the etag of s's row, and which has recorded nothing yet
 pub record IsThereAgain (slots : List Slot) (s : Slot) : Type 0 where
   pub slot : Slot
   pub there : Has slots slot
@@ -16,7 +16,7 @@ pub record IsThereAgain (slots : List Slot) (s : Slot) : Type 0 where
   pub numbered : slot.number ≡ s.row
   pub anew : slot.version ≡ fresh s.version.definition
 
--- and this one, of those that are opened, was there, and is not one that was removed
+-- the opened slot s belongs to one that was there: the same name and definition, its row's etag, and nothing recorded yet
 pub record WasThere (slots : List Slot) (s : Slot) : Type 0 where
   pub slot : Slot
   pub there : Has slots slot
@@ -24,7 +24,7 @@ pub record WasThere (slots : List Slot) (s : Slot) : Type 0 where
   pub numbered : s.number ≡ slot.row
   pub anew : s.version ≡ fresh slot.version.definition
 
--- what is kept of the world's rows opens a machine with the same store, and with an index for each that there was, and no other
+-- the stored rows of the world open a machine with the same store, with an index for each that there was, and with no other
 pub record OpensAgain (s : Setting) (W : World) : Type 0 where
   pub machine : Machine
   pub opens : IsOpened s (all_kept W.store.rows) (Ok machine)

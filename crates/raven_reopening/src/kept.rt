@@ -1,4 +1,4 @@
-//! What is kept of rows and definitions is read back as them.
+//! Rows and definitions are read back as they were stored.
 
 ghost use Rattle.std.specs.Prelude.{◌≡◌, ◌≤◌, ℕ, List, [], ◌∷◌, IsTrue, None, Ok, Some, length};
 ghost use Rattle.index_tree.specs.declared.map_query.MapQuery.{MapQuery};
@@ -15,25 +15,25 @@ ghost use Rattle.spec_store.specs.Store.{IsStore, Store};
 ghost use Rattle.spec_index.specs.World.{row_body};
 ghost use Rattle.raven_reopening.specs.Form.{AreInForm, IsInForm};
 
-/// A row in the form is read back from what is kept of it.
+/// A valid row is read back as it was stored.
 pub fn kept_rows_are_read()
     ensures { (r : Row) → IsInForm r → row_in (kept r) ≡ Some r }
 {}
 
-/// The rows of a store, all in the form and no more than there may be, are read back.
+/// The rows of a store, if all are valid and they are no more than `max`, are read back as they were stored.
 pub fn stores_open_again()
     ensures { (S : Store) (max : ℕ) → IsStore S → AreInForm S.rows → length S.rows ≤ max → rows_in max (all_kept S.rows) ≡ Ok S.rows }
 {}
 
-/// The definition of an automatic index of one field is read back from the body that the server keeps of it, and so is the text of one by a
-/// text without a reduce.
+/// The definition of an automatic index of one field is read back from the body that the server stores for it, and so is the text of a
+/// definition by a text without a reduce.
 pub fn definitions_are_read_back()
     ensures automatic { (collection field : List ℕ) → IsTrue (is_part field) →
         body_form (stored (row_body (Auto collection ((field ∷ []) ∷ [])))) ≡ AutoForm (Auto collection ((field ∷ []) ∷ [])) }
     ensures by_text { (query : MapQuery) (text : List ℕ) → body_form (stored (row_body (Static query None text None))) ≡ StaticForm text }
 {}
 
-/// What is read of JSON bytes is sound: its numbers have 64 bits, its texts are UTF-8, its members rise. And it is at most a hundred deep.
+/// What JSON bytes are read as is sound: its numbers have 64 bits, its texts are UTF-8, its members rise. It is at most a hundred deep.
 pub fn what_is_read_is_sound()
     ensures sound { (bytes : List ℕ) (d : Data) → reading bytes ≡ Ok d → IsSound d }
     ensures shallow { (bytes : List ℕ) (d : Data) → reading bytes ≡ Ok d → depth d ≤ 100 }

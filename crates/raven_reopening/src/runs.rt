@@ -1,4 +1,4 @@
-//! What a run leaves opens again.
+//! What is stored after a run opens again.
 
 ghost use Rattle.std.specs.Prelude.{List, Ok};
 ghost use Rattle.raven_data.specs.Kept.{KeptRow};
@@ -11,20 +11,20 @@ ghost use Rattle.index_lang.specs.Openings.{IsOpened};
 ghost use Rattle.raven_reopening.specs.Form.{AreEvents, AreTimely};
 ghost use Rattle.raven_reopening.specs.Reopened.{OpensAgain};
 
-/// The laws of what kept rows open hold of what they open as they are read: each definition that is read of a row is one of which its body
-/// tells.
+/// The laws of what stored rows open hold of what they open as they are read: each definition that is read of a row agrees with its
+/// body.
 pub fn what_opens_is_told()
     ensures { (setting : Setting) (held : List KeptRow) (M : Machine) → IsOpened setting held (Ok M) → OpenedAsTold setting held M }
 {}
 
-/// What is kept of the rows of a database opens again, after every run from kept rows whose requests the program can hold: with the same
-/// store, and with an index for each that there was; one that was removed is not among them.
+/// After every run from stored rows, if the program can hold its requests, the rows of the database open again: with the same store, with an
+/// index for each that there was, and with none that was removed.
 pub fn a_run_opens_again()
     ensures { (setting : Setting) (held : List KeptRow) (M : Machine) (events : List Event) → IsOpened setting held (Ok M) → AreEvents events →
         OpensAgain setting (run events M).world }
 {}
 
-/// The same after the lines of every script, whatever its bytes, at moments before the end.
+/// The same after the lines of every script, whatever its bytes, if each comes at a moment before `moments_end`.
 pub fn a_script_opens_again()
     ensures { (setting : Setting) (held : List KeptRow) (M : Machine) (lines : List Given) → IsOpened setting held (Ok M) → AreLines lines → AreTimely lines →
         OpensAgain setting (after_lines lines M).world }

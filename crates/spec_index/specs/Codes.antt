@@ -1,4 +1,4 @@
--- Codes of indexes, by which they can be the value of a Rust type.
+-- Codes of versions, slots, notes and worlds: a Rust type needs them if contracts see it as one.
 use Rattle.std.specs.Prelude.{ℕ, List, refl}
 use Rattle.std.specs.Coded.{Coded, coded_ℕ, coded_list, coded×, code_by}
 use Rattle.raven_data.specs.Codes.{text_code, table_code}

@@ -1,4 +1,4 @@
--- What an index has recorded, and how a batch brings it on.
+-- What an index has recorded, and the etag that it has after a batch.
 use Rattle.std.specs.Prelude.{◌≡◌, ℕ, ◌≤◌, List, [], ◌∷◌, ◌&&◌, Option, Some, None, filter, if◌then◌else◌, IsTrue}
 use Rattle.std.specs.FinMap.{empty, get}
 use Rattle.raven_data.specs.Rows.{Row, key, is_document}
@@ -7,11 +7,11 @@ use Rattle.spec_store.specs.Later.{StillHas}
 use Rattle.raven_data.specs.Tables.{Table, Scope, in_scope, note_rows}
 use Rattle.spec_store.specs.Stale.{taken, left_over}
 
--- what an index that has seen the row records of it
+-- what an index that has seen the row records of it: the document, if it is in scope; nothing of a tombstone
 abbrev pub record_of : Scope → Row → Option Row
 record_of scope r = if in_scope scope r && is_document r then Some r else None
 
--- the table agrees with the store on all rows up to the etag
+-- the table agrees with the store on all rows up to the etag; of an id that was written later it may have an older document
 pub record Agrees (scope : Scope) (T : Table) (S : Store) (e : ℕ) : Type 0 where
   pub known : (q : List ℕ) (t : Row) → get T q ≡ Some t → StillHas S.rows q t
   pub exact : (q : List ℕ) (r : Row) → row_at q S.rows ≡ Some r → r.etag ≤ e → get T q ≡ record_of scope r
@@ -19,7 +19,7 @@ pub record Agrees (scope : Scope) (T : Table) (S : Store) (e : ℕ) : Type 0 whe
   pub scoped : (q : List ℕ) (t : Row) → get T q ≡ Some t → IsTrue (in_scope scope t)
   pub dated : (q : List ℕ) (t : Row) → get T q ≡ Some t → (1 ≤ t.etag) × (t.etag ≤ e)
 
--- that of the last taken row where more remain, else that of the store
+-- the etag of the last taken row if more remain, else the last of the store
 abbrev pub etag_after : ℕ → List Row → List Row → ℕ → ℕ
 etag_after e rows [] last = last
 etag_after e rows (r ∷ rest) last = last_of e rows
@@ -27,6 +27,6 @@ etag_after e rows (r ∷ rest) last = last_of e rows
 abbrev pub etag_of_batch : Scope → ℕ → Store → ℕ → ℕ
 etag_of_batch scope e S max = etag_after e (taken scope e S max) (left_over scope e S max) (last S)
 
--- the documents of a store that an index reads
+-- the documents of the store in scope, as a table
 abbrev pub documents : Scope → Store → Table
 documents scope S = note_rows empty (filter (in_scope scope) S.rows)

@@ -1,4 +1,4 @@
--- Which documents a batch makes a map give anew, and what the map gives from scratch.
+-- What a map gives from scratch, and which documents a batch maps again.
 use Rattle.std.specs.Prelude.{◌≡◌, ℕ, List, [], ◌∷◌, ◌++◌, Bool, true, false, not, ◌&&◌, if◌then◌else◌, Option, Some, None, is_some, filter, map}
 use Rattle.std.specs.List.{list_any, filter_map, count_by}
 use Rattle.std.specs.Option.{option_and_then}
@@ -10,7 +10,7 @@ use Rattle.raven_data.specs.Tables.{Table}
 pub use Rattle.index_tree.specs.Meaning.{Fields, Outcome, Entry, NoEntry, Failed, Mapped}
 use Rattle.index_tree.specs.Mapper.{Mapper, is_mapped}
 
--- what the map gives for an id, over the table alone
+-- what the map gives for the document that the table has under an id, if it is mapped
 abbrev pub result_of : Mapper → Table → List ℕ → Option Mapped
 result_of m T q = option_and_then (λ d. if is_mapped m d then Some (m.meaning d T) else None) (get T q)
 
@@ -34,7 +34,7 @@ has_failed other = false
 abbrev pub failures : Mapper → Table → ℕ
 failures m T = count_by (λ d. has_failed (m.meaning d T).outcome) (mapped_documents m T)
 
--- WHAT A BATCH TOUCHES: the mapped documents that it takes, and those that load a taken id
+-- WHAT A BATCH TOUCHES: the mapped documents that it takes, and those that look up a taken id
 
 abbrev pub is_taken : List Row → List ℕ → Bool
 is_taken rows q = is_some (row_at q rows)
@@ -47,7 +47,7 @@ touched m T rows =
     map key (filter (is_mapped m) rows)
     ++ map key (filter (λ d. is_mapped m d && loads_taken m T rows d && not (is_taken rows (key d))) (values T))
 
--- what is kept of the map of each document
+-- what the map gave for each document, by folded id
 abbrev pub Results : Type 0
 Results = FinMap key_cmp Mapped
 
@@ -60,6 +60,6 @@ abbrev pub remapped : Mapper → Table → List (List ℕ) → Results → Resul
 remapped m T [] K = K
 remapped m T (q ∷ qs) K = remapped m T qs (set_result (result_of m T q) K q)
 
--- the results are those of the table, from scratch
+-- the results are exactly what the map gives over the table from scratch
 abbrev pub AreResults : Mapper → Table → Results → Type 0
 AreResults m T K = (q : List ℕ) → get K q ≡ result_of m T q

@@ -1,4 +1,4 @@
--- Which automatic index answers a query, and what a new one is called. A slot is fresh where it is not stale without a cutoff.
+-- Which automatic index answers a query, and the name of a new one.
 use Rattle.std.specs.Prelude.{ℕ, ◌+◌, suc, zero, List, [], ◌∷◌, ◌++◌, Bool, false, not, ◌&&◌, ◌||◌, nat_lt, if◌then◌else◌, Option, Some, None, is_some, length, codes, filter}
 use Rattle.std.specs.List.{list_any, list_all}
 use Rattle.std.specs.Str.{bytes_eq}
@@ -12,12 +12,12 @@ use Rattle.index_tree.specs.Definitions.{Definition, Static, Auto}
 use Rattle.index_tree.specs.Mapper.{joined}
 use Rattle.spec_index.specs.World.{Slot, reads, serving}
 
--- what a query asks of an index
+-- what a query asks of an index: the collection and the fields
 pub record Shape : Type 0 where
   pub collection : List ℕ
   pub fields : List Path
 
--- an automatic index has a shape, and no other has one
+-- the shape of an automatic index; a static one has none
 abbrev pub shape_of : Definition → Option Shape
 shape_of (Static map reduce map_text reduce_text) = None
 shape_of (Auto collection fields) = Some (record { collection = collection; fields = fields })
@@ -25,13 +25,14 @@ shape_of (Auto collection fields) = Some (record { collection = collection; fiel
 abbrev pub slot_shape : Slot → Option Shape
 slot_shape s = shape_of s.version.definition
 
+-- the index is not stale, without a cutoff
 abbrev pub is_fresh : Store → Slot → Bool
 is_fresh S s = not (stale S (reads s.version) s.version.etag None)
 
 abbrev pub has_path : List Path → Path → Bool
 has_path fields path = list_any (pointwise bytes_eq path) fields
 
--- an index of the shape a can answer what the shape b asks
+-- an index of shape a can answer a query of shape b
 abbrev pub covers : Option Shape → Shape → Bool
 covers None b = false
 covers (Some a) b = bytes_eq a.collection b.collection && list_all (has_path a.fields) b.fields
@@ -43,11 +44,11 @@ fields_in (Some a) = length a.fields
 abbrev pub width : Slot → ℕ
 width s = fields_in (slot_shape s)
 
--- the fresh before the stale, then the fewer fields
+-- a beats b: it is fresh and b is stale, or both are fresh or both stale and a has fewer fields
 abbrev pub beats : Store → Slot → Slot → Bool
 beats S a b = (is_fresh S a && not (is_fresh S b)) || ((is_fresh S a || not (is_fresh S b)) && nat_lt (width a) (width b))
 
--- the first that no later one beats
+-- a, unless the best of the later slots beats it
 abbrev pub better : Store → Slot → Option Slot → Option Slot
 better S a None = Some a
 better S a (Some b) = if beats S b a then Some b else Some a
@@ -59,16 +60,16 @@ best S (a ∷ more) = better S a (best S more)
 pub data Choice : Type 0 where
   -- this index
   Use : (slot : Slot) → Choice
-  -- a new one for this shape
+  -- a new index of this shape
   Make : (shape : Shape) → Choice
-  -- a new one that takes in the fields of the others of its collection, which is not built yet
+  -- an index that merges the fields of the collection's others; not supported yet
   Merge : Choice
 
 abbrev pub has_collection : List ℕ → Option Shape → Bool
 has_collection collection None = false
 has_collection collection (Some a) = bytes_eq a.collection collection
 
--- an automatic index of the collection
+-- the slot has an automatic index of the collection
 abbrev pub is_of : List ℕ → Slot → Bool
 is_of collection s = has_collection collection (slot_shape s)
 
@@ -76,7 +77,7 @@ abbrev pub chosen : Shape → List Slot → Option Slot → Choice
 chosen shape slots (Some s) = Use s
 chosen shape slots None = if list_any (is_of shape.collection) slots then Merge else Make shape
 
--- of the live automatic indexes, by number
+-- the best slot that covers the shape; without one, a merge if the collection has an automatic index, else a new index
 abbrev pub pick : Shape → Store → List Slot → Choice
 pick shape S slots = chosen shape slots (best S (filter (λ s. covers (slot_shape s) shape) slots))
 
@@ -90,17 +91,17 @@ and_joined (p ∷ more) = joined p ++ (codes "And" ++ and_joined more)
 abbrev pub plain_name : Shape → List ℕ
 plain_name shape = codes "Auto/" ++ (shape.collection ++ (codes "/By" ++ and_joined shape.fields))
 
--- the name with the least number behind it that is free
+-- the name with `/` and the first number from n on that makes it free; after so many tries the next number is taken as it is
 abbrev pub free_name : ℕ → ℕ → List ℕ → List Slot → List ℕ
 free_name zero n name slots = name ++ (codes "/" ++ decimal n)
 free_name (suc more) n name slots =
     if is_some (serving slots (name ++ (codes "/" ++ decimal n))) then free_name more (n + 1) name slots else name ++ (codes "/" ++ decimal n)
 
--- as many tries as there are slots are enough
+-- the name if it is free, else with a number; as many tries as there are slots are enough
 abbrev pub first_free : List ℕ → List Slot → List ℕ
 first_free name slots = if is_some (serving slots name) then free_name (length slots) 2 name slots else name
 
--- of a new slot of this number; where the plain name is too long or has control characters, the number stands in its place
+-- the name of a new slot: made of the collection and the fields or, if that is too long or has a control character, of the slot's number
 abbrev pub name_of : List Slot → ℕ → Shape → List ℕ
 name_of slots number shape =
     if is_fit 200 (first_free (plain_name shape) slots) then first_free (plain_name shape) slots

@@ -20,14 +20,14 @@ pub record Version : Type 0 where
   pub etag : ℕ
   pub table : Table
 
--- a live index: the etag at which it was made, its name, how far it is, and the etag of the row of its definition
+-- a live index: the etag at which it was made, its name, its current version, and the etag of the row of its definition
 pub record Slot : Type 0 where
   pub number : ℕ
   pub name : List ℕ
   pub version : Version
   pub row : ℕ
 
--- a switch: its etag, whose name, from which number to which, how far the new index was, and the newest row that it reads
+-- a switch of a name to another index: its etag, the name, the old and the new number, the new index's etag, and the newest row that it reads
 pub record Note : Type 0 where
   pub etag : ℕ
   pub name : List ℕ
@@ -50,25 +50,25 @@ fresh d = record { definition = d; etag = 0; table = empty }
 
 -- BATCHES
 
--- with these rows; nothing where there are none
+-- the version with these rows recorded up to this etag; nothing if there are none
 abbrev pub advanced : Version → List Row → ℕ → Option Version
 advanced v [] etag = None
 advanced v (r ∷ rows) etag = Some (record { definition = v.definition; etag = etag; table = note_rows v.table (r ∷ rows) })
 
--- with the first `max` rows that the index has not seen
+-- the version after a batch of the first `max` rows that it has not seen; nothing if it has seen all
 abbrev pub batch : Version → Store → ℕ → Option Version
 batch v S max = advanced v (taken (reads v) v.etag S max) (etag_of_batch (reads v) v.etag S max)
 
 -- SLOTS
 
--- names are compared as ids are
+-- the slot that serves the name: the first whose folded name is the same
 abbrev pub serving : List Slot → List ℕ → Option Slot
 serving slots name = find (λ s. same_key (folded name) (folded s.name)) slots
 
 abbrev pub numbered : List Slot → ℕ → Option Slot
 numbered slots n = find (λ s. s.number == n) slots
 
--- the id of the row of a definition
+-- the id of the row that stores the definition of this name
 abbrev pub index_id : List ℕ → List ℕ
 index_id name = codes "@index/" ++ name
 
@@ -82,7 +82,7 @@ abbrev pub text_or_null : Option (List ℕ) → Data
 text_or_null None = null
 text_or_null (Some t) = text t
 
--- what is kept of a definition, and shown of it
+-- the members that are stored for a definition, and shown of it
 abbrev pub definition_members : Definition → List (List ℕ × Data)
 definition_members (Static map reduce map_text reduce_text) =
     (codes "Kind", text (codes "static"))
@@ -98,25 +98,25 @@ definition_members (Auto collection fields) =
 abbrev pub definition_data : Definition → Data
 definition_data d = object (entries_of (definition_members d))
 
--- the body by which a definition is put into the collection `@indexes`
+-- the body of a definition's row, which puts it into the collection `@indexes`
 abbrev pub row_body : Definition → Data
 row_body d = object (entries_of ((codes "@metadata", object (entries_of ((codes "@collection", text (codes "@indexes")) ∷ []))) ∷ definition_members d))
 
--- new slots, the commands for their rows, which the server writes, and the name of the slot that was asked for
+-- the slots after a request, the commands that the server commits with them, and the slot's name as it is spelled
 pub record SlotChange : Type 0 where
   pub slots : List Slot
   pub commands : List Command
   pub name : List ℕ
 
 pub data SlotRefusal : Type 0 where
-  -- the name serves with another definition, which is no refusal once replacements are built
+  -- the name serves another definition; replacements are not supported yet
   NameServes : SlotRefusal
   NoIndex ReservedName TooManyIndexes : SlotRefusal
   NameTooLong : (len : ℕ) → SlotRefusal
 
 -- MAKING ONE
 
--- a new slot behind the others, under the next etag
+-- the slots with a new one at the end, whose number is the next etag
 abbrev pub added : World → List ℕ → Definition → SlotChange
 added W name d = record {
   slots = W.slots ++ record { number = last W.store + 1; name = name; version = fresh d; row = last W.store + 1 } ∷ [];
@@ -127,13 +127,13 @@ added W name d = record {
 abbrev pub added_if_room : World → List ℕ → Definition → Result SlotChange SlotRefusal
 added_if_room W name d = if nat_le W.setting.max_slots (length W.slots) then Err TooManyIndexes else Ok (added W name d)
 
--- an automatic index, whose name is chosen by the server
+-- adds an automatic index, under a name that the server chose
 abbrev pub define : World → List ℕ → Definition → Result SlotChange SlotRefusal
 define W name d =
     if nat_le W.setting.max_slots (length W.slots) then Err TooManyIndexes else (
     if is_some (serving W.slots name) then Err NameServes else Ok (added W name d))
 
--- names that the server gives
+-- only the server gives such names
 abbrev pub is_reserved_name : List ℕ → Bool
 is_reserved_name name = starts_with nat_eq (folded name) (codes "auto/") || starts_with nat_eq (folded name) (codes "replacementof/")
 
@@ -146,7 +146,7 @@ name_refusal name =
     if is_reserved_name name then Some ReservedName else (
     if nat_lt max_index_name (length name) then Some (NameTooLong (length name)) else None)
 
--- where the name serves with the same definition, nothing changes
+-- if the name serves this definition already, nothing changes; if it serves another, that is refused
 abbrev pub define_at : World → List ℕ → Definition → Option Slot → Result SlotChange SlotRefusal
 define_at W name d None = added_if_room W name d
 define_at W name d (Some s) = if same_definition d s.version.definition then Ok (record { slots = W.slots; commands = []; name = s.name }) else Err NameServes
@@ -155,7 +155,7 @@ abbrev pub unless_refused : Option SlotRefusal → Result SlotChange SlotRefusal
 unless_refused None change = change
 unless_refused (Some refusal) change = Err refusal
 
--- an index that a client defines
+-- adds an index that a client defines
 abbrev pub define_named : World → List ℕ → Definition → Result SlotChange SlotRefusal
 define_named W name d = unless_refused (name_refusal name) (define_at W name d (serving W.slots name))
 

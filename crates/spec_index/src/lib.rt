@@ -1,2 +1,3 @@
-//! What the indexes of a database are, as definitions alone: what one has recorded, how a batch advances it, which of them serves, and which is chosen.
+//! Definitions of indexes: what one has recorded, how a batch advances it, which serves a name, which is chosen for a query,
+//! and what a query finds.
 #![tactic(auto)]

@@ -1,4 +1,4 @@
--- Codes of what the types of the crates above are seen as.
+-- Codes of the machine and of parts of replies: a Rust type needs them if contracts see it as one.
 use Rattle.std.specs.Prelude.{ℕ, List, Bool, refl}
 use Rattle.std.specs.Coded.{Coded, coded_ℕ, coded_bool, coded×, code_by}
 use Rattle.raven_data.specs.Codes.{text_code}

@@ -1,7 +1,7 @@
 -- The lines of a script.
 use Rattle.std.specs.Prelude.{ℕ, List, [], ◌∷◌, Bool, false, ◌==◌, ◌&&◌, if◌then◌else◌}
 
--- the byte in front of the first line
+-- the lines with this byte in front of the first
 abbrev pub onto : ℕ → List (List ℕ) → List (List ℕ)
 onto b [] = (b ∷ []) ∷ []
 onto b (line ∷ more) = (b ∷ line) ∷ more

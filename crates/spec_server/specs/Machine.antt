@@ -1,4 +1,4 @@
--- The plain machine: one request after another.
+-- The machine: the reply to a request, and the state after it.
 use Rattle.std.specs.Prelude.{ℕ, ◌+◌, List, [], ◌∷◌, Bool, true, not, ◌&&◌, if◌then◌else◌, Option, Some, None, is_some, Result, Ok, Err, length, codes, filter, map}
 use Rattle.std.specs.Str.{bytes_eq}
 use Rattle.raven_data.specs.Data.{Data, text, object, entries_of, pairs_of}
@@ -37,15 +37,15 @@ pub data Request : Type 0 where
   Stale : (name : List ℕ) (cutoff : Option ℕ) → Request
   Indexes Stats : Request
 
--- the commands that a request asks to write
+-- the commands that a client's request asks to write
 abbrev pub commands_in : Request → List Command
 commands_in (Put id expected body) = Command.Put id expected body ∷ []
 commands_in (Delete id expected) = Command.Delete id expected ∷ []
 commands_in (Bulk commands) = commands
 commands_in other = []
 
--- What the keeper of the rows does in one step: of each time that it is asked to keep rows, in order, whether it takes them, and its counts of
--- faults before and after. It is asked once for each change that has rows, and takes what the list does not tell.
+-- What the keeper does in one step: for each call that stores rows, in order, whether it takes them, and its counts of faults before and after.
+-- A change that has rows makes one call, and a call past the end of the list takes its rows.
 pub record Keeping : Type 0 where
   pub takes : List Bool
   pub before : ℕ
@@ -68,7 +68,7 @@ pub record Replied : Type 0 where
 abbrev pub same_machine : Machine → Reply → Replied
 same_machine M reply = record { reply = reply; machine = M }
 
--- a change as it is asked of the keeper: the reply and the machine where it is kept, and the rows to keep
+-- a change before the keeper is called: the rows to store, and the reply and the machine if it takes them
 pub record Change : Type 0 where
   pub reply : Reply
   pub machine : Machine
@@ -81,12 +81,12 @@ abbrev pub is_first_taken : List Bool → Bool
 is_first_taken [] = true
 is_first_taken (taken ∷ more) = taken
 
--- a change without rows is not asked of the keeper
+-- a change without rows needs no call of the keeper
 abbrev pub is_taken : Keeping → List Row → Bool
 is_taken k [] = true
 is_taken k (r ∷ rows) = is_first_taken k.takes
 
--- where the keeper fails, nothing is changed
+-- if the keeper does not take the rows, nothing changes and the reply is KeeperFault
 abbrev pub settled : Machine → Keeping → Change → Replied
 settled M k c = if is_taken k c.rows then record { reply = c.reply; machine = c.machine } else same_machine M (told.KeeperFault k.before k.after)
 
@@ -96,7 +96,7 @@ in_world W store slots = record { setting = W.setting; store = store; slots = sl
 abbrev pub with_slots : World → List Slot → World
 with_slots W slots = in_world W W.store slots
 
--- the reply to a transaction that is refused at this place
+-- the reply to a transaction whose command at this place is refused
 abbrev pub refused_at : ℕ → Refusal → Reply
 refused_at at Refusal.ReservedId = told.ReservedId at
 refused_at at (Refusal.TooLarge len) = told.TooLarge at len
@@ -108,7 +108,7 @@ refused_at at (Refusal.EtagsSpent etag) = told.EtagsSpent at etag
 abbrev pub write_refused : Refused → Reply
 write_refused refused = refused_at refused.at refused.kind
 
--- the reply where an index of this name is refused; that the name serves with another definition gets its own once replacements are built
+-- the reply if an index of this name is refused; NameServes has no reply of its own, as replacements are not supported yet
 abbrev pub slot_refused : List ℕ → SlotRefusal → Reply
 slot_refused name SlotRefusal.NameServes = UnknownLine
 slot_refused name SlotRefusal.NoIndex = NoIndex name
@@ -118,11 +118,11 @@ slot_refused name (SlotRefusal.NameTooLong len) = told.NameTooLong len
 
 -- WRITES
 
--- an id as its row spells it, or as it was given where no row stands
+-- the id as its row spells it, or as it was given if it has no row
 abbrev pub spelling : Store → List ℕ → List ℕ
 spelling S id = kept_spelling id (row_at (folded id) S.rows)
 
--- what a command did that took this etag, told of the store after the transaction
+-- what a command did that took this etag, with the id as the store N after the transaction spells it
 abbrev pub result_of : List ℕ → Store → Command → Option ℕ → told.Result
 result_of base N (Command.Put id expected body) (Some etag) = told.Result.Put (vector_of base etag) (spelling N id)
 result_of base N (Command.Put id expected body) None = told.Result.Put [] (spelling N id)
@@ -133,13 +133,13 @@ results_of base N [] etags = []
 results_of base N (c ∷ cs) [] = []
 results_of base N (c ∷ cs) (etag ∷ etags) = result_of base N c etag ∷ results_of base N cs etags
 
--- the reply to one command, and to several
+-- the reply to a single command, from its result
 abbrev pub single_reply : List told.Result → Reply
 single_reply [] = UnknownLine
 single_reply (told.Result.Put vector id ∷ more) = told.Put vector id
 single_reply (told.Result.Deleted deleted id ∷ more) = told.Deleted deleted id
 
--- the commands of a client, all or none
+-- the change that the commands of a client make: all of them, or none
 abbrev pub wrote : Machine → (List told.Result → Reply) → ℕ → List Command → Result Written Refused → Change
 wrote M reply now commands (Err refused) = no_change M (write_refused refused)
 wrote M reply now commands (Ok w) = record {
@@ -157,12 +157,12 @@ abbrev pub rewrote : Machine → Reply → List Slot → Result Written Refused 
 rewrote M reply slots (Err refused) = no_change M (write_refused refused)
 rewrote M reply slots (Ok w) = record { reply = reply; machine = record { world = in_world M.world w.store slots }; rows = w.rows }
 
--- the reply tells the name of the index, which may be spelled in another way than in the request
+-- the reply has the name as the slot spells it, which may differ from the request
 abbrev pub reslotted : Machine → ℕ → (List ℕ → Reply) → List ℕ → Result SlotChange SlotRefusal → Change
 reslotted M now reply name (Err refusal) = no_change M (slot_refused name refusal)
 reslotted M now reply name (Ok c) = rewrote M (reply c.name) c.slots (commit M.world.setting Server now c.commands M.world.store)
 
--- the index that is picked, or a new one
+-- the index that was picked, or a new one of the shape
 abbrev pub use_or_make : Machine → ℕ → Choice → Change
 use_or_make M now (Use s) = no_change M (Index s.name)
 use_or_make M now (Make shape) =
@@ -170,7 +170,7 @@ use_or_make M now (Make shape) =
     reslotted M now Index name (define M.world name (Definition.Auto shape.collection shape.fields))
 use_or_make M now Merge = no_change M UnknownLine
 
--- the shape of one field
+-- the shape of a query for one field
 abbrev pub one_field : List ℕ → List ℕ → Shape
 one_field collection field = record { collection = collection; fields = (field ∷ []) ∷ [] }
 
@@ -180,14 +180,14 @@ abbrev pub or_as_before : Version → Option Version → Version
 or_as_before v None = v
 or_as_before v (Some new) = new
 
--- the slot after one batch
+-- the slot after one batch; as it was if there is nothing to take
 abbrev pub brought_on : Store → ℕ → Slot → Slot
 brought_on S max s = record { number = s.number; name = s.name; version = or_as_before s.version (batch s.version S max); row = s.row }
 
 abbrev pub pumping : Store → ℕ → Slot → Pumping
 pumping S max s = record { from = s.version.etag; index = s.name; to = (brought_on S max s).version.etag }
 
--- one batch for each slot, by number
+-- one batch for each slot, in order of number
 abbrev pub pump : Machine → ℕ → Change
 pump M max = record {
   reply = Pumped (map (pumping M.world.store max) M.world.slots);
@@ -225,7 +225,7 @@ answer_stale W name cutoff None = NoIndex name
 answer_stale W name cutoff (Some s) =
     told.Stale s.version.etag (stale W.store (reads s.version) s.version.etag cutoff) (newest W.store (reads s.version) cutoff)
 
--- what is told of a slot: its entries and the documents whose map fails, over what it has recorded
+-- what is reported of a slot: its entries and failed documents are counted over what it has recorded
 abbrev pub listing : Store → Slot → Listing
 listing S s = record {
   definition = definition_data s.version.definition;
@@ -236,7 +236,7 @@ listing S s = record {
   name = s.name;
 }
 
--- by number
+-- the slots in order of number
 abbrev pub answer_indexes : World → Reply
 answer_indexes W = told.Indexes (map (listing W.store) W.slots)
 
@@ -245,7 +245,7 @@ abbrev pub members_of : Option Data → Pairs
 members_of (Some (object ms)) = pairs_of ms
 members_of other = []
 
--- a document as it is shown: in its metadata stands what the server knows of it
+-- the metadata as a client sees it: the stored members, with those that the server writes
 abbrev pub shown_metadata : List ℕ → Row → Option Data → Pairs
 shown_metadata base r metadata =
     put (codes "@change-vector") (text (vector_of base r.etag)) (put (codes "@collection") (text r.collection)
@@ -262,7 +262,7 @@ shown_row S base id (Some r) = elim r.body [ doc d ↦ told.Document (shown base
 abbrev pub answer_get : World → List ℕ → Reply
 answer_get W id = shown_row W.store W.setting.base id (row_at (folded id) W.store.rows)
 
--- the rows that are no definitions of indexes
+-- the row is no definition: its collection is not `@indexes`
 abbrev pub is_own_row : Row → Bool
 is_own_row r = not (bytes_eq r.collection (codes "@indexes"))
 

@@ -1,4 +1,4 @@
--- Opening a database from the rows that its keeper has.
+-- What stored rows open: a machine, or the first row that is not valid.
 use Rattle.std.specs.Prelude.{ℕ, ◌+◌, List, [], ◌∷◌, ◌++◌, Bool, not, ◌&&◌, ◌||◌, ◌==◌, nat_le, nat_lt, nat_eq, if◌then◌else◌, Option, Some, None, Result, Ok, Err, length, codes, drop, map, ◌≡◌}
 use Rattle.std.specs.List.{list_any, starts_with}
 use Rattle.std.specs.Str.{bytes_eq}
@@ -14,24 +14,24 @@ use Rattle.spec_server.specs.Machine.{Machine}
 use Rattle.raven_data.specs.Kept.{KeptRow}
 use Rattle.spec_store.specs.Kept.{rows_in}
 
--- THE DEFINITION IN A BODY, as the server keeps it
+-- THE DEFINITION IN A BODY, as the server stores it
 
 -- a part of a path has a byte, and none of `.`, `(` and `)`
 abbrev pub is_part : List ℕ → Bool
 is_part part = nat_lt 0 (length part) && not (list_any (λ b. (b == 46) || (b == 40) || (b == 41)) part)
 
--- of an automatic index of one field of one part
+-- the definition of an automatic index of one field of one part, from the four members of its body
 abbrev pub auto_read : Option Data → Option Data → Option Data → Option Data → Option Definition
 auto_read (Some (object no_entries)) (Some (text collection)) (Some (array (item (array (item (text field) no_items)) no_items))) (Some (text kind)) =
     if bytes_eq kind (codes "auto") && is_part field then Some (Auto collection ((field ∷ []) ∷ [])) else None
 auto_read metadata collection fields kind = None
 
--- the text of the map of an index without a reduce
+-- the text of the map of an index without a reduce, from the four members of its body
 abbrev pub map_read : Option Data → Option Data → Option Data → Option Data → Option (List ℕ)
 map_read (Some (object no_entries)) (Some (text kind)) (Some (text map)) (Some null) = if bytes_eq kind (codes "static") then Some map else None
 map_read metadata kind map reduce = None
 
--- what a body says, as far as no text of a definition has to be read
+-- what a body says before the text of a map is read
 pub data BodyForm : Type 0 where
   NoForm : BodyForm
   AutoForm : (definition : Definition) → BodyForm
@@ -42,7 +42,7 @@ form_of (Some d) other = AutoForm d
 form_of None (Some map) = StaticForm map
 form_of None None = NoForm
 
--- there are four members and no others
+-- what the body says; it has exactly four members
 abbrev pub body_form : Data → BodyForm
 body_form (object ms) =
     if length (pairs_of ms) == 4
@@ -56,15 +56,15 @@ body_form other = NoForm
 abbrev pub is_defining : Row → Bool
 is_defining r = is_document r && bytes_eq r.collection (codes "@indexes")
 
--- the name in the id of the row of a definition
+-- the name in the id of a definition's row: what follows `@index/`
 abbrev pub name_in : Row → List ℕ
 name_in r = drop 7 r.id
 
--- the name of an automatic index
+-- a valid name of an automatic index
 abbrev pub is_auto_name : List ℕ → Bool
 is_auto_name name = is_fit max_index_name name && starts_with nat_eq (folded name) (codes "auto/")
 
--- the name of an index that a client defined
+-- a valid name of an index that a client defined
 abbrev pub is_static_name : List ℕ → Bool
 is_static_name name = is_fit max_index_name name && not (is_reserved_name name)
 
@@ -72,24 +72,24 @@ abbrev pub may_be_named : Definition → List ℕ → Bool
 may_be_named (Static map reduce map_text reduce_text) name = is_static_name name
 may_be_named (Auto collection fields) name = is_auto_name name
 
--- a row, and the definition that was read of it, if it is the live row of one
+-- a row, and the definition that its body was read as, if it is the row of one
 pub record ReadRow : Type 0 where
   pub row : Row
   pub definition : Option Definition
 
--- the id begins with `@index/` exactly where the collection is `@indexes`
+-- the id begins with `@index/` exactly if the collection is `@indexes`
 abbrev pub is_filed : Row → Bool
 is_filed r = if bytes_eq r.collection (codes "@indexes") then is_index_id r.id else not (is_index_id r.id)
 
--- the row is one too many, of this many that came before it
+-- after so many rows and these slots, the row is past the limit of rows or, if it is a definition, of slots
 abbrev pub is_too_many : Setting → ℕ → List Slot → Row → Bool
 is_too_many s rows slots r = nat_le s.max_rows rows || (is_defining r && nat_le s.max_slots (length slots))
 
--- the index of a row, at etag 0 and without documents
+-- the slot of a definition's row: its index has recorded nothing yet
 abbrev pub slot_of : Row → Definition → Slot
 slot_of r d = record { number = r.etag; name = name_in r; version = fresh d; row = r.etag }
 
--- the slots with that of the row, if it is the live row of a definition; nothing where the row is of no form
+-- the slots with that of the row; nothing if the row has no definition, or if the definition may not have the row's name
 abbrev pub with_slot : List Slot → Row → Option Definition → Option (List Slot)
 with_slot slots r None = None
 with_slot slots r (Some d) = if may_be_named d (name_in r) then Some (slots ++ slot_of r d ∷ []) else None
@@ -100,7 +100,7 @@ slots_with slots x = if is_defining x.row then with_slot slots x.row x.definitio
 abbrev pub slots_after : Setting → ℕ → List Slot → ReadRow → Option (List Slot)
 slots_after s rows slots x = if is_too_many s rows slots x.row || not (is_filed x.row) then None else slots_with slots x
 
--- THE WORLD: one row after another, in order of etag; a row that is of no form is told by its etag
+-- THE WORLD: one row after another, in order of etag; the error is the etag of the first row that is not valid
 
 abbrev pub or_bad : ℕ → Option (List Slot) → Result (List Slot) ℕ
 or_bad etag None = Err etag
@@ -121,11 +121,11 @@ opened_with s rows (Ok slots) = Ok (record { world = record { setting = s; store
 abbrev pub rows_of : List ReadRow → List Row
 rows_of xs = map (λ x. x.row) xs
 
--- the machine of these rows, which are those of a store; or the etag of the first that is of no form
+-- the machine that these rows of a store open, or the etag of the first that is not valid
 abbrev pub opened : Setting → List ReadRow → Result Machine ℕ
 opened s xs = opened_with s (rows_of xs) (slots_from s 0 [] xs)
 
--- the machine that the held rows open, where this was read of them
+-- the stored rows open this machine, with the definitions in `read` as what was read of them
 pub record OpenedFrom (s : Setting) (held : List KeptRow) (M : Machine) : Type 0 where
   pub read : List ReadRow
   pub rows : rows_in s.max_rows held ≡ Ok (rows_of read)

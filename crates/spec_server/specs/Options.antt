@@ -1,4 +1,4 @@
--- The words that the program is called with: a command, and then pairs of a name and a value.
+-- The arguments of the program: a command, and then pairs of a name and a value.
 use Rattle.std.specs.Prelude.{ℕ, List, [], ◌∷◌, Bool, true, false, not, ◌&&◌, if◌then◌else◌, Option, Some, None, codes}
 use Rattle.std.specs.Option.{option_map}
 use Rattle.std.specs.List.{list_all, list_any}
@@ -61,7 +61,7 @@ run_options (Some pairs) =
     then option_map (λ base. record { file = value_named (codes "--data") pairs; base = base }) (base_in (value_named (codes "--id") pairs))
     else None
 
--- the options that words give, if they are of the form
+-- the options that the arguments give, if they are valid
 abbrev pub options_in : List (List ℕ) → Option Options
 options_in [] = None
 options_in (command ∷ more) = if bytes_eq command (codes "run") then run_options (pairs_in more) else None

@@ -1,4 +1,4 @@
--- Replies, and what is printed of them.
+-- Replies, and how they are printed.
 use Rattle.std.specs.Prelude.{ℕ, pos, List, [], ◌∷◌, ◌++◌, Bool, codes, map}
 use Rattle.raven_data.specs.Data.{Data, flag, num, text, array, object, items_of, entries_of}
 use Rattle.raven_data.specs.Written.{text_of}
@@ -9,13 +9,13 @@ pub data Result : Type 0 where
   Put : (change_vector id : List ℕ) → Result
   Deleted : (deleted : Bool) (id : List ℕ) → Result
 
--- how far a batch brought an index
+-- a batch of an index: its etag before, its name, and its etag after
 pub record Pumping : Type 0 where
   pub from : ℕ
   pub index : List ℕ
   pub to : ℕ
 
--- what is told of an index
+-- what is reported of an index
 pub record Listing : Type 0 where
   pub definition : Data
   pub entries : ℕ
@@ -43,7 +43,7 @@ pub data Reply : Type 0 where
   TooLong : (len : ℕ) → Reply
   Control : (at : ℕ) → Reply
   BadMember : (name : List ℕ) → Reply
-  -- refusals of what is not there
+  -- the document or the index is not there
   NoDocument : (id : List ℕ) → Reply
   NoIndex : (name : List ℕ) → Reply
   -- refusals of a definition

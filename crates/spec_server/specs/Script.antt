@@ -28,22 +28,22 @@ pub data ReadRefusal : Type 0 where
   BadMember : (name : List ℕ) → ReadRefusal
   BadDefinition : LangRefusal → ReadRefusal
 
--- what a line comes to: a request, or nothing where it has no bytes, or its refusal
+-- what a line is read as: a request, nothing if it has no bytes, or a refusal
 abbrev pub LineRead : Type 0
 LineRead = Result (Option Line) ReadRefusal
 
--- a value, unless something before it is refused
+-- goes on with the value, unless it was refused
 abbrev pub then_read : {A B : Type 0} → Result A ReadRefusal → (A → Result B ReadRefusal) → Result B ReadRefusal
 then_read (Err refusal) more = Err refusal
 then_read (Ok a) more = more a
 
--- WORDS: one space stands between them, and each has a byte
+-- ARGUMENTS OF A LINE: one space separates them, and each has a byte
 
 abbrev pub before_space : List ℕ → List ℕ
 before_space [] = []
 before_space (b ∷ bs) = if b == 32 then [] else b ∷ before_space bs
 
--- what stands behind the first space, if there is one
+-- what follows the first space, if there is one
 abbrev pub after_space : List ℕ → Option (List ℕ)
 after_space [] = None
 after_space (b ∷ bs) = if b == 32 then Some bs else after_space bs
@@ -54,7 +54,7 @@ both_parts (b ∷ bs) None = None
 both_parts (b ∷ bs) (Some []) = None
 both_parts (b ∷ bs) (Some (c ∷ cs)) = Some (b ∷ bs, c ∷ cs)
 
--- the first word and the rest of the text behind its space, each with a byte
+-- the text before the first space and the text after it, if both have a byte
 abbrev pub word_and_rest : List ℕ → Option (List ℕ × List ℕ)
 word_and_rest text = both_parts (before_space text) (after_space text)
 
@@ -64,12 +64,12 @@ has_byte b text = list_any (λ c. c == b) text
 abbrev pub is_digit : ℕ → Bool
 is_digit b = nat_le 48 b && nat_le b 57
 
--- the digits behind those of n
+-- the number whose digits are those of n and then these
 abbrev pub number_from : ℕ → List ℕ → ℕ
 number_from n [] = n
 number_from n (b ∷ bs) = number_from (n * 10 + (b - 48)) bs
 
--- 1 to 16 digits
+-- the number that a text of 1 to 16 digits spells
 abbrev pub number_of : List ℕ → Option ℕ
 number_of text = if nat_lt 0 (length text) && nat_le (length text) 16 && list_all is_digit text then Some (number_from 0 text) else None
 
@@ -86,12 +86,12 @@ abbrev pub json_read : Result Data JsonRefusal → Result Data ReadRefusal
 json_read (Err refusal) = Err (BadJson refusal)
 json_read (Ok value) = Ok value
 
--- a member, or the whole body, that has to be an object
+-- the value if it is an object; else a refusal with this name, that of a member or `body`
 abbrev pub object_read : List ℕ → Option Data → Result Data ReadRefusal
 object_read name (Some (json.object ms)) = Ok (json.object ms)
 object_read name other = Err (BadMember name)
 
--- the JSON is read first, then the id, and then the body has to be an object
+-- first the JSON may be refused, then the id, and then a body that is no object
 abbrev pub put_read : List ℕ → Expect → Result Data JsonRefusal → Result Request ReadRefusal
 put_read id expected value =
     then_read (json_read value) (λ value.
@@ -107,7 +107,7 @@ abbrev pub id_member : Option Data → Result (List ℕ) ReadRefusal
 id_member (Some (json.text id)) = id_read id
 id_member other = Err (BadMember (codes "Id"))
 
--- without a vector any will do
+-- without a change vector, or with null, any version of the document will do
 abbrev pub vector_member : Option Data → Result Expect ReadRefusal
 vector_member None = Ok AnyVector
 vector_member (Some json.null) = Ok AnyVector
@@ -135,7 +135,7 @@ abbrev pub command_read : Data → Result Command ReadRefusal
 command_read (json.object ms) = typed_command (member (codes "Type") ms) ms
 command_read other = Err (BadMember (codes "Commands"))
 
--- one after another; the first that is refused decides
+-- the commands in order, or the refusal of the first that is refused
 abbrev pub commands_read : List Data → Result (List Command) ReadRefusal
 commands_read [] = Ok []
 commands_read (d ∷ ds) = then_read (command_read d) (λ c. then_read (commands_read ds) (λ cs. Ok (c ∷ cs)))
@@ -151,7 +151,7 @@ commands_of other = Err (BadMember (codes "body"))
 abbrev pub bulk_read : List ℕ → Result Request ReadRefusal
 bulk_read rest = then_read (json_read (reading rest)) (λ value. then_read (commands_of value) (λ commands. Ok (Bulk commands)))
 
--- THE FORMS OF A LINE
+-- THE KINDS OF LINES
 
 abbrev pub or_unknown : {A : Type 0} → Option A → Result A ReadRefusal
 or_unknown None = Err UnknownLine
@@ -176,11 +176,11 @@ delete_if_of more = then_read (parts_read more) (λ parts. delete_read (Vector p
 abbrev pub get_of : List ℕ → Result Request ReadRefusal
 get_of more = then_read (id_read more) (λ id. Ok (Get id))
 
--- a collection does not begin with `@`, unless it is `@empty`
+-- a collection has a byte, and does not begin with `@` unless it is `@empty`
 abbrev pub is_collection : List ℕ → Bool
 is_collection text = nat_lt 0 (length text) && (not (begins_with 64 text) || bytes_eq text (codes "@empty"))
 
--- a path of one part: a word without `.`, `(` and `)`
+-- a path of one part: at least one byte, and no space, `.`, `(` or `)`
 abbrev pub is_field : List ℕ → Bool
 is_field text = nat_lt 0 (length text) && not (has_byte 32 text || has_byte 46 text || has_byte 40 text || has_byte 41 text)
 
@@ -192,11 +192,11 @@ abbrev pub unless_name_fault : Option Fault → List ℕ → Result (List ℕ) R
 unless_name_fault None name = Ok name
 unless_name_fault (Some fault) name = Err (BadName fault)
 
--- the name of an index
+-- the name of an index, if it is valid
 abbrev pub name_read : List ℕ → Result (List ℕ) ReadRefusal
 name_read text = unless_name_fault (fault_of max_name text) text
 
--- how many rows a batch may take
+-- how many rows a batch may take: 1 to 65536
 abbrev pub max_read : List ℕ → Result ℕ ReadRefusal
 max_read text = then_read (or_unknown (number_of text)) (λ max. if nat_le 1 max && nat_le max 65536 then Ok max else Err UnknownLine)
 
@@ -235,7 +235,7 @@ by_word word more =
     if bytes_eq word (codes "FIND") then find_of more else (
     if bytes_eq word (codes "STALE") then stale_of more else Err UnknownLine))))))))))
 
--- a line is the word STATS or INDEXES alone, or a word and what stands behind it
+-- a line is STATS or INDEXES alone, or the name of another command and its arguments
 abbrev pub request_of : List ℕ → Result Request ReadRefusal
 request_of line =
     if bytes_eq line (codes "STATS") then Ok Stats else if bytes_eq line (codes "INDEXES") then Ok Indexes else then_read (parts_read line) (λ parts. by_word parts.0 parts.1)
@@ -251,7 +251,7 @@ abbrev pub name_member : Option Data → Result (List ℕ) ReadRefusal
 name_member (Some (json.text name)) = name_read name
 name_member other = Err (BadMember (codes "Name"))
 
--- a list of one text, or a text
+-- the text of the map: `Maps` is a list of one text, or `Map` is a text
 abbrev pub map_member : (maps map : Option Data) → Result (List ℕ) ReadRefusal
 map_member (Some (json.array (json.item (json.text map) json.no_items))) other = Ok map
 map_member (Some maps) other = Err (BadMember (codes "Maps"))
@@ -259,7 +259,7 @@ map_member None (Some (json.text map)) = Ok map
 map_member None (Some other) = Err (BadMember (codes "Map"))
 map_member None None = Err (BadMember (codes "Maps"))
 
--- a definition with a reduce is not built yet
+-- a definition with a reduce is not supported yet
 abbrev pub reduce_member : {A : Type 0} → Option Data → A → Result A ReadRefusal
 reduce_member None a = Ok a
 reduce_member (Some json.null) a = Ok a
@@ -281,10 +281,10 @@ texts_of_body other = Err (BadMember (codes "body"))
 abbrev pub index_of : List ℕ → Result (List ℕ × List ℕ) ReadRefusal
 index_of rest = then_read (json_read (reading rest)) texts_of_body
 
--- what a line asks, as far as no text of a definition has to be read
+-- what a line asks before the text of a map is read
 pub data Asked : Type 0 where
   Plain : LineRead → Asked
-  -- an index of this name by the text of a map
+  -- to define an index of this name by the text of a map
   Defining : (name map : List ℕ) → Asked
 
 abbrev pub asked_to_define : Result (List ℕ × List ℕ) ReadRefusal → Asked
@@ -298,7 +298,7 @@ asked_by line (Some parts) = if bytes_eq parts.0 (codes "INDEX") && is_utf8 line
 abbrev pub asked_of : List ℕ → Asked
 asked_of line = asked_by line (word_and_rest line)
 
--- what comes of the definition that the text says, or of its refusal
+-- what the line is read as, once the text of its map is read or refused
 abbrev pub defined_by : (name : List ℕ) → Result Definition LangRefusal → LineRead
 defined_by name (Ok d) = Ok (Some (Do (Define name d)))
 defined_by name (Err refusal) = Err (BadDefinition refusal)
@@ -323,12 +323,12 @@ refusal_reply (BadName fault) = fault_reply fault
 refusal_reply (BadMember name) = told.BadMember name
 refusal_reply (BadDefinition refusal) = told.Lang refusal
 
--- what the outside gives to one line: the moment at which it comes, and what the keeper does
+-- what comes with a line from outside: the moment, and what the keeper does
 pub record Circumstance : Type 0 where
   pub now : ℕ
   pub keeping : Keeping
 
--- a request is answered by the machine
+-- what is written for a line: the printed reply, or nothing for a line without bytes
 abbrev pub written_for : Machine → Circumstance → LineRead → List ℕ
 written_for M c (Err refusal) = printed (refusal_reply refusal)
 written_for M c (Ok None) = []
@@ -339,7 +339,7 @@ left_by M c (Err refusal) = M
 left_by M c (Ok None) = M
 left_by M c (Ok (Some (Do request))) = (step M c.keeping c.now request).machine
 
--- a line, what it comes to, and what the outside gives to it
+-- a line, what it is read as, and its circumstance
 pub record Given : Type 0 where
   pub line : List ℕ
   pub read : LineRead
@@ -361,7 +361,7 @@ abbrev pub after_lines : List Given → Machine → Machine
 after_lines [] M = M
 after_lines (g ∷ more) M = after_lines more (after_line g M)
 
--- the events that lines make of the machine
+-- the event that a line makes, if it asks for something
 abbrev pub event_of : Circumstance → LineRead → Option Event
 event_of c (Err refusal) = None
 event_of c (Ok None) = None

@@ -1,4 +1,4 @@
--- What holds of each world, and between a world and a later one.
+-- What holds of every world, and between a world and a later one.
 use Rattle.std.specs.Prelude.{◌≡◌, ℕ, ◌≤◌, ◌<◌, List, [], ◌∷◌, ◌++◌, length, Some, ◌⊎◌, IsTrue, codes}
 use Rattle.raven_data.specs.Folding.{folded}
 use Rattle.raven_data.specs.Rows.{Row, doc, is_document}
@@ -13,21 +13,21 @@ abbrev pub Has : {X : Type 0} → List X → X → Type 0
 Has [] x = ⊥
 Has (y ∷ ys) x = (y ≡ x) ⊎ Has ys x
 
--- what the version has recorded is what the store has up to the version's etag
+-- the version agrees with the store up to its etag, which is not past the store's last
 pub record Fits (S : Store) (v : Version) : Type 0 where
   pub agrees : Agrees (reads v) v.table S v.etag
   pub within : v.etag ≤ last S
 
--- numbers rise from above `low`
+-- the first number is above `low`, and each other is above the one before
 abbrev pub NumbersRise : ℕ → List Slot → Type 0
 NumbersRise low [] = Unit {0}
 NumbersRise low (s ∷ slots) = (low < s.number) × NumbersRise s.number slots
 
--- no two slots have one name
+-- no two slots have the same folded name
 abbrev pub NamesApart : List Slot → Type 0
 NamesApart slots = (s t : Slot) → Has slots s → Has slots t → folded s.name ≡ folded t.name → s ≡ t
 
--- the live row of the slot's definition
+-- the store has the row of the slot's definition, under the etag that the slot states
 pub record IsListed (S : Store) (s : Slot) : Type 0 where
   pub row : Row
   pub found : row_at (folded (index_id s.name)) S.rows ≡ Some row
@@ -35,18 +35,19 @@ pub record IsListed (S : Store) (s : Slot) : Type 0 where
   pub collection : row.collection ≡ codes "@indexes"
   pub body : row.body ≡ doc (stored (row_body s.version.definition))
 
--- each slot has its row, and each live row of `@indexes` is a slot's
+-- each slot has its row, and each live row of `@indexes` is that of a slot
 pub record AreListed (S : Store) (slots : List Slot) : Type 0 where
   pub each : (s : Slot) → Has slots s → IsListed S s
   pub only : (q : List ℕ) (r : Row) → row_at q S.rows ≡ Some r → IsTrue (is_document r) → r.collection ≡ codes "@indexes" → (s : Slot) × Has slots s × (q ≡ folded (index_id s.name))
 
--- no more rows, slots and notes than the setting allows, and no etag past the greatest that there is
+-- no more rows, slots and notes than the setting allows, and no etag past the greatest
 pub record IsWithinLimits (W : World) : Type 0 where
   pub rows : length W.store.rows ≤ W.setting.max_rows
   pub slots : length W.slots ≤ W.setting.max_slots
   pub notes : length W.notes ≤ W.setting.max_notes
   pub etags : last W.store ≤ 9007199254740991
 
+-- the invariants of a world
 pub record Sound (W : World) : Type 0 where
   pub store : IsStore W.store
   pub fits : (s : Slot) → Has W.slots s → Fits W.store s.version
@@ -57,22 +58,24 @@ pub record Sound (W : World) : Type 0 where
   pub notes : (n : Note) → Has W.notes n → (n.newest ≤ n.index_etag) × (n.etag ≤ last W.store)
   pub limits : IsWithinLimits W
 
--- the slot is one of the earlier ones, no further back, or is new
+-- s is the earlier slot w: the same number and definition, and an etag that is no less
 pub record Continues (w s : Slot) : Type 0 where
   pub number : w.number ≡ s.number
   pub definition : w.version.definition ≡ s.version.definition
   pub onward : w.version.etag ≤ s.version.etag
 
+-- the slot continues one of W, or is new
 abbrev pub IsOldOrNew : World → Slot → Type 0
 IsOldOrNew W s = ((w : Slot) × Has W.slots w × Continues w s) ⊎ (last W.store < s.number)
 
--- its number served this name, or is new, or took the name by a switch that a note tells
+-- the slot had its name in W, or its number is new, or a note records the switch that gave it the name
 abbrev pub HasItsName : World → List Note → Slot → Type 0
 HasItsName W notes s =
     ((w : Slot) × Has W.slots w × (w.number ≡ s.number) × (folded w.name ≡ folded s.name))
     ⊎ (last W.store < s.number)
     ⊎ ((n : Note) × Has notes n × (folded n.name ≡ folded s.name) × (n.new ≡ s.number))
 
+-- N is later than W: so is its store, notes are only added, and each slot continues one of W or is new
 pub record LaterW (W N : World) : Type 0 where
   pub store : Later W.store N.store
   pub setting : N.setting ≡ W.setting

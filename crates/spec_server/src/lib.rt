@@ -1,2 +1,3 @@
-//! What the server does, as definitions alone: the machine that answers one line after another, its lines and replies, and what kept rows open.
+//! Definitions of the server: the machine that answers one request after another, the lines of a script, the replies, the arguments,
+//! what stored rows open, and what holds of every world.
 #![tactic(auto)]

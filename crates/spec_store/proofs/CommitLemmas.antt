@@ -23,7 +23,7 @@ third_none (Some r) b c more h = absurd cc
 not_changed : (s : Setting) (w : Writer) (S : Store) (c : Command) → refusal_of s w S c ≡ None → collection_changed S c ≡ None
 not_changed s w S c h = third_none (reserved w c) (too_large c) (collection_changed S c) (conflict s S c ∷ store_full s S c ∷ etags_spent S c ∷ []) h
 
--- what is written keeps the collection of its id
+-- a Put that is not refused has the collection of the row that it replaces
 same_collection : (c : List ℕ) (x : Row) → other_collection c (Some x) ≡ None → c ≡ x.collection
 same_collection c x h =
     elim (bytes_eq c x.collection) as (λ b. bytes_eq c x.collection ≡ b → cond (not b) (Some (Refusal.CollectionChanged x.collection)) None ≡ None → c ≡ x.collection) [

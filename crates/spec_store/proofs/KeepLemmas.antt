@@ -1,4 +1,4 @@
--- What a keeper holds of the rows of a store.
+-- What a keeper stores for the rows of a store.
 use Rattle.std.proofs.Common.{◌≡◌, ℕ, ◌+◌, List, [], ◌∷◌, ◌++◌, true, false, not, cond, filter, Option, Some, None, refl, sym, ap, ◌∙◌, subst, arith}
 use Rattle.raven_data.specs.Folding.{same_key}
 use Rattle.raven_data.specs.Rows.{Row, key}
@@ -6,7 +6,7 @@ use Rattle.raven_data.specs.Kept.{EtagsRise, kept, kept_key, all_kept, keep, kee
 use Rattle.spec_store.specs.Store.{AreRising, IsStore, Store, last, last_of, put, with_row, with_rows}
 use Rattle.spec_store.specs.Commit.{AreNext}
 
--- what is held of rows without those of an id
+-- leaving out an id's rows before they are stored is leaving them out of the stored rows
 kept-without : (r : Row) (rows : List Row) → filter (λ k. not (same_key (key r) (kept_key k))) (all_kept rows) ≡ all_kept (filter (λ x. not (same_key (key r) (key x))) rows)
 kept-without r [] = refl
 kept-without r (x ∷ rows) = elim (same_key (key r) (key x)) as (λ b.

@@ -1,4 +1,4 @@
--- A list of rows in order of their keys is a table, and goes on being one.
+-- A list of rows in order of their keys is a table, and stays in order when rows are noted.
 use Rattle.std.proofs.Common.{◌≡◌, ℕ, List, [], ◌∷◌, true, false, cond, Option, Some, None, length, map, refl, sym, ap, ◌∙◌, subst, arith}
 use Rattle.std.specs.declared.cmp.Ordering.TheVariants.{Less, Equal, Greater}
 use Rattle.std.specs.Ordering.{match_ordering, is_eq, ordering_reverse}
@@ -31,7 +31,7 @@ same_table = same_map nat_list_cmp_total (slice_cmp-IsAntisymmetric nat_cmp-IsAn
 total : IsTotalOrder key_cmp
 total = nat_list_cmp_total
 
--- keys that tie are one
+-- keys that compare as equal are the same
 pub key_ties : (a b : List ℕ) → key_cmp a b ≡ Equal → a ≡ b
 key_ties = slice_cmp-IsAntisymmetric nat_cmp-IsAntisymmetric
 
@@ -50,7 +50,7 @@ pub IsBelowFirst-less : (k l : List ℕ) (rows : List Row) → key_cmp k l ≡ L
 IsBelowFirst-less k l [] e h = tt
 IsBelowFirst-less k l (r ∷ rows) e h = total.trans k l (key r) e h
 
--- what is below the first is below all, and has no row
+-- a key below the first is below all, so it has no row
 pub row_at-below : (k : List ℕ) (rows : List Row) → IsBelowFirst k rows → AreKeyed rows → row_at k rows ≡ None
 row_at-below k [] h up = refl
 row_at-below k (r ∷ rows) h up =

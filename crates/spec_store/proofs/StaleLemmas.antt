@@ -1,4 +1,4 @@
--- Staleness: by the newest row, and by any row that was not seen.
+-- Staleness is decided by the newest row, and by whether some row was not seen.
 use Rattle.std.proofs.Common.{◌≡◌, ℕ, ◌≤◌, List, [], ◌∷◌, Bool, true, false, cond, ◌&&◌, ◌||◌, nat_lt, Option, Some, filter, refl, sym, ap, ◌∙◌, subst, arith, ◌↔◌}
 use Rattle.std.specs.List.{list_any}
 use Rattle.std.proofs.lemmas.Bool.{ltb-false, ltb-true, lt-ltb, le-ltb}
@@ -44,7 +44,7 @@ stale-newest S scope e cutoff s = along scope e 0 cutoff S.rows s.rising (omega 
 
 -- BY ROWS THAT WERE NOT SEEN
 
--- where a row of a list passes, an id has one that does
+-- if some row of the list passes, it is the row of some id
 any_true : (p : Row → Bool) (rows : List Row) → AreApart rows → list_any p rows ≡ true → (q : List ℕ) × (r : Row) × (row_at q rows ≡ Some r) × (p r ≡ true)
 any_true p [] apart h = absurd cc
 any_true p (x ∷ rows) apart h =

@@ -24,14 +24,14 @@ either_false false b h = (refl, h)
 
 -- KEYS AND ROWS
 
--- a key is found to be itself, and only itself
+-- a key is the same as itself, and as no other
 pub same_itself : (q : List ℕ) → same_key q q ≡ true
 same_itself q = (bytes_eq-Decides q q).1 refl
 
 pub same_means : (q k : List ℕ) → same_key q k ≡ true → q ≡ k
 same_means q k h = (bytes_eq-Decides q k).0 h
 
--- the row that is found has the id
+-- the row that is found has the key
 pub found_key : (q : List ℕ) (rows : List Row) (r : Row) → row_at q rows ≡ Some r → q ≡ key r
 found_key q [] r h = cc
 found_key q (x ∷ rows) r h =
@@ -51,7 +51,7 @@ shadowed true b x y z same = refl
 shadowed false true x y z same = absurd (let e = same refl in cc)
 shadowed false false x y z same = refl
 
--- a key ties with one at most of two that differ
+-- of two keys that differ, a key is the same as at most one
 pub not_both : (q a b : List ℕ) → same_key a b ≡ false → same_key q a ≡ true → same_key q b ≡ true → ⊥
 not_both q a b apart h g =
     let same : a ≡ b = sym (same_means q a h) ∙ same_means q b g in
@@ -97,7 +97,7 @@ pub last_of-rising : (low : ℕ) (rows : List Row) → AreRising low rows → lo
 last_of-rising low [] up = omega arith
 last_of-rising low (x ∷ rows) up = let a = up.0 in let b = last_of-rising x.etag rows up.1 in omega arith
 
--- the etag of a row that is found
+-- the etag of a row that is found is above `low` and at most the last
 pub found_etag : (low : ℕ) (q : List ℕ) (rows : List Row) (r : Row) → AreRising low rows → row_at q rows ≡ Some r → (low < r.etag) × (r.etag ≤ last_of low rows)
 found_etag low q [] r up h = absurd cc
 found_etag low q (x ∷ rows) r up h =
@@ -112,7 +112,7 @@ row_at-append q xs ys = find-append (λ r. same_key q (key r)) xs ys
 abbrev pub only_if : (Row → Bool) → Row → Option Row
 only_if p r = cond (p r) (Some r) None
 
--- a filter keeps the row of an id if it passes
+-- a filter keeps the row of an id if that row passes
 pub row_at-filter : (p : Row → Bool) (q : List ℕ) (rows : List Row) → AreApart rows → row_at q (filter p rows) ≡ option_and_then (only_if p) (row_at q rows)
 row_at-filter p q [] h = refl
 row_at-filter p q (x ∷ rows) h =

@@ -8,7 +8,7 @@ use Rattle.raven_data.specs.Folding.{key_cmp, same_key}
 use Rattle.raven_data.specs.Rows.{Row, key, is_document}
 use Rattle.raven_data.specs.Tables.{Table, note_row}
 
--- the keys that tie in a table are those that are the same
+-- two keys compare as equal in a table exactly if they are the same
 pub tied : (q k : List ℕ) → eq_by_cmp key_cmp q k ≡ same_key q k
 tied = is_eq-slice_cmp
 

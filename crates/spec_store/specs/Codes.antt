@@ -1,4 +1,4 @@
--- Codes of stores and settings, by which they can be the value of a Rust type.
+-- Codes of stores and settings: a Rust type needs them if contracts see it as one.
 use Rattle.std.specs.Prelude.{ℕ, List, refl}
 use Rattle.std.specs.Coded.{Coded, coded_ℕ, coded_list, coded×, code_by}
 use Rattle.raven_data.specs.Codes.{text_code, row_code}

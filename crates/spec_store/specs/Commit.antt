@@ -1,4 +1,4 @@
--- Writing to a store: a list of commands, all or none.
+-- A transaction: commands of which all are taken or none, what they write, and why they are refused.
 use Rattle.std.specs.Prelude.{◌≡◌, ℕ, ◌+◌, List, [], ◌∷◌, ◌++◌, Bool, true, not, ◌&&◌, ◌||◌, ◌==◌, nat_lt, nat_le, nat_eq, if◌then◌else◌, Option, Some, None, is_some, is_none, Result, Ok, Err, length, codes, filter}
 use Rattle.std.specs.Option.{option_and_then, option_map}
 use Rattle.std.specs.List.{list_any, starts_with}
@@ -24,7 +24,7 @@ pub data Command : Type 0 where
 pub data Writer : Type 0 where
   Client Server : Writer
 
--- what no command changes: the base id, and the limits
+-- what no command changes: the base id and the limits
 pub record Setting : Type 0 where
   pub base : List ℕ
   pub max_rows : ℕ
@@ -50,7 +50,7 @@ expected_of (Delete id expected) = expected
 abbrev pub vector_of : List ℕ → ℕ → List ℕ
 vector_of base etag = codes "A:" ++ (decimal etag ++ (codes "-" ++ base))
 
--- the text at @metadata.@collection, or @empty
+-- the collection that the value at @metadata.@collection names: that text if it has a byte, else `@empty`
 abbrev pub named_collection : Option Data → List ℕ
 named_collection (Some (text [])) = codes "@empty"
 named_collection (Some (text (b ∷ bs))) = b ∷ bs
@@ -59,19 +59,19 @@ named_collection other = codes "@empty"
 abbrev pub collection_of : Data → List ℕ
 collection_of body = named_collection (value_at (codes "@metadata" ∷ codes "@collection" ∷ []) body)
 
--- the members that the server writes itself
+-- the members of the metadata that the server writes itself
 abbrev pub own_members : List (List ℕ)
 own_members = codes "@id" ∷ codes "@change-vector" ∷ codes "@last-modified" ∷ codes "@index-score" ∷ codes "@collection" ∷ []
 
 abbrev pub is_own : List ℕ → Bool
 is_own name = list_any (bytes_eq name) own_members
 
--- an object's members without these, and no members where there is no object
+-- the object without these members; an object without members for any other value
 abbrev pub clean_metadata : Option Data → Data
 clean_metadata (Some (object ms)) = object (entries_of (filter (λ m. not (is_own m.0)) (pairs_of ms)))
 clean_metadata other = object no_entries
 
--- what is kept of the body that was given
+-- the document that is stored for a body, with clean metadata
 abbrev pub stored : Data → Data
 stored (object ms) = object (entries_of (put (codes "@metadata") (clean_metadata (member (codes "@metadata") ms)) (pairs_of ms)))
 stored other = other
@@ -107,7 +107,7 @@ abbrev pub collection_changed : Store → Command → Option Refusal
 collection_changed S (Put id expected body) = other_collection (collection_of body) (row_at (folded id) S.rows)
 collection_changed S (Delete id expected) = None
 
--- the vector of the live document, or the empty text
+-- the change vector of the document, or the empty text if there is none
 abbrev pub live_vector : List ℕ → Option Row → List ℕ
 live_vector base None = []
 live_vector base (Some r) = vector_of base r.etag
@@ -174,7 +174,7 @@ abbrev pub with_written : Option Row → Written → Written
 with_written None done = done
 with_written (Some r) done = record { store = with_row done.store r; rows = done.rows ++ r ∷ [] }
 
--- a refusal of the command at this place refuses all
+-- if the command at this place is refused, the whole transaction is
 abbrev pub unless : Option Refusal → ℕ → Result Written Refused → Result Written Refused
 unless None at rest = rest
 unless (Some kind) at rest = Err (record { at = at; kind = kind })
@@ -184,7 +184,7 @@ commit_from at s w now [] done = Ok done
 commit_from at s w now (c ∷ cs) done =
     unless (refusal_of s w done.store c) at (commit_from (at + 1) s w now cs (with_written (row_of now done.store c) done))
 
--- the commands in order on the state so far; the first refusal refuses all
+-- the commands in order, each on the store that those before it leave; the first refusal refuses the transaction
 abbrev pub commit : Setting → Writer → ℕ → List Command → Store → Result Written Refused
 commit s w now commands S = commit_from 0 s w now commands (record { store = S; rows = [] })
 
@@ -196,22 +196,22 @@ with_option S (Some r) = with_row S r
 abbrev pub after_command : ℕ → Store → Command → Store
 after_command now S c = with_option S (row_of now S c)
 
--- and after commands that are taken, one after another
+-- the store after commands that are taken, one after another
 abbrev pub after_commands : ℕ → List Command → Store → Store
 after_commands now [] S = S
 after_commands now (c ∷ cs) S = after_commands now cs (after_command now S c)
 
--- for each command in order the etag that it takes, if any
+-- for each command in order, the etag that it takes, if any
 abbrev pub etags_taken : ℕ → List Command → Store → List (Option ℕ)
 etags_taken now [] S = []
 etags_taken now (c ∷ cs) S = option_map (λ r. r.etag) (row_of now S c) ∷ etags_taken now cs (after_command now S c)
 
--- rows whose etags follow on one another without a gap
+-- the rows have the etags e + 1, e + 2 and so on
 abbrev pub AreNext : ℕ → List Row → Type 0
 AreNext e [] = Unit {0}
 AreNext e (r ∷ rows) = (r.etag ≡ e + 1) × AreNext r.etag rows
 
--- what a transaction leaves: a later store, which is the old one with the rows that were written
+-- what a transaction leaves: a valid store, later than the old one, which is the old one with the written rows under the next etags
 pub record Commits (S : Store) (w : Written) : Type 0 where
   pub sound : IsStore w.store
   pub later : Later S w.store

@@ -1,4 +1,4 @@
--- Which kept rows are those of a store.
+-- Which stored rows are valid, and the rows that they are read as.
 use Rattle.std.specs.Prelude.{ℕ, List, [], ◌∷◌, ◌++◌, Bool, false, not, ◌&&◌, nat_lt, nat_le, if◌then◌else◌, Option, Some, None, is_none, Result, Ok, Err, length, codes}
 use Rattle.std.specs.Option.{option_map}
 use Rattle.std.specs.List.{list_any}
@@ -16,7 +16,7 @@ use Rattle.spec_store.specs.Commit.{is_own}
 
 -- ONE ROW
 
--- the longest text of a document, in bytes
+-- the greatest length of a document's text, in bytes
 abbrev pub max_body : ℕ
 max_body = 1048576
 
@@ -24,17 +24,17 @@ max_body = 1048576
 abbrev pub max_etag : ℕ
 max_etag = 9007199254740991
 
--- metadata without the members that the server writes itself
+-- the metadata is an object without the members that the server writes itself
 abbrev pub is_clean : Option Data → Bool
 is_clean (Some (object ms)) = not (list_any (λ m. is_own m.0) (pairs_of ms))
 is_clean other = false
 
--- a document as a store has it
+-- the value can be the document of a row: an object with clean metadata
 abbrev pub is_stored : Data → Bool
 is_stored (object ms) = is_clean (member (codes "@metadata") ms)
 is_stored other = false
 
--- the value, if it is a document and this is the text that is written for it
+-- the value that was read of a text, if it can be a document and the text is exactly what is written for it
 abbrev pub document_of : List ℕ → Result Data JsonRefusal → Option Data
 document_of text (Err refusal) = None
 document_of text (Ok d) = if is_stored d && bytes_eq (text_of d) text then Some d else None
@@ -49,7 +49,7 @@ body_in (Some text) = option_map doc (document_in text)
 abbrev pub is_etag : ℕ → Bool
 is_etag etag = nat_lt 0 etag && nat_le etag max_etag
 
--- the row, if all that it says itself is in the form
+-- the row that a stored row is read as, if its etag, id, collection, moment and body are valid
 abbrev pub row_in : KeptRow → Option Row
 row_in k =
     if is_etag k.etag && is_fit max_id k.id && nat_lt 0 (length k.collection) && nat_lt k.changed moments_end
@@ -58,7 +58,7 @@ row_in k =
 
 -- ALL ROWS
 
--- the row may stand behind these: its etag is past theirs, its id is new, and there are fewer of them than there may be
+-- the row may follow these: its etag is past theirs, its id is new, and they are fewer than `max`
 abbrev pub may_stand_behind : ℕ → List Row → Row → Bool
 may_stand_behind max earlier r = nat_lt (last_of 0 earlier) r.etag && is_none (row_at (key r) earlier) && nat_lt (length earlier) max
 
@@ -74,6 +74,6 @@ abbrev pub rows_behind : ℕ → List Row → List KeptRow → Result (List Row)
 rows_behind max earlier [] = Ok earlier
 rows_behind max earlier (k ∷ ks) = or_bad_row k.etag (row_behind max earlier (row_in k)) (λ r. rows_behind max (earlier ++ r ∷ []) ks)
 
--- all rows, or the etag of the first that breaks the form
+-- the rows that the stored rows are read as, or the etag of the first that is not valid
 abbrev pub rows_in : ℕ → List KeptRow → Result (List Row) ℕ
 rows_in max held = rows_behind max [] held

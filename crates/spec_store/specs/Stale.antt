@@ -1,4 +1,4 @@
--- The rows of a scope past an etag, which an index that has come so far has not seen.
+-- The rows in a scope past an etag: those that an index at that etag has not seen.
 use Rattle.std.specs.Prelude.{ℕ, List, Bool, true, ◌&&◌, nat_lt, nat_le, Option, Some, None, filter, take, drop, ◌≡◌, ◌<◌, IsTrue}
 use Rattle.std.specs.List.{list_any}
 use Rattle.raven_data.specs.Rows.{Row}
@@ -15,11 +15,12 @@ taken scope e S max = take max (past scope e S)
 abbrev pub left_over : Scope → ℕ → Store → ℕ → List Row
 left_over scope e S max = drop max (past scope e S)
 
--- whether a row in scope is past the etag, up to a cutoff
+-- the etag is not past the cutoff, if there is one
 abbrev pub up_to : Option ℕ → ℕ → Bool
 up_to None etag = true
 up_to (Some c) etag = nat_le etag c
 
+-- some row in scope is past the etag, and not past the cutoff
 abbrev pub stale : Store → Scope → ℕ → Option ℕ → Bool
 stale S scope e cutoff = list_any (λ r. in_scope scope r && nat_lt e r.etag && up_to cutoff r.etag) S.rows
 
@@ -27,7 +28,7 @@ stale S scope e cutoff = list_any (λ r. in_scope scope r && nat_lt e r.etag && 
 abbrev pub newest : Store → Scope → Option ℕ → ℕ
 newest S scope cutoff = last_of 0 (filter (λ r. in_scope scope r && up_to cutoff r.etag) S.rows)
 
--- a row in scope past the etag, and no newer than the cutoff
+-- a row in scope that is past the etag, and not past the cutoff
 pub record Unseen (S : Store) (scope : Scope) (e : ℕ) (cutoff : Option ℕ) : Type 0 where
   pub id : List ℕ
   pub row : Row

@@ -1,2 +1,2 @@
-//! What a store of rows is, as definitions alone: its rows, what a transaction writes, what later stores keep, which kept rows are those of a store.
+//! Definitions of stores: their rows, what a transaction writes, what later stores keep, and which stored rows are valid.
 #![tactic(auto)]

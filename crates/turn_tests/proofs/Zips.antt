@@ -9,7 +9,7 @@ module _ {A B : Type 0} (R : A → B → Type 0) where
   zip_of (x ∷ xs) [] e h = absurd (omega arith)
   zip_of (x ∷ xs) (y ∷ ys) e h = (h 0 x y (omega arith), zip_of xs ys (omega arith) (λ k a b l. h (suc k) a b (omega arith)))
 
-  -- what holds of each of the first, and goes over to the second
+  -- what holds of each element of the first list, and carries over to the second
   pub all_over : (P : A → Type 0) (Q : B → Type 0) → ((x : A) (y : B) → P x → R x y → Q y) → (xs : List A) (ys : List B) → AllZip R xs ys → All P xs → All Q ys
   all_over P Q h [] [] z p k d l = absurd (omega arith)
   all_over P Q h [] (y ∷ ys) z p k d l = absurd z

@@ -11,8 +11,8 @@ use std::alloc::Global;
 use std::sync::Wait;
 use std::thread::Threads;
 
-/// Works in as many threads as `crew` over one turn, and closes it. With an answer, the value is later than the one
-/// given, and its number has grown by what the threads report together.
+/// Works in as many threads as `crew` over one turn, and closes it. If it returns a value, that is later than the one
+/// given, and its number has grown by the sum of what the threads report.
 pub fn together<V: Rising + Send + Drop, R: Threads + Wait + Sync>(
     rt: &R,
     alloc: Global,

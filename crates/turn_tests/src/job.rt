@@ -11,14 +11,14 @@ use std::thread::Threads;
 pub trait Job {
     type Out;
 
-    // Of the job and what it gives.
+    // What the job has returned.
     ghost done: { Self → Self.Out → Type 0 };
 
     fn run<R: Wait>(self, rt: &R) -> Self::Out
         ensures { done self result };
 }
 
-/// Runs each job in a thread of its own, and gives what they give, in the order of the jobs.
+/// Runs each job in a thread of its own, and returns what they return, in the order of the jobs.
 pub fn run_all<J: Job + Send + Drop, R: Threads + Wait + Sync>(
     rt: &R,
     jobs: Vec<J>,
@@ -33,7 +33,7 @@ where
     }
 }
 
-// The same, said place by place.
+// The same, stated place by place.
 fn by_place<J: Job + Send + Drop, R: Threads + Wait + Sync>(
     rt: &R,
     jobs: Vec<J>,

@@ -7,12 +7,12 @@ use std::sync::Wait;
 
 /// A value that can grow by one.
 pub trait Rising: Grows {
-    /// Grows by one and remembers the tag, or answers false and stays as it is.
+    /// Grows by one and remembers the tag, or returns false and does not grow.
     fn raise(&mut self, alloc: Global, tag: u64) -> bool
         ensures later { Self.later self.old self.new }
         ensures made { Self.made self.new ≡ Self.made self.old + (if result then 1 else 0) };
 
-    /// What a shot shows of the number.
+    /// The number that a snapshot shows.
     fn number(shot: Self::Shot) -> u64;
 }
 

@@ -7,7 +7,7 @@ use raven_turn::{Pass, Turn};
 use std::alloc::Global;
 use std::sync::Wait;
 
-/// The work of one thread: as many rounds by each of two passes, of which each round is a look and a raise.
+/// The work of one thread: the same number of rounds by each of two passes. A round is a look and a raise.
 #[derive(Drop)]
 pub struct Shift<'a, V: Rising> {
     pub turn: &'a Turn<V>,
@@ -40,7 +40,7 @@ impl<'a, V: Rising> Job for Shift<'a, V> {
 
     type Out = Report<V>;
 
-    // What the pass has made more is what the report says.
+    // The pass has made as much more as the report says.
     ghost done = { λ shift report. (report.pass.turn ≡ shift.pass.turn) × (report.pass.shares ≡ shift.pass.shares)
         × (report.pass.made ≡ shift.pass.made + report.work.raised) };
 

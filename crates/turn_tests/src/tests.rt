@@ -1,3 +1,4 @@
+//! A counter and a list under one turn, with 8 and with 64 threads.
 use crate::{Entries, Tally, Work, together};
 use std::test::Fail;
 
