@@ -1,13 +1,18 @@
 -- The index that is picked is the best one, and a new name has the least number that is free.
-use Rattle.std.proofs.Common.{◌≡◌, ℕ, zero, suc, ◌+◌, ◌<◌, ◌≤◌, List, [], ◌∷◌, Bool, true, false, not, ◌&&◌, ◌||◌, cond, nat_lt, is_some, length, Option, Some, None, filter, refl, sym, ap, ◌∙◌, subst, arith, ◌⊎◌, inl, inr}
-use Rattle.std.proofs.lemmas.Bool.{ltb-false, ltb-true}
+use Rattle.std.proofs.Common.{◌≡◌, ℕ, zero, suc, ◌+◌, ◌<◌, ◌≤◌, ◌^◌, List, [], ◌∷◌, Bool, true, false, not, ◌&&◌, ◌||◌, cond, nat_lt, nat_le, is_some, length, Option, Some, None, Ok, Err, filter, refl, sym, ap, ◌∙◌, subst, arith, ◌⊎◌, inl, inr}
+use Rattle.std.proofs.lemmas.Bool.{leb-true, ltb-false, ltb-true}
 use Rattle.std.specs.List.{list_any, list_all}
 use Rattle.std.specs.Str.{bytes_eq}
-use Rattle.spec_store.specs.Store.{Store}
-use Rattle.spec_index.specs.Optimiser.{Choice, Make, Merge, Shape, Use, beats, best, better, chosen, covers, first_free, free_name, has_collection, has_path, is_fresh, is_of, pick, slot_shape, width}
-use Rattle.spec_index.specs.World.{Slot, serving}
-use Rattle.spec_server.specs.Sound.{Has, NumbersRise}
-use Rattle.raven_laws.specs.Choices.{Before, IsBefore, IsBest, IsChosen, IsFirstFree, IsNumberedName, IsUsed, numbered_name}
+use Rattle.index_tree.specs.Definitions.{Definition}
+use Rattle.spec_store.specs.Store.{Store, last}
+use Rattle.spec_index.specs.Optimiser.{Choice, Make, Merge, Shape, Use, beats, best, better, chosen, covers, first_free, free_name, has_collection, has_path, is_fresh, is_of, name_of, pick, slot_shape, width}
+use Rattle.spec_index.specs.World.{Slot, SlotRefusal, added, serving}
+use Rattle.spec_server.specs.Machine.{Keeping, Machine, one_field, reslotted, settled, use_or_make}
+use Rattle.spec_server.specs.Replies.{Reply}
+use Rattle.spec_server.specs.Sound.{Has, NumbersRise, Sound}
+use Rattle.raven_laws.specs.Choices.{AutoIsAnswered, Before, FollowsChoice, IsMakeAnswer, IsBefore, IsChosen, IsFirstFree, IsNumberedName, IsUsed, numbered_name}
+use Rattle.raven_laws.proofs.DefinitionLemmas.{new-answered}
+use Rattle.raven_laws.proofs.NameLemmas.{name_of-free}
 use Rattle.raven_laws.proofs.SlotLemmas.{Has-filter, NumbersRise-filter, into-filter, passes}
 
 -- THE ORDER
@@ -168,6 +173,32 @@ one-chosen S slots shape (Make m) Merge a b = absurd (let e = a.1 b.1.0 b.1.1 in
 one-chosen S slots shape Merge (Use t) a b = absurd (let e = a.0 t b.has in let f = b.covers_it in cc)
 one-chosen S slots shape Merge (Make n) a b = absurd (let e = b.1 a.1.0 a.1.1 in let f = a.1.2 in cc)
 one-chosen S slots shape Merge Merge a b = refl
+
+-- WHAT AUTO DOES
+
+choice-followed : (M : Machine) (k : Keeping) (now : ℕ) (c : Choice) → Sound M.world → M.world.setting.max_slots < 2 ^ 32
+    → FollowsChoice M k now (settled M k (use_or_make M now c)) c
+choice-followed M k now (Use s) o few = refl
+choice-followed M k now Merge o few = refl
+choice-followed M k now (Make shape) o few =
+    let W = M.world in
+    let name = name_of W.slots (last W.store + 1) shape in
+    let d = Definition.Auto shape.collection shape.fields in
+    let free : serving W.slots name ≡ None = name_of-free W.slots (last W.store + 1) shape (let a = o.limits.slots in omega arith) in
+    elim (nat_le W.setting.max_slots (length W.slots)) as (λ b. nat_le W.setting.max_slots (length W.slots) ≡ b
+    → IsMakeAnswer M k now name d (settled M k (reslotted M now Reply.Index name
+    (cond b (Err SlotRefusal.TooManyIndexes) (cond (is_some (serving W.slots name)) (Err SlotRefusal.NameServes) (Ok (added W name d))))))) [
+      | true ↦ λ e. inl (record { full = leb-true W.setting.max_slots (length W.slots) e; told = refl })
+      | false ↦ λ e. subst (λ found. IsMakeAnswer M k now name d (settled M k (reslotted M now Reply.Index name (cond (is_some found) (Err SlotRefusal.NameServes) (Ok (added W name d))))))
+          (sym free) (inr (new-answered M k now name d free e))
+    ] refl
+
+pub auto-answered : (M : Machine) (k : Keeping) (now : ℕ) (collection field : List ℕ) → Sound M.world → M.world.setting.max_slots < 2 ^ 32
+    → AutoIsAnswered M k now collection field
+auto-answered M k now collection field o few =
+    let shape = one_field collection field in
+    let choice = pick shape M.world.store M.world.slots in
+    record { choice = choice; chosen = pick-chosen M.world.store M.world.slots shape o.rising; follows = choice-followed M k now choice o few }
 
 -- NAMES
 

@@ -15,7 +15,8 @@ use Rattle.spec_index.specs.World.{Slot, SlotRefusal, added, define_at, index_id
 use Rattle.spec_server.specs.Sound.{Has, IsListed, Sound}
 use Rattle.spec_server.specs.Replies.{Reply}
 use Rattle.spec_server.specs.Machine.{Machine, Keeping, Replied, Pump, brought_on, brought_on_if, pump_at, reslotted, rewrote, same_machine, settled, step}
-use Rattle.raven_laws.specs.Definitions.{BatchIsAnswered, DefineIsAnswered, IsBroughtOn, IsDefineAnswer, IsDefined, IsNoIndex, IsRemoveAnswer, IsRemoved, MayBeGiven, OtherSlotsStay, RemoveIsAnswered, SameReduces, SaysTheSame, new_slot}
+use Rattle.raven_laws.specs.Definitions.{BatchIsAnswered, DefineIsAnswered, IsBroughtOn, IsDefineAnswer, IsNewIndex, IsNoIndex, IsRemoveAnswer, IsRemoved, IsRowRefused, MayBeGiven, OtherSlotsStay, RemoveIsAnswered, SameReduces, SaysTheSame, new_slot}
+use Rattle.raven_laws.specs.Writes.{IsUnkept}
 use Rattle.spec_store.proofs.StoreLemmas.{both_true, found_key, same_itself}
 use Rattle.spec_store.proofs.CommitLemmas.{put_key}
 use Rattle.raven_laws.proofs.ListedLemmas.{in_indexes_collection, listed-document}
@@ -99,9 +100,10 @@ module _ (M : Machine) (k : Keeping) (now : ℕ) (name : List ℕ) (d : Definiti
     body = refl;
   }
 
-  define-kept : MayBeGiven name → serving M.world.slots name ≡ None → nat_le M.world.setting.max_slots (length M.world.slots) ≡ false
-      → IsDefineAnswer M k now name d (settled M k (reslotted M now Reply.Index name (Ok (added M.world name d))))
-  define-kept given free room =
+  pub new-answered : serving M.world.slots name ≡ None → nat_le M.world.setting.max_slots (length M.world.slots) ≡ false
+      → let replied = settled M k (reslotted M now Reply.Index name (Ok (added M.world name d))) in
+      IsRowRefused M now (Command.Put (index_id name) AnyVector (row_body d) ∷ []) replied ⊎ (IsUnkept M k replied ⊎ IsNewIndex M k name d replied)
+  new-answered free room =
       let id = index_id name in
       let c = Command.Put id AnyVector (row_body d) in
       let rows = M.world.store.rows in
@@ -111,11 +113,11 @@ module _ (M : Machine) (k : Keeping) (now : ℕ) (name : List ℕ) (d : Definiti
       let under = put_key id rows in
       let kept : Replied = record { reply = Reply.Index name; machine = record { world = record { setting = M.world.setting; store = done.store; slots = slots; notes = M.world.notes } } } in
       elim (refusal_of M.world.setting Server M.world.store c) as (λ o. refusal_of M.world.setting Server M.world.store c ≡ o
-      → IsDefineAnswer M k now name d (settled M k (rewrote M (Reply.Index name) slots (unless o 0 (Ok done))))) [
-        | None ↦ λ e. inr (inr (inr (inr (inr (inr (elim (first_or_not k.takes) [
-          | inl taken ↦ inr (subst (λ b. IsDefined M k name d (cond b kept (same_machine M (Reply.KeeperFault k.before k.after)))) (sym taken) (record {
+      → let replied = settled M k (rewrote M (Reply.Index name) slots (unless o 0 (Ok done))) in
+      IsRowRefused M now (c ∷ []) replied ⊎ (IsUnkept M k replied ⊎ IsNewIndex M k name d replied)) [
+        | None ↦ λ e. inr (elim (first_or_not k.takes) [
+          | inl taken ↦ inr (subst (λ b. IsNewIndex M k name d (cond b kept (same_machine M (Reply.KeeperFault k.before k.after)))) (sym taken) (record {
             allowed = record { unrefused = e; taken = taken };
-            given = given;
             free = free;
             room = leb-false M.world.setting.max_slots (length M.world.slots) room;
             told = refl;
@@ -125,13 +127,17 @@ module _ (M : Machine) (k : Keeping) (now : ℕ) (name : List ℕ) (d : Definiti
             rows = others_stay M id r under;
           }))
           | inr failed ↦ inl (unkept M k kept failed.0 failed.1)
-        ]))))))
-        | Some kind ↦ λ e. inr (inr (inr (inr (inr (inl (record {
-          given = given;
-          free = free;
-          row = record { refused = record { at = 0; kind = kind }; cause = ap (λ o. unless o 0 (Ok done)) e; told = refl };
-        }))))))
+        ])
+        | Some kind ↦ λ e. inl (record { refused = record { at = 0; kind = kind }; cause = ap (λ o. unless o 0 (Ok done)) e; told = refl })
       ] refl
+
+  define-kept : MayBeGiven name → serving M.world.slots name ≡ None → nat_le M.world.setting.max_slots (length M.world.slots) ≡ false
+      → IsDefineAnswer M k now name d (settled M k (reslotted M now Reply.Index name (Ok (added M.world name d))))
+  define-kept given free room = elim (new-answered free room) [
+    | inl refused ↦ inr (inr (inr (inr (inr (inl (record { given = given; free = free; row = refused }))))))
+    | inr (inl failed) ↦ inr (inr (inr (inr (inr (inr (inl failed))))))
+    | inr (inr new) ↦ inr (inr (inr (inr (inr (inr (inr (record { given = given; new = new })))))))
+  ]
 
   define-at : (there : Option Slot) → serving M.world.slots name ≡ there → MayBeGiven name → IsDefineAnswer M k now name d (settled M k (reslotted M now Reply.Index name (define_at M.world name d there)))
   define-at None free given =

@@ -1,18 +1,18 @@
 -- The index that serves a name goes on to serve it.
-use Rattle.std.proofs.Common.{◌≡◌, ℕ, ◌≤◌, List, [], ◌∷◌, ◌++◌, Bool, true, false, not, cond, is_some, nat_le, length, Option, Some, None, Result, Ok, Err, filter, find, map, refl, sym, ap, ◌∙◌, subst, arith, ◌⊎◌, inl, inr}
+use Rattle.std.proofs.Common.{◌≡◌, ℕ, ◌+◌, List, [], ◌∷◌, ◌++◌, Bool, true, false, not, cond, is_some, nat_le, length, Option, Some, None, Result, Ok, Err, filter, find, map, refl, sym, ap, ◌∙◌, subst, arith, inl, inr}
 use Rattle.std.specs.Option.{option_map}
 use Rattle.raven_data.specs.Folding.{folded, same_key}
 use Rattle.index_tree.specs.Definitions.{Definition, same_definition}
 use Rattle.spec_store.specs.Store.{Store, last}
 use Rattle.spec_store.specs.Commit.{Client, Command, Refused, Server, Written, commit}
 use Rattle.spec_index.specs.Optimiser.{Choice, Make, Merge, Use, name_of, pick}
-use Rattle.spec_index.specs.World.{Slot, SlotChange, SlotRefusal, Version, World, added, added_if_room, batch, define, define_at, define_named, is_named, name_refusal, remove, removed, serving, unless_refused}
+use Rattle.spec_index.specs.World.{Slot, SlotChange, SlotRefusal, World, added, added_if_room, batch, define, define_at, define_named, is_named, name_refusal, removed, serving, unless_refused}
 use Rattle.spec_server.specs.Replies.{Reply, Result as Done}
 use Rattle.spec_server.specs.Replies as told
-use Rattle.spec_server.specs.Machine.{Auto, Bulk, Change, Define, Delete, Find, Get, Indexes, Keeping, Machine, Pump, Put, Remove, Replied, Request, Stale, Stats, brought_on, brought_on_if, change_of, is_taken, one_field, or_as_before, pump, pump_at, reslotted, rewrote, same_machine, settled, single_reply, step, use_or_make, write, wrote}
+use Rattle.spec_server.specs.Machine.{Auto, Bulk, Change, Define, Delete, Find, Get, Indexes, Keeping, Machine, Pump, Put, Remove, Request, Stale, Stats, brought_on, brought_on_if, change_of, is_taken, one_field, or_as_before, pump, pump_at, reslotted, rewrote, same_machine, settled, single_reply, use_or_make, write, wrote}
 use Rattle.spec_server.specs.Sound.{Continues, Has, Sound}
 use Rattle.spec_store.proofs.StoreLemmas.{same_means}
-use Rattle.raven_laws.specs.Served.{IsRemovedBy, ServedStays, StaysOrIsRemoved, StillServes}
+use Rattle.raven_laws.specs.Served.{ServedStays, StaysOrIsRemoved, StillServes}
 use Rattle.raven_laws.proofs.MachineLemmas.{brought-Keeps}
 use Rattle.raven_laws.proofs.SlotLemmas.{batch-Brought, served}
 use Rattle.raven_laws.proofs.WorldLemmas.{past_test, same_change, taken_out, unchanged_slots}
@@ -146,7 +146,7 @@ if_named-Continues W x max name o h = elim (is_named name x) as (λ b. Continues
 ]
 
 pump_at-Stays : (M : Machine) (max : ℕ) (name : List ℕ) (there : Option Slot) → Sound M.world → Stays M (pump_at M max name there).machine
-pump_at-Stays M max name None o = itself M
+pump_at-Stays M max name None o n s h = itself M n s h
 pump_at-Stays M max name (Some t) o n s h = record {
   slot = brought_on_if M.world.store max name s;
   serves = serving-map (brought_on_if M.world.store max name) M.world.slots n s (if_named-name M.world.store max name) h;

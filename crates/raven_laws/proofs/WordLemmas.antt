@@ -1,8 +1,8 @@
 -- A text is split at its first space, and a number is read from its digits.
-use Rattle.std.proofs.Common.{◌≡◌, ℕ, zero, suc, ◌+◌, ◌*◌, ◌-◌, ◌<◌, ◌≤◌, ◌^◌, List, [], ◌∷◌, ◌++◌, length, get_or, Bool, true, false, cond, ◌&&◌, ◌||◌, ◌==◌, nat_lt, nat_le, Option, Some, None, refl, sym, ap, ◌∙◌, subst, arith, ◌↔◌}
+use Rattle.std.proofs.Common.{◌≡◌, ℕ, zero, suc, ◌<◌, ◌≤◌, ◌^◌, List, [], ◌∷◌, ◌++◌, length, true, false, cond, ◌&&◌, ◌||◌, ◌==◌, nat_lt, nat_le, Option, Some, None, refl, sym, ap, ◌∙◌, subst, arith, ◌↔◌}
 use Rattle.std.proofs.lemmas.Bool.{and_from, and_parts, eqb-true, le-leb, leb-true, lt-ltb, ltb-true, or_from}
 use Rattle.std.proofs.lemmas.Fmt.{decimal-digits_value, decimal_is_IsNumeral, digits_decimal, digits_value-decimal}
-use Rattle.std.proofs.lemmas.Str.Parse.{FoldsDigits, IsDigitsTest, IsNumeralModel, digits_value_short, numerals_by_fold}
+use Rattle.std.proofs.lemmas.Str.Parse.{IsDigitsTest, IsNumeralModel, digits_value_short, numerals_by_fold}
 use Rattle.std.specs.Fmt.{decimal}
 use Rattle.std.specs.List.{list_all}
 use Rattle.spec_server.specs.Script.{after_space, before_space, both_parts, has_byte, is_digit, number_from, number_of, word_and_rest}
@@ -38,10 +38,10 @@ split-from : (text w r : List ℕ) → word_and_rest text ≡ Some (w, r) → Is
 split-from text w r h =
     let b = both-Some (before_space text) (after_space text) w r h in
     record {
-      parts = at_space text r b.1.0 ∙ ap (λ xs. xs ++ 32 ∷ r) b.0;
+      parts = at_space text r b.1 ∙ ap (λ xs. xs ++ 32 ∷ r) b.0;
       spaceless = subst (λ xs. has_byte 32 xs ≡ false) b.0 (no_space text);
-      word_has_bytes = b.1.1.0;
-      rest_has_bytes = b.1.1.1;
+      word_has_bytes = b.2;
+      rest_has_bytes = b.3;
     }
 
 before-append : (w r : List ℕ) → has_byte 32 w ≡ false → before_space (w ++ 32 ∷ r) ≡ w

@@ -122,9 +122,8 @@ pub record IsRowAllowed (M : Machine) (k : Keeping) (command : Command) : Type 0
   pub taken : is_first_taken k.takes ≡ true
 
 -- Its row is allowed. The new slot follows the others, serves the name and has its row; all other slots and rows stay as they were.
-pub record IsDefined (M : Machine) (k : Keeping) (name : List ℕ) (d : Definition) (replied : Replied) : Type 0 where
+pub record IsNewIndex (M : Machine) (k : Keeping) (name : List ℕ) (d : Definition) (replied : Replied) : Type 0 where
   pub allowed : IsRowAllowed M k (Command.Put (index_id name) AnyVector (row_body d))
-  pub given : MayBeGiven name
   pub free : serving M.world.slots name ≡ None
   pub room : length M.world.slots < M.world.setting.max_slots
   pub told : replied.reply ≡ Reply.Index name
@@ -132,6 +131,10 @@ pub record IsDefined (M : Machine) (k : Keeping) (name : List ℕ) (d : Definiti
   pub serves : serving replied.machine.world.slots name ≡ Some (new_slot M name d)
   pub listed : IsListed replied.machine.world.store (new_slot M name d)
   pub rows : OtherRowsStay M (index_id name) replied.machine
+
+pub record IsDefined (M : Machine) (k : Keeping) (name : List ℕ) (d : Definition) (replied : Replied) : Type 0 where
+  pub given : MayBeGiven name
+  pub new : IsNewIndex M k name d replied
 
 abbrev pub IsDefineAnswer : Machine → Keeping → ℕ → List ℕ → Definition → Replied → Type 0
 IsDefineAnswer M k now name d replied =

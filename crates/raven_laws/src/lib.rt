@@ -12,7 +12,7 @@ mod stores;
 mod writes;
 
 pub use definitions::{
-    batches_for_one_leave_the_others, definitions_are_kept, definitions_are_told_apart,
+    autos_are_answered, batches_for_one_leave_the_others, definitions_are_kept, definitions_are_told_apart,
     removals_are_kept,
 };
 pub use indexes::{
