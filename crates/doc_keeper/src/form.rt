@@ -16,17 +16,10 @@ use doc_txn::is_own;
 use raven_base::NoMemory;
 use raven_json::{JsonRefusal, read, write};
 use raven_ports::KeptRow;
-use raven_value::{Body, Document, Id, IdRefusal, Row, Text, Value};
+use raven_value::{
+    Body, Document, END_OF_MOMENTS, Id, IdRefusal, MAX_BODY, MAX_ETAG, Row, Text, Value,
+};
 use std::alloc::Global;
-
-/// The greatest number up to which a double tells each whole number from the next.
-const MAX_ETAG: u64 = 9_007_199_254_740_991;
-
-/// The beginning of the year 9999, in microseconds since 1970 in UTC.
-const YEAR_9999: u64 = 253_370_764_800_000_000;
-
-/// The longest text of a document, in bytes.
-const MAX_BODY: usize = 1_048_576;
 
 // Whether the server writes one of these members itself.
 fn has_own(members: &[(Text, Value)]) -> bool
@@ -52,14 +45,13 @@ fn is_clean(metadata: Option<&Value>) -> bool
 }
 
 // An object with clean metadata.
-fn is_stored(alloc: Global, value: &Value) -> Result<bool, NoMemory>
-    ensures { IfOk result (λ stored. stored ≡ spec_is_stored (data_of value.now)) }
+fn is_stored(value: &Value) -> bool
+    ensures { result ≡ spec_is_stored (data_of value.now) }
 {
-    let Value::Map(members) = value else {
-        return Ok(false);
-    };
-    let name = Text::of(alloc, "@metadata")?;
-    Ok(is_clean(members.get(&name)))
+    match value {
+        Value::Map(members) => is_clean(members.get("@metadata")),
+        _ => false,
+    }
 }
 
 // Whether this is the text that is written for the value.
@@ -74,7 +66,7 @@ fn is_written(alloc: Global, value: &Value, text: &Text) -> Result<bool, NoMemor
 fn checked(alloc: Global, value: Value, text: &Text) -> Result<Option<Document>, NoMemory>
     ensures { IfOk result (λ found. found ≡ (if spec_is_stored (data_of value) && bytes_eq (text_of (data_of value)) text.now then Some (data_of value) else None)) }
 {
-    if is_stored(alloc, &value)? && is_written(alloc, &value, text)? {
+    if is_stored(&value) && is_written(alloc, &value, text)? {
         Ok(Some(Document::of(alloc, value)?))
     } else {
         Ok(None)
@@ -123,7 +115,7 @@ fn is_in_bounds(kept: &KeptRow) -> bool
     0 < kept.etag
         && kept.etag <= MAX_ETAG
         && 0 < kept.collection.as_str().len()
-        && kept.changed < YEAR_9999
+        && kept.changed < END_OF_MOMENTS
 }
 
 fn row_in(alloc: Global, kept: &KeptRow) -> Result<Option<Row>, NoMemory>

@@ -6,7 +6,8 @@ use Rattle.raven_data.specs.Rows.{Row, key}
 use Rattle.spec_store.specs.Store.{row_at, put, Store, with_row}
 use Rattle.spec_store.proofs.StoreLemmas.{both_true}
 use Rattle.spec_store.proofs.LaterLemmas.{last-with}
-use Rattle.doc_store.specs.Bounds.{IsWithin, max_etag}
+use Rattle.doc_store.specs.Bounds.{IsWithin}
+use Rattle.raven_data.specs.Limits.{max_etag}
 use Rattle.doc_store.specs.Opening.{is_sound_after, first_bad}
 use Rattle.doc_store.proofs.MapLemmas.{none_out}
 

@@ -18,7 +18,7 @@ id_cmp = on folded key_cmp
 abbrev pub rows_in : {K : Type 0} → List (K × Row) → List Row
 rows_in pairs = map (λ e. e.1) pairs
 
--- each row stands under its own id
+-- each row is under its own id
 abbrev pub AreFiled : List (List ℕ × Row) → Type 0
 AreFiled [] = Unit {0}
 AreFiled (e ∷ es) = (folded e.0 ≡ key e.1) × AreFiled es

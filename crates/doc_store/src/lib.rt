@@ -3,7 +3,6 @@
 
 mod opening;
 mod rows;
-mod shared;
 mod store;
 
 pub use opening::OpenFault;

@@ -6,13 +6,12 @@ ghost use Rattle.spec_store.specs.Store.{last_of};
 ghost use Rattle.raven_data.specs.Tables.{in_scope};
 ghost use Rattle.doc_store.specs.Maps.{newest_among, newest_at, rows_in};
 
-use crate::shared::SharedRow;
 use paged_map::{PagedMap, Pairs};
-use raven_base::NoMemory;
+use raven_base::{NoMemory, Shared};
 use raven_value::{Body, Id, Row, Text};
 use std::alloc::Global;
 
-/// The etag of the last row, or 0 where there is none.
+/// The etag of the last row, or 0 if there is none.
 pub fn last_etag(rows: &[Row]) -> u64
     ensures { result ≡ last_of 0 rows.now }
 {
@@ -31,12 +30,12 @@ pub fn is_in_scope(scope: &[Text], row: &Row) -> bool
 }
 
 /// Copies of all rows.
-pub fn copies(alloc: Global, rows: Pairs<'_, Id, SharedRow>) -> Result<Vec<Row>, NoMemory>
+pub fn copies(alloc: Global, rows: Pairs<'_, Id, Shared<Row>>) -> Result<Vec<Row>, NoMemory>
     ensures { IfOk result (λ copies. copies.items ≡ rows_in rows.entry) }
 {
     let mut copies = Vec::new(alloc);
     for pair in rows {
-        copies.push(pair.1.row().clone()?)?;
+        copies.push(pair.1.get().clone()?)?;
     }
     Ok(copies)
 }
@@ -44,7 +43,7 @@ pub fn copies(alloc: Global, rows: Pairs<'_, Id, SharedRow>) -> Result<Vec<Row>,
 /// The first rows in scope past an etag, and whether more remain.
 pub fn first_past(
     alloc: Global,
-    rows: Pairs<'_, u64, SharedRow>,
+    rows: Pairs<'_, u64, Shared<Row>>,
     etag: u64,
     scope: &[Text],
     max: usize,
@@ -54,7 +53,7 @@ pub fn first_past(
 {
     let mut found = Vec::new(alloc);
     for pair in rows {
-        let row = pair.1.row();
+        let row = pair.1.get();
         if is_in_scope(scope, row) && etag < row.etag {
             if found.len() == max {
                 return Ok((found, true));
@@ -66,12 +65,12 @@ pub fn first_past(
 }
 
 /// The etag of the last row in scope, or 0.
-pub fn last_in_scope(rows: Pairs<'_, u64, SharedRow>, scope: &[Text]) -> u64
+pub fn last_in_scope(rows: Pairs<'_, u64, Shared<Row>>, scope: &[Text]) -> u64
     ensures { result ≡ last_of 0 (filter (in_scope scope.now) (rows_in rows.entry)) }
 {
     let mut etag = 0;
     for pair in rows {
-        let row = pair.1.row();
+        let row = pair.1.get();
         if is_in_scope(scope, row) {
             etag = row.etag;
         }
@@ -107,7 +106,7 @@ pub struct Counts {
 }
 
 /// How many of these rows are documents and tombstones of other collections than this one.
-pub fn counts_of(rows: Pairs<'_, u64, SharedRow>, collection: &str) -> Counts
+pub fn counts_of(rows: Pairs<'_, u64, Shared<Row>>, collection: &str) -> Counts
     requires { length (rows_in rows) < 2 ^ 32 }
     ensures documents { result.documents ≡ length (filter (λ r. not (bytes_eq r.collection collection.now) && is_document r) (rows_in rows.entry)) }
     ensures tombstones { result.tombstones ≡ length (filter (λ r. not (bytes_eq r.collection collection.now) && not (is_document r)) (rows_in rows.entry)) }
@@ -115,7 +114,7 @@ pub fn counts_of(rows: Pairs<'_, u64, SharedRow>, collection: &str) -> Counts
     let mut documents = 0;
     let mut tombstones = 0;
     for pair in rows {
-        let row = pair.1.row();
+        let row = pair.1.get();
         if row.collection.as_str() != collection {
             match row.body {
                 Body::Doc(_) => documents += 1,

@@ -2,20 +2,20 @@
 ghost use Rattle.std.specs.Str.{bytes_eq};
 ghost use Rattle.std.specs.Prelude.{◌≡◌, ◌≤◌, ◌<◌, ◌&&◌, ◌↔◌, ℕ, IfOk, IsTrue, filter, length, nat_lt, not, option_copied};
 ghost use Rattle.raven_data.specs.Folding.{folded, same_key};
+ghost use Rattle.raven_data.specs.Limits.{max_etag};
 ghost use Rattle.raven_data.specs.Rows.{is_document, key};
 ghost use Rattle.spec_store.specs.Store.{IsStore, empty_store, last, row_at, with_row, with_rows};
 ghost use Rattle.spec_store.specs.Later.{MayFollowAll};
 ghost use Rattle.spec_store.specs.Stale.{newest, past, stale, taken};
 ghost use Rattle.raven_data.specs.Tables.{table_of};
 ghost use Rattle.std.specs.FinMap.{values};
-ghost use Rattle.doc_store.specs.Bounds.{IsWithin, max_etag};
+ghost use Rattle.doc_store.specs.Bounds.{IsWithin};
 ghost use Rattle.doc_store.specs.Maps.{by_etag};
 ghost use Rattle.doc_store.specs.Steps.{MayStand};
 
 use crate::rows::{Counts, copies, counts_of, first_past, last_in_scope, newest_in_scope};
-use crate::shared::SharedRow;
 use paged_map::PagedMap;
-use raven_base::NoMemory;
+use raven_base::{NoMemory, Shared};
 use raven_value::{Id, Row, Rows, Scope, Text};
 use std::alloc::{AllocError, Global};
 use std::marker::Model;
@@ -23,13 +23,13 @@ use std::marker::Model;
 /// The rows of a database, one for each id, seen by contracts as their list in order of etag.
 /// Etags are from 1 to 9,007,199,254,740,991, and there are fewer than 2^32 rows.
 ///
-/// A store and one that was made from it share most of what they keep, so a change takes time and memory that grow with
+/// A store and one that was made from it share most of their pages, so a change takes time and memory that grow with
 /// the logarithm of the number of rows, and a clone takes none.
 #[derive(Drop)]
 pub struct Store {
-    by_id: PagedMap<Id, SharedRow>,
-    by_etag: PagedMap<u64, SharedRow>,
-    /// The greatest etag of each collection, so that staleness is told without a walk.
+    by_id: PagedMap<Id, Shared<Row>>,
+    by_etag: PagedMap<u64, Shared<Row>>,
+    /// The greatest etag of each collection, by which an index is stale or not without a walk over rows.
     newest: PagedMap<Text, u64>,
     last: u64,
 }
@@ -66,7 +66,7 @@ impl Store {
         ensures { option_copied result ≡ row_at (folded id.now) self.now.rows }
     {
         match self.by_id.get(id) {
-            Some(shared) => Some(shared.row()),
+            Some(shared) => Some(shared.get()),
             None => None,
         }
     }
@@ -124,8 +124,8 @@ impl Store {
         Ok((Rows::of(rows), more))
     }
 
-    /// The greatest etag of a row in scope up to a bound, or 0. An index is stale up to that bound exactly where its etag is less.
-    /// It takes no memory, and walks over rows only where one in scope is past the bound.
+    /// The greatest etag of a row in scope up to a bound, or 0. An index is stale up to that bound exactly if its etag is less.
+    /// It takes no memory, and walks over rows only if one in scope is past the bound.
     pub fn newest(&self, scope: &Scope, upto: Option<u64>) -> u64
         ensures newest { result ≡ newest self.now scope.now upto }
         ensures stale { (etag : ℕ) → stale self.now scope.now etag upto ≡ nat_lt etag result }
@@ -149,11 +149,11 @@ impl Store {
     }
 
     /// The rows by etag, but for the one of an id.
-    fn rows_beside(&self, alloc: Global, id: &Id) -> Result<PagedMap<u64, SharedRow>, NoMemory>
+    fn rows_beside(&self, alloc: Global, id: &Id) -> Result<PagedMap<u64, Shared<Row>>, NoMemory>
         ensures { IfOk result (λ rows. rows ≡ by_etag (filter (λ x. not (same_key (folded id.now) (key x))) self.now.rows)) }
     {
         match self.by_id.get(id) {
-            Some(old) => Ok(self.by_etag.without(alloc, &old.row().etag)?),
+            Some(old) => Ok(self.by_etag.without(alloc, &old.get().etag)?),
             None => Ok(self.by_etag.clone()?),
         }
     }
@@ -165,7 +165,7 @@ impl Store {
         requires within { IsWithin (with_row self.now row.now) }
         ensures { IfOk result (λ store. store ≡ with_row self.now row.now) }
     {
-        let shared = SharedRow::of(alloc, row.clone()?)?;
+        let shared = Shared::of(alloc, row.clone()?)?;
         let beside = self.rows_beside(alloc, &row.id)?;
         Ok(Store {
             by_id: self.by_id.with(alloc, row.id.clone()?, shared.clone()?)?,

@@ -11,7 +11,8 @@ use Rattle.spec_store.specs.Commit.{Command, Put, Delete, Setting, Refusal, id_o
 use Rattle.spec_store.proofs.CommitLemmas.{put_key, document_found}
 use Rattle.spec_store.proofs.LaterLemmas.{last-with}
 use Rattle.spec_store.proofs.StoreLemmas.{found_key}
-use Rattle.doc_store.specs.Bounds.{IsWithin, max_etag}
+use Rattle.doc_store.specs.Bounds.{IsWithin}
+use Rattle.raven_data.specs.Limits.{max_etag}
 use Rattle.doc_txn.specs.Tests.{full_for, spent_for}
 
 not_refused : (b : Bool) (r : Refusal) → refuse_if b r ≡ None → b ≡ false

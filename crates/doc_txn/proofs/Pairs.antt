@@ -1,11 +1,8 @@
 -- Members that are kept stay in order.
-use Rattle.std.proofs.Common.{◌≡◌, ℕ, List, [], ◌∷◌, Bool, true, false, cond, filter, refl, ap}
-use Rattle.raven_data.specs.Data.{Data, entries_of, pairs_of}
+use Rattle.std.proofs.Common.{ℕ, List, [], ◌∷◌, Bool, true, false, cond, filter}
+use Rattle.raven_data.proofs.MemberLemmas.{pairs_of-entries_of}
+use Rattle.raven_data.specs.Data.{Data}
 use Rattle.raven_data.specs.Rising.{Pairs, IsBelowAll, IsRising}
-
-pub pairs_of-entries_of : (ms : Pairs) → pairs_of (entries_of ms) ≡ ms
-pairs_of-entries_of [] = refl
-pairs_of-entries_of (m ∷ ms) = ap (λ more. m ∷ more) (pairs_of-entries_of ms)
 
 IsBelowAll-filter : (k : List ℕ) (keep : List ℕ × Data → Bool) (ms : Pairs) → IsBelowAll k ms → IsBelowAll k (filter keep ms)
 IsBelowAll-filter k keep [] h = tt

@@ -3,6 +3,7 @@ use Rattle.std.proofs.Common.{◌≡◌, ◌+◌, ℕ, List, [], ◌∷◌, leng
 use Rattle.std.specs.Option.{option_and_then, option_map, option_or}
 use Rattle.std.proofs.lemmas.Slice.Eq.{bytes_eq-Decides}
 use Rattle.raven_data.specs.Folding.{folded}
+use Rattle.raven_data.specs.Limits.{max_etag}
 use Rattle.raven_data.specs.Rows.{Row, is_document}
 use Rattle.spec_store.specs.Store.{Store, last, row_at}
 use Rattle.spec_store.specs.Commit.{Command, Put, Delete, Writer, Client, Server, Setting, Expect, Refusal, id_of, expected_of, document_at, differs, live_vector, first_of, refuse_if, is_index_id, reserved, too_large, collection_changed, conflict, store_full, etags_spent, refusal_of, row_of, tombstone}
@@ -52,7 +53,7 @@ full-row s now S (Delete id expected) =
 pub spent-row : (now : ℕ) (S : Store) (c : Command) → spent_for S (row_of now S c) ≡ etags_spent S c
 spent-row now S (Put id expected body) = refl
 spent-row now S (Delete id expected) =
-    elim (document_at S (folded id)) as (λ o. spent_for S (option_map (tombstone (last S + 1) now) o) ≡ refuse_if (is_some o && (last S == 9007199254740991)) (Refusal.EtagsSpent (last S))) [ None ↦ refl | Some r ↦ refl ]
+    elim (document_at S (folded id)) as (λ o. spent_for S (option_map (tombstone (last S + 1) now) o) ≡ refuse_if (is_some o && (last S == max_etag)) (Refusal.EtagsSpent (last S))) [ None ↦ refl | Some r ↦ refl ]
 
 pub refusal-row : (s : Setting) (w : Writer) (now : ℕ) (S : Store) (c : Command) (row : Option Row) → row ≡ row_of now S c →
     first_of (reserved_for w (id_of c) row ∷ large_row row ∷ moved_row row (row_at (folded (id_of c)) S.rows) ∷ conflict s S c ∷ full_for s S row (row_at (folded (id_of c)) S.rows) ∷ spent_for S row ∷ [])

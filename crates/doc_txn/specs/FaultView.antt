@@ -14,7 +14,7 @@ kind_view (k.Conflict expected found) = is.Conflict expected found
 kind_view (k.StoreFull rows) = is.StoreFull rows
 kind_view (k.EtagsSpent last) = is.EtagsSpent last
 
--- a refusal is that of the transaction, in its place and kind; want of memory alone may come anywhere
+-- a refusal is that of the transaction, in its place and kind; memory alone may run out at any point
 abbrev pub Refuses : TxnFault → Result is.Written is.Refused → Type 0
 Refuses (f.Refused at kind) outcome = outcome ≡ Err (record { at = at; kind = kind_view kind })
 Refuses f.NoMemory outcome = Unit {0}

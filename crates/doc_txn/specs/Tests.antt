@@ -1,6 +1,7 @@
 -- The tests of a command, on the row that it would write and on the row that its id has.
 use Rattle.std.specs.Prelude.{ℕ, List, Bool, false, ◌||◌, ◌&&◌, ◌==◌, nat_lt, nat_le, Option, Some, None, is_some, is_none, length, codes}
 use Rattle.std.specs.Str.{bytes_eq}
+use Rattle.raven_data.specs.Limits.{max_body, max_etag}
 use Rattle.raven_data.specs.Rows.{Row, Body, doc, gone, is_document}
 use Rattle.raven_data.specs.Written.{text_of}
 use Rattle.spec_store.specs.Store.{Store, last}
@@ -18,7 +19,7 @@ reserved_for Server id row = None
 
 -- the stored body is longer than may be when it is written
 abbrev pub large_body : Body → Option Refusal
-large_body (doc d) = let len = length (text_of d) in refuse_if (nat_lt 1048576 len) (TooLarge len)
+large_body (doc d) = let len = length (text_of d) in refuse_if (nat_lt max_body len) (TooLarge len)
 large_body gone = None
 
 abbrev pub large_row : Option Row → Option Refusal
@@ -36,4 +37,4 @@ full_for s S row old = refuse_if (is_some row && is_none old && nat_le s.max_row
 
 -- a row is to be written and there is no further etag
 abbrev pub spent_for : Store → Option Row → Option Refusal
-spent_for S row = refuse_if (is_some row && (last S == 9007199254740991)) (EtagsSpent (last S))
+spent_for S row = refuse_if (is_some row && (last S == max_etag)) (EtagsSpent (last S))

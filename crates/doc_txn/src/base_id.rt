@@ -47,7 +47,7 @@ pub fn is_base_id(text: &str) -> bool
 }
 
 impl BaseId {
-    /// The base id of this spelling, where it is one.
+    /// The base id of this spelling, if it is one.
     pub fn new(alloc: Global, text: &str) -> Result<Option<BaseId>, NoMemory>
         ensures { IfOk result (λ base. base ≡ read_base_id text.now) }
     {

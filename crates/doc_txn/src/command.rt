@@ -30,7 +30,7 @@ pub enum Command {
     Put {
         /// The id of the document.
         id: Id,
-        /// What has to stand there.
+        /// The vector that the document has to have.
         expected: Expect,
         /// The document.
         body: Value,
@@ -40,7 +40,7 @@ pub enum Command {
     Delete {
         /// The id of the document.
         id: Id,
-        /// What has to stand there.
+        /// The vector that the document has to have.
         expected: Expect,
     },
 }
@@ -58,7 +58,7 @@ impl Command {
         }
     }
 
-    /// What has to stand at the id.
+    /// The vector that the document has to have.
     pub fn expected(&self) -> &Expect
         ensures { expect_view result.now ≡ expected_of (command_view self.now) }
     {

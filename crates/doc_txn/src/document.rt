@@ -1,4 +1,4 @@
-//! What is kept of a body.
+//! What is stored of a body.
 ghost use Rattle.std.specs.Prelude.{◌≡◌, ◌∷◌, [], IfOk, codes, filter, map, not, option_map};
 ghost use Rattle.raven_data.specs.Data.{entries_of, object};
 ghost use Rattle.raven_value.specs.View.{data_of, pair_of};
@@ -54,13 +54,12 @@ fn with_metadata(alloc: Global, members: Members) -> Result<Value, NoMemory>
     ensures { IfOk result (λ value. data_of value ≡ spec_stored (object (entries_of members))) }
 {
     let mut kept = members;
-    let name = Text::of(alloc, "@metadata")?;
-    let metadata = clean_metadata(alloc, kept.get(&name))?;
-    kept.put(name, metadata)?;
+    let metadata = clean_metadata(alloc, kept.get("@metadata"))?;
+    kept.put_at(alloc, "@metadata", metadata)?;
     Ok(Value::Map(kept))
 }
 
-/// The body as it is kept: its `@metadata` is an object without the members that the server writes itself.
+/// The body as it is stored: its `@metadata` is an object without the members that the server writes itself.
 pub fn stored(alloc: Global, body: &Value) -> Result<Value, NoMemory>
     ensures { IfOk result (λ value. data_of value ≡ spec_stored (data_of body.now)) }
 {
@@ -87,7 +86,7 @@ fn collection_path(alloc: Global) -> Result<Path, NoMemory>
     Ok(path)
 }
 
-/// The collection of a document: the text at `@metadata.@collection`, or `@empty` where there is none.
+/// The collection of a document: the text at `@metadata.@collection`, or `@empty` if there is none.
 pub fn collection_of(alloc: Global, body: &Value) -> Result<Text, NoMemory>
     ensures { IfOk result (λ collection. collection ≡ spec_collection_of (data_of body.now)) }
 {

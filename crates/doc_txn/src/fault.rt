@@ -13,30 +13,30 @@ pub enum TxnKind {
     #[error("the id or the collection is the server's")]
     ReservedId,
 
-    /// The body is longer than may be.
+    /// The body is longer than the limit.
     #[error("the body has {len} bytes")]
     TooLarge {
-        /// How many bytes its compact text has, as it would be kept.
+        /// How many bytes its compact text has, as it would be stored.
         len: u64,
     },
 
-    /// The id has a row in another collection, which it keeps.
+    /// The id has a row in another collection, in which it stays.
     #[error("the id stands in another collection")]
     CollectionChanged {
         /// The collection of the row.
         from: Text,
     },
 
-    /// Another vector was expected than the one that stands there.
+    /// Another vector was expected than that of the document.
     #[error("another vector was expected")]
     Conflict {
         /// The vector that was expected.
         expected: Text,
-        /// The vector of the document, which is the empty text where there is none.
+        /// The vector of the document, which is the empty text if there is none.
         found: Text,
     },
 
-    /// There are as many rows as may be.
+    /// There are as many rows as the limit allows.
     #[error("there are {rows} rows")]
     StoreFull {
         /// How many rows there are.
@@ -63,7 +63,7 @@ pub enum TxnFault {
         kind: TxnKind,
     },
 
-    /// No memory was found. A refusal at a place from 2^32 on, which `at` cannot hold, is answered so too.
+    /// Out of memory. A refusal at a place from 2^32 on, which `at` cannot hold, is reported so too.
     #[error("no memory was found")]
     NoMemory,
 }

@@ -15,4 +15,6 @@ pub use command::{Command, Commands, Expect, Writer};
 pub use document::{is_own, stored};
 pub use fault::{TxnFault, TxnKind};
 pub use limits::Limits;
+pub use refusal::is_index_id;
+pub use row::spelling;
 pub use transaction::{Etags, Transaction, commit, transact};

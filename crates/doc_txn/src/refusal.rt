@@ -1,10 +1,11 @@
 //! The tests of a command.
 ghost use Rattle.std.specs.Prelude.{◌≡◌, ◌<◌, ◌≤◌, ◌^◌, ℕ, List, length, IfOk, None, option_copied, option_map};
+ghost use Rattle.raven_data.specs.Limits.{max_etag};
 ghost use Rattle.raven_data.specs.Rows.{doc};
 ghost use Rattle.raven_value.specs.View.{data_of};
 ghost use Rattle.spec_store.specs.Store.{last as spec_last};
 ghost use Rattle.spec_store.specs.Commit.{differs, is_index_id as spec_is_index_id, live_vector as spec_live_vector, refusal_of as spec_refusal_of, row_of as spec_row_of, with_option};
-ghost use Rattle.doc_store.specs.Bounds.{IsWithin, max_etag};
+ghost use Rattle.doc_store.specs.Bounds.{IsWithin};
 ghost use Rattle.doc_txn.specs.CommandView.{command_view, expect_view, writer_view};
 ghost use Rattle.doc_txn.specs.FaultView.{kind_view};
 ghost use Rattle.doc_txn.specs.SettingView.{setting_of};
@@ -19,14 +20,8 @@ use crate::row::live;
 use doc_store::Store;
 use raven_base::NoMemory;
 use raven_json::write;
-use raven_value::{Body, Id, Row, Text, Value, starts_folded};
+use raven_value::{Body, Id, MAX_BODY, MAX_ETAG, Row, Text, Value, starts_folded};
 use std::alloc::Global;
-
-/// The longest body that is kept, in bytes of its compact text.
-const MAX_BODY: u64 = 1_048_576;
-
-/// The greatest etag.
-const MAX_ETAG: u64 = 9_007_199_254_740_991;
 
 /// What no command of a transaction changes.
 #[derive(Drop)]
@@ -37,7 +32,8 @@ pub struct Terms<'a> {
     pub moment: u64,
 }
 
-fn is_index_id(id: &Id) -> bool
+/// Whether an id is that of the row of a definition: it begins with `@index/`, without regard to case.
+pub fn is_index_id(id: &Id) -> bool
     ensures { result ≡ spec_is_index_id id.now }
 {
     starts_folded(id.as_str().as_bytes(), b"@index/")
@@ -64,9 +60,9 @@ fn reserved(writer: Writer, id: &Id, row: Option<&Row>) -> Option<TxnKind>
 fn too_long(alloc: Global, body: &Value) -> Result<Option<TxnKind>, NoMemory>
     ensures { IfOk result (λ kind. option_map kind_view kind ≡ large_body (doc (data_of body.now))) }
 {
-    let len = write(alloc, body)?.len() as u64;
+    let len = write(alloc, body)?.len();
     if len > MAX_BODY {
-        Ok(Some(TxnKind::TooLarge { len }))
+        Ok(Some(TxnKind::TooLarge { len: len as u64 }))
     } else {
         Ok(None)
     }
@@ -154,7 +150,7 @@ fn etags_spent(store: &Store, row: Option<&Row>) -> Option<TxnKind>
     }
 }
 
-/// The first test that stands against a command, which would write this row.
+/// The first test that refuses a command, which would write this row.
 pub fn refusal_of(
     alloc: Global,
     store: &Store,

@@ -12,7 +12,7 @@ use raven_base::NoMemory;
 use raven_value::{Body, Document, Id, Row, Value};
 use std::alloc::Global;
 
-/// The row, where it holds a document.
+/// The row, if it holds a document.
 pub fn live<'a>(row: Option<&'a Row>) -> Option<&'a Row>
     ensures { option_copied result ≡ option_and_then (λ r. if is_document r then Some r else None) (option_copied row.entry) }
 {
@@ -22,7 +22,8 @@ pub fn live<'a>(row: Option<&'a Row>) -> Option<&'a Row>
     }
 }
 
-fn spelling(id: &Id, old: Option<&Row>) -> Result<Id, NoMemory>
+/// The id as the row that has it spells it, or as it is spelled here if no row has it.
+pub fn spelling(id: &Id, old: Option<&Row>) -> Result<Id, NoMemory>
     ensures { IfOk result (λ spelled. spelled ≡ kept_spelling id.now (option_copied old.entry)) }
 {
     match old {

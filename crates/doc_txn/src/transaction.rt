@@ -1,15 +1,14 @@
-//! Transactions.
+//! Transactions: commands that are all taken, or none of them.
 ghost use Rattle.std.specs.Prelude.{◌≡◌, ◌∷◌, ◌++◌, [], IfOk, IfErr, None, OnOk, Some, Ok, Err, map, option_map};
 ghost use Rattle.std.specs.Option.{ForSome};
 ghost use Rattle.spec_store.specs.Store.{IsStore, with_row};
 ghost use Rattle.spec_store.specs.Later.{MayFollow};
-ghost use Rattle.spec_store.specs.Commit.{Commits, commit as spec_commit, etags_taken, refusal_of as spec_refusal_of, row_of as spec_row_of, with_option, with_written};
+ghost use Rattle.spec_store.specs.Commit.{Commits, etags_taken, refusal_of as spec_refusal_of, row_of as spec_row_of, with_option, with_written};
 ghost use Rattle.doc_store.specs.Bounds.{IsWithin};
 ghost use Rattle.doc_txn.specs.CommandView.{command_view, writer_view};
 ghost use Rattle.doc_txn.specs.FaultView.{Refuses, kind_view};
-ghost use Rattle.doc_txn.specs.SettingView.{setting_of};
 ghost use Rattle.doc_txn.specs.TermsView.{setting_in};
-ghost use Rattle.doc_txn.specs.TransactionView.{written_of};
+ghost use Rattle.doc_txn.specs.TransactionView.{outcome, written_of};
 
 use crate::base_id::BaseId;
 use crate::command::{Command, Commands, Writer};
@@ -75,7 +74,7 @@ impl Transaction {
         }
     }
 
-    /// Takes a command, or tells why it is refused.
+    /// Takes a command, or returns why it is refused.
     fn take(
         &mut self,
         alloc: Global,
@@ -114,8 +113,8 @@ pub fn transact(
     limits: &Limits,
     now: u64,
 ) -> Result<Transaction, TxnFault>
-    ensures ok { IfOk result (λ done. spec_commit (setting_of base.now limits.now) (writer_view writer) now (map command_view commands.now) store.now ≡ Ok (written_of done)) }
-    ensures refused { IfErr result (λ fault. Refuses fault (spec_commit (setting_of base.now limits.now) (writer_view writer) now (map command_view commands.now) store.now)) }
+    ensures ok { IfOk result (λ done. outcome base.now limits.now writer now commands.now store.now ≡ Ok (written_of done)) }
+    ensures refused { IfErr result (λ fault. Refuses fault (outcome base.now limits.now writer now commands.now store.now)) }
     ensures etags { IfOk result (λ done. done.etags ≡ etags_taken now (map command_view commands.now) store.now) }
     ensures grows { IfOk result (λ done. IsStore store.now → Commits store.now (written_of done)) }
 {
@@ -144,8 +143,8 @@ pub fn commit(
     limits: &Limits,
     now: u64,
 ) -> Result<(Store, Rows), TxnFault>
-    ensures ok { IfOk result (λ done. spec_commit (setting_of base.now limits.now) (writer_view writer) now (map command_view commands.now) store.now ≡ Ok (record { store = done.0; rows = done.1 })) }
-    ensures refused { IfErr result (λ fault. Refuses fault (spec_commit (setting_of base.now limits.now) (writer_view writer) now (map command_view commands.now) store.now)) }
+    ensures ok { IfOk result (λ done. outcome base.now limits.now writer now commands.now store.now ≡ Ok (record { store = done.0; rows = done.1 })) }
+    ensures refused { IfErr result (λ fault. Refuses fault (outcome base.now limits.now writer now commands.now store.now)) }
     ensures grows { IfOk result (λ done. IsStore store.now → Commits store.now (record { store = done.0; rows = done.1 })) }
 {
     let done = transact(alloc, store, commands, writer, base, limits, now)?;

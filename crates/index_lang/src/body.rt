@@ -2,7 +2,6 @@
 ghost use Rattle.std.specs.Prelude.{◌≡◌, ◌==◌, ◌||◌, IfOk, option_map};
 ghost use Rattle.std.specs.List.{list_any};
 ghost use Rattle.raven_data.specs.Data.{entries_of};
-ghost use Rattle.raven_data.specs.Members.{member as spec_member};
 ghost use Rattle.raven_value.specs.View.{data_of};
 ghost use Rattle.spec_server.specs.Opening.{auto_read, body_form, is_part as spec_is_part, map_read};
 ghost use Rattle.index_lang.specs.Openings.{IsOfForm, IsSaid};
@@ -67,16 +66,6 @@ pub fn only_item(value: Option<&Value>) -> Option<&Value>
         [item] => Some(item),
         _ => None,
     }
-}
-
-fn member<'a>(
-    alloc: Global,
-    members: &'a Members,
-    name: &str,
-) -> Result<Option<&'a Value>, NoMemory>
-    ensures { IfOk result (λ found. option_map (λ v. data_of v.now) found ≡ spec_member name.now (entries_of members.now)) }
-{
-    Ok(members.get(&Text::of(alloc, name)?))
 }
 
 // The automatic definition that these four members make, if they make one.
@@ -149,15 +138,15 @@ fn said(alloc: Global, map: &Text) -> Result<Option<DefBody>, NoMemory>
 fn definition_in(alloc: Global, members: &Members) -> Result<Option<DefBody>, NoMemory>
     ensures { IfOk result (λ body. IsOfForm (form_in (entries_of members.now)) (option_map definition_view body)) }
 {
-    let metadata = member(alloc, members, "@metadata")?;
-    let kind = member(alloc, members, "Kind")?;
-    let collection = member(alloc, members, "Collection")?;
-    let fields = member(alloc, members, "Fields")?;
+    let metadata = members.get("@metadata");
+    let kind = members.get("Kind");
+    let collection = members.get("Collection");
+    let fields = members.get("Fields");
     if let Some(body) = auto_of(alloc, metadata, collection, fields, kind)? {
         return Ok(Some(body));
     }
-    let map = member(alloc, members, "Map")?;
-    let reduce = member(alloc, members, "Reduce")?;
+    let map = members.get("Map");
+    let reduce = members.get("Reduce");
     match map_of(metadata, kind, map, reduce) {
         Some(map) => said(alloc, map),
         None => Ok(None),

@@ -1,30 +1,13 @@
 -- A code for trees, by which a proof tells them apart.
-use Rattle.std.specs.Prelude.{◌≡◌, ℕ, List, refl}
+use Rattle.std.specs.Prelude.{◌≡◌, ℕ, refl}
 use Rattle.std.proofs.Common.{ap}
-use base.Stored.{Gv, gnil, gnum, gcons, Coded, coded_bool, coded_ℤ, coded_ℕ, coded_list}
+use base.Stored.{Gv, gnil, gnum, gcons, Coded, coded_bool, coded_ℤ}
+use Rattle.raven_data.specs.Coding.{first, rest, tag, text_code}
 use Rattle.index_tree.specs.declared.expression.BinaryOp.{BinaryOp}
 use Rattle.index_tree.specs.declared.expression.BinaryOp.TheVariants as b
 use Rattle.index_tree.specs.declared.expression.UnaryOp.{UnaryOp}
 use Rattle.index_tree.specs.declared.expression.UnaryOp.TheVariants as u
 use Rattle.index_tree.specs.Trees.{Tree, If, Binary, Unary, Dot, Load, Num, Quoted, Flag, Null, Var}
-
-abbrev first : Gv → Gv
-first gnil = gnil
-first (gnum n) = gnil
-first (gcons a b) = a
-
-abbrev rest : Gv → Gv
-rest gnil = gnil
-rest (gnum n) = gnil
-rest (gcons a b) = b
-
-abbrev tag : Gv → ℕ
-tag gnil = 0
-tag (gnum n) = n
-tag (gcons a b) = tag a
-
-abbrev text_code : Coded (List ℕ)
-text_code = coded_list coded_ℕ
 
 abbrev binary_number : BinaryOp → ℕ
 binary_number b.Or = 0

@@ -1,4 +1,4 @@
--- What an index keeps of what its map has given.
+-- What an index stores of what its map has given.
 use Rattle.std.specs.Prelude.{◌≡◌, ℕ, List, Bool, true, false, Option, Some, None, if◌then◌else◌, refl}
 use Rattle.std.specs.Coded.{Coded, coded×, code_by}
 use Rattle.std.specs.FinMap.{FinMap, get}
@@ -46,7 +46,7 @@ outcome_has_words name words Failed = false
 abbrev pub entry_given : Given → Option (List ℕ × Fields)
 entry_given g = entry_of g.id g.mapped.outcome
 
--- each row stands under its own folded id
+-- each row is under its own folded id
 abbrev pub IsFiled : Table → Type 0
 IsFiled T = (q : List ℕ) (t : Row) → get T q ≡ Some t → q ≡ key t
 
@@ -55,7 +55,7 @@ abbrev pub is_loaded : List ℕ → Option Given → Bool
 is_loaded q None = false
 is_loaded q (Some g) = list_any (same_key q) g.mapped.loads
 
--- what the map gives for the documents of a table, and which ids it looks up for which, is kept
+-- what the map gives for the documents of a table, and which ids it looks up for which, is stored
 pub record AreKept (m : Mapper) (T : Table) (given : FinMap key_cmp Given) (loads : Track) : Type 0 where
   pub filed : IsFiled T
   pub results : (q : List ℕ) → get given q ≡ given_at m T q

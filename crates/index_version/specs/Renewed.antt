@@ -3,8 +3,11 @@ use Rattle.std.specs.Prelude.{◌≡◌, ℕ, ◌+◌, ◌≤◌, List, cond, is
 use Rattle.std.specs.FinMap.{FinMap, get}
 use Rattle.std.specs.List.{list_any}
 use Rattle.raven_data.specs.Folding.{folded, key_cmp, same_key}
-use Rattle.raven_data.specs.Tables.{Table}
-use Rattle.index_tree.specs.Mapper.{Mapper}
+use Rattle.raven_data.specs.Rows.{Row}
+use Rattle.raven_data.specs.Tables.{Table, note_rows}
+use Rattle.index_tree.specs.Mapper.{Mapper, mapper_of}
+use Rattle.spec_index.specs.Mapping.{touched}
+use Rattle.spec_index.specs.World.{Version}
 use Rattle.raven_base.specs.Counts.{Counts}
 use Rattle.reference_track.specs.Tracks.{Track, is_pair}
 use Rattle.index_version.specs.Kept.{Given, given_at, is_loaded}
@@ -24,6 +27,10 @@ mapped_among m T ids = filter (λ q. is_some (given_at m T q)) ids
 -- those of the folded ids that have a document
 abbrev pub documents_among : Table → List (List ℕ) → List (List ℕ)
 documents_among T ids = filter (λ q. is_some (get T q)) ids
+
+-- the documents that these rows touch, once the index has taken them
+abbrev pub touched_documents : Version → List Row → List (List ℕ)
+touched_documents v taken = documents_among (note_rows v.table taken) (touched (mapper_of v.definition) v.table taken)
 
 -- at most so many documents were mapped, and nothing else that is counted was done
 pub record MapsAtMost (most : ℕ) (before after : Counts) : Type 0 where

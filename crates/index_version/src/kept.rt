@@ -1,4 +1,4 @@
-//! What an index keeps beside its documents.
+//! What an index stores besides its documents.
 ghost use Rattle.std.specs.Prelude.{◌≡◌, ℕ, List, None, Some, IfOk, false, length, cond, map};
 ghost use Rattle.std.specs.FinMap.{empty, get};
 ghost use Rattle.std.specs.List.{count_by, filter_map};
@@ -13,16 +13,15 @@ ghost use Rattle.index_version.specs.Folded.{by_folded};
 ghost use Rattle.index_version.specs.Kept.{entry_given, is_loaded};
 
 use crate::given::Given;
-use crate::sharing::Shared;
 use paged_map::PagedMap;
-use raven_base::NoMemory;
+use raven_base::{NoMemory, Shared};
 use raven_value::{Id, Ids};
 use reference_track::Referrers;
 use std::alloc::Global;
 
 /// What the map has given for each document that it maps, under the ids of these, and which of them load which ids.
 ///
-/// A change makes new ones and leaves the old ones, with which they share most of what they keep.
+/// A change makes new ones and leaves the old ones, with which they share most of their pages.
 #[derive(Drop)]
 pub struct Kept {
     pub given: PagedMap<Id, Shared<Given>>,
@@ -51,7 +50,7 @@ impl Kept {
         })
     }
 
-    /// With what the map gives for the document of an id, or without it where it gives nothing.
+    /// With what the map gives for the document of an id, or without it if the map gives nothing.
     pub fn with(&self, alloc: Global, id: &Id, given: Option<Given>) -> Result<Kept, NoMemory>
         ensures results { IfOk result (λ kept. (q : List ℕ) → get (by_folded kept.given) q ≡ cond (same_key q (folded id.now)) given (get (by_folded self.now.given) q)) }
         ensures pairs { IfOk result (λ kept. (x y : List ℕ) → is_pair x y kept.referrers ≡ cond (is_id x id.now) (is_loaded (folded y) given) (is_pair x y self.now.referrers)) }

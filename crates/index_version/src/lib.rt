@@ -5,12 +5,10 @@ mod given;
 mod kept;
 mod mapping;
 mod renewal;
-mod sharing;
 mod table;
 mod touched;
 mod version;
 
 pub use mapping::DefinitionMapper;
-pub use sharing::share;
 pub use table::{Table, is_document};
 pub use version::IndexVersion;

@@ -42,7 +42,7 @@ fn given_at<M: Mapper, L: Ledger>(
     Ok(Some(Given::of(row.id.clone()?, mapped)))
 }
 
-/// What is kept once these ids are looked at again, over a table, and no others. The map is asked for those of them that are
+/// What is stored once these ids are mapped again, over a table, and no others. The map is asked for those of them that are
 /// mapped there.
 pub fn renewed<M: Mapper, L: Ledger>(
     alloc: Global,

@@ -5,17 +5,16 @@ ghost use Rattle.raven_data.specs.Rows as model;
 ghost use Rattle.raven_data.specs.Tables.{note_row, note_rows};
 ghost use Rattle.index_version.specs.Folded.{by_folded};
 
-use crate::sharing::Shared;
 use map_stage::Lookup;
 use paged_map::PagedMap;
-use raven_base::NoMemory;
+use raven_base::{NoMemory, Shared};
 use raven_value::{Body, Id, Row};
 use std::alloc::{AllocError, Global};
 use std::marker::Model;
 
 /// The recorded documents, seen by contracts as the map from their folded ids to their rows.
 ///
-/// A table and one that was made from it share most of what they keep, so each row that is taken costs time and memory
+/// A table and one that was made from it share most of their pages, so each row that is taken costs time and memory
 /// that grow with the logarithm of the number of documents, and a clone takes none.
 #[derive(Drop)]
 pub struct Table {
@@ -44,7 +43,7 @@ impl Table {
         })
     }
 
-    /// Puts each document of these rows in, and takes the id of each tombstone out.
+    /// Puts each document of these rows in, and removes the id of each tombstone.
     pub fn after(&self, alloc: Global, taken: &[Row]) -> Result<Table, NoMemory>
         ensures { IfOk result (λ table. table ≡ note_rows self.now taken.now) }
     {

@@ -2,16 +2,15 @@
 ghost use Rattle.std.specs.Prelude.{◌≡◌, IfOk, length};
 ghost use Rattle.raven_data.specs.Tables.{note_rows};
 ghost use Rattle.spec_index.specs.Find.{found_in};
-ghost use Rattle.spec_index.specs.Mapping.{failures, scratch, touched};
+ghost use Rattle.spec_index.specs.Mapping.{failures, scratch};
 ghost use Rattle.index_tree.specs.Mapper.{mapper_of};
 ghost use Rattle.spec_index.specs.World.{fresh, reads};
 ghost use Rattle.index_definition.specs.DefinitionView.{definition_view};
 ghost use Rattle.index_version.specs.Meaning.{Means};
-ghost use Rattle.index_version.specs.Renewed.{MapsAtMost, documents_among};
+ghost use Rattle.index_version.specs.Renewed.{MapsAtMost, touched_documents};
 
 use crate::kept::Kept;
 use crate::renewal::renewed;
-use crate::sharing::share;
 use crate::table::Table;
 use crate::touched::touched_ids;
 use index_definition::{Definition, scope};
@@ -22,6 +21,13 @@ use std::alloc::Global;
 use std::marker::Model;
 use std::sync::Arc;
 use std::sync::ledger::Ledger;
+
+/// The same definition, shared.
+fn share(definition: &Arc<Definition>) -> Result<Arc<Definition>, NoMemory>
+    ensures { IfOk result (λ shared. shared.value ≡ definition.now.value) }
+{
+    Ok(definition.clone()?)
+}
 
 /// An index as far as it has come, seen by contracts as its definition, its etag and the documents that it has recorded.
 /// Its entries are those that its map gives over these documents from scratch, and its errors those that fail there.
@@ -79,7 +85,7 @@ impl IndexVersion {
     ) -> Result<IndexVersion, NoMemory>
         requires means { Means (M.meaning mapper.now) self.now.definition }
         ensures version { IfOk result (λ version. version ≡ record self.now { etag = etag; table = note_rows self.now.table taken.now }) }
-        ensures maps { MapsAtMost (length (documents_among (note_rows self.now.table taken.now) (touched (mapper_of self.now.definition) self.now.table taken.now))) steps.old steps.new }
+        ensures maps { MapsAtMost (length (touched_documents self.now taken.now)) steps.old steps.new }
     {
         let definition = &self.definition;
         let ids = touched_ids(alloc, &self.kept.referrers, taken)?;
@@ -122,7 +128,7 @@ impl IndexVersion {
         scope(alloc, &self.definition)
     }
 
-    /// How many entries it keeps. It walks over what the map has given.
+    /// How many entries it has. It walks over what the map has given.
     pub fn entries(&self) -> u64
         ensures { result ≡ length (scratch (mapper_of self.now.definition) self.now.table) }
     {

@@ -23,7 +23,7 @@ pub fn part_of<'a>(holder: &Held<'a>, name: &Text) -> Held<'a>
     ensures { held_of result ≡ part_of name.now (held_of holder.now) }
 {
     match holder {
-        Held::Map(members) => match members.get(name) {
+        Held::Map(members) => match members.get(name.as_str()) {
             Some(value) => Held::of(value),
             None => Held::Null,
         },

@@ -2,10 +2,8 @@
 ghost use Rattle.std.specs.Prelude.{◌≡◌, ◌<◌, None};
 
 use raven_ports::{Clock, StillClock};
+use raven_value::END_OF_MOMENTS;
 use std::cell::Cell;
-
-/// The last moment that a clock may return: the last microsecond of the year 9998.
-const LAST_MOMENT: u64 = 253_370_764_799_999_999;
 
 /// The clock of a run.
 #[derive(Drop)]
@@ -17,7 +15,7 @@ pub enum CaseClock {
 impl CaseClock {
     /// A clock that always returns this moment, if a clock may return it.
     pub fn still(moment: u64) -> Option<CaseClock> {
-        if moment <= LAST_MOMENT {
+        if moment < END_OF_MOMENTS {
             Some(CaseClock::Still(StillClock::at(moment)))
         } else {
             None
@@ -26,7 +24,7 @@ impl CaseClock {
 
     /// A clock that returns this moment first, if a clock may return it, and then moves on by a step with each call.
     pub fn ticking(first: u64, step: u64) -> Option<CaseClock> {
-        if first <= LAST_MOMENT {
+        if first < END_OF_MOMENTS {
             let next = Cell::new(first);
             Some(CaseClock::Ticking(TickingClock { next, step }))
         } else {
@@ -46,7 +44,7 @@ impl Clock for TickingClock {
     ghost moment = { λ _. None };
 
     fn now(&self) -> u64 {
-        let moment = self.next.get().min(LAST_MOMENT);
+        let moment = self.next.get().min(END_OF_MOMENTS - 1);
         self.next.set(moment.saturating_add(self.step));
         moment
     }

@@ -6,6 +6,7 @@ ghost use Rattle.std.specs.Int.{w64};
 ghost use Rattle.raven_value.specs.View.{data_of};
 ghost use Rattle.raven_data.specs.Data.{depth, items_of, entries_of};
 ghost use Rattle.raven_data.specs.Json.{reading};
+ghost use Rattle.raven_data.specs.Limits.{max_depth};
 ghost use Rattle.raven_data.specs.Rising.{IsRising};
 ghost use Rattle.raven_data.specs.Sound.{IsSound, AreSound, HasSound};
 ghost use Rattle.raven_data.specs.Written.{escaped, quoted, text_of, items_text, entries_text};
@@ -129,7 +130,7 @@ fn write_members(alloc: Global, out: &mut Vec<u8>, members: &Members) -> Result<
 pub fn write(alloc: Global, value: &Value) -> Result<Vec<u8>, NoMemory>
     ensures text { IfOk result (λ bytes. bytes.items ≡ text_of (data_of value.now)) }
     ensures utf8 { IfOk result (λ bytes. IsUtf8 bytes.items) }
-    ensures reads_back { IfOk result (λ bytes. depth (data_of value.now) ≤ 100 → reading bytes.items ≡ Ok (data_of value.now)) }
+    ensures reads_back { IfOk result (λ bytes. depth (data_of value.now) ≤ max_depth → reading bytes.items ≡ Ok (data_of value.now)) }
 {
     let mut out = Vec::new(alloc);
     write_value(alloc, &mut out, value)?;

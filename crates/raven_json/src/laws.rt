@@ -2,10 +2,11 @@
 ghost use Rattle.std.specs.Prelude.{◌≡◌, ◌≤◌, Ok};
 ghost use Rattle.raven_data.specs.Data.{Data, depth};
 ghost use Rattle.raven_data.specs.Json.{reading};
+ghost use Rattle.raven_data.specs.Limits.{max_depth};
 ghost use Rattle.raven_data.specs.Sound.{IsSound};
 ghost use Rattle.raven_data.specs.Written.{text_of};
 
 /// The text of each value at most a hundred deep is read as that value.
 pub fn written_is_read()
-    ensures { (d : Data) → IsSound d → depth d ≤ 100 → reading (text_of d) ≡ Ok d }
+    ensures { (d : Data) → IsSound d → depth d ≤ max_depth → reading (text_of d) ≡ Ok d }
 {}

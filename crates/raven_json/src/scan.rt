@@ -1,7 +1,10 @@
 //! How many brackets are open at once.
 ghost use Rattle.std.specs.Prelude.{◌≡◌, ◌≤◌};
+ghost use Rattle.raven_data.specs.Limits.{max_depth};
 ghost use Rattle.raven_data.specs.Scan.{outside, is_too_deep as spec_is_too_deep, place_after as spec_place_after, open_after as spec_open_after};
 ghost use Rattle.raven_json.specs.PlaceView.{place_view};
+
+use raven_value::MAX_DEPTH;
 
 /// Where a byte is: outside texts, in a text, or after a backslash in a text.
 #[derive(Clone, Copy, PartialEq, Eq)]
@@ -10,8 +13,6 @@ pub(crate) enum Place {
     InText,
     Escaped,
 }
-
-const MAX_DEPTH: u64 = 100;
 
 fn place_after(place: Place, byte: u8) -> Place
     ensures { place_view result ≡ spec_place_after (place_view place) byte }
@@ -34,7 +35,7 @@ fn place_after(place: Place, byte: u8) -> Place
 }
 
 fn open_after(place: Place, depth: u64, byte: u8) -> u64
-    requires { depth ≤ 100 }
+    requires { depth ≤ max_depth }
     ensures { result ≡ spec_open_after (place_view place) depth byte }
 {
     match place {

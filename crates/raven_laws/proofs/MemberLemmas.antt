@@ -1,13 +1,12 @@
--- Members that rise are determined by what their names have, and what is read has members that rise.
-use Rattle.std.proofs.Common.{◌≡◌, ℕ, ◌≤◌, List, [], ◌∷◌, true, false, cond, length, Option, Some, None, option_map, option_and_then, Result, Ok, Err, Ordering, Less, Equal, Greater, refl, sym, ap, ◌∙◌, subst, arith}
-use Rattle.std.proofs.lemmas.Cmp.{nat_list_cmp_total}
+-- Members that rise are known by their names, and what is read has members that rise.
+use Rattle.std.proofs.Common.{◌≡◌, ℕ, ◌≤◌, List, [], ◌∷◌, true, false, cond, length, Option, Some, None, option_map, option_and_then, Result, Ok, Err, Less, refl, sym, ap, ◌∙◌, subst, arith}
 use Rattle.std.proofs.lemmas.Slice.Eq.{bytes_eq-Decides}
 use Rattle.std.specs.Cmp.Lexicographic.{nat_list_eq_equiv}
-use Rattle.std.specs.Ordering.{match_ordering, ordering_reverse}
 use Rattle.std.specs.Str.{bytes_eq, is_utf8}
 use Rattle.serde_json.specs.Data as json
 use Rattle.serde_json.specs.Find.{as_i64}
 use Rattle.serde_json.specs.Read.{read}
+use Rattle.raven_data.proofs.MemberLemmas.{IsRising-put, below_by, pairs_of-entries_of}
 use Rattle.raven_data.specs.Data.{Data, num, array, object, Entries, no_entries, entry, entries_of, items_of, pairs_of}
 use Rattle.raven_data.specs.Folding.{key_cmp}
 use Rattle.raven_data.specs.Json as is
@@ -17,41 +16,7 @@ use Rattle.raven_data.specs.Rising.{Pairs, IsBelowAll, IsRising, put}
 use Rattle.raven_data.specs.Scan.{is_too_deep, outside}
 use Rattle.spec_store.proofs.KeyedLemmas.{differ_less}
 
--- A MEMBER THAT IS PUT
-
-below_by : (j k : List ℕ) (ms : Pairs) → key_cmp j k ≡ Less → IsBelowAll k ms → IsBelowAll j ms
-below_by j k [] h b = tt
-below_by j k (m ∷ ms) h b = (nat_list_cmp_total.trans j k m.0 h b.0, below_by j k ms h b.1)
-
-below_tied : (k l : List ℕ) (ms : Pairs) → key_cmp k l ≡ Equal → IsBelowAll l ms → IsBelowAll k ms
-below_tied k l [] e b = tt
-below_tied k l (m ∷ ms) e b = (nat_list_cmp_total.congr k l m.0 e ∙ b.0, below_tied k l ms e b.1)
-
-below_at : (o : Ordering) (j k : List ℕ) (d : Data) (m : List ℕ × Data) (ms rest : Pairs) → key_cmp j k ≡ Less → IsBelowAll j (m ∷ ms) → IsBelowAll j rest
-    → IsBelowAll j (match_ordering o ((k, d) ∷ m ∷ ms) ((k, d) ∷ ms) (m ∷ rest))
-below_at Less j k d m ms rest h b r = (h, b)
-below_at Equal j k d m ms rest h b r = (h, b.1)
-below_at Greater j k d m ms rest h b r = (b.0, r)
-
-below_put : (j k : List ℕ) (d : Data) (ms : Pairs) → key_cmp j k ≡ Less → IsBelowAll j ms → IsBelowAll j (put k d ms)
-below_put j k d [] h b = (h, tt)
-below_put j k d (m ∷ ms) h b = below_at (key_cmp k m.0) j k d m ms (put k d ms) h b (below_put j k d ms h b.1)
-
-rising_at : (o : Ordering) (k : List ℕ) (d : Data) (m : List ℕ × Data) (ms : Pairs) → key_cmp k m.0 ≡ o → IsRising (m ∷ ms) → IsRising (put k d ms)
-    → IsRising (match_ordering o ((k, d) ∷ m ∷ ms) ((k, d) ∷ ms) (m ∷ put k d ms))
-rising_at Less k d m ms e h r = ((e, below_by k m.0 ms e h.0), h)
-rising_at Equal k d m ms e h r = (below_tied k m.0 ms e h.0, h.1)
-rising_at Greater k d m ms e h r = (below_put m.0 k d ms (nat_list_cmp_total.antisymm m.0 k ∙ ap ordering_reverse e) h.0, r)
-
-pub IsRising-put : (k : List ℕ) (d : Data) (ms : Pairs) → IsRising ms → IsRising (put k d ms)
-IsRising-put k d [] h = (tt, tt)
-IsRising-put k d (m ∷ ms) h = rising_at (key_cmp k m.0) k d m ms refl h (IsRising-put k d ms h.1)
-
 -- WHAT IS READ
-
-pub pairs-entries : (ms : Pairs) → pairs_of (entries_of ms) ≡ ms
-pairs-entries [] = refl
-pairs-entries (m ∷ ms) = ap (λ more. m ∷ more) (pairs-entries ms)
 
 -- the members of an object, if the value is one, rise
 abbrev pub Rises : Data → Type 0
@@ -86,7 +51,7 @@ value_rises (json.array js) d h = elim (is.items_of js []) as (λ o. option_map 
 ] h
 value_rises (json.object js) d h = elim (members_of js []) as (λ o. members_of js [] ≡ o → option_map (λ ps. object (entries_of ps)) o ≡ Some d → Rises d) [
   | None ↦ λ e g. absurd cc
-  | Some ps ↦ λ e g. subst Rises (same_value _ d g) (subst (λ (x : Pairs). IsRising x) (sym (pairs-entries ps)) (members_rise js [] ps tt e))
+  | Some ps ↦ λ e g. subst Rises (same_value _ d g) (subst (λ (x : Pairs). IsRising x) (sym (pairs_of-entries_of ps)) (members_rise js [] ps tt e))
 ] refl h
 
 whole_rises : (o : Option json.Data) (d : Data) → whole o ≡ Ok d → Rises d

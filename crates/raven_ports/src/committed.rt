@@ -7,20 +7,19 @@ ghost use Rattle.raven_data.specs.Kept.{EtagsRise, is_past, keep, keep_all, kept
 ghost use Rattle.raven_ports.specs.Filed.{by_etag};
 
 use crate::keeper::{KeptRow, KeptRows};
-use crate::shared::SharedRow;
 use paged_map::PagedMap;
-use raven_base::NoMemory;
+use raven_base::{NoMemory, Shared};
 use raven_value::Text;
 use std::alloc::{AllocError, Global};
 use std::marker::Model;
 
 /// Rows in order of etag, one for each folded id, seen by contracts as their list.
 ///
-/// A change makes new ones and leaves the old ones as they were. The two share most of what they keep, so a row more takes
+/// A change makes new ones and leaves the old ones as they were. The two share most of their pages, so a row more takes
 /// time and memory that grow with the logarithm of the number of rows.
 #[derive(Drop)]
 pub(crate) struct Committed {
-    by_etag: PagedMap<u64, SharedRow>,
+    by_etag: PagedMap<u64, Shared<KeptRow>>,
     /// The etag of each row, under the folded form of its id.
     etags: PagedMap<Text, u64>,
 }
@@ -96,13 +95,17 @@ impl Committed {
         ensures { OnOk result (all.new ≡ all.old ++ self.now) }
     {
         for pair in self.by_etag.iter() {
-            all.push(pair.1.row().clone()?)?;
+            all.push(pair.1.get().clone()?)?;
         }
         Ok(())
     }
 
     /// The rows by etag, but for the one of a folded id.
-    fn rows_beside(&self, alloc: Global, id: &Text) -> Result<PagedMap<u64, SharedRow>, NoMemory>
+    fn rows_beside(
+        &self,
+        alloc: Global,
+        id: &Text,
+    ) -> Result<PagedMap<u64, Shared<KeptRow>>, NoMemory>
         ensures { IfOk result (λ rows. rows ≡ by_etag (filter (λ x. not (same_key id.now (kept_key x))) self.now)) }
     {
         match self.etags.get(id) {
@@ -116,7 +119,7 @@ impl Committed {
         requires { IfSome (last_kept None self.now) (λ last. last < row.now.etag) }
         ensures { IfOk result (λ rows. rows ≡ keep row.now self.now) }
     {
-        let shared = SharedRow::of(alloc, row.clone()?)?;
+        let shared = Shared::of(alloc, row.clone()?)?;
         let id = folded_id(alloc, row)?;
         let beside = self.rows_beside(alloc, &id)?;
         Ok(Committed {
@@ -138,12 +141,12 @@ impl Committed {
     }
 }
 
-/// The row that stands in a map.
-fn row_of(pair: Option<&(u64, SharedRow)>) -> Option<&KeptRow>
+/// The row in a map.
+fn row_of(pair: Option<&(u64, Shared<KeptRow>)>) -> Option<&KeptRow>
     ensures { option_copied result ≡ option_map (λ e. e.1) (option_copied pair.entry) }
 {
     match pair {
-        Some(pair) => Some(pair.1.row()),
+        Some(pair) => Some(pair.1.get()),
         None => None,
     }
 }

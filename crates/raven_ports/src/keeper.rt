@@ -2,7 +2,7 @@
 ghost use Rattle.std.specs.Prelude.{◌≡◌, ◌<◌, ◌≤◌, ◌↔◌, ℕ, List, length, true, Option, None, option_map, IfOk, IfSome, OnErr, OnOk, IsErrOf};
 ghost use Rattle.raven_data.specs.Kept as kept;
 ghost use Rattle.raven_data.specs.Kept.{EtagsRise, keep_all, kept_after, last_kept};
-ghost use Rattle.raven_data.specs.Moments.{moments_end};
+ghost use Rattle.raven_data.specs.Limits.{moments_end};
 ghost use Rattle.raven_ports.specs.Faults.{Rose};
 ghost use Rattle.raven_ports.specs.Plan.{Plan, is_failing, one_later};
 

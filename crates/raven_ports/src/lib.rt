@@ -8,7 +8,6 @@ mod mem_keeper;
 mod memory;
 mod ports;
 mod rising;
-mod shared;
 mod still_clock;
 
 pub use keeper::{Clock, Keeper, KeeperFault, KeptRow, KeptRows};

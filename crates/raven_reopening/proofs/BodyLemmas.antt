@@ -18,7 +18,7 @@ use Rattle.index_tree.specs.Definitions.{Auto, Static}
 use Rattle.spec_server.specs.Opening.{AutoForm, StaticForm, body_form, form_of, is_part}
 use Rattle.spec_index.specs.World.{row_body}
 use Rattle.spec_store.proofs.KeyedLemmas.{differ_greater}
-use Rattle.raven_laws.proofs.MemberLemmas.{IsRising-put, pairs-entries}
+use Rattle.raven_data.proofs.MemberLemmas.{IsRising-put, pairs_of-entries_of}
 use Rattle.raven_reopening.specs.Form.{IsBody, IsDocument}
 use Rattle.raven_reopening.proofs.ReadLemmas.{IsReadBack, document-back}
 
@@ -75,7 +75,7 @@ member-sound k (entry l e ms) d h is = elim (bytes_eq k l) as (λ b. cond b (Som
 ] is
 
 pub object-sound : (ps : Pairs) → IsRising ps → ArePairsSound ps → IsSound (object (entries_of ps))
-object-sound ps up h = (subst (λ (x : Pairs). IsRising x) (sym (pairs-entries ps)) up, entries-sound ps h)
+object-sound ps up h = (subst (λ (x : Pairs). IsRising x) (sym (pairs_of-entries_of ps)) up, entries-sound ps h)
 
 -- HOW DEEP MEMBERS ARE
 
@@ -146,7 +146,7 @@ clean-clean (Some (num n)) = refl
 clean-clean (Some (text s)) = refl
 clean-clean (Some (array ds)) = refl
 clean-clean (Some (object ms)) =
-    ap (λ ps. not (list_any (λ m. is_own m.0) ps)) (pairs-entries (filter is_others (pairs_of ms))) ∙ ap not (none_own (pairs_of ms))
+    ap (λ ps. not (list_any (λ m. is_own m.0) ps)) (pairs_of-entries_of (filter is_others (pairs_of ms))) ∙ ap not (none_own (pairs_of ms))
 
 -- what was put is found
 member-put : (k : List ℕ) (d : Data) (ps : Pairs) → member k (entries_of (put k d ps)) ≡ Some d

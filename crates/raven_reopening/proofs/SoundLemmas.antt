@@ -23,7 +23,7 @@ use Rattle.raven_data.specs.Rising.{Pairs, IsRising, put}
 use Rattle.raven_data.specs.Scan.{is_too_deep, outside}
 use Rattle.raven_data.specs.Sound.{IsSound, AreSound}
 use Rattle.spec_store.proofs.StoreLemmas.{both_true}
-use Rattle.raven_laws.proofs.MemberLemmas.{IsRising-put}
+use Rattle.raven_data.proofs.MemberLemmas.{IsRising-put}
 use Rattle.raven_reopening.proofs.BodyLemmas.{ArePairsSound, put-sound, put-depth, object-sound}
 use Rattle.raven_reopening.proofs.LexLemmas.{AreGood, tokens-good}
 

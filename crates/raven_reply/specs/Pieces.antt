@@ -1,4 +1,4 @@
--- What stands at a member of a reply.
+-- The value of a member of a reply.
 use Rattle.raven_data.specs.Data.{Data, flag, text}
 use Rattle.spec_server.specs.Replies.{number}
 use Rattle.raven_value.specs.View.{data_of}

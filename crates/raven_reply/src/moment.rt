@@ -1,22 +1,20 @@
 //! Moments as they are printed.
 ghost use Rattle.std.specs.Prelude.{◌≡◌, ◌-◌, ◌*◌, min, pos, IfOk};
-ghost use Rattle.raven_data.specs.Moments.{moments_end, moment_text as spec_moment_text};
+ghost use Rattle.raven_data.specs.Limits.{moments_end};
+ghost use Rattle.raven_data.specs.Moments.{moment_text as spec_moment_text};
 
 use jiff_core::Timestamp;
 use jiff_fmt::temporal::DateTimePrinter;
 use raven_base::NoMemory;
-use raven_value::Text;
+use raven_value::{END_OF_MOMENTS, Text};
 use std::alloc::Global;
-
-// The last microsecond of the year 9998.
-const LAST_MOMENT: u64 = 253_370_764_799_999_999;
 
 // The instant of a moment, of which none is past the last.
 fn instant(moment: u64) -> Timestamp
     ensures { result.nanosecond ≡ pos (min moment (moments_end - 1) * 1000) }
 {
     Timestamp {
-        nanosecond: i128::from(moment.min(LAST_MOMENT)) * 1000,
+        nanosecond: i128::from(moment.min(END_OF_MOMENTS - 1)) * 1000,
     }
 }
 

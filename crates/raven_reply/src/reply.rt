@@ -4,7 +4,7 @@ use raven_base::Sequence;
 use raven_value::{Id, Ids, Name, Text, Value};
 use std::marker::Model;
 
-/// How far a batch brought an index. The two etags are equal exactly where there was nothing to do.
+/// How far a batch brought an index. The two etags are equal exactly if there was nothing to do.
 #[derive(Debug, Drop)]
 pub struct Pumping {
     pub from: u64,
@@ -26,7 +26,7 @@ impl Model for Pumping {
 /// Batches in the order of the numbers of their indexes.
 pub type Pumpings = Sequence<Pumping>;
 
-/// What is told of an index.
+/// What is reported of an index.
 #[derive(Debug, Drop)]
 pub struct Listing {
     /// What it was defined by.
@@ -76,7 +76,7 @@ pub enum BulkResult {
 /// What the commands of a transaction did, in order.
 pub type BulkResults = Sequence<BulkResult>;
 
-/// The answer to one request. Its fields are the members that are printed. Ids are in the spelling that is kept.
+/// The answer to one request. Its fields are the members that are printed. Ids are in the spelling of their rows.
 #[derive(Debug, Drop)]
 pub enum Reply {
     /// The document was put.
@@ -212,13 +212,13 @@ pub enum Reply {
         len: u64,
     },
 
-    /// The id stands in this other collection, which it keeps.
+    /// The id is in this other collection, in which it stays.
     CollectionChanged {
         at: u32,
         from: Text,
     },
 
-    /// Another vector stands there than the one that was expected.
+    /// Another vector was expected than that of the document.
     Conflict {
         at: u32,
         expected: Text,

@@ -16,7 +16,7 @@ use raven_json::{write, write_text};
 use raven_value::{Id, Value};
 use std::alloc::Global;
 
-/// What stands at a member.
+/// The value of a member.
 #[derive(Clone, Copy)]
 pub enum Piece<'a> {
     Text(&'a str),
@@ -443,7 +443,7 @@ fn write_removed(alloc: Global, out: &mut Vec<u8>, name: &str) -> Result<(), NoM
     write_object(alloc, out, &[("Removed", Piece::Text(name))])
 }
 
-/// The reply as JSON behind what stands in `out`, without a line end.
+/// Adds the reply as JSON to `out`, without a line end.
 fn write_reply(alloc: Global, out: &mut Vec<u8>, reply: &Reply) -> Result<(), NoMemory>
     ensures { OnOk result (out.new.items ≡ out.old.items ++ text_of (reply_data (reply_view reply.now))) }
 {

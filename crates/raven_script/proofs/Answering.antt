@@ -22,7 +22,7 @@ use Rattle.raven_script.specs.declared.request.Line.{Line}
 use Rattle.raven_script.specs.declared.request.ReadRefusal.{ReadRefusal}
 use Rattle.raven_script.specs.declared.request.ReadRefusal.TheVariants as refusal
 
--- a reading is an answer, also of want of memory
+-- a reading is an answer, also if memory runs out
 reading : (asked : Asked) (result : Result (Option Line) ReadRefusal) → IsReading asked result → Answers asked result
 reading asked (Ok found) h = h
 reading asked (Err refusal.UnknownLine) h = h

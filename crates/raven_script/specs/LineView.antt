@@ -13,12 +13,12 @@ pub record IsReading (asked : Asked) (result : Result (Option Line) ReadRefusal)
   pub comes : Comes asked read
   pub told : Reads (option_map line_view) result read
 
--- want of memory says nothing
+-- out of memory says nothing
 abbrev pub Answers : Asked → Result (Option Line) ReadRefusal → Type 0
 Answers asked (Err refusal.NoMemory) = Unit {0}
 Answers asked result = IsReading asked result
 
--- what a line asks, by what stands behind its word `INDEX`, if it is such a line
+-- what a line asks, by what follows its word `INDEX`, if it is such a line
 abbrev pub asked_behind : List ℕ → Option (List ℕ) → Asked
 asked_behind line None = Plain (line_of line)
 asked_behind line (Some rest) = asked_to_define (index_of rest)

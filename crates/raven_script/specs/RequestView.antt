@@ -33,7 +33,7 @@ request_view r.Stats = is.Stats
 abbrev pub line_view : Line → read.Line
 line_view (l.Do request) = read.Do (request_view request)
 
--- the text has this fault; want of memory is none
+-- the text has this fault; out of memory is none
 abbrev pub IsBadId : {A : Type 0} → Option Fault → Result A read.ReadRefusal → Type 0
 IsBadId None reading = ⊥
 IsBadId (Some fault) reading = reading ≡ Err (read.BadId fault)
@@ -43,7 +43,7 @@ abbrev pub IsBadName : {A : Type 0} → Option Fault → Result A read.ReadRefus
 IsBadName None reading = ⊥
 IsBadName (Some fault) reading = reading ≡ Err (read.BadName fault)
 
--- each refusal is that of what is read; want of memory alone may come anywhere
+-- each refusal is that of what is read; memory alone may run out at any point
 abbrev pub Refuses : {A : Type 0} → ReadRefusal → Result A read.ReadRefusal → Type 0
 Refuses refusal.UnknownLine reading = reading ≡ Err read.UnknownLine
 Refuses refusal.NotJson reading = reading ≡ Err (read.BadJson not_json)
@@ -55,7 +55,7 @@ Refuses (refusal.BadMember name) reading = reading ≡ Err (read.BadMember name)
 Refuses (refusal.BadDefinition part at kind) reading = reading ≡ Err (read.BadDefinition (refusal_view part at kind))
 Refuses refusal.NoMemory reading = Unit {0}
 
--- it tells of this member
+-- it names this member
 abbrev pub IsBadMember : List ℕ → ReadRefusal → Type 0
 IsBadMember name (refusal.BadMember told) = told ≡ name
 IsBadMember name refusal.NoMemory = Unit {0}

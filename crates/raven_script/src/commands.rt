@@ -15,18 +15,6 @@ use raven_base::NoMemory;
 use raven_value::{Id, Members, Text, Value};
 use std::alloc::Global;
 
-/// The member of this name.
-pub fn member_of<'a>(
-    alloc: Global,
-    members: &'a Members,
-    name: &str,
-) -> Result<Option<&'a Value>, NoMemory>
-    ensures { IfOk result (λ found. option_map (λ v. data_of v.now) found ≡ member name.now (entries_of members.now)) }
-{
-    let name = Text::of(alloc, name)?;
-    Ok(members.get(&name))
-}
-
 #[tactic(auto, using(crate::proofs::Readings::members))]
 fn id_member(alloc: Global, value: Option<&Value>) -> Result<Id, ReadRefusal>
     ensures { Reads (λ id. id) result (spec_id_member (option_map (λ v. data_of v.now) value.entry)) }
@@ -71,15 +59,15 @@ fn document_member(alloc: Global, value: Option<&Value>) -> Result<Value, ReadRe
 fn put_command(alloc: Global, members: &Members) -> Result<Command, ReadRefusal>
     ensures { Reads command_view result (spec_put_command (entries_of members.now)) }
 {
-    let id = match id_member(alloc, member_of(alloc, members, "Id")?) {
+    let id = match id_member(alloc, members.get("Id")) {
         Ok(id) => id,
         Err(refusal) => return Err(refusal),
     };
-    let expected = match vector_member(alloc, member_of(alloc, members, "ChangeVector")?) {
+    let expected = match vector_member(alloc, members.get("ChangeVector")) {
         Ok(expected) => expected,
         Err(refusal) => return Err(refusal),
     };
-    match document_member(alloc, member_of(alloc, members, "Document")?) {
+    match document_member(alloc, members.get("Document")) {
         Ok(body) => Ok(Command::Put { id, expected, body }),
         Err(refusal) => Err(refusal),
     }
@@ -89,11 +77,11 @@ fn put_command(alloc: Global, members: &Members) -> Result<Command, ReadRefusal>
 fn delete_command(alloc: Global, members: &Members) -> Result<Command, ReadRefusal>
     ensures { Reads command_view result (spec_delete_command (entries_of members.now)) }
 {
-    let id = match id_member(alloc, member_of(alloc, members, "Id")?) {
+    let id = match id_member(alloc, members.get("Id")) {
         Ok(id) => id,
         Err(refusal) => return Err(refusal),
     };
-    match vector_member(alloc, member_of(alloc, members, "ChangeVector")?) {
+    match vector_member(alloc, members.get("ChangeVector")) {
         Ok(expected) => Ok(Command::Delete { id, expected }),
         Err(refusal) => Err(refusal),
     }
@@ -103,7 +91,7 @@ fn delete_command(alloc: Global, members: &Members) -> Result<Command, ReadRefus
 fn typed_command(alloc: Global, members: &Members) -> Result<Command, ReadRefusal>
     ensures { Reads command_view result (spec_typed_command (member (codes "Type") (entries_of members.now)) (entries_of members.now)) }
 {
-    match member_of(alloc, members, "Type")? {
+    match members.get("Type") {
         Some(Value::Text(text)) if text.as_str() == "PUT" => put_command(alloc, members),
         Some(Value::Text(text)) if text.as_str() == "DELETE" => delete_command(alloc, members),
         _ => Err(bad_member(alloc, "Type")),
@@ -166,7 +154,7 @@ pub fn commands_of(alloc: Global, value: &Value) -> Result<Commands, ReadRefusal
     ensures { Reads (λ commands. map command_view commands) result (spec_commands_of (data_of value.now)) }
 {
     match value {
-        Value::Map(members) => commands_in(alloc, member_of(alloc, members, "Commands")?),
+        Value::Map(members) => commands_in(alloc, members.get("Commands")),
         _ => Err(bad_member(alloc, "body")),
     }
 }

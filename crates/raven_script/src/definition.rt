@@ -8,7 +8,6 @@ ghost use Rattle.raven_script.specs.LineView.{Answers};
 ghost use Rattle.raven_script.specs.RequestView.{Reads};
 
 use crate::body::{bad_member, json_of, name_of};
-use crate::commands::member_of;
 use crate::request::{Line, ReadRefusal, Request};
 use index_definition::{Definition, LangRefusal};
 use index_lang::{only_item, parse, text_in};
@@ -27,12 +26,6 @@ fn name_member(alloc: Global, value: Option<&Value>) -> Result<Name, ReadRefusal
     }
 }
 
-fn copy(text: &Text) -> Result<Text, NoMemory>
-    ensures { IfOk result (λ copy. copy ≡ text.now) }
-{
-    Ok(text.clone()?)
-}
-
 fn share(alloc: Global, definition: Definition) -> Result<Arc<Definition>, NoMemory>
     ensures { IfOk result (λ shared. shared.value ≡ definition) }
 {
@@ -45,7 +38,7 @@ fn only_text(alloc: Global, maps: &Value, map: Option<&Value>) -> Result<Text, R
     ensures { Reads (λ text. text) result (spec_map_member (Some (data_of maps.now)) (option_map (λ v. data_of v.now) map.entry)) }
 {
     match text_in(only_item(Some(maps))) {
-        Some(text) => Ok(copy(text)?),
+        Some(text) => Ok(Text::of(alloc, text.as_str())?),
         None => Err(bad_member(alloc, "Maps")),
     }
 }
@@ -58,7 +51,7 @@ fn map_member(alloc: Global, maps: Option<&Value>, map: Option<&Value>) -> Resul
         return only_text(alloc, maps, map);
     }
     match map {
-        Some(Value::Text(text)) => Ok(copy(text)?),
+        Some(Value::Text(text)) => Ok(Text::of(alloc, text.as_str())?),
         Some(_) => Err(bad_member(alloc, "Map")),
         None => Err(bad_member(alloc, "Maps")),
     }
@@ -80,16 +73,15 @@ fn no_reduce(alloc: Global, reduce: Option<&Value>) -> Result<(), ReadRefusal>
 fn texts_in(alloc: Global, members: &Members) -> Result<(Name, Text), ReadRefusal>
     ensures { Reads (λ texts. (texts.0, texts.1)) result (spec_texts_in (entries_of members.now)) }
 {
-    let name = match name_member(alloc, member_of(alloc, members, "Name")?) {
+    let name = match name_member(alloc, members.get("Name")) {
         Ok(name) => name,
         Err(refusal) => return Err(refusal),
     };
-    let maps = member_of(alloc, members, "Maps")?;
-    let map = match map_member(alloc, maps, member_of(alloc, members, "Map")?) {
+    let map = match map_member(alloc, members.get("Maps"), members.get("Map")) {
         Ok(map) => map,
         Err(refusal) => return Err(refusal),
     };
-    match no_reduce(alloc, member_of(alloc, members, "Reduce")?) {
+    match no_reduce(alloc, members.get("Reduce")) {
         Ok(()) => Ok((name, map)),
         Err(refusal) => Err(refusal),
     }

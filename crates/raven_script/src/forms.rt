@@ -93,7 +93,7 @@ fn max_of(text: &str) -> Result<u32, ReadRefusal>
     }
 }
 
-// Each index is brought on.
+// Each index catches up by one batch.
 #[tactic(auto, using(crate::proofs::Readings::readings))]
 fn pump_all(more: &str) -> Result<Request, ReadRefusal>
     ensures { Reads request_view result (pump_read more.now None) }
@@ -104,7 +104,7 @@ fn pump_all(more: &str) -> Result<Request, ReadRefusal>
     }
 }
 
-// One index is brought on. The number is read before the name.
+// One index catches up by one batch. The number is read before the name.
 #[tactic(auto, using(crate::proofs::Readings::readings))]
 fn pump_one(alloc: Global, max: &str, index: &str) -> Result<Request, ReadRefusal>
     ensures { Reads request_view result (pump_read [] (Some (max.now, index.now))) }
@@ -236,7 +236,7 @@ fn plain_line(alloc: Global, bytes: &[u8]) -> Result<Option<Line>, ReadRefusal>
     }
 }
 
-// What stands behind the word `INDEX`, if the line begins with it.
+// What follows the word `INDEX`, if the line begins with it.
 #[tactic(auto, using(crate::proofs::Asking::asking))]
 fn behind_index(bytes: &[u8]) -> Option<&str>
     ensures { asked_of bytes.now ≡ asked_behind bytes.now (option_map (λ t. t.now) result) }
@@ -248,7 +248,7 @@ fn behind_index(bytes: &[u8]) -> Option<&str>
     if word == "INDEX" { Some(rest) } else { None }
 }
 
-/// What a line of a script asks: nothing, exactly where it has no bytes. Where it defines an index, its definition is what the text of its map says, or it
+/// What a line of a script asks: nothing, exactly if it has no bytes. If it defines an index, its definition is what the text of its map says, or it
 /// is refused as the text is.
 #[tactic(auto, using(crate::proofs::Answering::answering))]
 pub fn line(alloc: Global, bytes: &[u8]) -> Result<Option<Line>, ReadRefusal>

@@ -16,7 +16,7 @@ pub enum Request {
     Put {
         /// The id of the document.
         id: Id,
-        /// What has to stand there.
+        /// The vector that the document has to have.
         expected: Expect,
         /// The document.
         body: Value,
@@ -26,7 +26,7 @@ pub enum Request {
     Delete {
         /// The id of the document.
         id: Id,
-        /// What has to stand there.
+        /// The vector that the document has to have.
         expected: Expect,
     },
 
@@ -72,26 +72,26 @@ pub enum Request {
         text: Text,
     },
 
-    /// Bring each index, or the one that is named, on by one batch.
+    /// Let each index, or the one that is named, catch up by one batch.
     Pump {
         /// How many rows a batch may take, from 1 to 65,536.
         max: u32,
-        /// The name of the index, where only one is brought on.
+        /// The name of the index, if only one is to catch up.
         index: Option<Name>,
     },
 
-    /// Tell how far an index is.
+    /// Report how far an index is.
     Stale {
         /// The name of the index.
         name: Name,
-        /// The greatest etag that counts, where there is one.
+        /// The greatest etag that counts, if there is one.
         cutoff: Option<u64>,
     },
 
-    /// Tell of each index.
+    /// Report on each index.
     Indexes,
 
-    /// Tell how much the database has.
+    /// Report how much the database has.
     Stats,
 }
 
@@ -121,11 +121,11 @@ pub enum ReadRefusal {
     #[error("the JSON is more than 100 deep")]
     TooDeep,
 
-    /// The text can be no id. Want of memory is never told so.
+    /// The text is not an id. Out of memory is never reported so.
     #[error("the text can be no id: {0}")]
     BadId(IdRefusal),
 
-    /// The text can be no name. Want of memory is never told so.
+    /// The text is not a name. Out of memory is never reported so.
     #[error("the text can be no name: {0}")]
     BadName(IdRefusal),
 
@@ -147,7 +147,7 @@ pub enum ReadRefusal {
         kind: LangKind,
     },
 
-    /// No memory was found.
+    /// Out of memory.
     #[error("no memory was found")]
     NoMemory,
 }

@@ -8,7 +8,7 @@ use crate::request::ReadRefusal;
 /// The most digits of a number.
 const MAX_DIGITS: usize = 16;
 
-// The first word, and what stands behind the space after it. There is none where no space stands.
+// The first word, and what follows the space after it. There is none if there is no space.
 #[tactic(auto, using(crate::proofs::WordLemmas::splits))]
 fn split_word(text: &str) -> Option<(&str, &str)>
     ensures { MatchOption result (after_space text.now ≡ None)
@@ -17,7 +17,7 @@ fn split_word(text: &str) -> Option<(&str, &str)>
     text.split_once(' ')
 }
 
-/// The first word and the rest behind its space, where both have a byte.
+/// The first word and the rest after its space, if both have a byte.
 #[tactic(auto, using(crate::proofs::WordLemmas::parts))]
 pub fn word_and_rest(text: &str) -> Option<(&str, &str)>
     ensures { MatchOption result (spec_word_and_rest text.now ≡ None) (λ parts. spec_word_and_rest text.now ≡ Some (parts.0.now, parts.1.now)) }
@@ -29,7 +29,7 @@ pub fn word_and_rest(text: &str) -> Option<(&str, &str)>
     Some((word, rest))
 }
 
-/// The first word and the rest behind its space, or an unknown line.
+/// The first word and the rest after its space, or an unknown line.
 pub fn parts(text: &str) -> Result<(&str, &str), ReadRefusal>
     ensures { Reads (λ p. (p.0.now, p.1.now)) result (parts_read text.now) }
 {

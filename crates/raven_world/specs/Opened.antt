@@ -1,4 +1,4 @@
--- Which row stands against opening a world, and what is taken of one.
+-- Which row keeps a world from being opened, and what is taken of one.
 use Rattle.std.specs.Prelude.{◌≡◌, ℕ, List, [], ◌++◌, ◌⊎◌, Bool, Option, Some, None, Ok, drop, length, if◌then◌else◌}
 use Rattle.raven_data.specs.Rows.{Row}
 use Rattle.spec_store.specs.Commit.{Setting}

@@ -1,8 +1,10 @@
--- What the answers of a world tell of a change of the machine.
+-- What the answers of a world say of a change of the machine.
 use Rattle.std.specs.Prelude.{◌≡◌, ℕ, List, Option, Some, None, Result, Ok, Err}
 use Rattle.spec_index.specs.World as is
-use Rattle.spec_server.specs.Machine.{Machine, Change as Asked, Auto, one_field, no_change, change_of}
+use Rattle.spec_server.specs.Machine.{Machine, Request, Change as Asked, Auto, Define, one_field, no_change, change_of}
 use Rattle.spec_index.specs.Optimiser.{Make, pick}
+use Rattle.index_definition.specs.DefinitionView.{definition_view}
+use Rattle.index_definition.specs.declared.definition.Definition.{Definition}
 use Rattle.raven_reply.specs.ReplyView.{reply_view}
 use Rattle.raven_world.specs.declared.world.Change.{Change}
 use Rattle.raven_world.specs.declared.world.WorldFault.{WorldFault}
@@ -16,7 +18,11 @@ machine_of W = record { world = W }
 abbrev pub change_view : Change → Asked
 change_view c = record { reply = reply_view c.reply; machine = machine_of c.world; rows = c.rows }
 
--- a change tells the reply, the new world and the rows to keep, and a refusal leaves the world as it was
+-- the request to define an index so
+abbrev pub define_as : Definition → Request
+define_as d = Define d.name (definition_view d.body)
+
+-- a change has the reply, the new world and the rows to store, and a refusal leaves the world as it was
 abbrev pub told : is.World → Result Change WorldFault → Option Asked
 told W (Ok c) = Some (change_view c)
 told W (Err (Refused reply)) = Some (no_change (machine_of W) (reply_view reply))

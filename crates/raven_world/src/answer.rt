@@ -1,7 +1,6 @@
 //! Answers that change nothing.
-ghost use Rattle.std.specs.Prelude.{◌≡◌, IfOk, OnOk, length, map, option_map};
-ghost use Rattle.raven_data.specs.Data.{entries_of, object, text as spec_text};
-ghost use Rattle.raven_data.specs.Rising.{put};
+ghost use Rattle.std.specs.Prelude.{◌≡◌, IfOk, length, map, option_map};
+ghost use Rattle.raven_data.specs.Data.{entries_of, object};
 ghost use Rattle.raven_value.specs.View.{data_of};
 ghost use Rattle.spec_server.specs.Machine.{answer_get, answer_indexes, answer_stale, answer_stats, listing as spec_listing, members_of, shown as spec_shown, shown_metadata as spec_shown_metadata};
 ghost use Rattle.spec_index.specs.World.{serving as spec_serving};
@@ -11,20 +10,13 @@ ghost use Rattle.raven_reply.specs.ReplyView.{reply_view};
 use crate::choice::is_stale;
 use crate::slot::{Slot, serving};
 use crate::world::World;
-use crate::write::spelling;
 use doc_store::Store;
-use doc_txn::{BaseId, vector};
+use doc_txn::{BaseId, spelling, vector};
 use index_lang::definition_value;
 use raven_base::NoMemory;
 use raven_reply::{Listing, Listings, Reply, moment_text};
 use raven_value::{Body, Id, Members, Name, Row, Text, Value};
 use std::alloc::Global;
-
-fn put_text(alloc: Global, members: &mut Members, name: &str, text: Text) -> Result<(), NoMemory>
-    ensures { OnOk result (members.new ≡ put name.now (spec_text text) members.old) }
-{
-    members.put(Text::of(alloc, name)?, Value::Text(text))
-}
 
 // The members of an object, and none of any other value.
 #[tactic(auto, using(crate::proofs::Pairs::pairs))]
@@ -53,15 +45,11 @@ fn shown_metadata(
     let collection = row.collection.clone()?;
     let id = Text::of(alloc, row.id.as_str())?;
     let changed = moment_text(alloc, row.changed)?;
-    put_text(alloc, &mut members, "@last-modified", changed)?;
-    put_text(alloc, &mut members, "@id", id)?;
-    put_text(alloc, &mut members, "@collection", collection)?;
-    put_text(
-        alloc,
-        &mut members,
-        "@change-vector",
-        vector(alloc, row.etag, base)?,
-    )?;
+    let vector = vector(alloc, row.etag, base)?;
+    members.put_at(alloc, "@last-modified", Value::Text(changed))?;
+    members.put_at(alloc, "@id", Value::Text(id))?;
+    members.put_at(alloc, "@collection", Value::Text(collection))?;
+    members.put_at(alloc, "@change-vector", Value::Text(vector))?;
     Ok(members)
 }
 
@@ -75,9 +63,8 @@ fn shown_members(
     ensures { IfOk result (λ value. data_of value ≡ spec_shown base.now row.now (object (entries_of members))) }
 {
     let mut shown = members;
-    let name = Text::of(alloc, "@metadata")?;
-    let metadata = shown_metadata(alloc, base, row, shown.get(&name))?;
-    shown.put(name, Value::Map(metadata))?;
+    let metadata = shown_metadata(alloc, base, row, shown.get("@metadata"))?;
+    shown.put_at(alloc, "@metadata", Value::Map(metadata))?;
     Ok(Value::Map(shown))
 }
 
@@ -91,7 +78,7 @@ fn shown(alloc: Global, base: &BaseId, row: &Row, document: &Value) -> Result<Va
     }
 }
 
-// What is told of an index.
+// What is reported of an index.
 fn listing(alloc: Global, store: &Store, slot: &Slot) -> Result<Listing, NoMemory>
     ensures { IfOk result (λ listing. listing ≡ spec_listing store.now slot.now) }
 {
@@ -116,7 +103,7 @@ fn listings(alloc: Global, store: &Store, slots: &[Slot]) -> Result<Vec<Listing>
     Ok(listings)
 }
 
-/// The reply where no index serves the name.
+/// The reply if no index serves the name.
 pub fn no_index(alloc: Global, name: &Name) -> Result<Reply, NoMemory>
     ensures { IfOk result (λ reply. reply_view reply ≡ NoIndexOf name.now) }
 {
@@ -130,17 +117,18 @@ impl World {
     pub fn get(&self, alloc: Global, id: &Id) -> Result<Reply, NoMemory>
         ensures { IfOk result (λ reply. reply_view reply ≡ answer_get self.now id.now) }
     {
-        if let Some(row) = self.store.get(id) {
+        let row = self.store.get(id);
+        if let Some(row) = row {
             if let Body::Doc(document) = &row.body {
                 let document = shown(alloc, &self.base, row, document.value())?;
                 return Ok(Reply::Document { document });
             }
         }
-        let id = spelling(&self.store, id)?;
+        let id = spelling(id, row)?;
         Ok(Reply::NoDocument { id })
     }
 
-    /// How far an index is, whether it lags, and the newest etag that it reads, up to a cutoff where one is given.
+    /// How far an index is, whether it lags, and the newest etag that it reads, up to a cutoff if one is given.
     pub fn stale(&self, alloc: Global, name: &Name, cutoff: Option<u64>) -> Result<Reply, NoMemory>
         ensures { IfOk result (λ reply. reply_view reply ≡ answer_stale self.now name.now cutoff (spec_serving self.now.slots name.now)) }
     {

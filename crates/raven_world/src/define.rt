@@ -1,17 +1,17 @@
 //! Indexes that are defined and removed, and the rows of their definitions.
 ghost use Rattle.std.specs.Prelude.{◌≡◌, ◌+◌, ◌++◌, ◌∷◌, [], IfOk, IfSome, Ok, length, map, nat_le};
 ghost use Rattle.spec_store.specs.Commit.{AnyVector, Delete, Put, Server, commit as spec_commit};
-ghost use Rattle.spec_server.specs.Machine.{Define, Remove, change_of, reslotted, rewrote};
+ghost use Rattle.spec_server.specs.Machine.{Remove, change_of, reslotted, rewrote};
 ghost use Rattle.spec_server.specs.Replies.{Index as IndexOf, Removed as RemovedOf};
 ghost use Rattle.spec_store.specs.Store.{last};
 ghost use Rattle.spec_index.specs.World.{added, added_if_room, fresh, index_id as spec_index_id, row_body as spec_row_body};
 ghost use Rattle.doc_txn.specs.CommandView.{command_view};
 ghost use Rattle.index_definition.specs.DefinitionView.{definition_view};
 ghost use Rattle.raven_reply.specs.ReplyView.{reply_view};
-ghost use Rattle.raven_world.specs.Told.{machine_of, told};
+ghost use Rattle.raven_world.specs.Told.{define_as, machine_of, told};
 
 use crate::answer::no_index;
-use crate::naming::{LONGEST, index_id, is_reserved_name};
+use crate::naming::{index_id, is_reserved_name};
 use crate::slot::{Slot, copies, fresh_slot, others, serving};
 use crate::world::{Change, World, WorldFault};
 use crate::write::refused_at;
@@ -20,11 +20,11 @@ use index_definition::{Definition, same};
 use index_lang::row_body;
 use raven_base::NoMemory;
 use raven_reply::Reply;
-use raven_value::Name;
+use raven_value::{MAX_INDEX_NAME, Name};
 use std::alloc::Global;
 use std::sync::Arc;
 
-/// The reply that tells the name of an index.
+/// The reply that reports the name of an index.
 pub fn index_reply(name: &Name) -> Result<Reply, NoMemory>
     ensures { IfOk result (λ reply. reply_view reply ≡ IndexOf name.now) }
 {
@@ -146,20 +146,20 @@ impl World {
         self.rewrite(alloc, &commands, slots, reply, now)
     }
 
-    /// Defines an index by name. Where the name serves with the same definition, nothing changes.
+    /// Defines an index by name. If the name serves with the same definition, nothing changes.
     pub fn define(
         &self,
         alloc: Global,
         definition: Arc<Definition>,
         now: u64,
     ) -> Result<Change, WorldFault>
-        ensures { IfSome (told self.now result) (λ change. change ≡ change_of (machine_of self.now) now (Define definition.value.name (definition_view definition.value.body))) }
+        ensures { IfSome (told self.now result) (λ change. change ≡ change_of (machine_of self.now) now (define_as definition.value)) }
     {
         let name = definition.name.as_str();
         if is_reserved_name(name) {
             return Err(WorldFault::Refused(Reply::ReservedName));
         }
-        if name.len() > LONGEST {
+        if name.len() > MAX_INDEX_NAME {
             let len = name.len() as u64;
             return Err(WorldFault::Refused(Reply::NameTooLong { len }));
         }

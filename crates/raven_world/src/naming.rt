@@ -11,11 +11,8 @@ ghost use Rattle.spec_index.specs.World.{index_id as spec_index_id, is_reserved_
 use crate::slot::{Slot, serving};
 use index_definition::DefBody;
 use raven_base::NoMemory;
-use raven_value::{Id, IdRefusal, Name, Text, starts_folded};
+use raven_value::{Id, IdRefusal, MAX_INDEX_NAME, Name, Text, starts_folded};
 use std::alloc::Global;
-
-/// The longest name of a definition, in bytes.
-pub(crate) const LONGEST: usize = 200;
 
 /// Whether some slot serves the name.
 pub fn is_served(slots: &[Slot], name: &str) -> bool
@@ -73,7 +70,7 @@ pub fn auto_name(
     ensures { IfOk result (λ name. name ≡ name_of slots.now number (one_field collection.now field.now)) }
 {
     let plain = first_free(alloc, slots, plain_name(alloc, collection, field)?)?;
-    if plain.len() <= LONGEST {
+    if plain.len() <= MAX_INDEX_NAME {
         match Name::new(alloc, plain.as_str()) {
             Ok(name) => return Ok(name),
             Err(IdRefusal::NoMemory) => return Err(NoMemory),
@@ -102,12 +99,13 @@ fn numbered_name(alloc: Global, slots: &[Slot], number: u64) -> Result<Name, NoM
     }
 }
 
-/// The name of an index, where a text can be one: of an automatic index it begins with `Auto/`, and of another with nothing that is the server's.
+/// The name of an index, if the text can be one. The name of an automatic index begins with `Auto/`, and no other name begins with a prefix that
+/// is the server's.
 #[tactic(auto, using(crate::proofs::Openings::names))]
 pub fn read_name(alloc: Global, body: &DefBody, text: &str) -> Result<Option<Name>, NoMemory>
     ensures { IfOk result (λ name. name ≡ if may_be_named (definition_view body.now) text.now then Some text.now else None) }
 {
-    if text.len() > LONGEST || !is_of_kind(body, text) {
+    if text.len() > MAX_INDEX_NAME || !is_of_kind(body, text) {
         return Ok(None);
     }
     match Name::new(alloc, text) {

@@ -1,4 +1,4 @@
-//! The world of rows that were kept.
+//! The world of stored rows.
 ghost use Rattle.std.specs.Prelude.{◌≡◌, ◌<◌, ◌^◌, ℕ, List, [], ◌++◌, ◌∷◌, IfErr, IfOk, IsTrue, None, Some, drop, if◌then◌else◌, length, option_map};
 ghost use Rattle.doc_store.specs.Opening.{first_bad};
 ghost use Rattle.doc_txn.specs.SettingView.{setting_of};
@@ -13,23 +13,17 @@ use crate::naming::read_name;
 use crate::slot::{Slot, fresh_slot};
 use crate::world::World;
 use doc_store::{OpenFault, Store};
-use doc_txn::{BaseId, Limits};
+use doc_txn::{BaseId, Limits, is_index_id};
 use index_definition::{DefBody, Definition};
 use index_lang::of_row_body;
 use index_version::is_document;
 use raven_base::NoMemory;
-use raven_value::{Body, Id, Row, Rows, starts_folded};
+use raven_value::{Body, Id, Row, Rows};
 use std::alloc::Global;
 use std::sync::Arc;
 
-/// How many bytes stand before the name in the id of the row of a definition.
+/// How many bytes are before the name in the id of the row of a definition.
 const FRONT: usize = 7;
-
-fn is_index_id(id: &Id) -> bool
-    ensures { result ≡ spec_is_index_id id.now }
-{
-    starts_folded(id.as_str().as_bytes(), b"@index/")
-}
 
 fn is_defining(row: &Row) -> bool
     ensures { result ≡ spec_is_defining row.now }
@@ -74,7 +68,7 @@ fn name_in(id: &Id) -> &str
     &id.as_str()[FRONT..]
 }
 
-// The index of the row of this definition, and nothing where it cannot have its name.
+// The index of the row of this definition, or nothing if it cannot have its name.
 fn slot_of(alloc: Global, row: &Row, body: DefBody) -> Result<Option<Slot>, NoMemory>
     requires { IsTrue (spec_is_index_id row.now.id) }
     ensures { IfOk result (λ slot. (slots : List Slot) → option_map (λ s. slots ++ s ∷ []) slot ≡ with_slot slots row.now (Some (definition_view body))) }
@@ -90,7 +84,7 @@ fn slot_of(alloc: Global, row: &Row, body: DefBody) -> Result<Option<Slot>, NoMe
     Ok(Some(fresh_slot(alloc, row.etag, name, definition)?))
 }
 
-// Adds the index of a row of a definition. It is false where there is none, and nothing is added then.
+// Adds the index of a row of a definition. It returns false if there is none, and adds nothing then.
 fn take_index(
     alloc: Global,
     slots: &mut Vec<Slot>,
@@ -112,8 +106,8 @@ fn take_index(
     }
 }
 
-// Adds the index of a row that stands behind so many others, if it is the live row of a definition. It is false where the row
-// is bad, and nothing is added then.
+// Adds the index of a row that follows so many others, if it is the live row of a definition. It returns false if the row is
+// bad, and adds nothing then.
 fn take_row(
     alloc: Global,
     limits: &Limits,
@@ -137,12 +131,13 @@ impl World {
     /// The database of these rows, in order of etag: each live row of the collection `@indexes` is an index that has recorded
     /// nothing yet, and there are no others.
     ///
-    /// A row is bad where `Store::open` refuses it. Where it refuses none, a row is bad where there are as many rows before it
-    /// as may be; where it is the live row of a definition, and there are as many indexes before it as may be; where its id
-    /// begins with `@index/`, without regard to case, and its collection is another than `@indexes`, or the other way round;
-    /// and where it is the live row of a definition, and its body is neither that of an automatic index of one field nor that
-    /// of a map by a text of the language, or the rest of its id cannot be the name of such an index. Of several the first is
-    /// told.
+    /// The first bad row is reported: first one that `Store::open` refuses, and if it refuses none, the first of these:
+    /// - a row with as many rows before it as the limit allows;
+    /// - the live row of a definition with as many indexes before it as the limit allows;
+    /// - a row whose id begins with `@index/`, without regard to case, and whose collection is not `@indexes`, or the other way
+    ///   round;
+    /// - the live row of a definition whose body is neither that of an automatic index of one field nor that of a map by a text
+    ///   of the language, or the rest of whose id cannot be the name of such an index.
     #[tactic(auto, using(crate::proofs::Openings::opening))]
     pub fn open(
         alloc: Global,

@@ -121,7 +121,7 @@ fn one_brought_on(
     Ok(new)
 }
 
-// What a batch does to one slot, told as a list.
+// What a batch does to one slot, as a list.
 fn pumping_alone(alloc: Global, store: &Store, max: u32, slot: &Slot) -> Result<Pumpings, NoMemory>
     ensures { IfOk result (λ pumped. pumped ≡ pumping store.now max slot.now ∷ []) }
 {
@@ -132,7 +132,7 @@ fn pumping_alone(alloc: Global, store: &Store, max: u32, slot: &Slot) -> Result<
 }
 
 impl World {
-    /// Brings each index on by one batch of at most `max` rows.
+    /// Each index catches up by one batch of at most `max` rows.
     pub fn pump(&self, alloc: Global, max: u32) -> Result<Change, NoMemory>
         ensures { IfOk result (λ change. change_view change ≡ pump (machine_of self.now) max) }
     {
@@ -145,7 +145,7 @@ impl World {
         Ok(Change { world, rows, reply })
     }
 
-    /// Brings the index of this name on by one batch of at most `max` rows.
+    /// The index of this name catches up by one batch of at most `max` rows.
     pub fn pump_one(&self, alloc: Global, max: u32, name: &Name) -> Result<Change, WorldFault>
         ensures { IfSome (told self.now result) (λ change. change ≡ pump_at (machine_of self.now) max name.now (spec_serving self.now.slots name.now)) }
     {

@@ -14,7 +14,7 @@ use std::sync::Arc;
 /// A live index, which its copies share.
 #[derive(Drop)]
 pub struct Slot {
-    /// The etag at which it was made, by which it is told from every other.
+    /// The etag at which it was made, which no other has.
     pub number: u64,
 
     /// The name that it serves.

@@ -1,7 +1,7 @@
 //! Writes of clients.
 ghost use Rattle.std.specs.Prelude.{◌≡◌, ◌∷◌, [], IfOk, IfSome, map, string_bytes};
 ghost use Rattle.raven_data.specs.Folding.{folded};
-ghost use Rattle.spec_server.specs.Machine.{refused_at as spec_refused_at, result_of as spec_result_of, results_of as spec_results_of, in_world, single_reply, spelling as spec_spelling, write};
+ghost use Rattle.spec_server.specs.Machine.{refused_at as spec_refused_at, result_of as spec_result_of, results_of as spec_results_of, in_world, single_reply, write};
 ghost use Rattle.spec_server.specs.Replies.{Bulk};
 ghost use Rattle.doc_txn.specs.CommandView.{command_view};
 ghost use Rattle.doc_txn.specs.FaultView.{kind_view};
@@ -13,11 +13,11 @@ use crate::slot::copies;
 use crate::world::{Change, World, WorldFault};
 use doc_store::Store;
 use doc_txn::{
-    BaseId, Command, Commands, Transaction, TxnFault, TxnKind, Writer, transact, vector,
+    BaseId, Command, Commands, Transaction, TxnFault, TxnKind, Writer, spelling, transact, vector,
 };
 use raven_base::NoMemory;
 use raven_reply::{BulkResult, BulkResults, Reply};
-use raven_value::{Id, Text};
+use raven_value::Text;
 use std::alloc::Global;
 
 /// The reply to a transaction whose command at this place is refused.
@@ -38,16 +38,6 @@ pub(crate) fn refused_at(at: u32, kind: TxnKind) -> Reply
     }
 }
 
-/// The id as its row spells it, or as it was given where no row stands.
-pub(crate) fn spelling(store: &Store, id: &Id) -> Result<Id, NoMemory>
-    ensures { IfOk result (λ spelled. spelled ≡ spec_spelling store.now id.now) }
-{
-    match store.get(id) {
-        Some(row) => Ok(row.id.clone()?),
-        None => Ok(id.clone()?),
-    }
-}
-
 // What a command did that took this etag, in a transaction that left this store.
 fn result_of(
     alloc: Global,
@@ -58,7 +48,8 @@ fn result_of(
 ) -> Result<BulkResult, NoMemory>
     ensures { IfOk result (λ done. result_view done ≡ spec_result_of base.now store.now (command_view command.now) etag) }
 {
-    let id = spelling(store, command.id())?;
+    let id = command.id();
+    let id = spelling(id, store.get(id))?;
     match command {
         Command::Put { .. } => {
             let change_vector = match etag {

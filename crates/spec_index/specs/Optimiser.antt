@@ -5,6 +5,7 @@ use Rattle.std.specs.Str.{bytes_eq}
 use Rattle.std.specs.Fmt.{decimal}
 use Rattle.std.specs.Cmp.Lexicographic.{pointwise}
 use Rattle.raven_data.specs.Faults.{is_fit}
+use Rattle.raven_data.specs.Limits.{max_index_name}
 use Rattle.raven_data.specs.Members.{Path}
 use Rattle.spec_store.specs.Store.{Store}
 use Rattle.spec_store.specs.Stale.{stale}
@@ -104,5 +105,5 @@ first_free name slots = if is_some (serving slots name) then free_name (length s
 -- the name of a new slot: made of the collection and the fields or, if that is too long or has a control character, of the slot's number
 abbrev pub name_of : List Slot → ℕ → Shape → List ℕ
 name_of slots number shape =
-    if is_fit 200 (first_free (plain_name shape) slots) then first_free (plain_name shape) slots
+    if is_fit max_index_name (first_free (plain_name shape) slots) then first_free (plain_name shape) slots
     else first_free (codes "Auto/" ++ decimal number) slots

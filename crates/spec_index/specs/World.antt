@@ -4,6 +4,7 @@ use Rattle.std.specs.List.{starts_with}
 use Rattle.std.specs.FinMap.{empty}
 use Rattle.raven_data.specs.Data.{Data, null, text, array, object, items_of, entries_of}
 use Rattle.raven_data.specs.Folding.{folded, same_key}
+pub use Rattle.raven_data.specs.Limits.{max_index_name}
 use Rattle.raven_data.specs.Members.{Path}
 use Rattle.raven_data.specs.Rows.{Row}
 use Rattle.spec_store.specs.Store.{Store, last}
@@ -136,10 +137,6 @@ define W name d =
 -- only the server gives such names
 abbrev pub is_reserved_name : List ℕ → Bool
 is_reserved_name name = starts_with nat_eq (folded name) (codes "auto/") || starts_with nat_eq (folded name) (codes "replacementof/")
-
--- the longest name of a definition, in bytes
-abbrev pub max_index_name : ℕ
-max_index_name = 200
 
 abbrev pub name_refusal : List ℕ → Option SlotRefusal
 name_refusal name =

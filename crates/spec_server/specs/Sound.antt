@@ -1,6 +1,7 @@
 -- What holds of every world, and between a world and a later one.
 use Rattle.std.specs.Prelude.{◌≡◌, ℕ, ◌≤◌, ◌<◌, List, [], ◌∷◌, ◌++◌, length, Some, ◌⊎◌, IsTrue, codes}
 use Rattle.raven_data.specs.Folding.{folded}
+use Rattle.raven_data.specs.Limits.{max_etag}
 use Rattle.raven_data.specs.Rows.{Row, doc, is_document}
 use Rattle.spec_store.specs.Store.{row_at, Store, last, IsStore}
 use Rattle.spec_store.specs.Later.{Later}
@@ -45,7 +46,7 @@ pub record IsWithinLimits (W : World) : Type 0 where
   pub rows : length W.store.rows ≤ W.setting.max_rows
   pub slots : length W.slots ≤ W.setting.max_slots
   pub notes : length W.notes ≤ W.setting.max_notes
-  pub etags : last W.store ≤ 9007199254740991
+  pub etags : last W.store ≤ max_etag
 
 -- the invariants of a world
 pub record Sound (W : World) : Type 0 where

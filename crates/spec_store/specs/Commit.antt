@@ -6,6 +6,7 @@ use Rattle.std.specs.Str.{bytes_eq}
 use Rattle.std.specs.Fmt.{decimal}
 use Rattle.raven_data.specs.Data.{Data, text, object, no_entries, entries_of, pairs_of}
 use Rattle.raven_data.specs.Folding.{folded}
+use Rattle.raven_data.specs.Limits.{max_body, max_etag}
 use Rattle.raven_data.specs.Members.{member, value_at}
 use Rattle.raven_data.specs.Rising.{put}
 use Rattle.raven_data.specs.Rows.{Row, doc, gone, is_document}
@@ -96,7 +97,7 @@ reserved Client c = refuse_if (is_reserved c) ReservedId
 reserved Server c = None
 
 abbrev pub too_large : Command → Option Refusal
-too_large (Put id expected body) = let len = length (text_of (stored body)) in refuse_if (nat_lt 1048576 len) (TooLarge len)
+too_large (Put id expected body) = let len = length (text_of (stored body)) in refuse_if (nat_lt max_body len) (TooLarge len)
 too_large (Delete id expected) = None
 
 abbrev pub other_collection : List ℕ → Option Row → Option Refusal
@@ -129,7 +130,7 @@ takes_etag S (Put id expected body) = true
 takes_etag S (Delete id expected) = is_some (document_at S (folded id))
 
 abbrev pub etags_spent : Store → Command → Option Refusal
-etags_spent S c = refuse_if (takes_etag S c && (last S == 9007199254740991)) (EtagsSpent (last S))
+etags_spent S c = refuse_if (takes_etag S c && (last S == max_etag)) (EtagsSpent (last S))
 
 abbrev pub first_of : List (Option Refusal) → Option Refusal
 first_of [] = None

@@ -7,6 +7,7 @@ use Rattle.raven_data.specs.Data.{Data, object, pairs_of}
 use Rattle.raven_data.specs.Faults.{is_fit, max_id}
 use Rattle.raven_data.specs.Json.{JsonRefusal, reading}
 use Rattle.raven_data.specs.Kept.{KeptRow}
+pub use Rattle.raven_data.specs.Limits.{max_body, max_etag}
 use Rattle.raven_data.specs.Members.{member}
 use Rattle.raven_data.specs.Moments.{moments_end}
 use Rattle.raven_data.specs.Rows.{Row, Body, doc, gone, key}
@@ -15,14 +16,6 @@ use Rattle.spec_store.specs.Store.{row_at, last_of}
 use Rattle.spec_store.specs.Commit.{is_own}
 
 -- ONE ROW
-
--- the greatest length of a document's text, in bytes
-abbrev pub max_body : ℕ
-max_body = 1048576
-
--- the greatest etag
-abbrev pub max_etag : ℕ
-max_etag = 9007199254740991
 
 -- the metadata is an object without the members that the server writes itself
 abbrev pub is_clean : Option Data → Bool

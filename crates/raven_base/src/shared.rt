@@ -1,20 +1,13 @@
-//! Values that several versions of an index share.
+//! A value that its clones share.
 ghost use Rattle.std.specs.Prelude.{◌≡◌, IfOk};
 
-use index_definition::Definition;
-use raven_base::NoMemory;
+use crate::exact::Exact;
+use crate::memory::NoMemory;
 use std::alloc::{AllocError, Global};
 use std::marker::Model;
 use std::sync::Arc;
 
-/// The same definition once more.
-pub fn share(definition: &Arc<Definition>) -> Result<Arc<Definition>, NoMemory>
-    ensures { IfOk result (λ shared. shared.value ≡ definition.now.value) }
-{
-    Ok(definition.clone()?)
-}
-
-/// A value that its clones share, seen by contracts as the value.
+/// A value that its clones share, seen by contracts as the value. A clone takes no memory.
 #[derive(Drop)]
 pub struct Shared<V> {
     shared: Arc<V>,
@@ -29,7 +22,7 @@ impl<V> Model for Shared<V> {
 }
 
 impl<V: Drop> Shared<V> {
-    /// A value of its own.
+    /// The value, moved to where its clones share it.
     pub fn of(alloc: Global, value: V) -> Result<Shared<V>, NoMemory>
         ensures { IfOk result (λ shared. shared ≡ value) }
     {
@@ -48,7 +41,6 @@ impl<V> Shared<V> {
     }
 }
 
-/// A clone takes no memory.
 impl<V: Drop> Clone for Shared<V> {
     ghost is_clone = { λ s t. t ≡ s };
 
@@ -57,4 +49,8 @@ impl<V: Drop> Clone for Shared<V> {
             shared: self.shared.clone()?,
         })
     }
+}
+
+impl<V: Drop> Exact for Shared<V> {
+    ghost exact = { λ x y same. same };
 }
