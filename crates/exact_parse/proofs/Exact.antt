@@ -2,7 +2,7 @@
 use Rattle.std.proofs.Common.{◌≡◌, ℕ, ◌≤◌, List, [], ◌∷◌, ◌++◌, length, refl, sym, ◌∙◌, ap, subst, append_assoc, length-append, arith}
 use Rattle.exact_parse.specs.Steps.{head, Cause, Unexpected, TooLarge, Outcome, Read, Refused, Reader}
 use Rattle.exact_parse.specs.Limits.{Verdict, Fine, Over}
-use Rattle.exact_parse.specs.Keeps.{Goes, Front, Fits, Keeps}
+use Rattle.exact_parse.specs.Keeps.{Goes, Prefix, Fits, Keeps}
 use Rattle.exact_parse.specs.Answers.{Answer, Spelled, IsUnexpected, IsTooLarge, IsAnswer, answer_of}
 use Rattle.exact_parse.specs.Exact.{Meets, SpellsText, GoesOn, UnexpectedAt, TooLargeAt}
 use Rattle.exact_parse.proofs.Cuts.{Cut, same, earlier, later, cut, cut_same}
@@ -46,17 +46,17 @@ module _ {T K A : Type 0} (X : List T → A → List T → Type 0) (limit : (s :
           let kind : i ≡ j = cc in let same : p ≡ q = cc in is ∙ ap (λ i. Over i p) kind ∙ ap (Over j) same
 
   -- what is refused in one list is refused in each that begins alike
-  pub alike : (k : Cause K) (ts p : List T) → f 0 ts ≡ Refused k p → (before : List T) × (ts ≡ before ++ p) × Front X k before p × ((z : List T) → head z ≡ head p → f 0 (before ++ z) ≡ Refused k z)
+  pub alike : (k : Cause K) (ts p : List T) → f 0 ts ≡ Refused k p → (before : List T) × (ts ≡ before ++ p) × Prefix X k before p × ((z : List T) → head z ≡ head p → f 0 (before ++ z) ≡ Refused k z)
   alike k ts p e = from (f 0 ts) refl (keeps.fits 0 ts)
     where
-      from : (o : Outcome T K A) → f 0 ts ≡ o → Fits X f 0 ts o → (before : List T) × (ts ≡ before ++ p) × Front X k before p × ((z : List T) → head z ≡ head p → f 0 (before ++ z) ≡ Refused k z)
+      from : (o : Outcome T K A) → f 0 ts ≡ o → Fits X f 0 ts o → (before : List T) × (ts ≡ before ++ p) × Prefix X k before p × ((z : List T) → head z ≡ head p → f 0 (before ++ z) ≡ Refused k z)
       from (Read b c s) is u = let bad : ◌≡◌ {A = Outcome T K A} (Read b c s) (Refused k p) = sym is ∙ e in cc
       from (Refused j s) is u =
           let both : ◌≡◌ {A = Outcome T K A} (Refused j s) (Refused k p) = sym is ∙ e in
           let cause : j ≡ k = cc in let rest : s ≡ p = cc in (
             u.taken,
             u.split ∙ ap (λ s. u.taken ++ s) rest,
-            subst (λ j. Front X j u.taken p) cause (subst (λ s. Front X j u.taken s) rest u.goes),
+            subst (λ j. Prefix X j u.taken p) cause (subst (λ s. Prefix X j u.taken s) rest u.goes),
             λ z h. subst (λ j. f 0 (u.taken ++ z) ≡ Refused j z) cause (u.same z (h ∙ sym (ap head rest))),
           )
 
@@ -74,12 +74,12 @@ module _ {T K A : Type 0} (X : List T → A → List T → Type 0) (limit : (s :
       absurd (no_other k j (v ++ (x ∷ (u ++ p))) p (x ∷ (u ++ p)) good bad)
   within_cut k j (later {q = q} x u) p e large = omega (arith, length-append u q)
 
-  within_front : (k : K) (w m r p : List T) (a : A) (x : X (w ++ m) a r) → f 0 (w ++ p) ≡ Refused (Unexpected k) p → (j : K) (q : List T) → limit (w ++ m) a r x ≡ Over j q → length q ≤ length m
-  within_front k w m r p a x e j q over =
+  within_prefix : (k : K) (w m r p : List T) (a : A) (x : X (w ++ m) a r) → f 0 (w ++ p) ≡ Refused (Unexpected k) p → (j : K) (q : List T) → limit (w ++ m) a r x ≡ Over j q → length q ≤ length m
+  within_prefix k w m r p a x e j q over =
       let large : f 0 (w ++ m) ≡ Refused (TooLarge j) q = subst (λ v. Meets v a r (f 0 (w ++ m))) over (meets (w ++ m) r a x) in
       by large (alike (TooLarge j) (w ++ m) q large)
     where
-      by : f 0 (w ++ m) ≡ Refused (TooLarge j) q → (v : List T) × (w ++ m ≡ v ++ q) × Front {K = K} X (TooLarge j) v q × ((z : List T) → head z ≡ head q → f 0 (v ++ z) ≡ Refused (TooLarge j) z) → length q ≤ length m
+      by : f 0 (w ++ m) ≡ Refused (TooLarge j) q → (v : List T) × (w ++ m ≡ v ++ q) × Prefix {K = K} X (TooLarge j) v q × ((z : List T) → head z ≡ head q → f 0 (v ++ z) ≡ Refused (TooLarge j) z) → length q ≤ length m
       by large (v, split, g, again) = within_cut k j (cut w m v q split) p e again
 
   pub unexpected_at : (k : K) (ts p : List T) → f 0 ts ≡ Refused (Unexpected k) p → UnexpectedAt X limit ts p
@@ -94,7 +94,7 @@ module _ {T K A : Type 0} (X : List T → A → List T → Type 0) (limit : (s :
           rest = [];
           tree = g.tree;
           spelling = g.spells [];
-          within = within_front k w (g.more ++ []) [] p g.tree (g.spells []) (again p refl);
+          within = within_prefix k w (g.more ++ []) [] p g.tree (g.spells []) (again p refl);
         };
         none = λ z r a h x. not_spelled k (w ++ z) r z a x (again z h);
       }
@@ -104,7 +104,7 @@ module _ {T K A : Type 0} (X : List T → A → List T → Type 0) (limit : (s :
   pub too_large_at : (j : K) (ts p : List T) → f 0 ts ≡ Refused (TooLarge j) p → TooLargeAt X limit j ts p
   too_large_at j ts p e = at p (alike (TooLarge j) ts p e)
     where
-      at : (p : List T) → (before : List T) × (ts ≡ before ++ p) × Front {K = K} X (TooLarge j) before p × ((z : List T) → head z ≡ head p → f 0 (before ++ z) ≡ Refused (TooLarge j) z) → TooLargeAt X limit j ts p
+      at : (p : List T) → (before : List T) × (ts ≡ before ++ p) × Prefix {K = K} X (TooLarge j) before p × ((z : List T) → head z ≡ head p → f 0 (before ++ z) ≡ Refused (TooLarge j) z) → TooLargeAt X limit j ts p
       at [] (w, split, g, again) = absurd g
       at (x ∷ p) (w, split, g, again) =
           let spelling : X (w ++ (x ∷ (g.more ++ []))) g.tree [] = subst (λ t. X t g.tree []) (append_assoc w (x ∷ []) (g.more ++ [])) (g.spells []) in
@@ -124,7 +124,7 @@ module _ {T K A : Type 0} (X : List T → A → List T → Type 0) (limit : (s :
       let large : f 0 (t.before ++ t.more) ≡ Refused (TooLarge j) t.more = subst (λ v. Meets v t.tree t.rest (f 0 (t.before ++ t.more))) t.over (meets (t.before ++ t.more) t.rest t.tree t.spelling) in
       at (alike (TooLarge j) (t.before ++ t.more) t.more large)
     where
-      at : (v : List T) × (t.before ++ t.more ≡ v ++ t.more) × Front {K = K} X (TooLarge j) v t.more × ((z : List T) → head z ≡ head t.more → f 0 (v ++ z) ≡ Refused (TooLarge j) z) → f 0 ts ≡ Refused (TooLarge j) p
+      at : (v : List T) × (t.before ++ t.more ≡ v ++ t.more) × Prefix {K = K} X (TooLarge j) v t.more × ((z : List T) → head z ≡ head t.more → f 0 (v ++ z) ≡ Refused (TooLarge j) z) → f 0 ts ≡ Refused (TooLarge j) p
       at (v, split, g, again) = subst (λ s. f 0 s ≡ Refused (TooLarge j) p) (ap (λ w. w ++ p) (sym (cut_same (cut t.before t.more v t.more split) refl)) ∙ sym t.split) (again p (sym t.same))
 
   -- ---- nothing else is refused as unexpected
@@ -136,7 +136,7 @@ module _ {T K A : Type 0} (X : List T → A → List T → Type 0) (limit : (s :
   unfolding Dead
   no_goes w u p x none g = none (x ∷ (u ++ (g.more ++ []))) [] g.tree refl (subst (λ t. X t g.tree []) (append_assoc w (x ∷ u) (g.more ++ [])) (g.spells []))
 
-  refused : {w p v s : List T} → Cut w p v s → (k : Cause K) → Front X k v s → ((z : List T) → head z ≡ head s → f 0 (v ++ z) ≡ Refused k z) → GoesOn X limit w → Dead w p → (j : K) × (k ≡ Unexpected j) × (s ≡ p)
+  refused : {w p v s : List T} → Cut w p v s → (k : Cause K) → Prefix X k v s → ((z : List T) → head z ≡ head s → f 0 (v ++ z) ≡ Refused k z) → GoesOn X limit w → Dead w p → (j : K) × (k ≡ Unexpected j) × (s ≡ p)
   unfolding Dead
   refused same (Unexpected j) g again on none = (j, refl, refl)
   refused {s = []} same (TooLarge j) g again on none = absurd g
@@ -165,7 +165,7 @@ module _ {T K A : Type 0} (X : List T → A → List T → Type 0) (limit : (s :
   pub refused_length : (ts p : List T) (k : Cause K) → f 0 ts ≡ Refused k p → length p ≤ length ts
   refused_length ts p k e = at (alike k ts p e)
     where
-      at : (before : List T) × (ts ≡ before ++ p) × Front X k before p × ((z : List T) → head z ≡ head p → f 0 (before ++ z) ≡ Refused k z) → length p ≤ length ts
+      at : (before : List T) × (ts ≡ before ++ p) × Prefix X k before p × ((z : List T) → head z ≡ head p → f 0 (before ++ z) ≡ Refused k z) → length p ≤ length ts
       at (w, split, g, again) = omega (arith, ap length split, length-append w p)
 
   -- ---- one answer each

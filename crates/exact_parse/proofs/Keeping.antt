@@ -88,7 +88,7 @@ skip_to Z q x c s (Refused (TooLarge k) (y ∷ s')) f = record {
   same = f.same;
 }
 
--- a step at a token that goes on, if it is only done where there is room for the token
+-- a step at a token that goes on, if it is only done if there is room for the token
 module _ {T K B : Type 0} (Z : List T → B → List T → Type 0) (x : T) (p : Reader T K B) (goes : Goes Z (x ∷ [])) where
   pub room_at : ((c : ℕ) (s : List T) → Fits Z p c (x ∷ s) (p c (x ∷ s))) → (k : K) (b : Bool) (c : ℕ) (s : List T) → Fits Z (within k b p) c (x ∷ s) (within k b p c (x ∷ s))
   room_at fits k true c s = fits c s

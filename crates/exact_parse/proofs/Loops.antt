@@ -132,7 +132,7 @@ module _ {T K A B : Type 0} (k : K) (Z : A → List T → B → List T → Type 
   unfolding loop turns
   on a c x s = left a x s (next a (Some x)) c (keeps.some a x)
 
-  -- One turn, and the loop again: so code that turns has come to the loop from where it stands.
+  -- One turn, and the loop again: so code that turns goes on with the same loop.
   pub loop_turn : (a : A) (c : ℕ) (s : List T) → loop k next a c s ≡ turn k true (loop k next) (next a (head s)) c s
   unfolding loop turns
   loop_turn a c [] = ends_alike k k false true (λ b. too_large k) (loop k next) a c (next a None) (keeps.none a)

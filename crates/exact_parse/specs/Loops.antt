@@ -7,7 +7,7 @@ use Rattle.exact_parse.specs.Keeps.{Goes, Fits, Keeps}
 abbrev pub Link : {T A B : Type 0} → (A → List T → B → List T → Type 0) → A → T → List T → A → List T → Type 0
 Link {T = T} {B = B} Z a x m b n = (d : B) (r : List T) → Z b n d r → Z a (x ∷ m) d r
 
--- what is done where no token is left
+-- what is done if no token is left
 abbrev pub EndKeeps : {T K A B : Type 0} → (List T → B → List T → Type 0) → Next T K A B → Type 0
 EndKeeps Z (Ends q) = (c : ℕ) → Fits Z q c [] (q c [])
 EndKeeps Z (More p) = ⊥

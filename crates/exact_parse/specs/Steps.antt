@@ -52,7 +52,7 @@ abbrev pub tail : {T : Type 0} → List T → List T
 tail [] = []
 tail (x ∷ s) = s
 
--- passes the next token, of which `choose` has told that it is there
+-- passes the next token, which `choose` has found there
 abbrev pub skip : {T K : Type 0} → Reader T K (Unit {0})
 skip = λ c s. Read tt c (tail s)
 
@@ -94,7 +94,7 @@ turn k has_turn more (Ends q) = q
 turn k has_turn more (More p) = within k has_turn (skip >> (p >>= more))
 turn k has_turn more (Counts j most p) = counted j most (within k has_turn (skip >> (p >>= more)))
 
--- the loop with so many turns, and the kind of refusal where one more is wanted
+-- the loop with so many turns, and the kind of refusal if one more is needed
 unfoldable pub turns : {T K A B : Type 0} → K → (A → Option T → Next T K A B) → ℕ → A → Reader T K B
 turns k next zero a = choose (λ h. turn k false (λ b. too_large k) (next a h))
 turns k next (suc n) a = choose (λ h. turn k true (turns k next n) (next a h))

@@ -10,17 +10,17 @@ ghost use Rattle.exact_parse.specs.Steps.{Reader};
 pub trait Language {
     /// The tokens, the end of a text among them.
     ghost Token: { Type 0 };
-    /// The kinds of refusals, as a language tells them: of tokens with which nothing goes on, and of limits.
+    /// The kinds of refusals, as a language reports them: of tokens with which nothing goes on, and of limits.
     ghost Kind: { Type 0 };
     /// The trees.
     ghost Tree: { Type 0 };
     /// The grammar: the tokens from the first list up to the second spell the tree.
     ghost spells: { List Token → Tree → List Token → Type 0 };
-    /// The limits: where a spelling is past one.
+    /// The limits: at which token a spelling is past one.
     ghost limit: { (s : List Token) (a : Tree) (r : List Token) → spells s a r → Verdict Token Kind };
     /// The reading, made of the steps.
     ghost reading: { Reader Token Kind Tree };
-    /// What is read is spelled so, and where the reading stops something goes on.
+    /// What is read is spelled so, and some text goes on from the tokens before a refused one.
     ghost keeps: { Keeps spells reading };
     /// What is spelled is read, or refused at the first token past a limit.
     ghost meets: { (s r : List Token) (a : Tree) (x : spells s a r) → Meets (limit s a r x) a r (reading 0 s) };

@@ -1,4 +1,4 @@
-//! Exact parsing, once for every language: what is read is what is spelled, and each refusal stands at its token.
+//! Exact parsing, once for every language: what is read is what is spelled, and each refusal is at its token.
 #![tactic(auto)]
 
 mod language;

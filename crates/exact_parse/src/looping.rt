@@ -5,13 +5,13 @@ ghost use Rattle.exact_parse.specs.Keeps.{Keeps};
 ghost use Rattle.exact_parse.specs.Loops.{LoopKeeps};
 ghost use Rattle.exact_parse.specs.Steps.{Next, loop, turns};
 
-/// A loop: what it does at the next token, and what it reads then from each value that it may have come to.
+/// A loop: what it does at the next token, and what it reads then from each value that it may have.
 pub trait Looping {
     /// The tokens.
     ghost Token: { Type 0 };
     /// The kinds of refusals.
     ghost Kind: { Type 0 };
-    /// What the loop has come to between its turns.
+    /// The value of the loop between its turns.
     ghost Value: { Type 0 };
     /// What it gives at its end.
     ghost Tree: { Type 0 };
@@ -24,7 +24,7 @@ pub trait Looping {
 }
 
 /// A loop keeps to what its turns keep to. It needs no more turns than there are tokens, so a constant of turns serves for all texts that are
-/// no longer, and the refusal for want of turns is never given.
+/// no longer, and the refusal for too few turns is never given.
 pub fn loops_are_exact<L: Looping>()
     ensures keeps { (k : L.Kind) (a : L.Value) → Keeps (L.spells a) (loop k L.next a) }
     ensures turns { (k : L.Kind) (n : ℕ) (a : L.Value) (c : ℕ) (s : List L.Token) → length s ≤ n → turns k L.next n a c s ≡ loop k L.next a c s }

@@ -1,4 +1,4 @@
--- Names that are added where they are not yet are those that are not there, each once.
+-- Names that are added if they are not there yet are those that are not there, each once.
 use Rattle.std.proofs.Common.{◌≡◌, ℕ, Bool, true, false, cond, not, ◌||◌, List, [], ◌∷◌, ◌++◌, filter, map, refl, sym, ◌∙◌, ap}
 use Rattle.std.proofs.lemmas.List.{append_assoc, append-nil}
 use Rattle.std.proofs.lemmas.Bool.Decides.{same_from_decides}

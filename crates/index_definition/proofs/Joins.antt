@@ -1,10 +1,10 @@
--- The joined form of a path, from its front.
+-- The joined form of a path, from its first part on.
 use Rattle.std.proofs.Common.{◌≡◌, ◌<◌, ◌-◌, ℕ, List, [], ◌∷◌, ◌++◌, length, get_or, take, drop, refl, ap, ◌∙◌, arith, codes}
 use Rattle.std.proofs.lemmas.Grind.{common_steps}
 use Rattle.raven_data.specs.Members.{Path}
 use Rattle.index_tree.specs.Mapper.{joined}
 
--- each part with a dot in front
+-- each part after a dot
 abbrev pub dotted : Path → List ℕ
 dotted [] = []
 dotted (part ∷ parts) = codes "." ++ (part ++ dotted parts)

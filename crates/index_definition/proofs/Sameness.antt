@@ -1,4 +1,4 @@
--- Codes tell values apart, and so what is told by them is what is told by the values.
+-- Values with the same code are the same, so a comparison of codes is one of values.
 use Rattle.std.proofs.Common.{◌≡◌, ◌↔◌, Bool, ◌&&◌, Option, Some, None, IsTrue, refl, ap}
 use Rattle.std.specs.Bool.{Decides}
 use Rattle.std.proofs.lemmas.Bool.Decides.{Decides-eqb, Decides-and, Decides-like, same_from_decides}
@@ -47,5 +47,5 @@ definitions_decided (Auto c fields) (Auto d others) =
 definitions_decided (Static m r t u) (Auto d others) = (λ e. cc, λ e. absurd e)
 definitions_decided (Auto c fields) (Static n s v w) = (λ e. cc, λ e. absurd e)
 
-pub told_alike : (r : Bool) (a b : DefBody) → (IsTrue r ↔ Same a b) → r ≡ same_definition (definition_view a) (definition_view b)
-told_alike r a b told = same_from_decides r (same_definition (definition_view a) (definition_view b)) (told.0, told.1) (definitions_decided a b)
+pub decided_alike : (r : Bool) (a b : DefBody) → (IsTrue r ↔ Same a b) → r ≡ same_definition (definition_view a) (definition_view b)
+decided_alike r a b decides = same_from_decides r (same_definition (definition_view a) (definition_view b)) (decides.0, decides.1) (definitions_decided a b)

@@ -1,4 +1,4 @@
--- Names that are added to others where they are not among them.
+-- Names that are added to others if they are not among them.
 use Rattle.std.specs.Prelude.{ℕ, Bool, List, [], ◌∷◌, ◌++◌, if◌then◌else◌}
 use Rattle.std.specs.List.{list_any}
 use Rattle.std.specs.Str.{bytes_eq}

@@ -1,4 +1,4 @@
--- What is told of a definition.
+-- What is known of a definition.
 use Rattle.std.specs.Prelude.{◌≡◌, ℕ, List, [], ◌∷◌, map, Option, Some, None}
 use Rattle.raven_data.specs.Data.{null}
 use Rattle.raven_data.specs.Rising.{Pairs, put}

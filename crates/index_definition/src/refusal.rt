@@ -16,7 +16,7 @@ pub enum LangKind {
     /// No text of the language goes on with this token.
     Unexpected,
 
-    /// A variable is not bound where it stands, or is bound again.
+    /// A variable is not bound at its place, or is bound again.
     UnknownName,
 
     /// A member has the name of one before it.
@@ -35,7 +35,7 @@ pub enum LangKind {
 /// Why texts are no definition.
 #[derive(Clone, Copy, Debug, PartialEq, Eq, Drop, Error)]
 pub enum LangRefusal {
-    /// The cause, and where it stands.
+    /// The cause, and its place.
     #[error("the definition is refused at byte {at}")]
     At {
         part: Part,

@@ -1,4 +1,4 @@
-//! What is told of a definition: whether another one is the same, and what it reads.
+//! What is known of a definition: whether another one is the same, and what it reads.
 ghost use Rattle.std.specs.Prelude.{◌≡◌, ◌↔◌, ◌++◌, ◌∷◌, [], IsTrue, IfOk, OnOk, flat_map, map};
 ghost use Rattle.index_tree.specs.Scope as meaning;
 ghost use Rattle.index_tree.specs.Definitions.{same_definition};
@@ -11,10 +11,10 @@ use crate::among::is_among;
 use crate::definition::{DefBody, Definition};
 use crate::paths::joined_names;
 use index_tree::{
-    Clause, Expr, ExprKind, MapMember, MapQuery, ReduceQuery, Texts, same_map, same_reduce,
+    Clause, Expr, ExprKind, MapMember, MapQuery, ReduceQuery, SameAs, Texts, same_map, same_reduce,
 };
 use raven_base::NoMemory;
-use raven_value::{Members, Path, Scope, Text, Value};
+use raven_value::{Members, Scope, Text, Value};
 use std::alloc::Global;
 
 fn same_reduces(a: &Option<ReduceQuery>, b: &Option<ReduceQuery>) -> bool
@@ -25,54 +25,6 @@ fn same_reduces(a: &Option<ReduceQuery>, b: &Option<ReduceQuery>) -> bool
         (None, None) => true,
         _ => false,
     }
-}
-
-fn same_path(a: &Path, b: &Path) -> bool
-    ensures { IsTrue result ↔ (a.now ≡ b.now) }
-{
-    same_texts(a.as_slice(), b.as_slice())
-}
-
-fn same_text(a: &Text, b: &Text) -> bool
-    ensures { IsTrue result ↔ (a.now ≡ b.now) }
-{
-    *a == *b
-}
-
-fn same_texts(a: &[Text], b: &[Text]) -> bool
-    ensures { IsTrue result ↔ (a.now ≡ b.now) }
-{
-    let mut left = a;
-    let mut right = b;
-    while let [text, more @ ..] = left {
-        let [other, others @ ..] = right else {
-            return false;
-        };
-        if !same_text(text, other) {
-            return false;
-        }
-        left = more;
-        right = others;
-    }
-    right.is_empty()
-}
-
-fn same_paths(a: &[Path], b: &[Path]) -> bool
-    ensures { IsTrue result ↔ (a.now ≡ b.now) }
-{
-    let mut left = a;
-    let mut right = b;
-    while let [path, more @ ..] = left {
-        let [other, others @ ..] = right else {
-            return false;
-        };
-        if !same_path(path, other) {
-            return false;
-        }
-        left = more;
-        right = others;
-    }
-    right.is_empty()
 }
 
 fn same_bodies(a: &DefBody, b: &DefBody) -> bool
@@ -93,9 +45,7 @@ fn same_bodies(a: &DefBody, b: &DefBody) -> bool
                 collection: other,
                 fields: other_fields,
             },
-        ) => {
-            same_text(collection, other) && same_paths(fields.as_slice(), other_fields.as_slice())
-        }
+        ) => collection.same_as(other) && fields.same_as(other_fields),
         (DefBody::Static { .. }, DefBody::Auto { .. }) => false,
         (DefBody::Auto { .. }, DefBody::Static { .. }) => false,
     }

@@ -11,17 +11,18 @@ use Rattle.index_tokens.specs.declared.token.Token.{Token}
 use Rattle.index_tokens.specs.declared.token.Token.TheVariants as t
 use Rattle.index_tokens.specs.declared.token.Placed.{Placed}
 use Rattle.index_tokens.specs.Spelling.{is_reserved}
-use Rattle.index_tokens.specs.Words.{Tokens, Is, same_token, word_load, the, quoted, name}
+use Rattle.index_tokens.specs.Reads.{Kind, Reads}
+use Rattle.index_tokens.specs.Words.{Tokens, Is, next_is, same_token, word_load, the, quoted, name}
 use Rattle.index_tokens.proofs.WordLemmas.{is_variable}
 use Rattle.index_tree.specs.declared.expression.BinaryOp.{BinaryOp}
 use Rattle.index_tree.specs.declared.expression.UnaryOp.{UnaryOp}
 use Rattle.index_tree.specs.Trees.{Tree, If, Binary, Unary, Dot, Load, Num, Quoted, Flag, Null, Var}
 use Rattle.index_grammar.specs.Operators.{operator, sign, level_of}
 use Rattle.index_grammar.specs.Expressions.{Rule, Whole, Level, Post, Primary, Spells, plain, choice, tighter, binary, signed, post, first, point, number, text, yes, no, null, var, parens, load}
-use Rattle.index_grammar.specs.Limits.{Kind, most_open, most_operators}
+use Rattle.index_grammar.specs.Limits.{most_open, most_operators}
 use Rattle.index_grammar.specs.ExpressionReading as read
-use Rattle.index_grammar.specs.ExpressionReading.{Reads, Deeper, deeper_of}
-use Rattle.index_grammar.proofs.Taking.{at_start, same_at, the_keeps, name_keeps, quoted_keeps, either_at, word_is}
+use Rattle.index_grammar.specs.ExpressionReading.{Deeper, deeper_of}
+use Rattle.index_tokens.proofs.Taking.{at_start, same_at, the_keeps, name_keeps, quoted_keeps, either_at, word_is}
 
 -- ---- the shortest spelling of each rule
 
@@ -94,7 +95,7 @@ module _ (deeper : Deeper) (inside : Inside deeper) where
 
   load_keeps : (x : Placed) → Is word_load x → Keeps (λ m b r. Spells Primary (x ∷ m) b r) (read.load deeper)
   unfolding read.load
-  load_keeps x word = choose_keeps (λ m b r. Spells Primary (x ∷ m) b r) (λ h. cond (read.next_is t.Open h) (within tt deeper.has_room (skip >>= λ _. read.loading deeper)) (refuse tt)) (load_short x word)
+  load_keeps x word = choose_keeps (λ m b r. Spells Primary (x ∷ m) b r) (λ h. cond (next_is t.Open h) (within tt deeper.has_room (skip >>= λ _. read.loading deeper)) (refuse tt)) (load_short x word)
       (λ n. refuse_at {X = λ m b r. Spells Primary (x ∷ m) b r} tt (load_short x word) n [])
       (λ p n s. either_at (λ m b r. Spells Primary (x ∷ m) b r) (within tt deeper.has_room (skip >>= λ _. read.loading deeper)) (refuse tt) n (p ∷ s) (same_token t.Open p.token)
       (λ e. within_at (λ m b r. Spells Primary (x ∷ m) b r) (read.loading deeper) p (loading_keeps x p word (same_at t.Open p e)) tt deeper.has_room n s)
@@ -154,7 +155,7 @@ module _ (deeper : Deeper) (inside : Inside deeper) where
 
   conditional_keeps : (a : Tree) → Keeps (Rest a) (read.conditional deeper a)
   unfolding read.conditional
-  conditional_keeps a = choose_keeps (Rest a) (λ h. cond (read.next_is t.Question h) (within tt deeper.has_room (skip >>= λ _. read.branches deeper a)) (pure a))
+  conditional_keeps a = choose_keeps (Rest a) (λ h. cond (next_is t.Question h) (within tt deeper.has_room (skip >>= λ _. read.branches deeper a)) (pure a))
       (record { more = []; tree = a; spells = λ z s d. plain d }) (λ n. pure_at {X = Rest a} (λ z s d. plain d) n [])
       (λ x n s. either_at (Rest a) (within tt deeper.has_room (skip >>= λ _. read.branches deeper a)) (pure a) n (x ∷ s) (same_token t.Question x.token)
       (λ e. within_at (Rest a) (read.branches deeper a) x (branches_keep a x (same_at t.Question x e)) tt deeper.has_room n s)
@@ -164,7 +165,7 @@ module _ (deeper : Deeper) (inside : Inside deeper) where
   unfolding read.whole
   whole_keeps = bind_keeps (read.conditional deeper) (level_keeps 6) conditional_keeps
 
--- with any room; where there is none, nothing inside is begun
+-- with any room; if there is none, nothing inside is begun
 pub inside_of : (room : ℕ) → Inside (deeper_of room)
 unfolding deeper_of
 inside_of zero = record { whole = refuse_keeps tt whole_short; unary = refuse_keeps tt unary_short }

@@ -7,7 +7,8 @@ use Rattle.exact_parse.proofs.Meeting.{then_meets, after_meets, ComesTo, loop_be
 use Rattle.index_tokens.specs.declared.token.Token.{Token}
 use Rattle.index_tokens.specs.declared.token.Token.TheVariants as t
 use Rattle.index_tokens.specs.declared.token.Placed.{Placed}
-use Rattle.index_tokens.specs.Words.{Tokens, Is, word_true, word_false, word_null, word_load, the, name, variable, quoted}
+use Rattle.index_tokens.specs.Reads.{Reads}
+use Rattle.index_tokens.specs.Words.{Tokens, Is, next_is, word_true, word_false, word_null, word_load, the, name, variable, quoted}
 use Rattle.index_tokens.proofs.WordLemmas.{variable_is}
 use Rattle.index_tree.specs.declared.expression.BinaryOp.{BinaryOp}
 use Rattle.index_tree.specs.declared.expression.UnaryOp.{UnaryOp}
@@ -16,8 +17,8 @@ use Rattle.index_grammar.specs.Operators.{operator, sign_as, sign, level_of}
 use Rattle.index_grammar.specs.Expressions.{Rule, Whole, Level, Post, Primary, Spells, plain, choice, tighter, binary, signed, post, first, point, number, text, yes, no, null, var, parens, load}
 use Rattle.index_grammar.specs.Limits.{most_open, most_operators, verdict}
 use Rattle.index_grammar.specs.ExpressionReading as read
-use Rattle.index_grammar.specs.ExpressionReading.{Reads, Deeper, deeper_of}
-use Rattle.index_grammar.proofs.Taking.{test_at, the_reads, name_reads, quoted_reads}
+use Rattle.index_grammar.specs.ExpressionReading.{Deeper, deeper_of}
+use Rattle.index_tokens.proofs.Taking.{test_at, the_reads, name_reads, quoted_reads}
 use Rattle.index_grammar.proofs.Following.{looseness_as, looseness, ends_expression, points_end, no_operator, operator_is, operator_loose, no_question}
 use Rattle.index_grammar.proofs.ExpressionKeeps.{Behind, points_keep, climb_keeps, level_at}
 
@@ -86,7 +87,7 @@ module _ (room : ℕ) where
   unfolding read.whole read.conditional
   plain_reach {s = s} {r = r} {a = a} x n h low = after_meets (verdict x room n) a r (read.level deeper 6 n s) (read.conditional deeper) a r (level_read 6 x n h (omega (arith, low))) (λ n. ends r low n)
     where
-      ends : (r : Tokens) → 7 < looseness (head r) → (n : ℕ) → cond (read.next_is t.Question (head r)) (within tt deeper.has_room (skip >> read.branches deeper a)) (pure a) n r ≡ Read a n r
+      ends : (r : Tokens) → 7 < looseness (head r) → (n : ℕ) → cond (next_is t.Question (head r)) (within tt deeper.has_room (skip >> read.branches deeper a)) (pure a) n r ≡ Read a n r
       ends [] low n = refl
       ends (x ∷ r) low n = ap (λ d. cond d (within tt deeper.has_room (skip >> read.branches deeper a)) (pure a) n (x ∷ r)) (no_question x.token low)
 

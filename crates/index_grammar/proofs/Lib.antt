@@ -1,4 +1,3 @@
-pub mod Taking
 pub mod ExpressionKeeps
 pub mod Following
 pub mod ExpressionMeets

@@ -7,7 +7,8 @@ use Rattle.exact_parse.proofs.Keeping.{pure_at, pure_keeps, refuse_at, too_large
 use Rattle.exact_parse.proofs.Loops.{loop_keeps}
 use Rattle.index_tokens.specs.declared.token.Token.TheVariants as t
 use Rattle.index_tokens.specs.declared.token.Placed.{Placed}
-use Rattle.index_tokens.specs.Words.{Tokens, Is, same_token, word_from, word_in, word_docs, word_where, word_let, word_select, word_new, the, name, variable}
+use Rattle.index_tokens.specs.Reads.{Kind, Reads}
+use Rattle.index_tokens.specs.Words.{Tokens, Is, next_is, same_token, word_from, word_in, word_docs, word_where, word_let, word_select, word_new, the, name, variable}
 use Rattle.index_tree.specs.Trees.{Num, Var}
 use Rattle.index_tree.specs.declared.map_query.Clause.{Clause}
 use Rattle.index_tree.specs.declared.map_query.Clause.TheVariants as c
@@ -16,11 +17,10 @@ use Rattle.index_grammar.specs.declared.spelled.PlacedMember.{PlacedMember}
 use Rattle.index_grammar.specs.Expressions.{Spells, Post, number, var, first}
 use Rattle.index_grammar.specs.Maps.{origin_of, SpellsOrigin, SpellsClause, filter, binding, SpellsClauses, no_clause, next_clause, last_name, placed_member, SpellsMember, named, path, SpellsMembers, last, last_comma, more, SpellsEntry, entry, spelled_map, SpellsMap, map}
 use Rattle.index_grammar.specs.Maps as m
-use Rattle.index_grammar.specs.Limits.{Kind, most_members}
+use Rattle.index_grammar.specs.Limits.{most_members}
 use Rattle.index_grammar.specs.ExpressionReading as expr
-use Rattle.index_grammar.specs.ExpressionReading.{Reads, next_is}
 use Rattle.index_grammar.specs.MapReading as read
-use Rattle.index_grammar.proofs.Taking.{at_start, same_at, the_keeps, name_keeps, variable_keeps, either_at}
+use Rattle.index_tokens.proofs.Taking.{at_start, same_at, the_keeps, name_keeps, variable_keeps, either_at}
 use Rattle.index_grammar.proofs.ExpressionKeeps.{alone, zero_token, expression_keeps, Behind, points_keep}
 
 -- ---- which documents

@@ -7,7 +7,8 @@ use Rattle.exact_parse.proofs.Meeting.{then_meets, after_meets, ComesTo, loop_go
 use Rattle.index_tokens.specs.declared.token.Token.{Token}
 use Rattle.index_tokens.specs.declared.token.Token.TheVariants as t
 use Rattle.index_tokens.specs.declared.token.Placed.{Placed}
-use Rattle.index_tokens.specs.Words.{Tokens, Is, word_true, word_false, word_null, word_load, variable_as, word_from, word_in, word_docs, word_where, word_let, word_select, word_new, the, name, variable}
+use Rattle.index_tokens.specs.Reads.{Kind, Reads}
+use Rattle.index_tokens.specs.Words.{Tokens, Is, next_is, word_true, word_false, word_null, word_load, variable_as, word_from, word_in, word_docs, word_where, word_let, word_select, word_new, the, name, variable}
 use Rattle.index_tokens.proofs.WordLemmas.{name_is, variable_is, is_name}
 use Rattle.index_tree.specs.Trees.{Tree, Var}
 use Rattle.index_tree.specs.declared.map_query.Clause.{Clause}
@@ -18,11 +19,11 @@ use Rattle.index_grammar.specs.declared.spelled.SpelledMap.{SpelledMap}
 use Rattle.index_grammar.specs.Expressions.{Rule, Spells, Whole, Post, Primary, first, point, number, text, yes, no, null, var, parens, load}
 use Rattle.index_grammar.specs.Maps.{origin_of, SpellsOrigin, SpellsClause, filter, binding, SpellsClauses, no_clause, next_clause, last_name, placed_member, SpellsMember, named, path, SpellsMembers, last, last_comma, more, SpellsEntry, entry, spelled_map, SpellsMap, map}
 use Rattle.index_grammar.specs.Maps as m
-use Rattle.index_grammar.specs.Limits.{Kind, most_open, most_members, verdict, clause_verdict, clauses_verdict, member_verdict, members_verdict, entry_verdict, limit}
+use Rattle.index_grammar.specs.Limits.{most_open, most_members, verdict, clause_verdict, clauses_verdict, member_verdict, members_verdict, entry_verdict, limit}
 use Rattle.index_grammar.specs.ExpressionReading as expr
-use Rattle.index_grammar.specs.ExpressionReading.{Reads, next_is, deeper_of}
+use Rattle.index_grammar.specs.ExpressionReading.{deeper_of}
 use Rattle.index_grammar.specs.MapReading as read
-use Rattle.index_grammar.proofs.Taking.{at_start, test_at, the_reads, name_reads, variable_reads}
+use Rattle.index_tokens.proofs.Taking.{at_start, test_at, the_reads, name_reads, variable_reads}
 use Rattle.index_grammar.proofs.Following.{looseness, ends_expression}
 use Rattle.index_grammar.proofs.ExpressionMeets.{var_reach, expression_meets, post_meets}
 use Rattle.index_grammar.proofs.MapKeeps.{BehindClauses, clauses_keep}
@@ -92,7 +93,7 @@ clauses_meets {s = s} {cs = cs} x (begins_with {x = w} {s = r} is) = loop_stops 
 
 -- ---- one member
 
--- what stands behind a member
+-- what follows a member
 data AtEnd : Tokens → Type 0 where
   at_comma : {k : Placed} {r : Tokens} → Is t.Comma k → AtEnd (k ∷ r)
   at_brace : {q : Placed} {r : Tokens} → Is t.CloseBrace q → AtEnd (q ∷ r)
@@ -101,7 +102,7 @@ end_loose : {r : Tokens} → AtEnd r → 7 < looseness (head r)
 end_loose (at_comma {k = k} is) = ends_expression t.Comma k (omega arith) is
 end_loose (at_brace {q = q} is) = ends_expression t.CloseBrace q (omega arith) is
 
--- behind the first variable of a path stands a point, or the end of the path
+-- after the first variable of a path comes a point, or the end of the path
 data PathGoesOn : Tokens → Tokens → Type 0 where
   at_point : {p : Placed} {m r : Tokens} → Is t.Point p → PathGoesOn (p ∷ m) r
   at_end : {r : Tokens} → PathGoesOn r r

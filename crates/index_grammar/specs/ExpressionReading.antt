@@ -1,32 +1,24 @@
 -- The reading of expressions.
 use Rattle.std.specs.Prelude.{ℕ, zero, suc, List, Bool, true, false, if◌then◌else◌, codes, nat_eq, Option, Some, None}
 use Rattle.std.specs.Str.{bytes_eq}
-use Rattle.exact_parse.specs.Steps.{Reader, ◌>>=◌, ◌>>◌, pure, refuse, choose, skip, within, fresh, take, Next, Ends, Counts, loop}
+use Rattle.exact_parse.specs.Steps.{◌>>=◌, ◌>>◌, pure, refuse, choose, skip, within, fresh, take, Next, Ends, Counts, loop}
 use Rattle.index_tokens.specs.declared.token.Token.{Token}
 use Rattle.index_tokens.specs.declared.token.Token.TheVariants as t
 use Rattle.index_tokens.specs.declared.token.Placed.{Placed}
 use Rattle.index_tokens.specs.Spelling.{is_reserved}
-use Rattle.index_tokens.specs.Words.{same_token, the, name, quoted}
+use Rattle.index_tokens.specs.Words.{next_is, the, name, quoted}
+use Rattle.index_tokens.specs.Reads.{Kind, Reads}
 use Rattle.index_tree.specs.declared.expression.BinaryOp.{BinaryOp}
 use Rattle.index_tree.specs.declared.expression.UnaryOp.{UnaryOp}
 use Rattle.index_tree.specs.Trees.{Tree, If, Binary, Unary, Dot, Load, Num, Quoted, Flag, Null, Var}
 use Rattle.index_grammar.specs.Operators.{operator, sign, level_of}
-use Rattle.index_grammar.specs.Limits.{Kind, most_open, most_operators}
-
--- what reads tokens of the language
-abbrev pub Reads : Type 0 → Type 0
-Reads A = Reader Placed Kind A
+use Rattle.index_grammar.specs.Limits.{most_open, most_operators}
 
 -- what may be nested one deeper
 pub record Deeper : Type 0 where
   pub has_room : Bool
   pub whole : Reads Tree
   pub unary : Reads Tree
-
--- whether the next token is this one
-abbrev pub next_is : Token → Option Placed → Bool
-next_is token (Some x) = same_token token x.token
-next_is token None = false
 
 -- ---- names behind points
 

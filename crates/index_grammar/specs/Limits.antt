@@ -3,16 +3,13 @@ use Rattle.std.specs.Prelude.{ℕ, ◌∷◌, List}
 use Rattle.exact_parse.specs.Limits.{Verdict, Fine, and_fine, opens, counts}
 use Rattle.index_tokens.specs.declared.token.Placed.{Placed}
 use Rattle.index_tokens.specs.Words.{Tokens}
+use Rattle.index_tokens.specs.Reads.{Kind}
 use Rattle.index_tree.specs.Trees.{Tree}
 use Rattle.index_tree.specs.declared.map_query.Clause.{Clause}
 use Rattle.index_grammar.specs.declared.spelled.PlacedMember.{PlacedMember}
 use Rattle.index_grammar.specs.declared.spelled.SpelledMap.{SpelledMap}
 use Rattle.index_grammar.specs.Expressions.{Rule, Spells, plain, choice, tighter, binary, signed, post, first, point, number, text, yes, no, null, var, parens, load}
 use Rattle.index_grammar.specs.Maps.{SpellsClause, filter, binding, SpellsClauses, no_clause, next_clause, SpellsMember, named, path, SpellsMembers, last, last_comma, more, SpellsEntry, entry, SpellsMap, map}
-
--- of refusals for either cause there is but one kind
-abbrev pub Kind : Type 0
-Kind = Unit {0}
 
 -- parts that are open within one another
 abbrev pub most_open : ℕ

@@ -3,16 +3,17 @@ use Rattle.std.specs.Prelude.{ℕ, zero, suc, List, [], ◌∷◌, ◌++◌, if�
 use Rattle.exact_parse.specs.Steps.{◌>>=◌, ◌>>◌, pure, refuse, too_large, choose, skip, fresh, take, Next, Ends, More, loop}
 use Rattle.index_tokens.specs.declared.token.Token.TheVariants as t
 use Rattle.index_tokens.specs.declared.token.Placed.{Placed}
-use Rattle.index_tokens.specs.Words.{the, name, variable, word_from, word_in, word_docs, word_where, word_let, word_select, word_new}
+use Rattle.index_tokens.specs.Reads.{Kind, Reads}
+use Rattle.index_tokens.specs.Words.{next_is, the, name, variable, word_from, word_in, word_docs, word_where, word_let, word_select, word_new}
 use Rattle.index_tree.specs.Trees.{Var}
 use Rattle.index_tree.specs.declared.map_query.Clause.{Clause}
 use Rattle.index_tree.specs.declared.map_query.Clause.TheVariants as c
 use Rattle.index_grammar.specs.declared.spelled.Origin.{Origin}
 use Rattle.index_grammar.specs.declared.spelled.PlacedMember.{PlacedMember}
 use Rattle.index_grammar.specs.declared.spelled.SpelledMap.{SpelledMap}
-use Rattle.index_grammar.specs.Limits.{Kind, most_members}
+use Rattle.index_grammar.specs.Limits.{most_members}
 use Rattle.index_grammar.specs.Maps.{origin_of, last_name, placed_member, spelled_map}
-use Rattle.index_grammar.specs.ExpressionReading.{Reads, next_is, expression, points}
+use Rattle.index_grammar.specs.ExpressionReading.{expression, points}
 
 unfoldable pub origin : Reads Origin
 origin = take tt (the word_from) >>= λ _. take tt variable >>= λ v. take tt (the word_in) >>= λ _. take tt (the word_docs) >>= λ _. take tt (the t.Point) >>= λ _. take tt name >>= λ n. pure (origin_of v n)
@@ -36,11 +37,11 @@ clauses = loop tt clause_next
 
 -- ---- members
 
--- what stands behind the name and `=`
+-- what follows the name and `=`
 unfoldable pub value : ℕ → List ℕ → Reads PlacedMember
 value place n = expression >>= λ a. pure (placed_member place n a)
 
--- what stands behind the variable of a path
+-- what follows the variable of a path
 unfoldable pub path : ℕ → List ℕ → Reads PlacedMember
 path place v = fresh (points (Var v)) >>= λ a. pure (placed_member place (last_name a) a)
 
@@ -71,7 +72,7 @@ abbrev pub no_room_by : Option Placed → Reads (List PlacedMember)
 no_room_by (Some x) = no_room_as (name x)
 no_room_by None = refuse tt
 
--- goes on behind a member: with its brace, or a comma, behind which the brace may stand
+-- goes on after a member: with its brace, or a comma, which the brace may follow
 abbrev pub behind_member : (List PlacedMember → Reads (List PlacedMember)) → List PlacedMember → Option Placed → Reads (List PlacedMember)
 behind_member next found h =
     if next_is t.CloseBrace h then (skip >> pure found) else (

@@ -1,4 +1,4 @@
--- What a spelled map says, without where its members stand.
+-- What a spelled map says, without the places of its members.
 use Rattle.std.specs.Prelude.{map}
 use Rattle.index_tree.specs.declared.map_query.MapQuery.{MapQuery}
 use Rattle.index_grammar.specs.declared.spelled.SpelledMap.{SpelledMap}

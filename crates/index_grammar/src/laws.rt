@@ -2,10 +2,11 @@
 
 ghost use Rattle.std.specs.Prelude.{◌≡◌};
 ghost use Rattle.exact_parse.specs.Answers.{Answer, IsAnswer, answer_of};
-ghost use Rattle.index_grammar.specs.Limits.{Kind, limit};
+ghost use Rattle.index_grammar.specs.Limits.{limit};
 ghost use Rattle.index_grammar.specs.MapReading.{map_text};
 ghost use Rattle.index_grammar.specs.Maps.{SpellsMap};
 ghost use Rattle.index_grammar.specs.declared.spelled.SpelledMap.{SpelledMap};
+ghost use Rattle.index_tokens.specs.Reads.{Kind};
 ghost use Rattle.index_tokens.specs.Words.{Tokens};
 ghost use Rattle.index_tokens.specs.declared.token.Placed.{Placed};
 

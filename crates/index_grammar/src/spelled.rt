@@ -1,4 +1,4 @@
-//! What tokens spell: a map, and where its members stand.
+//! What tokens spell: a map, and the places of its members.
 ghost use Rattle.std.specs.Prelude.{◌≡◌, IfOk};
 ghost use Rattle.index_grammar.specs.View.{query_of};
 
@@ -17,10 +17,10 @@ pub struct Origin {
     pub collection: Text,
 }
 
-/// A member, and where it stands.
+/// A member and its place.
 #[derive(Debug, Drop)]
 pub struct PlacedMember {
-    /// Where the first byte of its first token stands, counted from 0.
+    /// The place of the first byte of its first token, counted from 0.
     pub at: usize,
     pub member: MapMember,
 }
@@ -43,7 +43,7 @@ pub struct SpelledMap {
 }
 
 impl SpelledMap {
-    /// What it says, without where its members stand.
+    /// What it says, without the places of its members.
     pub fn into_query(self, alloc: Global) -> Result<MapQuery, NoMemory>
         ensures { IfOk result (λ query. query ≡ query_of self) }
     {

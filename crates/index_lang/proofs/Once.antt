@@ -4,7 +4,8 @@ use Rattle.exact_parse.specs.Answers.{Answer, Spelled, IsUnexpected, IsTooLarge,
 use Rattle.exact_parse.proofs.Exact.{one_answer}
 use Rattle.index_tokens.specs.declared.token.Placed.{Placed}
 use Rattle.index_tokens.specs.Tokens.{tokens_of}
-use Rattle.index_tokens.specs.Words.{Tokens}
+use Rattle.index_tokens.specs.Reads.{Kind}
+use Rattle.index_tokens.specs.Words.{Tokens, place_of}
 use Rattle.index_grammar.specs.declared.spelled.SpelledMap.{SpelledMap}
 use Rattle.index_grammar.specs.Maps.{SpellsMap}
 use Rattle.index_grammar.specs.Limits as maps
@@ -27,18 +28,18 @@ use Rattle.index_lang.specs.declared.reading.ReadReduce.{ReadReduce}
 use Rattle.index_lang.specs.declared.reading.Trees.{Trees}
 use Rattle.index_lang.specs.Scan.{scan_map}
 use Rattle.index_lang.specs.ScanGroups.{scan_reduce}
-use Rattle.index_lang.specs.Parse.{IsMapRead, IsReduceRead, IsReduceReadIf, AreRead, IsParsed, first_cause, is_long, judged_if, lengths, place_of}
+use Rattle.index_lang.specs.Parse.{IsMapRead, IsReduceRead, IsReduceReadIf, AreRead, IsParsed, first_cause, is_long, judged_if, lengths}
 use Rattle.index_lang.proofs.Scans.{map_scans}
 use Rattle.index_lang.proofs.GroupScans.{reduce_scans}
 
 -- ---- maps
 
-abbrev map_result : Tokens → Answer Placed maps.Kind SpelledMap → Result ReadMap LangRefusal
+abbrev map_result : Tokens → Answer Placed Kind SpelledMap → Result ReadMap LangRefusal
 map_result ts (Spelled a) = Ok (record { map = a; unbound = scan_map a ts })
 map_result ts (IsUnexpected p) = Err (At part.Map (place_of p) kind.Unexpected)
 map_result ts (IsTooLarge k p) = Err (At part.Map (place_of p) kind.TooLarge)
 
-map_answer : (text : List ℕ) (r : Result ReadMap LangRefusal) → IsMapRead text r → (answer : Answer Placed maps.Kind SpelledMap) × IsAnswer SpellsMap maps.limit (tokens_of text) answer × (r ≡ map_result (tokens_of text) answer)
+map_answer : (text : List ℕ) (r : Result ReadMap LangRefusal) → IsMapRead text r → (answer : Answer Placed Kind SpelledMap) × IsAnswer SpellsMap maps.limit (tokens_of text) answer × (r ≡ map_result (tokens_of text) answer)
 map_answer text (Ok r) x = (Spelled r.map, x.0, ap (λ (u : Option ℕ). Ok (record { map = r.map; unbound = u })) (x.1 ∙ sym (map_scans x.0.spelling)))
 map_answer text (Err (At part.Map place kind.Unexpected)) x = (IsUnexpected x.0, x.1, ap (λ (place : ℕ). Err (At part.Map place kind.Unexpected)) x.2)
 map_answer text (Err (At part.Map place kind.TooLarge)) x = (IsTooLarge tt x.0, x.1, ap (λ (place : ℕ). Err (At part.Map place kind.TooLarge)) x.2)
@@ -61,12 +62,12 @@ map_read_once text a b x y =
 
 -- ---- reduces
 
-abbrev reduce_result : Tokens → Answer Placed reduces.Kind SpelledReduce → Result ReadReduce LangRefusal
+abbrev reduce_result : Tokens → Answer Placed Kind SpelledReduce → Result ReadReduce LangRefusal
 reduce_result ts (Spelled a) = Ok (record { reduce = a; unbound = scan_reduce a ts })
 reduce_result ts (IsUnexpected p) = Err (At part.Reduce (place_of p) kind.Unexpected)
 reduce_result ts (IsTooLarge k p) = Err (At part.Reduce (place_of p) kind.TooLarge)
 
-reduce_answer : (text : List ℕ) (r : Result ReadReduce LangRefusal) → IsReduceRead text r → (answer : Answer Placed reduces.Kind SpelledReduce) × IsAnswer SpellsReduce reduces.limit (tokens_of text) answer × (r ≡ reduce_result (tokens_of text) answer)
+reduce_answer : (text : List ℕ) (r : Result ReadReduce LangRefusal) → IsReduceRead text r → (answer : Answer Placed Kind SpelledReduce) × IsAnswer SpellsReduce reduces.limit (tokens_of text) answer × (r ≡ reduce_result (tokens_of text) answer)
 reduce_answer text (Ok r) x = (Spelled r.reduce, x.0, ap (λ (u : Option ℕ). Ok (record { reduce = r.reduce; unbound = u })) (x.1 ∙ sym (reduce_scans x.0.spelling)))
 reduce_answer text (Err (At part.Reduce place kind.Unexpected)) x = (IsUnexpected x.0, x.1, ap (λ (place : ℕ). Err (At part.Reduce place kind.Unexpected)) x.2)
 reduce_answer text (Err (At part.Reduce place kind.TooLarge)) x = (IsTooLarge tt x.0, x.1, ap (λ (place : ℕ). Err (At part.Reduce place kind.TooLarge)) x.2)

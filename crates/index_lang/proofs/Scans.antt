@@ -192,7 +192,7 @@ no_variable x k v e none is = none_some v (sym none ∙ ap variable_as (sym e) �
     none_some : (v : List ℕ) → None ≡ Some v → ⊥
     none_some v e = cc
 
--- what stands behind the variable of a path is a point, or what stands behind the path
+-- what follows the variable of a path is a point, or what follows the path
 behind_path : (v : List ℕ) {x : Placed} {s r : Tokens} {a : Tree} → Spells Post (x ∷ s) a r → variable x ≡ Some v → is_named_by (Some v) r ≡ false → is_named_by (Some v) s ≡ false
 behind_path v {x = x} (first (var e)) is h = h
 behind_path v {x = x} (first (number {n = n} e)) is h = absurd (no_variable x (t.Number n) v e refl is)

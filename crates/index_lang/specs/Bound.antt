@@ -1,4 +1,4 @@
--- Which variables of a map are bound, told of its spelling.
+-- Which variables of a map are bound, by its spelling.
 use Rattle.std.specs.Prelude.{ℕ, Bool, false, if◌then◌else◌, List, [], ◌∷◌, Option, Some, None}
 use Rattle.std.specs.Str.{bytes_eq}
 use Rattle.index_tokens.specs.Words.{Tokens}
@@ -16,7 +16,7 @@ or_else (Some place) other = Some place
 or_else None other = other
 
 module _ (bound : List (List ℕ)) where
-  -- where the first variable of an expression stands that is none of the bound names
+  -- the place of the first variable of an expression that is none of the bound names
   abbrev pub unbound : {rule : Rule} {s r : Tokens} {a : Tree} → Spells rule s a r → Option ℕ
   unbound (plain x) = unbound x
   unbound (choice x is y also z) = or_else (unbound x) (or_else (unbound y) (unbound z))

@@ -1,4 +1,4 @@
--- Which variables of a reduce are bound, told of its spelling.
+-- Which variables of a reduce are bound, by its spelling.
 use Rattle.std.specs.Prelude.{ℕ, ◌||◌, if◌then◌else◌, List, Option, Some, None}
 use Rattle.std.specs.Str.{bytes_eq}
 use Rattle.index_tokens.specs.declared.token.Placed.{Placed}

@@ -16,7 +16,7 @@ module _ {M : Type 0} (label : M → List ℕ) (place : M → ℕ) where
   abbrev pub has_name : List M → List ℕ → Bool
   has_name members name = list_any (λ m. bytes_eq name (label m)) members
 
-  -- where the first member stands whose name one before it has
+  -- the place of the first member whose name one before it has
   abbrev pub duplicate_after : List M → List M → Option ℕ
   duplicate_after before [] = None
   duplicate_after before (m ∷ members) = if has_name before (label m) then Some (place m) else duplicate_after (before ++ m ∷ []) members
@@ -61,6 +61,6 @@ gives_part part (v.Fold kind own field) = false
 abbrev pub gives_key : List (List ℕ) → List PlacedFold → Bool
 gives_key key members = list_all (λ part. list_any (λ m. gives_part part m.member.value) members) key
 
--- where the first member stands that keeps groups from being reduced once more, or the key, of which a part is left out
+-- the place of the first member that keeps groups from being reduced once more, or of the key, of which a part is left out
 abbrev pub irreducible : SpelledReduce → Option ℕ
 irreducible r = or_else (first_renamed r.key r.members) (if gives_key r.key r.members then None else Some r.key_at)

@@ -1,4 +1,4 @@
--- What a line of a script comes to.
+-- What a line of a script is read as.
 use Rattle.std.specs.Prelude.{◌≡◌, ℕ, List, [], ◌∷◌, Result}
 use Rattle.index_tree.specs.Language.{LangRefusal}
 use Rattle.index_tree.specs.Definitions.{Definition}
@@ -6,13 +6,13 @@ use Rattle.spec_server.specs.Script.{Asked, Plain, Defining, Given, LineRead, as
 use Rattle.index_lang.specs.Says.{Says}
 
 -- what is asked to be defined is what the text says
-pub record IsDefining (name map : List ℕ) (told : LineRead) : Type 0 where
+pub record IsDefining (name map : List ℕ) (line : LineRead) : Type 0 where
   pub answer : Result Definition LangRefusal
   pub says : Says map answer
-  pub read : told ≡ defined_by name answer
+  pub read : line ≡ defined_by name answer
 
 abbrev pub Comes : Asked → LineRead → Type 0
-Comes (Plain told) read = read ≡ told
+Comes (Plain line) read = read ≡ line
 Comes (Defining name map) read = IsDefining name map read
 
 abbrev pub IsLine : List ℕ → LineRead → Type 0

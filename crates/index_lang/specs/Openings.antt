@@ -14,7 +14,7 @@ abbrev pub without_refusal : Result Definition LangRefusal → Option Definition
 without_refusal (Ok d) = Some d
 without_refusal (Err refusal) = None
 
--- what the text of a map says; where it is refused, there is no definition
+-- what the text of a map says; if it is refused, there is no definition
 pub record IsSaid (map : List ℕ) (d : Option Definition) : Type 0 where
   pub answer : Result Definition LangRefusal
   pub says : Says map answer
@@ -61,9 +61,9 @@ Opens s rows (Ok M) = OpensAs s rows M
 Opens s rows (Err etag) = EndsAt s rows etag
 
 abbrev pub IsOpenedBy : Setting → Result (List Row) ℕ → Result Machine ℕ → Type 0
-IsOpenedBy s (Err etag) told = told ≡ Err etag
-IsOpenedBy s (Ok rows) told = Opens s rows told
+IsOpenedBy s (Err etag) answer = answer ≡ Err etag
+IsOpenedBy s (Ok rows) answer = Opens s rows answer
 
 -- the machine of what a keeper holds, or the etag of the first bad row
 abbrev pub IsOpened : Setting → List KeptRow → Result Machine ℕ → Type 0
-IsOpened s held told = IsOpenedBy s (rows_in s.max_rows held) told
+IsOpened s held answer = IsOpenedBy s (rows_in s.max_rows held) answer

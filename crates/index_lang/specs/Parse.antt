@@ -2,7 +2,7 @@
 use Rattle.std.specs.Prelude.{◌≡◌, ℕ, ◌⊎◌, nat_lt, if◌then◌else◌, List, [], ◌∷◌, length, map, Option, Some, None, option_map, Result, Ok, Err}
 use Rattle.exact_parse.specs.Exact.{SpellsText, UnexpectedAt, TooLargeAt}
 use Rattle.index_tokens.specs.Tokens.{tokens_of}
-use Rattle.index_tokens.specs.Words.{Tokens}
+use Rattle.index_tokens.specs.Words.{Tokens, place_of}
 use Rattle.index_tree.specs.declared.reduce_query.ReduceQuery.{ReduceQuery}
 use Rattle.index_grammar.specs.Maps.{SpellsMap}
 use Rattle.index_grammar.specs.Limits as maps
@@ -57,11 +57,6 @@ abbrev pub lengths : List ℕ → Option (List ℕ) → List (Option LangRefusal
 lengths text reduce = too_long part.Map text ∷ where_given reduce (too_long part.Reduce) ∷ []
 
 -- ---- what is read
-
--- where the first of these tokens stands
-abbrev pub place_of : Tokens → ℕ
-place_of [] = 0
-place_of (x ∷ p) = x.at
 
 -- the map that the tokens spell and the first name in it that is not bound; or the first token with which no map goes on, or that is past a limit
 abbrev pub IsMapOf : Tokens → Result ReadMap LangRefusal → Type 0
@@ -140,7 +135,7 @@ abbrev pub IsParsed : List ℕ → List ℕ → Option (List ℕ) → Result Def
 IsParsed name text reduce answer = is_long (first_cause (lengths text reduce)) answer
     ((trees : Result Trees LangRefusal) × AreRead text reduce trees × (answer ≡ judged_if name text reduce trees))
 
--- want of memory says nothing
+-- out of memory says nothing
 abbrev pub UnlessNoMemory : {A : Type 0} → Result A LangRefusal → (Result A LangRefusal → Type 0) → Type 0
 UnlessNoMemory (Err NoMemory) says = Unit {0}
 UnlessNoMemory answer says = says answer

@@ -58,7 +58,7 @@ module _ (m : SpelledMap) where
       if is_reserved w then at_reserved st w s else (
       if is_bound st.bound w then GoesOn st else Found x.at)
 
-  -- What is done at a token with others behind it. Behind a point stands a name; behind `{` or a comma a member may begin.
+  -- What is done at a token with others behind it. A name follows a point; after `{` or a comma a member may begin.
   abbrev pub at_token : Scanned → Placed → Token → Tokens → Step
   at_token st x t.Point s = GoesOn (scanned st.bound st.begun 1)
   at_token st x t.OpenBrace s = GoesOn (scanned st.bound st.begun (named_part s))

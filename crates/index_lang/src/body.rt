@@ -14,7 +14,7 @@ use raven_base::NoMemory;
 use raven_value::{Members, Name, Text, Value};
 use std::alloc::Global;
 
-// Whether the byte cannot stand in a part of a path.
+// Whether the byte cannot be in a part of a path.
 fn is_break(byte: u8) -> bool
     ensures { result ≡ ((byte == 46) || (byte == 40) || (byte == 41)) }
 {
@@ -44,7 +44,7 @@ fn is_bare(value: Option<&Value>) -> bool
     }
 }
 
-/// The text, where the value is one.
+/// The text, if the value is one.
 pub fn text_in(value: Option<&Value>) -> Option<&Text>
     ensures { option_map (λ t. t.now) result ≡ spec_text_in (option_map (λ v. data_of v.now) value.entry) }
 {
@@ -118,7 +118,7 @@ fn map_of<'a>(
     }
 }
 
-// What the text of a map says, and nothing where it is refused. It says the same under each name.
+// What the text of a map says, and nothing if it is refused. It says the same under each name.
 #[tactic(auto, using(crate::proofs::Forms::sayings))]
 fn said(alloc: Global, map: &Text) -> Result<Option<DefBody>, NoMemory>
     ensures { IfOk result (λ body. IsSaid map.now (option_map definition_view body)) }
@@ -153,7 +153,7 @@ fn definition_in(alloc: Global, members: &Members) -> Result<Option<DefBody>, No
     }
 }
 
-/// The definition that the body of a row says: an automatic one of one field, or a map by its text. Nothing where it says none, or where it has
+/// The definition that the body of a row says: an automatic one of one field, or a map by its text. Nothing if it says none, or if it has
 /// something else.
 #[tactic(auto, using(crate::proofs::Forms::forms))]
 pub fn of_row_body(alloc: Global, body: &Value) -> Result<Option<DefBody>, NoMemory>

@@ -24,7 +24,7 @@ pub struct GroupScan {
 /// What the pass does at a token.
 #[derive(Clone, Copy, Debug)]
 pub enum GroupStep {
-    /// A name is not bound, or is bound again, and stands here.
+    /// A name at this place is not bound, or is bound again.
     Found(usize),
 
     /// This is the end of the text.
@@ -165,7 +165,7 @@ fn first_unbound(reduce: &SpelledReduce, tokens: &[Placed]) -> Option<usize>
     None
 }
 
-/// Where the first name stands that is not bound, or is bound again, in the tokens that spell a reduce. It takes no memory.
+/// The place of the first name that is not bound, or is bound again, in the tokens that spell a reduce. It takes no memory.
 pub fn unbound_in_reduce(reduce: &SpelledReduce, tokens: &[Placed]) -> Option<usize>
     ensures { (r : Tokens) (x : SpellsReduce tokens.now reduce.now r) → result ≡ unbound_in_reduce x }
 {

@@ -6,5 +6,6 @@ ghost use Rattle.index_lang.specs.Parse.{IsParsed};
 
 /// The texts of a definition have no more than one answer. So what `parse` answers is the only thing that can be answered of them.
 pub fn texts_have_one_answer()
-    ensures { (name text : List ℕ) (reduce : Option (List ℕ)) (a b : Result Definition LangRefusal) → IsParsed name text reduce a → IsParsed name text reduce b → a ≡ b }
+    ensures { (name text : List ℕ) (reduce : Option (List ℕ)) (a b : Result Definition LangRefusal) →
+        IsParsed name text reduce a → IsParsed name text reduce b → a ≡ b }
 {}

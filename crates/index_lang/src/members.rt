@@ -15,14 +15,14 @@ pub trait Field {
     /// Its name.
     ghost label: { Self → List ℕ };
 
-    /// Where it stands.
+    /// Its place.
     ghost place: { Self → ℕ };
 
     /// Its name.
     fn name(&self) -> &Text
         ensures { result.now ≡ label self.now };
 
-    /// Where its first byte stands, counted from 0.
+    /// The place of its first byte, counted from 0.
     fn at(&self) -> usize
         ensures { result ≡ place self.now };
 }
@@ -66,7 +66,7 @@ fn has_name<F: Field>(members: &[F], name: &Text) -> bool
     false
 }
 
-/// Where the first member stands whose name one before it has.
+/// The place of the first member whose name one before it has.
 pub fn duplicate<F: Field>(members: &[F]) -> Option<usize>
     ensures { result ≡ spec.duplicate F.label F.place members.now }
 {
@@ -147,7 +147,7 @@ fn gives_key(key: &[Text], members: &[PlacedFold]) -> bool
     true
 }
 
-/// Where the first member stands that keeps groups from being reduced once more, or the key, of which a part is left out.
+/// The place of the first member that keeps groups from being reduced once more, or of the key, of which a part is left out.
 pub fn irreducible(reduce: &SpelledReduce) -> Option<usize>
     ensures { result ≡ spec.irreducible reduce.now }
 {

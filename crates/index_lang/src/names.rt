@@ -29,7 +29,7 @@ pub struct Scanned {
 /// What the pass does at a token.
 #[derive(Clone, Copy, Debug)]
 pub enum Step {
-    /// A name is not bound, or is bound again, and stands here.
+    /// A name at this place is not bound, or is bound again.
     Found(usize),
 
     /// This is the end of the text.
@@ -193,7 +193,7 @@ fn first_unbound(map: &SpelledMap, tokens: &[Placed]) -> Option<usize>
     None
 }
 
-/// Where the first name stands that is not bound, or is bound again, in the tokens that spell a map. It takes no memory.
+/// The place of the first name that is not bound, or is bound again, in the tokens that spell a map. It takes no memory.
 pub fn unbound_name(map: &SpelledMap, tokens: &[Placed]) -> Option<usize>
     ensures { (r : Tokens) (x : SpellsMap tokens.now map.now r) → result ≡ unbound_in x }
 {

@@ -9,14 +9,15 @@ use crate::members::{duplicate, fields_agree, irreducible};
 use crate::names::unbound_name;
 use crate::reading::{ReadMap, ReadReduce, Trees};
 use index_definition::{DefBody, Definition, LangKind, LangRefusal, Part};
-use index_parser::{Refusal as MapStop, read_map};
+use index_parser::read_map;
 use index_tokens::{Placed, tokenise};
 use index_tree::{FoldMembers, ReduceQuery};
 use raven_base::NoMemory;
 use raven_value::{Name, Text};
 use reduce_grammar::SpelledReduce;
-use reduce_parser::{Stop as ReduceStop, read_reduce};
+use reduce_parser::read_reduce;
 use std::alloc::Global;
+use token_reader::Refusal;
 
 /// How many bytes a text of a definition has at most.
 pub const MAX_TEXT: usize = 65_536;
@@ -54,9 +55,9 @@ fn map_of(alloc: Global, tokens: &[Placed]) -> Result<ReadMap, LangRefusal>
             let unbound = unbound_name(&map, tokens);
             Ok(ReadMap { map, unbound })
         }
-        Err(MapStop::Unexpected { at }) => Err(refusal(Part::Map, at, LangKind::Unexpected)),
-        Err(MapStop::TooLarge { at }) => Err(refusal(Part::Map, at, LangKind::TooLarge)),
-        Err(MapStop::NoMemory) => Err(LangRefusal::NoMemory),
+        Err(Refusal::Unexpected { at }) => Err(refusal(Part::Map, at, LangKind::Unexpected)),
+        Err(Refusal::TooLarge { at }) => Err(refusal(Part::Map, at, LangKind::TooLarge)),
+        Err(Refusal::NoMemory) => Err(LangRefusal::NoMemory),
     }
 }
 
@@ -76,9 +77,9 @@ fn reduce_read(alloc: Global, tokens: &[Placed]) -> Result<ReadReduce, LangRefus
             let unbound = unbound_in_reduce(&reduce, tokens);
             Ok(ReadReduce { reduce, unbound })
         }
-        Err(ReduceStop::Unexpected { at }) => Err(refusal(Part::Reduce, at, LangKind::Unexpected)),
-        Err(ReduceStop::TooLarge { at }) => Err(refusal(Part::Reduce, at, LangKind::TooLarge)),
-        Err(ReduceStop::NoMemory) => Err(LangRefusal::NoMemory),
+        Err(Refusal::Unexpected { at }) => Err(refusal(Part::Reduce, at, LangKind::Unexpected)),
+        Err(Refusal::TooLarge { at }) => Err(refusal(Part::Reduce, at, LangKind::TooLarge)),
+        Err(Refusal::NoMemory) => Err(LangRefusal::NoMemory),
     }
 }
 

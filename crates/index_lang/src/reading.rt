@@ -2,14 +2,14 @@
 use index_grammar::SpelledMap;
 use reduce_grammar::SpelledReduce;
 
-/// A map, and where the first name in it stands that is not bound.
+/// A map, and the place of the first name in it that is not bound.
 #[derive(Drop)]
 pub struct ReadMap {
     pub map: SpelledMap,
     pub unbound: Option<usize>,
 }
 
-/// A reduce, and where the first name in it stands that is not bound.
+/// A reduce, and the place of the first name in it that is not bound.
 #[derive(Drop)]
 pub struct ReadReduce {
     pub reduce: SpelledReduce,

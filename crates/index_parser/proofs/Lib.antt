@@ -1,3 +1,2 @@
 pub mod Turning
 pub mod Rules
-pub mod Answer

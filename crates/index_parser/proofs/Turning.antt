@@ -1,4 +1,4 @@
--- What one turn of a loop comes to.
+-- What one turn of a loop reads.
 use Rattle.std.proofs.Common.{◌≡◌, ℕ, ◌+◌, ◌<◌, ◌≤◌, Bool, true, false, nat_lt, List, Option, refl, ◌∙◌, ap, arith}
 use Rattle.std.proofs.lemmas.Bool.{ltb-true, lt-ltb}
 use Rattle.exact_parse.specs.Steps.{head, tail, Cause, TooLarge, Outcome, Read, Refused, Reader, and_then, ◌>>=◌, ◌>>◌, skip, within, Next, Ends, More, Counts, turn, loop}

@@ -3,11 +3,7 @@
 
 mod expressions;
 mod maps;
-mod parser;
+mod operators;
 mod reading;
-mod refusal;
-mod stop;
-mod tokens;
 
 pub use reading::read_map;
-pub use refusal::Refusal;

@@ -4,20 +4,20 @@ use Rattle.std.proofs.lemmas.Bool.{cases_lt}
 use Rattle.std.proofs.lemmas.Str.{encode_ascii, inside_one}
 use Rattle.index_print.specs.Print.{escaped}
 
-stands : (b : ℕ) → b ≢ 34 → b ≢ 92 → b ≢ 10 → b ≢ 13 → b ≢ 9 → escaped b ≡ b ∷ []
-stands b quote slash feed return tab = rw (ne_eqb b 34 quote) (rw (ne_eqb b 92 slash) (rw (ne_eqb b 10 feed) (rw (ne_eqb b 13 return) (rw (ne_eqb b 9 tab) refl))))
+same_byte : (b : ℕ) → b ≢ 34 → b ≢ 92 → b ≢ 10 → b ≢ 13 → b ≢ 9 → escaped b ≡ b ∷ []
+same_byte b quote slash feed return tab = rw (ne_eqb b 34 quote) (rw (ne_eqb b 92 slash) (rw (ne_eqb b 10 feed) (rw (ne_eqb b 13 return) (rw (ne_eqb b 9 tab) refl))))
 
 all_high : (bs : List ℕ) → ((k : ℕ) → k < length bs → 128 ≤ get_or bs k 0) → flat_map escaped bs ≡ bs
 all_high [] h = refl
 all_high (b ∷ bs) h =
     let high : 128 ≤ b = h 0 (omega arith) in
-    ap₂ (λ (x y : List ℕ). x ++ y) (stands b (λ e. omega arith) (λ e. omega arith) (λ e. omega arith) (λ e. omega arith) (λ e. omega arith))
+    ap₂ (λ (x y : List ℕ). x ++ y) (same_byte b (λ e. omega arith) (λ e. omega arith) (λ e. omega arith) (λ e. omega arith) (λ e. omega arith))
     (all_high bs (λ k below. h (suc k) (omega arith)))
 
--- A character that has no escape stands as it is.
+-- A character that has no escape is written as it is.
 pub unescaped : (c : ℕ) → c ≢ 34 → c ≢ 92 → c ≢ 10 → c ≢ 13 → c ≢ 9 → flat_map escaped (encode_utf8 c) ≡ encode_utf8 c
 unescaped c quote slash feed return tab = elim (cases_lt c 128) [
-  | inl small ↦ rw (encode_ascii c small, append-nil) (stands c quote slash feed return tab)
+  | inl small ↦ rw (encode_ascii c small, append-nil) (same_byte c quote slash feed return tab)
   | inr big ↦ all_high (encode_utf8 c) (λ k below. elim (cases_lt (get_or (encode_utf8 c) k 0) 128) [
     | inl low ↦ absurd (omega (arith, inside_one c [] (encode_utf8 c) k (sym (append-nil _)) below low))
     | inr h ↦ h

@@ -18,7 +18,7 @@ use Rattle.index_grammar.specs.Expressions.{Rule, Whole, Level, Post, Primary, S
 use Rattle.index_print.specs.Print.{sign, mark, is_compound, in_parentheses_if, printed, operand, quoted}
 use Rattle.index_print.specs.Spellable.{IsSpellable, IsVariable, IsApart}
 use Rattle.index_print.proofs.Digits.{digits}
-use Rattle.index_print.proofs.Fronts.{Next, IsAlone, word_next, number_next, quoted_next, open_next, close_next, point_next, dash_next, bang_next, comma_next, question_next, colon_next, between_gaps, double_between_gaps}
+use Rattle.index_print.proofs.Prefixes.{Next, IsAlone, word_next, number_next, quoted_next, open_next, close_next, point_next, dash_next, bang_next, comma_next, question_next, colon_next, between_gaps, double_between_gaps}
 
 -- The tokens of the first bytes up to those of the second, at some places, are these.
 pub record After (X : Tokens → Tokens → Type 0) (place : ℕ) (s r : List ℕ) : Type 0 where
@@ -103,17 +103,17 @@ Prints x = (place : ℕ) (s : List ℕ) → IsApart s → After (SpelledBy (rule
 abbrev PrintsOperand : Tree → Type 0
 PrintsOperand x = (place : ℕ) (s : List ℕ) → IsApart s → After (SpelledBy Post x) place (operand x ++ s) s
 
-operand_by : (compound : Bool) (x : Tree) (words : List ℕ) → ((place : ℕ) (s : List ℕ) → IsApart s → After (SpelledBy (rule_of compound) x) place (words ++ s) s)
-    → (place : ℕ) (s : List ℕ) → IsApart s → After (SpelledBy Post x) place (in_parentheses_if compound words ++ s) s
-operand_by false x words h place s apart = h place s apart
-operand_by true x words h place s apart =
-    let p = open_next place (words ++ 41 ∷ s) in
+operand_by : (compound : Bool) (x : Tree) (bytes : List ℕ) → ((place : ℕ) (s : List ℕ) → IsApart s → After (SpelledBy (rule_of compound) x) place (bytes ++ s) s)
+    → (place : ℕ) (s : List ℕ) → IsApart s → After (SpelledBy Post x) place (in_parentheses_if compound bytes ++ s) s
+operand_by false x bytes h place s apart = h place s apart
+operand_by true x bytes h place s apart =
+    let p = open_next place (bytes ++ 41 ∷ s) in
     let inner = h p.behind (41 ∷ s) refl in
     let q = close_next inner.behind s in
-    let body = up_to (SpelledBy Whole x) t.Close p.behind (words ++ 41 ∷ s) (41 ∷ s) s inner q in
-    let whole : Spells Post (tokens_from place 0 (40 ∷ (words ++ 41 ∷ s))) x (tokens_from q.behind 0 s) =
-    from_on (λ z. Spells Post z x (tokens_from q.behind 0 s)) t.Open place (40 ∷ (words ++ 41 ∷ s)) (words ++ 41 ∷ s) p (first (parens refl body refl)) in
-    record { behind = q.behind; spells = subst (λ z. Spells Post (tokens_from place 0 (40 ∷ z)) x (tokens_from q.behind 0 s)) (sym (append_assoc words (41 ∷ []) s)) whole }
+    let body = up_to (SpelledBy Whole x) t.Close p.behind (bytes ++ 41 ∷ s) (41 ∷ s) s inner q in
+    let whole : Spells Post (tokens_from place 0 (40 ∷ (bytes ++ 41 ∷ s))) x (tokens_from q.behind 0 s) =
+    from_on (λ z. Spells Post z x (tokens_from q.behind 0 s)) t.Open place (40 ∷ (bytes ++ 41 ∷ s)) (bytes ++ 41 ∷ s) p (first (parens refl body refl)) in
+    record { behind = q.behind; spells = subst (λ z. Spells Post (tokens_from place 0 (40 ∷ z)) x (tokens_from q.behind 0 s)) (sym (append_assoc bytes (41 ∷ []) s)) whole }
 
 -- ---- a `!` and its operand
 

@@ -3,7 +3,7 @@ pub mod Written
 pub mod Lists
 pub mod Quotes
 pub mod Digits
-pub mod Fronts
+pub mod Prefixes
 pub mod ExpressionSpells
 pub mod MapSpells
 pub mod TokensSound

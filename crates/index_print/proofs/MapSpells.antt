@@ -3,6 +3,7 @@ use Rattle.std.proofs.Common.{◌≡◌, ℕ, List, [], ◌∷◌, ◌++◌, ref
 use Rattle.index_tokens.specs.declared.token.Token.TheVariants as t
 use Rattle.index_tokens.specs.Tokens.{placed, tokens_from, tokens_of}
 use Rattle.index_tokens.specs.Words.{Tokens}
+use Rattle.index_tokens.specs.Reads.{Kind}
 use Rattle.index_tokens.proofs.WordLemmas.{is_variable}
 use Rattle.index_tree.specs.declared.map_query.Clause.{Clause}
 use Rattle.index_tree.specs.declared.map_query.Clause.TheVariants as c
@@ -14,7 +15,7 @@ use Rattle.index_grammar.specs.declared.spelled.SpelledMap.{SpelledMap}
 use Rattle.index_grammar.specs.Maps.{SpellsOrigin, origin_of, SpellsClause, filter, binding, SpellsClauses, no_clause, next_clause, placed_member, SpellsMember, named, SpellsMembers, last, more, SpellsEntry, spelled_map, SpellsMap}
 use Rattle.index_grammar.specs.Maps as grammar
 use Rattle.index_grammar.specs.View.{query_of}
-use Rattle.index_grammar.specs.Limits.{Kind, limit}
+use Rattle.index_grammar.specs.Limits.{limit}
 use Rattle.index_grammar.specs.MapReading.{map_text}
 use Rattle.index_grammar.proofs.MapMeets.{map_text_meets}
 use Rattle.exact_parse.specs.Exact.{Meets}
@@ -24,7 +25,7 @@ use Rattle.index_tokens.specs.declared.token.Placed.{Placed}
 use Rattle.index_print.specs.ReadBack.{ReadsBack}
 use Rattle.index_print.specs.Print.{printed, listed, clause, member, origin, printed_map}
 use Rattle.index_print.specs.Spellable.{IsName, IsVariable, IsSpellableClause, IsSpellableMember, Each, HasSome, IsSpellableMap, IsApart}
-use Rattle.index_print.proofs.Fronts.{word_next, word_gap, gap_word_gap, point_next, comma_next, assign_next, brace_gap, close_brace_next}
+use Rattle.index_print.proofs.Prefixes.{word_next, word_gap, gap_word_gap, point_next, comma_next, assign_next, brace_gap, close_brace_next}
 use Rattle.index_print.proofs.ExpressionSpells.{After, up_to, from_on, expression_spelled}
 
 -- ---- which documents

@@ -18,7 +18,7 @@ settled b letter n m is e known meant =
 none : (b : ℕ) → b ≢ 34 → b ≢ 92 → b ≢ 10 → b ≢ 13 → b ≢ 9 → escape_letter b ≡ None
 none b quote slash feed return tab = rw (ne_eqb b 34 quote) (rw (ne_eqb b 92 slash) (rw (ne_eqb b 10 feed) (rw (ne_eqb b 13 return) (rw (ne_eqb b 9 tab) refl))))
 
--- an escape stands for its byte
+-- an escape means its byte
 means : (b letter : ℕ) → escape_letter b ≡ Some letter → meant_by letter ≡ Some b
 means b letter e = elim (cases_eq b 34) [
   | inl is ↦ settled b letter 34 34 is e refl refl

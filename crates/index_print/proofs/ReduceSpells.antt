@@ -8,6 +8,7 @@ use Rattle.index_tokens.specs.declared.token.Token.TheVariants as t
 use Rattle.index_tokens.specs.declared.token.Placed.{Placed}
 use Rattle.index_tokens.specs.Tokens.{placed, tokens_from, tokens_of}
 use Rattle.index_tokens.specs.Words.{Tokens}
+use Rattle.index_tokens.specs.Reads.{Kind}
 use Rattle.index_tokens.proofs.WordLemmas.{is_variable}
 use Rattle.index_tree.specs.declared.reduce_query.FoldKind.{FoldKind}
 use Rattle.index_tree.specs.declared.reduce_query.FoldKind.TheVariants as k
@@ -19,7 +20,7 @@ use Rattle.reduce_grammar.specs.declared.spelled.KeyForm.{KeyForm}
 use Rattle.reduce_grammar.specs.declared.spelled.KeyForm.TheVariants as forms
 use Rattle.reduce_grammar.specs.declared.spelled.PlacedFold.{PlacedFold}
 use Rattle.reduce_grammar.specs.declared.spelled.SpelledReduce.{SpelledReduce}
-use Rattle.reduce_grammar.specs.Limits.{Kind, limit}
+use Rattle.reduce_grammar.specs.Limits.{limit}
 use Rattle.reduce_grammar.specs.ReduceReading.{reduce_text}
 use Rattle.reduce_grammar.specs.Reduces.{SpellsSource, source, SpellsPart, SpellsParts, first_part, next_part, spelled_key, SpellsKey, alone, in_braces, parts_of, SpellsGroup, group, fold_of, SpellsValue, whole_key, placed_fold, SpellsFold, named, SpellsFolds, last, more, spelled_reduce, SpellsReduce, reduce}
 use Rattle.reduce_grammar.specs.Reduces as grammar
@@ -27,7 +28,7 @@ use Rattle.reduce_grammar.proofs.ReduceMeets.{reduce_meets}
 use Rattle.index_print.specs.Print.{part, key, listed, fold_name, fold_value, fold_member, grouping, printed_reduce}
 use Rattle.index_print.specs.ReadBack.{reduce_of, ReadsBackReduce}
 use Rattle.index_print.specs.Spellable.{IsName, IsVariable, IsKeyPart, IsSpellableValue, IsSpellableFold, IsSpellableReduce, Each, HasSome, IsApart}
-use Rattle.index_print.proofs.Fronts.{Next, word_next, word_gap, gap_word_gap, open_next, close_next, point_next, comma_next, assign_next, brace_gap, close_brace_next, double_between_gaps}
+use Rattle.index_print.proofs.Prefixes.{Next, word_next, word_gap, gap_word_gap, open_next, close_next, point_next, comma_next, assign_next, brace_gap, close_brace_next, double_between_gaps}
 use Rattle.index_print.proofs.ExpressionSpells.{After, up_to}
 
 -- the token, and then these

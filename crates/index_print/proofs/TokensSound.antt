@@ -131,7 +131,7 @@ first_sound (bad none whole) = tt
 tokens_sound : {place : ℕ} {s : List ℕ} {xs : Tokens} → AreTokens place s xs → AllSound xs
 tokens_sound ends = (tt, tt)
 tokens_sound (blank is more) = tokens_sound more
-tokens_sound (token is front more) = (first_sound front, tokens_sound more)
+tokens_sound (token is found more) = (first_sound found, tokens_sound more)
 
 pub all_sound : (bytes : List ℕ) → AllSound (tokens_of bytes)
 all_sound bytes = tokens_sound (all_longest bytes (tokens_of bytes) refl)

@@ -19,7 +19,7 @@ use Rattle.index_tree.specs.Trees.{Tree, If, Binary, Unary, Dot, Load, Num, Quot
 
 -- TEXTS
 
--- the letter that stands for this byte behind a backslash, if the byte does not stand for itself
+-- the letter that means this byte after a backslash, if the byte does not mean itself
 abbrev pub escape_letter : ℕ → Option ℕ
 escape_letter byte =
     if byte == 34 then Some 34 else (
@@ -59,7 +59,7 @@ abbrev pub mark : UnaryOp → List ℕ
 mark u.Bang = codes "!"
 mark u.Minus = codes "-"
 
--- whether it stands in parentheses where it is an operand
+-- whether it is in parentheses as an operand
 abbrev pub is_compound : Tree → Bool
 is_compound (If p x y) = true
 is_compound (Binary op x y) = true
@@ -127,7 +127,7 @@ fold_name k.Sum = codes "Sum"
 fold_name k.Min = codes "Min"
 fold_name k.Max = codes "Max"
 
--- a part of the key, which has no name where it is the whole key
+-- a part of the key, which has no name if it is the whole key
 abbrev pub key_part : List (List ℕ) → List ℕ → List ℕ
 key_part (only ∷ []) name = codes ".Key"
 key_part names name = codes ".Key." ++ name

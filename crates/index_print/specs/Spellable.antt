@@ -21,7 +21,7 @@ IsName (byte ∷ bytes) = (is_letter byte ≡ true) × (list_all is_name_byte by
 abbrev pub IsVariable : List ℕ → Type 0
 IsVariable name = IsName name × (is_reserved name ≡ false)
 
--- what has an escape, or stands for itself
+-- what has an escape, or means itself
 abbrev pub is_quotable : ℕ → Bool
 is_quotable byte = is_some (escape_letter byte) || is_raw byte
 
@@ -88,7 +88,7 @@ abbrev pub IsSpellableReduce : ReduceQuery → Type 0
 IsSpellableReduce query =
     IsVariable query.var × IsVariable query.group × HasSome query.key × Each IsName query.key × HasSome query.members × Each (IsSpellableFold query.key) query.members
 
--- ---- what may stand behind
+-- ---- what may follow
 
 -- the next byte, if there is one, fails the test
 abbrev pub Stops : (ℕ → Bool) → List ℕ → Type 0

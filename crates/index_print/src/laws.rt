@@ -1,13 +1,13 @@
 //! The laws of printing, each the contract of a function without a body.
 
-ghost use Rattle.std.specs.Prelude.{◌≡◌, ◌++◌, ℕ, List, []};
+ghost use Rattle.std.specs.Prelude.{◌++◌, ℕ, List};
 ghost use Rattle.index_grammar.specs.Expressions.{Spells, Whole};
 ghost use Rattle.index_grammar.specs.MapReading.{map_text};
 ghost use Rattle.index_grammar.specs.Maps.{SpellsMap};
 ghost use Rattle.index_grammar.specs.View.{query_of};
 ghost use Rattle.index_grammar.specs.declared.spelled.SpelledMap.{SpelledMap};
 ghost use Rattle.index_print.specs.Print.{printed, printed_map, printed_reduce};
-ghost use Rattle.index_print.specs.ReadBack.{ReadsBack, ReadsBackReduce, reduce_of};
+ghost use Rattle.index_print.specs.ReadBack.{IsTextOf, IsTextOfReduce, ReadsBack, ReadsBackReduce, reduce_of};
 ghost use Rattle.index_print.specs.Spellable.{Each, NamesPart, IsSpellable, IsSpellableMap, IsSpellableReduce, IsApart};
 ghost use Rattle.index_tokens.specs.Tokens.{tokens_from, tokens_of};
 ghost use Rattle.index_tokens.specs.Words.{Tokens};
@@ -18,7 +18,7 @@ ghost use Rattle.reduce_grammar.specs.ReduceReading.{reduce_text};
 ghost use Rattle.reduce_grammar.specs.Reduces.{SpellsReduce};
 ghost use Rattle.reduce_grammar.specs.declared.spelled.SpelledReduce.{SpelledReduce};
 
-/// The tokens of a printed expression spell that expression, whatever is behind it that begins with no byte of a name.
+/// The tokens of a printed expression spell that expression, whatever follows it that begins with no byte of a name.
 pub fn printed_expressions_are_spelled()
     ensures { (x : Tree) → IsSpellable x → (place : ℕ) (s : List ℕ) → IsApart s →
         (behind : ℕ) × Spells Whole (tokens_from place 0 (printed x ++ s)) x (tokens_from behind 0 s) }
@@ -26,7 +26,7 @@ pub fn printed_expressions_are_spelled()
 
 /// The tokens of a printed map spell that map.
 pub fn printed_maps_are_spelled()
-    ensures { (query : MapQuery) → IsSpellableMap query → (spelled : SpelledMap) × SpellsMap (tokens_of (printed_map query)) spelled [] × (query_of spelled ≡ query) }
+    ensures { (query : MapQuery) → IsSpellableMap query → IsTextOf (printed_map query) query }
 {}
 
 /// A printed map is read as that map, unless it is past a limit.
@@ -46,7 +46,7 @@ pub fn spelled_maps_are_spellable()
 
 /// The tokens of a printed reduce spell that reduce.
 pub fn printed_reduces_are_spelled()
-    ensures { (query : ReduceQuery) → IsSpellableReduce query → (spelled : SpelledReduce) × SpellsReduce (tokens_of (printed_reduce query)) spelled [] × (reduce_of spelled ≡ query) }
+    ensures { (query : ReduceQuery) → IsSpellableReduce query → IsTextOfReduce (printed_reduce query) query }
 {}
 
 /// A printed reduce is read as that reduce, unless it is past a limit.

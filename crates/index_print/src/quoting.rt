@@ -25,7 +25,7 @@ fn add_escaped(out: &mut String, letter: char) -> Result<(), NoMemory>
     }
 }
 
-/// Adds a text in quotes, with an escape for a quote, a backslash, an LF, a CR and a tab. All else stands as it is, also the other control
+/// Adds a text in quotes, with an escape for a quote, a backslash, an LF, a CR and a tab. All else is written as it is, also the other control
 /// characters, which no text in quotes may hold.
 pub fn add_quoted(out: &mut String, text: &str) -> Result<(), NoMemory>
     ensures { OnOk result (string_bytes out.new ≡ string_bytes out.old ++ quoted text.now) }

@@ -8,13 +8,13 @@ use Rattle.index_tokens.specs.Spelling.{is_blank, spelled_by}
 use Rattle.index_tokens.specs.Tokens.{placed, or_shorter, or_all, longest, first_token, tokens_from, tokens_of, NoneLonger, IsFirst, spelled, bad, AreTokens, ends, blank, token}
 use Rattle.index_tokens.proofs.TurnLemmas.{has_bytes, fits, at_end, at_blank, at_token}
 
--- no front of more than n and at most k bytes spells a token
+-- no prefix of more than n and at most k bytes spells a token
 abbrev NoneBetween : ℕ → ℕ → List ℕ → Type 0
 NoneBetween n k s = (m : ℕ) → n < m → m ≤ k → spelled_by (take m s) ≡ None
 
 abbrev Found : ℕ → List ℕ → Option (Token × ℕ) → Type 0
 Found k s None = NoneBetween 0 k s
-Found k s (Some front) = (front.1 ≤ k) × (spelled_by (take front.1 s) ≡ Some front.0) × NoneBetween front.1 k s
+Found k s (Some found) = (found.1 ≤ k) × (spelled_by (take found.1 s) ≡ Some found.0) × NoneBetween found.1 k s
 
 wider : (n k : ℕ) (s : List ℕ) → spelled_by (take (suc k) s) ≡ None → NoneBetween n k s → NoneBetween n (suc k) s
 wider n k s is h m low high = elim (cases_eq m (suc k)) [
@@ -24,7 +24,7 @@ wider n k s is h m low high = elim (cases_eq m (suc k)) [
 
 found_shorter : (k : ℕ) (s : List ℕ) (o : Option (Token × ℕ)) → spelled_by (take (suc k) s) ≡ None → Found k s o → Found (suc k) s o
 found_shorter k s None is h = wider 0 k s is h
-found_shorter k s (Some front) is h = (omega (arith, h.0), h.1, wider front.1 k s is h.2)
+found_shorter k s (Some found) is h = (omega (arith, h.0), h.1, wider found.1 k s is h.2)
 
 found_by : (k : ℕ) (s : List ℕ) (o : Option Token) (shorter : Option (Token × ℕ)) → spelled_by (take (suc k) s) ≡ o → Found k s shorter → Found (suc k) s (or_shorter (suc k) o shorter)
 found_by k s (Some x) shorter is h = (omega arith, is, λ m low high. absurd (omega arith))
@@ -36,7 +36,7 @@ longest_found (suc k) s = found_by k s (spelled_by (take (suc k) s)) (longest k 
 
 first_by : (s : List ℕ) (o : Option (Token × ℕ)) → Found (length s) s o → IsFirst s (or_all s o).0 (or_all s o).1
 first_by s None h = bad h refl
-first_by s (Some front) h = spelled h.0 h.1 h.2
+first_by s (Some found) h = spelled h.0 h.1 h.2
 
 pub is_first : (s : List ℕ) → IsFirst s (first_token s).0 (first_token s).1
 is_first s = first_by s (longest (length s) s) (longest_found (length s) s)

@@ -5,7 +5,8 @@ pub mod NumberLemmas
 pub mod QuotedLemmas
 pub mod Longest
 pub mod TextLemmas
-pub mod FrontLemmas
+pub mod PrefixLemmas
 pub mod TurnLemmas
 pub mod LawLemmas
 pub mod WordLemmas
+pub mod Taking

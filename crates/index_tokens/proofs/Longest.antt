@@ -1,4 +1,4 @@
--- The longest front that spells a token.
+-- The longest prefix that spells a token.
 use Rattle.std.proofs.Common.{◌≡◌, ◌<◌, ◌≤◌, ℕ, suc, zero, List, [], ◌∷◌, length, take, arith, subst, ap, ◌∙◌, Option, Some, None, inl, inr}
 use Rattle.std.proofs.lemmas.Bool.{cases_lt}
 use Rattle.index_tokens.specs.declared.token.Token.{Token}
@@ -26,10 +26,10 @@ module _ (b : ℕ) (bs : List ℕ) where
   nothing none zero high = ap (λ o. or_shorter 1 o None) (none zero high)
   nothing none (suc k) high = ap (λ o. or_shorter (suc (suc k)) o (longest (suc k) (b ∷ bs))) (none (suc k) high) ∙ nothing none k (omega arith)
 
-  -- the token of the longest front
+  -- the token of the longest prefix
   pub first_found : (n : ℕ) (x : Token) → n ≤ length bs → spelled n ≡ Some x → ((m : ℕ) → n < m → m ≤ length bs → spelled m ≡ None) → first_token (b ∷ bs) ≡ (x, suc n)
   first_found n x fits is none = ap (or_all (b ∷ bs)) (found n x is none (length bs) fits (omega arith))
 
-  -- no front spells a token
+  -- no prefix spells a token
   pub first_bad : ((m : ℕ) → m ≤ length bs → spelled m ≡ None) → first_token (b ∷ bs) ≡ (t.Bad, suc (length bs))
   first_bad none = ap (or_all (b ∷ bs)) (nothing none (length bs) (omega arith))

@@ -64,7 +64,7 @@ drop_two s bs rest whole b c n is goes left =
     let more : n + 1 + 1 ≡ n + 2 = omega arith in
     sym twice ∙ ap (λ k. drop k whole) more
 
--- what stands at the seam of two lists
+-- what is at the seam of two lists
 at_seam : (value bs : List ℕ) (b : ℕ) → get_or (value ++ b ∷ bs) (length value) 0 ≡ b
 at_seam [] bs b = refl
 at_seam (x ∷ value) bs b = at_seam value bs b
@@ -73,9 +73,9 @@ seam_inside : (value bs : List ℕ) (b : ℕ) → length value < length (value +
 seam_inside [] bs b = omega arith
 seam_inside (x ∷ value) bs b = omega (arith, seam_inside value bs b)
 
-front_of : (value rest : List ℕ) → take (length value) (value ++ rest) ≡ value
-front_of [] rest = refl
-front_of (x ∷ value) rest = ap (λ z. x ∷ z) (front_of value rest)
+prefix_of : (value rest : List ℕ) → take (length value) (value ++ rest) ≡ value
+prefix_of [] rest = refl
+prefix_of (x ∷ value) rest = ap (λ z. x ∷ z) (prefix_of value rest)
 
 behind_of : (value bs : List ℕ) (b : ℕ) → drop (suc (length value)) (value ++ b ∷ bs) ≡ bs
 behind_of [] bs b = refl
@@ -86,7 +86,7 @@ pub before_ascii : (value bs : List ℕ) (b : ℕ) → b < 128 → IsUtf8 (value
 before_ascii value bs b small u =
     let whole = value ++ b ∷ bs in
     let less : get_or whole (length value) 0 < 128 = rw (at_seam value bs b) small in
-    subst IsUtf8 (front_of value (b ∷ bs)) (IsUtf8-take whole (length value) u (IsCharBoundary-before_ascii whole (length value) (seam_inside value bs b) less))
+    subst IsUtf8 (prefix_of value (b ∷ bs)) (IsUtf8-take whole (length value) u (IsCharBoundary-before_ascii whole (length value) (seam_inside value bs b) less))
 
 pub after_ascii : (value bs : List ℕ) (b : ℕ) → b < 128 → IsUtf8 (value ++ b ∷ bs) → IsUtf8 bs
 after_ascii value bs b small u =
@@ -95,14 +95,14 @@ after_ascii value bs b small u =
     let cut : IsUtf8 (drop (length value + 1) whole) = IsUtf8-drop whole (length value + 1) u (IsCharBoundary-after_ascii whole (length value) u (seam_inside value bs b) less) in
     subst IsUtf8 (behind_of value bs b) (subst (λ n. IsUtf8 (drop n whole)) (add-one (length value)) cut)
 
--- an escape is replaced by what it stands for
+-- an escape is replaced by what it means
 pub escape_utf8 : (value s bs rest : List ℕ) (b c x : ℕ) → s ≡ b ∷ bs → bs ≡ c ∷ rest → b ≡ 92 → c < 128 → x < 128 → IsUtf8 (value ++ s) → IsUtf8 ((value ++ x ∷ []) ++ rest)
 escape_utf8 value s bs rest b c x is goes slash letter small u =
     let whole : IsUtf8 (value ++ b ∷ bs) = subst (λ z. IsUtf8 (value ++ z)) is u in
-    let front : IsUtf8 value = before_ascii value bs b (omega arith) whole in
+    let found : IsUtf8 value = before_ascii value bs b (omega arith) whole in
     let more : IsUtf8 (c ∷ rest) = subst IsUtf8 goes (after_ascii value bs b (omega arith) whole) in
     let behind : IsUtf8 rest = behind_ascii c rest letter more in
-    IsUtf8-append (value ++ x ∷ []) rest (IsUtf8-append value (x ∷ []) front (one_utf8 x small)) behind
+    IsUtf8-append (value ++ x ∷ []) rest (IsUtf8-append value (x ∷ []) found (one_utf8 x small)) behind
 
 pub raw_utf8 : (value s bs : List ℕ) (b : ℕ) → s ≡ b ∷ bs → IsUtf8 (value ++ s) → IsUtf8 ((value ++ b ∷ []) ++ bs)
 raw_utf8 value s bs b is u = subst IsUtf8 (ap (λ z. value ++ z) is ∙ sym (append_assoc value (b ∷ []) bs)) u
@@ -110,7 +110,7 @@ raw_utf8 value s bs b is u = subst IsUtf8 (ap (λ z. value ++ z) is ∙ sym (app
 pub value_utf8 : (value s bs : List ℕ) (b : ℕ) → s ≡ b ∷ bs → b ≡ 34 → IsUtf8 (value ++ s) → IsUtf8 value
 value_utf8 value s bs b is quote u = before_ascii value bs b (omega arith) (subst (λ z. IsUtf8 (value ++ z)) is u)
 
--- what stands behind the closing quote
+-- what follows the closing quote
 pub closed_utf8 : (value s bs whole : List ℕ) (b n : ℕ) → s ≡ b ∷ bs → b ≡ 34 → s ≡ drop n whole → IsUtf8 (value ++ s) → IsUtf8 (drop (n + 1) whole)
 closed_utf8 value s bs whole b n is quote left u =
     let behind : IsUtf8 bs = after_ascii value bs b (omega arith) (subst (λ z. IsUtf8 (value ++ z)) is u) in

@@ -41,7 +41,7 @@ module _ (test : ℕ → Bool) where
   run_utf8 small [] u = u
   run_utf8 small (b ∷ bs) u = utf8_by (test b) b (run test bs) bs (small b) u (run_utf8 small bs)
 
-  -- where the next byte fails the test
+  -- if the next byte fails the test
   pub run_stops : (s bs : List ℕ) (b : ℕ) → s ≡ b ∷ bs → test b ≡ false → run test s ≡ 0
   run_stops s bs b is fails = ap (run test) is ∙ rw fails refl
 

@@ -1,4 +1,4 @@
--- One pass over a text in quotes finds the one front that is a text.
+-- One pass over a text in quotes finds the one prefix that is a text.
 use Rattle.std.proofs.Common.{◌≡◌, ◌≢◌, ◌<◌, ◌≤◌, ◌+◌, ℕ, suc, zero, List, [], ◌∷◌, ◌++◌, length, take, arith, refl, sym, subst, ap, ◌∙◌, append_assoc, append-nil, Option, Some, None, Bool, true, false, inl, inr, ◌⊎◌, ne_eqb}
 use Rattle.std.proofs.lemmas.Bool.{cases_eq}
 use Rattle.std.specs.Prelude.{◌==◌, if◌then◌else◌, option_and_then, option_map}
@@ -6,10 +6,10 @@ use Rattle.index_tokens.specs.declared.token.Token.{Token}
 use Rattle.index_tokens.specs.declared.token.Token.TheVariants as t
 use Rattle.index_tokens.specs.Spelling.{meant_by, is_raw, value_of}
 use Rattle.index_tokens.specs.Tokens.{or_all, first_token}
-use Rattle.index_tokens.specs.Passes.{text_from, quoted_front}
+use Rattle.index_tokens.specs.Passes.{text_from, quoted_prefix}
 use Rattle.index_tokens.proofs.Longest.{first_found, first_bad}
 
--- The bytes up to the closing quote spell the value, and no longer front is a text.
+-- The bytes up to the closing quote spell the value, and no longer prefix is a text.
 record IsText (v : List ℕ) (k : ℕ) (bs w : List ℕ) (n : ℕ) : Type 0 where
   pub more : List ℕ
   pub last : ℕ
@@ -68,7 +68,7 @@ one_alone v k b (inr other) =
     let ends : text_from v k (b ∷ []) ≡ None = rw (ne_eqb b 34 other) refl in
     subst (Reads v k (b ∷ [])) (sym ends) (none_of_one b alone)
 
--- a byte that stands for itself, before another
+-- a byte that means itself, before another
 raw_more : (v : List ℕ) (k b c : ℕ) (bs : List ℕ) → value_of (b ∷ []) ≡ None → ((s : List ℕ) → value_of (b ∷ c ∷ s) ≡ option_map (λ u. b ∷ u) (value_of (c ∷ s)))
     → (o : Option (List ℕ × ℕ)) → Reads (v ++ b ∷ []) (k + 1) (c ∷ bs) o → Reads v k (b ∷ c ∷ bs) o
 raw_more v k b c bs alone step None ih = none
@@ -155,5 +155,5 @@ by_reading bs (Some p) ih =
     first_found 34 bs (suc ih.last) (t.Quoted ih.more) ih.fits (ap (option_map t.Quoted) ih.spelled) (λ m h l. ap (option_map t.Quoted) (ih.longest m h l))
     ∙ ap (λ z. (t.Quoted z, suc (suc ih.last))) (sym ih.value) ∙ ap (λ z. (t.Quoted p.0, z)) size
 
-pub quoted_first : (bs : List ℕ) → first_token (34 ∷ bs) ≡ quoted_front (34 ∷ bs) bs
+pub quoted_first : (bs : List ℕ) → first_token (34 ∷ bs) ≡ quoted_prefix (34 ∷ bs) bs
 quoted_first bs = by_reading bs (text_from [] 0 bs) (reads [] 0 bs)

@@ -11,11 +11,11 @@ use Rattle.index_tokens.specs.Tokens.{placed, or_shorter, or_all, longest, first
 
 abbrev Within : ℕ → Option (Token × ℕ) → Type 0
 Within n None = Unit {0}
-Within n (Some front) = (0 < front.1) × (front.1 ≤ n)
+Within n (Some found) = (0 < found.1) × (found.1 ≤ n)
 
 wider : (n : ℕ) (o : Option (Token × ℕ)) → Within n o → Within (suc n) o
 wider n None h = tt
-wider n (Some front) h = (h.0, omega (arith, h.1))
+wider n (Some found) h = (h.0, omega (arith, h.1))
 
 within_by : (n : ℕ) (o : Option Token) (shorter : Option (Token × ℕ)) → Within n shorter → Within (suc n) (or_shorter (suc n) o shorter)
 within_by n (Some x) shorter h = (omega arith, omega arith)
@@ -26,7 +26,7 @@ longest_within zero s = tt
 longest_within (suc n) s = within_by n _ (longest n s) (longest_within n s)
 
 first_by : (b : ℕ) (bs : List ℕ) (o : Option (Token × ℕ)) → Within (length (b ∷ bs)) o → (0 < (or_all (b ∷ bs) o).1) × ((or_all (b ∷ bs) o).1 ≤ length (b ∷ bs))
-first_by b bs (Some front) h = h
+first_by b bs (Some found) h = h
 first_by b bs None h = (omega arith, omega arith)
 
 first_within : (b : ℕ) (bs : List ℕ) → (0 < (first_token (b ∷ bs)).1) × ((first_token (b ∷ bs)).1 ≤ length (b ∷ bs))

@@ -1,5 +1,5 @@
--- A token is told by what takes it.
-use Rattle.std.proofs.Common.{◌≡◌, ℕ, List, Bool, true, false, cond, Some, None, refl, sym, ◌∙◌, ap}
+-- What a token is, by what takes it.
+use Rattle.std.proofs.Common.{◌≡◌, ℕ, List, Bool, true, false, cond, Option, Some, None, refl, sym, ◌∙◌, ap}
 use Rattle.std.proofs.lemmas.Slice.Eq.{bytes_eq-Decides}
 use Rattle.index_tokens.specs.declared.token.Token.{Token}
 use Rattle.index_tokens.specs.declared.token.Token.TheVariants as t
@@ -34,9 +34,17 @@ taken_is token x v e = by (same_token token x.token) refl e
 pub is_taken : (token : Token) (x : Placed) → same_token token token ≡ true → Is token x → the token x ≡ Some tt
 is_taken token x self is = ap (λ u. cond (same_token token u) (Some tt) None) is ∙ ap (λ d. cond d (Some tt) None) self
 
--- Another one is not.
-pub not_taken : (token other : Token) (x : Placed) → same_token token other ≡ false → Is other x → the token x ≡ None
-not_taken token other x differ is = ap (λ u. cond (same_token token u) (Some tt) None) is ∙ ap (λ d. cond d (Some tt) None) differ
+-- A word is the same as itself.
+pub word_same : (w : List ℕ) → same_token (t.Word w) (t.Word w) ≡ true
+word_same w = (bytes_eq-Decides w w).1 refl
+
+-- What has a value that the token has not is not that token.
+pub not_taken : {V : Type 0} (token : Token) (value : Token → Option V) → value token ≡ None → (x : Placed) (v : V) → value x.token ≡ Some v → the token x ≡ None
+not_taken {V = V} token value none x v is = by (the token x) refl
+  where
+    by : (o : Option (Unit {0})) → the token x ≡ o → the token x ≡ None
+    by (Some u) e = let bad : ◌≡◌ {A = Option V} None (Some v) = sym none ∙ sym (ap value (taken_is token x u e)) ∙ is in cc
+    by None e = e
 
 name_as_is : (token : Token) (n : List ℕ) → name_as token ≡ Some n → token ≡ t.Word n
 name_as_is (t.Word w) n e = let same : w ≡ n = cc in ap t.Word same

@@ -2,3 +2,4 @@ pub mod Spelling
 pub mod Tokens
 pub mod Passes
 pub mod Words
+pub mod Reads

@@ -10,7 +10,7 @@ abbrev pub run : (ℕ → Bool) → List ℕ → ℕ
 run test [] = 0
 run test (b ∷ bs) = if test b then run test bs + 1 else 0
 
--- Goes on behind an opening quote, after a part of the value and so many bytes: the value, and the count of bytes
+-- Goes on after an opening quote and a part of the value and so many bytes: the value, and the count of bytes
 -- up to the closing quote.
 abbrev pub text_from : List ℕ → ℕ → List ℕ → Option (List ℕ × ℕ)
 text_from value n [] = None
@@ -20,17 +20,17 @@ text_from value n (b ∷ c ∷ bs) =
     if b == 92 then option_and_then (λ x. text_from (value ++ x ∷ []) (n + 2) bs) (meant_by c) else (
     if is_raw b then text_from (value ++ b ∷ []) (n + 1) (c ∷ bs) else None))
 
--- the token at the front of bytes that begin with a letter
-abbrev pub word_front : List ℕ → Token × ℕ
-word_front s = (t.Word (take (run is_name_byte s) s), run is_name_byte s)
+-- the token at the start of bytes that begin with a letter
+abbrev pub word_prefix : List ℕ → Token × ℕ
+word_prefix s = (t.Word (take (run is_name_byte s) s), run is_name_byte s)
 
 -- of bytes that begin with a digit
-abbrev pub number_front : List ℕ → Token × ℕ
-number_front s = (number_of (take (run is_digit s) s), run is_digit s)
+abbrev pub number_prefix : List ℕ → Token × ℕ
+number_prefix s = (number_of (take (run is_digit s) s), run is_digit s)
 
 -- of a quote and the bytes behind it
-abbrev pub quoted_front : List ℕ → List ℕ → Token × ℕ
-quoted_front s behind = or_all s (option_map (λ part. (t.Quoted part.0, part.1 + 1)) (text_from [] 0 behind))
+abbrev pub quoted_prefix : List ℕ → List ℕ → Token × ℕ
+quoted_prefix s behind = or_all s (option_map (λ part. (t.Quoted part.0, part.1 + 1)) (text_from [] 0 behind))
 
 abbrev pub mark_at : List ℕ → Option (Token × ℕ)
 mark_at [] = None
@@ -38,5 +38,5 @@ mark_at (a ∷ []) = or_shorter 1 (single a) None
 mark_at (a ∷ b ∷ bs) = or_shorter 2 (double a b) (or_shorter 1 (single a) None)
 
 -- of all other bytes
-abbrev pub mark_front : List ℕ → Token × ℕ
-mark_front s = or_all s (mark_at s)
+abbrev pub mark_prefix : List ℕ → Token × ℕ
+mark_prefix s = or_all s (mark_at s)

@@ -46,7 +46,7 @@ number_of digits = if nat_lt max_number (number_from 0 digits) then t.Bad else t
 
 -- TEXTS
 
--- what a backslash and the letter behind it stand for
+-- what a backslash and the letter after it mean
 abbrev pub meant_by : ℕ → Option ℕ
 meant_by letter =
     if letter == 34 then Some 34 else (
@@ -55,11 +55,11 @@ meant_by letter =
     if letter == 114 then Some 13 else (
     if letter == 116 then Some 9 else None))))
 
--- what stands for itself: no control character, quote or backslash
+-- what means itself: no control character, quote or backslash
 abbrev pub is_raw : ℕ → Bool
 is_raw b = nat_le 32 b && (not (b == 127) && (not (b == 34) && not (b == 92)))
 
--- The value of a text, by what stands behind its opening quote: what stands for itself, or escapes, and the
+-- The value of a text, by what follows its opening quote: what means itself, or escapes, and the
 -- closing quote at the end. There is none for other bytes.
 abbrev pub value_of : List ℕ → Option (List ℕ)
 value_of [] = None
@@ -112,7 +112,7 @@ mark_of _ = None
 abbrev pub where_true : Bool → Token → Option Token
 where_true holds token = if holds then Some token else None
 
--- The token that the bytes spell, all of them together. Its kind is told by the first byte: a letter begins a
+-- The token that the bytes spell, all of them together. The first byte decides its kind: a letter begins a
 -- name, a digit a number, a quote a text, and all else a mark.
 abbrev pub spelled_by : List ℕ → Option Token
 spelled_by [] = None

@@ -12,21 +12,21 @@ abbrev pub or_shorter : ℕ → Option Token → Option (Token × ℕ) → Optio
 or_shorter n (Some x) shorter = Some (x, n)
 or_shorter n None shorter = shorter
 
--- The longest front that spells a token, of all those of at most so many bytes: that token, and how many bytes
+-- The longest prefix that spells a token, of all those of at most so many bytes: that token, and how many bytes
 -- spell it.
 abbrev pub longest : ℕ → List ℕ → Option (Token × ℕ)
 longest zero s = None
 longest (suc n) s = or_shorter (suc n) (spelled_by (take (suc n) s)) (longest n s)
 
 abbrev pub or_all : List ℕ → Option (Token × ℕ) → Token × ℕ
-or_all s (Some front) = front
+or_all s (Some found) = found
 or_all s None = (t.Bad, length s)
 
--- The token at the front of bytes, the longest that they allow. Where no token begins, all the bytes are a bad one.
+-- The token that bytes begin with, the longest that they allow. If they begin with none, all of them are a bad one.
 abbrev pub first_token : List ℕ → Token × ℕ
 first_token s = or_all s (longest (length s) s)
 
--- The tokens from a place on, where so many bytes still belong to the token before. Blanks part tokens, and the
+-- The tokens from a place on, if so many bytes still belong to the token before. Blanks part tokens, and the
 -- end is the last one.
 abbrev pub tokens_from : (place inside : ℕ) → List ℕ → List Placed
 tokens_from place inside [] = placed place t.End ∷ []
@@ -40,12 +40,12 @@ tokens_of bytes = tokens_from 0 0 bytes
 
 -- THE SAME AS A RELATION
 
--- no front of more than so many bytes spells a token
+-- no prefix of more than so many bytes spells a token
 abbrev pub NoneLonger : ℕ → List ℕ → Type 0
 NoneLonger n s = (m : ℕ) → n < m → m ≤ length s → spelled_by (take m s) ≡ None
 
--- Which token stands at the front of bytes, and how many bytes it takes: the longest front that spells one, or
--- all that is left, where no front does.
+-- Which token bytes begin with, and how many bytes it takes: the longest prefix that spells one, or all that is
+-- left, if no prefix does.
 pub data IsFirst : List ℕ → Token → ℕ → Type 0 where
   spelled : {s : List ℕ} {x : Token} {n : ℕ} → n ≤ length s → spelled_by (take n s) ≡ Some x → NoneLonger n s → IsFirst s x n
   bad : {s : List ℕ} {n : ℕ} → NoneLonger 0 s → n ≡ length s → IsFirst s t.Bad n

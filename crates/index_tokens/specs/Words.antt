@@ -1,5 +1,5 @@
--- What a token may stand for.
-use Rattle.std.specs.Prelude.{◌≡◌, ℕ, List, Bool, true, false, if◌then◌else◌, codes, Option, Some, None}
+-- What a token may be taken as.
+use Rattle.std.specs.Prelude.{◌≡◌, ℕ, List, [], ◌∷◌, Bool, true, false, if◌then◌else◌, codes, Option, Some, None}
 use Rattle.std.specs.Str.{bytes_eq}
 use Rattle.index_tokens.specs.declared.token.Token.{Token}
 use Rattle.index_tokens.specs.declared.token.Token.TheVariants as t
@@ -9,13 +9,18 @@ use Rattle.index_tokens.specs.Spelling.{is_reserved}
 abbrev pub Tokens : Type 0
 Tokens = List Placed
 
+-- The place of the first of these tokens. Every text has one, since its end is a token; if all tokens have been passed it is 0.
+abbrev pub place_of : Tokens → ℕ
+place_of [] = 0
+place_of (x ∷ s) = x.at
+
 -- ---- a mark, or one word
 
--- it is this token, wherever it stands
+-- it is this token, at any place
 abbrev pub Is : Token → Placed → Type 0
 Is token x = x.token ≡ token
 
--- Whether two tokens are the same mark, or the same word. Numbers and texts are not told apart here, and are the same as none.
+-- Whether two tokens are the same mark, or the same word. Numbers and texts are the same as none here.
 abbrev pub same_token : Token → Token → Bool
 same_token (t.Word a) (t.Word b) = bytes_eq a b
 same_token t.OpenBrace t.OpenBrace = true
@@ -30,6 +35,11 @@ same_token t.Question t.Question = true
 same_token t.Colon t.Colon = true
 same_token t.End t.End = true
 same_token _ _ = false
+
+-- whether the next token is this one
+abbrev pub next_is : Token → Option Placed → Bool
+next_is token (Some x) = same_token token x.token
+next_is token None = false
 
 -- takes this mark or word, and no other
 abbrev pub the : Token → Placed → Option (Unit {0})
@@ -87,7 +97,7 @@ abbrev pub name_as : Token → Option (List ℕ)
 name_as (t.Word w) = Some w
 name_as _ = None
 
--- a name that may be any word, as a member's or one behind a point
+-- a name that may be any word, as a member's or one after a point
 abbrev pub name : Placed → Option (List ℕ)
 name x = name_as x.token
 

@@ -2,8 +2,8 @@
 #![tactic(auto)]
 
 mod classes;
-mod fronts;
 mod marks;
+mod prefixes;
 mod reading;
 mod reserved;
 mod texts;

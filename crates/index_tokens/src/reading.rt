@@ -3,7 +3,7 @@ ghost use Rattle.std.specs.Prelude.{◌≡◌, IfOk};
 ghost use Rattle.index_tokens.specs.Tokens.{tokens_of, AreTokens};
 
 use crate::classes::is_blank;
-use crate::fronts::first_token;
+use crate::prefixes::first_token;
 use crate::token::{Placed, Token};
 use raven_base::NoMemory;
 use std::alloc::Global;

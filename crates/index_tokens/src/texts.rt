@@ -36,8 +36,8 @@ fn is_raw(byte: u8) -> bool
     byte >= 32 && byte != 127 && byte != b'"' && byte != b'\\'
 }
 
-/// The value of a text, by what stands behind its opening quote, and how many bytes that are, the closing
-/// quote with them. There is none where the text is not closed or holds what no text may.
+/// The value of a text, by what follows its opening quote, and how many bytes that is, the closing quote with
+/// them. There is none if the text is not closed, or holds what no text may.
 #[tactic(auto, using(crate::proofs::QuotedLemmas::quoted))]
 pub fn quoted(alloc: Global, bytes: &[u8]) -> Result<Option<(Text, usize)>, NoMemory>
     requires { IsUtf8 bytes.now }

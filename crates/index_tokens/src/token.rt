@@ -1,10 +1,10 @@
-//! The tokens, and where they stand.
+//! The tokens and their places.
 use raven_value::Text;
 
 /// A token of the index language.
 #[derive(Debug, Drop)]
 pub enum Token {
-    /// A name. Reserved words are names too, since any name may stand after a point and as a member's name.
+    /// A name. Reserved words are names too, since any name may follow a point, and be the name of a member.
     Word(Text),
     /// A number that digits write, from 0 on.
     Number(i64),
@@ -58,7 +58,7 @@ pub enum Token {
     Percent,
     /// `!`
     Bang,
-    /// What no rule takes: digits whose number is too great, or all that is left where no token begins.
+    /// What no rule takes: digits whose number is too great, or all that is left if no token begins there.
     Bad,
     /// The end of the text, the last token of each.
     End,
@@ -67,7 +67,7 @@ pub enum Token {
 /// A token and its place.
 #[derive(Debug, Drop)]
 pub struct Placed {
-    /// Where the token's first byte stands, counted from 0. The end stands behind the last byte.
+    /// The place of the token's first byte, counted from 0. The end is after the last byte.
     pub at: usize,
     /// The token.
     pub token: Token,

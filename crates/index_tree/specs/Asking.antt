@@ -6,7 +6,7 @@ use Rattle.raven_data.specs.Rows.{Row}
 abbrev pub Lookup : Type 0
 Lookup = List ℕ → Option Row
 
--- what came of a computation, which is nothing where it failed, and the folded ids that it asked for, in order
+-- the result of a computation, which is nothing if it failed, and the folded ids that it asked for, in order
 pub record Asking (A : Type 0) : Type 0 where
   pub outcome : Option A
   pub loads : List (List ℕ)

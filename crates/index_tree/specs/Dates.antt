@@ -9,7 +9,7 @@ use Rattle.jiff_fmt.specs.Temporal.{DateParts, parse_date}
 abbrev pub without_mark : List ℕ → List ℕ
 without_mark s = if ends_with nat_eq s (codes "Z") then take (length s - 1) s else s
 
--- the number that the name stands for
+-- the number that the name means
 abbrev pub part_named : List ℕ → DateParts → Option ℤ
 part_named name date =
     if bytes_eq name (codes "Year") then Some date.year else (

@@ -1,4 +1,4 @@
--- Definitions of indexes, their codes, and whether two say the same, told by these codes.
+-- Definitions of indexes, their codes, and whether two say the same, by these codes.
 use Rattle.std.specs.Prelude.{◌≡◌, ℕ, zero, suc, List, Bool, true, false, ◌&&◌, ◌==◌, Option, Some, None, ◌⊎◌, refl}
 use Rattle.std.specs.Coded.{Coded, coded_ℕ, coded_list, coded×, coded⊎, coded_option, code_by}
 use Rattle.std.proofs.Common.{inl, inr}

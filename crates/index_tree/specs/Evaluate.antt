@@ -24,7 +24,7 @@ abbrev pub document_of : Body → Data
 document_of (doc d) = d
 document_of gone = null
 
--- the document of a row that stands in the collection
+-- the document of a row that is in the collection
 abbrev pub document_in : List ℕ → Option Row → Data
 document_in collection None = null
 document_in collection (Some r) = if bytes_eq r.collection collection then document_of r.body else null
@@ -46,7 +46,7 @@ as_flag c = c >>= λ v. gives (flag (is_true v))
 abbrev pub in_turn : BinaryOp → Asking Data → Asking Data → Asking Data
 in_turn o left right = left >>= λ v. right >>= λ w. from (binary o v w)
 
--- `||` and `&&` compute the second operand only where the first does not decide
+-- `||` and `&&` compute the second operand only if the first does not decide
 abbrev pub combined : BinaryOp → Asking Data → Asking Data → Asking Data
 combined op.Or left right = chosen left (gives (flag true)) (as_flag right)
 combined op.And left right = chosen left (as_flag right) (gives (flag false))

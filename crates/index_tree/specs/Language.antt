@@ -7,7 +7,7 @@ pub data Part : Type 0 where
 pub data Kind : Type 0 where
   -- no text of the language goes on with this token
   Unexpected : Kind
-  -- a variable is not bound where it stands, or is bound again
+  -- a variable is not bound at its place, or is bound again
   UnknownName : Kind
   -- a member has the name of one before it
   DuplicateField : Kind
@@ -18,7 +18,7 @@ pub data Kind : Type 0 where
   -- the text is past a limit
   TooLarge : Kind
 
--- the cause, and the place of the byte where it stands in its text
+-- the cause, and the place of its byte in the text
 pub record LangRefusal : Type 0 where
   pub part : Part
   pub at : ℕ

@@ -1,4 +1,4 @@
--- A map hangs on the document and on what its loads give, and on nothing else.
+-- A map depends on the document and on what its loads give, and on nothing else.
 use Rattle.std.specs.Prelude.{◌≡◌, ℕ, List, [], ◌∷◌, ◌++◌, Bool, true, false, Option, Some, None, if◌then◌else◌, refl}
 use Rattle.std.proofs.Common.{ap, sym, ◌∙◌}
 use Rattle.raven_data.specs.Data.{Data, null, flag, num, text, array, object}
@@ -18,7 +18,7 @@ use Rattle.index_tree.specs.Operators.{is_true, part_of, binary, unary}
 use Rattle.index_tree.specs.Evaluate.{Bindings, document_of, document_in, loaded, chosen, as_flag, combined, evaluate}
 use Rattle.index_tree.specs.Meaning.{Fields, where_some, bound_by, bound_after, fields_with, fields_under, entry_of, mapped, meaning}
 
--- where lookups agree on all that was asked for, the same comes of it
+-- if lookups agree on all that was asked for, the result is the same
 abbrev pub IsLocal : {A : Type 0} → (Lookup → Asking A) → Type 0
 IsLocal c = (find other : Lookup) → AgreeAt (c find).loads find other → c other ≡ c find
 
@@ -126,6 +126,6 @@ entry_local query document =
     then_local (λ find. bound_after find ((query.var, document) ∷ []) query.clauses) (λ find bound. where_some bound (fields_under find query.members))
     (bound_local query.clauses ((query.var, document) ∷ [])) (λ bound. some_local bound (λ find names. fields_under find query.members names) (fields_local query.members))
 
--- where two lookups give the same for all that was asked for under the first, the map gives the same under both, and asks for the same
+-- if two lookups give the same for all that was asked for under the first, the map gives the same under both, and asks for the same
 pub meaning_local : (query : MapQuery) (d : Row) (find other : Lookup) → AgreeAt (meaning query d find).loads find other → meaning query d other ≡ meaning query d find
 meaning_local query d find other h = ap mapped (entry_local query (document_of d.body) find other h)

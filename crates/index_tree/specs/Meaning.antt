@@ -11,7 +11,7 @@ use Rattle.index_tree.specs.Asking.{Lookup, Asking, gives, ◌>>=◌}
 use Rattle.index_tree.specs.Operators.{is_true}
 use Rattle.index_tree.specs.Evaluate.{Bindings, document_of, evaluate}
 
--- names of fields and what stands there
+-- names of fields and their values
 abbrev pub Fields : Type 0
 Fields = List (List ℕ × Scalar)
 
@@ -25,12 +25,12 @@ pub record Mapped : Type 0 where
   pub outcome : Outcome
   pub loads : List (List ℕ)
 
--- what goes on only where there is something
+-- what goes on only if there is something
 abbrev pub where_some : {A B : Type 0} → Option A → (A → Asking (Option B)) → Asking (Option B)
 where_some None more = gives None
 where_some (Some a) more = more a
 
--- the values of the names after a clause, which is computed at once; nothing where its condition is not true
+-- the values of the names after a clause, which is computed at once; nothing if its condition is not true
 abbrev pub bound_by : Lookup → Bindings → Clause → Asking (Option Bindings)
 bound_by find bound (clause.Where test) = evaluate find bound test >>= λ t. gives (if is_true t then Some bound else None)
 bound_by find bound (clause.Let name value) = evaluate find bound value >>= λ v. gives (Some ((name, v) ∷ bound))

@@ -1,4 +1,4 @@
--- What the operators give for values. There is nothing where a number is outside 64 bits or a divisor is zero.
+-- What the operators give for values. There is nothing if a number is outside 64 bits or a divisor is zero.
 use Rattle.std.specs.Prelude.{ℕ, ℤ, List, ◌++◌, Bool, false, not, ◌&&◌, ◌||◌, Option, Some, None, option_map}
 use Rattle.std.specs.declared.cmp.Ordering.{Ordering}
 use Rattle.std.specs.Ordering.{int_cmp, is_lt, is_le, is_gt, is_ge}
@@ -39,7 +39,7 @@ abbrev pub plus : Data → Data → Option Data
 plus (text s) (text t) = Some (text (s ++ t))
 plus v w = arithmetic sum v w
 
--- how two numbers or two texts stand to one another, texts by their bytes; no others do
+-- the order of two numbers or two texts, texts by their bytes; no others have one
 abbrev pub standing : Data → Data → Option Ordering
 standing (num m) (num n) = Some (int_cmp m n)
 standing (text s) (text t) = Some (key_cmp s t)

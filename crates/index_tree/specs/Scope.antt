@@ -37,19 +37,19 @@ all_named query = flat_map clause_names query.clauses ++ flat_map (λ m. named_i
 abbrev pub others : List ℕ → List (List ℕ) → List (List ℕ)
 others name names = filter (λ other. not (bytes_eq name other)) names
 
--- each name where it stands first
+-- each name at its first place
 abbrev pub each_once : List (List ℕ) → List (List ℕ)
 each_once [] = []
 each_once (name ∷ more) = name ∷ others name (each_once more)
 
--- the collections that are loaded from beside the mapped one
+-- the collections that are loaded from, next to the mapped one
 abbrev pub loaded_of : MapQuery → List (List ℕ)
 loaded_of query = others query.collection (each_once (all_named query))
 
 abbrev pub scope_of : MapQuery → List (List ℕ)
 scope_of query = query.collection ∷ loaded_of query
 
--- the row, where its collection is one of these
+-- the row, if its collection is one of these
 abbrev pub kept_in : List (List ℕ) → Option Row → Option Row
 kept_in scope None = None
 kept_in scope (Some r) = if list_any (bytes_eq r.collection) scope then Some r else None

@@ -1,4 +1,4 @@
--- A code for trees, by which a proof tells them apart.
+-- A code for trees, by which a proof knows them apart.
 use Rattle.std.specs.Prelude.{◌≡◌, ℕ, refl}
 use Rattle.std.proofs.Common.{ap}
 use base.Stored.{Gv, gnil, gnum, gcons, Coded, coded_bool, coded_ℤ}

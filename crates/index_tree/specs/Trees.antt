@@ -15,7 +15,7 @@ pub data Tree : Type 0 where
   Null : Tree
   Var : List ℕ → Tree
 
--- how many expressions stand within one another
+-- how many expressions are within one another
 abbrev pub height : Tree → ℕ
 height (If a b c) = suc (max (height a) (max (height b) (height c)))
 height (Binary op a b) = suc (max (height a) (height b))

@@ -62,13 +62,13 @@ pub enum ExprKind {
     If(Expr, Expr, Expr),
     /// Two operands with an operator between them.
     Binary(BinaryOp, Expr, Expr),
-    /// An operand behind an operator.
+    /// An operand after an operator.
     Unary(UnaryOp, Expr),
     /// A member of a value.
     Dot(Expr, Text),
-    /// The document of this id, where it is in that collection.
+    /// The document of this id, if it is in that collection.
     Load(Expr, Text),
-    /// A number, from 0 on where it is read from a text.
+    /// A number, from 0 on if it is read from a text.
     Num(i64),
     /// A text.
     Text(Text),

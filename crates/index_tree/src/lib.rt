@@ -9,4 +9,4 @@ mod same;
 pub use expression::{BinaryOp, Expr, ExprKind, UnaryOp};
 pub use map_query::{Clause, Clauses, MapMember, MapMembers, MapQuery};
 pub use reduce_query::{FoldKind, FoldMember, FoldMembers, FoldValue, ReduceQuery, Texts};
-pub use same::{same_expr, same_map, same_reduce};
+pub use same::{SameAs, same_expr, same_lists, same_map, same_reduce};

@@ -4,7 +4,52 @@ ghost use Rattle.std.specs.Prelude.{◌≡◌, ◌↔◌, IsTrue};
 use crate::expression::{Expr, ExprKind};
 use crate::map_query::{Clause, MapMember, MapQuery};
 use crate::reduce_query::{FoldMember, FoldValue, ReduceQuery};
-use raven_value::Text;
+use raven_base::Sequence;
+use raven_value::{Path, Text};
+
+/// A type whose values are compared exactly, and lists of them too.
+pub trait SameAs {
+    /// Whether the other value is the same.
+    fn same_as(&self, other: &Self) -> bool
+        ensures { IsTrue result ↔ (self.now ≡ other.now) };
+}
+
+/// Whether two lists have the same values in the same order.
+pub fn same_lists<T: SameAs>(a: &[T], b: &[T]) -> bool
+    ensures { IsTrue result ↔ (a.now ≡ b.now) }
+{
+    let mut left = a;
+    let mut right = b;
+    while let [item, more @ ..] = left {
+        let [other, others @ ..] = right else {
+            return false;
+        };
+        if !item.same_as(other) {
+            return false;
+        }
+        left = more;
+        right = others;
+    }
+    right.is_empty()
+}
+
+impl<T: SameAs> SameAs for Sequence<T> {
+    fn same_as(&self, other: &Sequence<T>) -> bool {
+        same_lists(self.as_slice(), other.as_slice())
+    }
+}
+
+impl SameAs for Text {
+    fn same_as(&self, other: &Text) -> bool {
+        *self == *other
+    }
+}
+
+impl SameAs for Path {
+    fn same_as(&self, other: &Path) -> bool {
+        same_lists(self.as_slice(), other.as_slice())
+    }
+}
 
 /// Whether two expressions are the same, names and all.
 #[cycle(same)]
@@ -36,62 +81,26 @@ pub fn same_expr(a: &Expr, b: &Expr) -> bool
     }
 }
 
-fn same_clause(a: &Clause, b: &Clause) -> bool
-    ensures { IsTrue result ↔ (a.now ≡ b.now) }
-{
-    match (a, b) {
-        (Clause::Where(test), Clause::Where(a_test)) => same_expr(test, a_test),
-        (
-            Clause::Let { var, value },
-            Clause::Let {
-                var: a_var,
-                value: a_value,
-            },
-        ) => { *var == *a_var && same_expr(value, a_value) },
-        _ => false,
-    }
-}
-
-fn same_clauses(a: &[Clause], b: &[Clause]) -> bool
-    ensures { IsTrue result ↔ (a.now ≡ b.now) }
-{
-    let mut left = a;
-    let mut right = b;
-    while let [clause, more @ ..] = left {
-        let [other, others @ ..] = right else {
-            return false;
-        };
-        if !same_clause(clause, other) {
-            return false;
+impl SameAs for Clause {
+    fn same_as(&self, other: &Clause) -> bool {
+        match (self, other) {
+            (Clause::Where(test), Clause::Where(a_test)) => same_expr(test, a_test),
+            (
+                Clause::Let { var, value },
+                Clause::Let {
+                    var: a_var,
+                    value: a_value,
+                },
+            ) => { *var == *a_var && same_expr(value, a_value) },
+            _ => false,
         }
-        left = more;
-        right = others;
     }
-    right.is_empty()
 }
 
-fn same_member(a: &MapMember, b: &MapMember) -> bool
-    ensures { IsTrue result ↔ (a.now ≡ b.now) }
-{
-    a.name == b.name && same_expr(&a.value, &b.value)
-}
-
-fn same_members(a: &[MapMember], b: &[MapMember]) -> bool
-    ensures { IsTrue result ↔ (a.now ≡ b.now) }
-{
-    let mut left = a;
-    let mut right = b;
-    while let [member, more @ ..] = left {
-        let [other, others @ ..] = right else {
-            return false;
-        };
-        if !same_member(member, other) {
-            return false;
-        }
-        left = more;
-        right = others;
+impl SameAs for MapMember {
+    fn same_as(&self, other: &MapMember) -> bool {
+        self.name == other.name && same_expr(&self.value, &other.value)
     }
-    right.is_empty()
 }
 
 /// Whether two maps are the same, the names in them and all.
@@ -100,80 +109,36 @@ pub fn same_map(a: &MapQuery, b: &MapQuery) -> bool
 {
     a.var == b.var
         && a.collection == b.collection
-        && same_clauses(a.clauses.as_slice(), b.clauses.as_slice())
-        && same_members(a.members.as_slice(), b.members.as_slice())
+        && a.clauses.same_as(&b.clauses)
+        && a.members.same_as(&b.members)
 }
 
-fn same_value(a: &FoldValue, b: &FoldValue) -> bool
-    ensures { IsTrue result ↔ (a.now ≡ b.now) }
-{
-    match (a, b) {
-        (FoldValue::Key(name), FoldValue::Key(a_name)) => *name == *a_name,
-        (
-            FoldValue::Fold { kind, var, field },
-            FoldValue::Fold {
-                kind: a_kind,
-                var: a_var,
-                field: a_field,
-            },
-        ) => *kind == *a_kind && *var == *a_var && *field == *a_field,
-        _ => false,
-    }
-}
-
-fn same_fold(a: &FoldMember, b: &FoldMember) -> bool
-    ensures { IsTrue result ↔ (a.now ≡ b.now) }
-{
-    a.name == b.name && same_value(&a.value, &b.value)
-}
-
-fn same_folds(a: &[FoldMember], b: &[FoldMember]) -> bool
-    ensures { IsTrue result ↔ (a.now ≡ b.now) }
-{
-    let mut left = a;
-    let mut right = b;
-    while let [member, more @ ..] = left {
-        let [other, others @ ..] = right else {
-            return false;
-        };
-        if !same_fold(member, other) {
-            return false;
+impl SameAs for FoldValue {
+    fn same_as(&self, other: &FoldValue) -> bool {
+        match (self, other) {
+            (FoldValue::Key(name), FoldValue::Key(a_name)) => *name == *a_name,
+            (
+                FoldValue::Fold { kind, var, field },
+                FoldValue::Fold {
+                    kind: a_kind,
+                    var: a_var,
+                    field: a_field,
+                },
+            ) => *kind == *a_kind && *var == *a_var && *field == *a_field,
+            _ => false,
         }
-        left = more;
-        right = others;
     }
-    right.is_empty()
 }
 
-fn same_text(a: &Text, b: &Text) -> bool
-    ensures { IsTrue result ↔ (a.now ≡ b.now) }
-{
-    *a == *b
-}
-
-fn same_texts(a: &[Text], b: &[Text]) -> bool
-    ensures { IsTrue result ↔ (a.now ≡ b.now) }
-{
-    let mut left = a;
-    let mut right = b;
-    while let [text, more @ ..] = left {
-        let [other, others @ ..] = right else {
-            return false;
-        };
-        if !same_text(text, other) {
-            return false;
-        }
-        left = more;
-        right = others;
+impl SameAs for FoldMember {
+    fn same_as(&self, other: &FoldMember) -> bool {
+        self.name == other.name && self.value.same_as(&other.value)
     }
-    right.is_empty()
 }
 
 /// Whether two reduces are the same, but for the names that they give a group.
 pub fn same_reduce(a: &ReduceQuery, b: &ReduceQuery) -> bool
     ensures { IsTrue result ↔ ((a.now.var ≡ b.now.var) × (a.now.key ≡ b.now.key) × (a.now.members ≡ b.now.members)) }
 {
-    a.var == b.var
-        && same_texts(a.key.as_slice(), b.key.as_slice())
-        && same_folds(a.members.as_slice(), b.members.as_slice())
+    a.var == b.var && a.key.same_as(&b.key) && a.members.same_as(&b.members)
 }

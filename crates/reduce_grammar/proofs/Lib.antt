@@ -1,3 +1,2 @@
-pub mod TokenLemmas
 pub mod ReduceKeeps
 pub mod ReduceMeets

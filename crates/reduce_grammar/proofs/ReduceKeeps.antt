@@ -1,4 +1,4 @@
--- What is read is spelled so, where the reading stops something goes on, and neither hangs on a later token.
+-- What is read is spelled so, if the reading stops something goes on, and neither depends on a later token.
 use Rattle.std.proofs.Common.{◌≡◌, ℕ, zero, suc, List, [], ◌∷◌, ◌++◌, Bool, true, false, cond, codes, Option, Some, None, refl, sym, ◌∙◌, subst, append_assoc}
 use Rattle.exact_parse.specs.Steps.{pure, choose}
 use Rattle.exact_parse.specs.Keeps.{Goes, Fits, Keeps, Then}
@@ -9,7 +9,10 @@ use Rattle.index_tokens.specs.declared.token.Token.{Token}
 use Rattle.index_tokens.specs.declared.token.Token.TheVariants as t
 use Rattle.index_tokens.specs.declared.token.Placed.{Placed}
 use Rattle.index_tokens.specs.Tokens.{placed}
+use Rattle.index_tokens.specs.Reads.{Reads}
 use Rattle.index_tokens.specs.Words.{Tokens, Is, the, name, variable, word_from, word_in, word_results, word_group, word_by, word_into, word_select, word_new}
+use Rattle.index_tokens.proofs.WordLemmas.{taken_is, word_same}
+use Rattle.index_tokens.proofs.Taking.{the_keeps, name_keeps, variable_keeps}
 use Rattle.index_tree.specs.declared.reduce_query.FoldKind.{FoldKind}
 use Rattle.index_tree.specs.declared.reduce_query.FoldKind.TheVariants as kinds
 use Rattle.index_tree.specs.declared.reduce_query.FoldValue.{FoldValue}
@@ -20,9 +23,7 @@ use Rattle.reduce_grammar.specs.declared.spelled.PlacedFold.{PlacedFold}
 use Rattle.reduce_grammar.specs.Limits.{most_members}
 use Rattle.reduce_grammar.specs.Reduces.{SpellsSource, SpellsPart, SpellsParts, SpellsKey, SpellsGroup, SpellsValue, SpellsFold, SpellsFolds, SpellsReduce, spelled_key, in_new, only, word_key, fold_of, placed_fold, spelled_reduce}
 use Rattle.reduce_grammar.specs.Reduces as grammar
-use Rattle.reduce_grammar.specs.ReduceReading.{Reads}
 use Rattle.reduce_grammar.specs.ReduceReading as read
-use Rattle.reduce_grammar.proofs.TokenLemmas.{the_is, word_same, the_keeps, name_keeps, variable_keeps}
 
 -- a token at no place of its own
 abbrev mark : Token → Placed
@@ -36,21 +37,21 @@ some_word = placed 0 (t.Word (codes "x"))
 
 source_keeps : Keeps SpellsSource read.source
 unfolding read.source
-source_keeps = the_keeps word_from refl (λ f f_is. variable_keeps (λ x v x_is. the_keeps word_in refl (λ i i_is. the_keeps word_results refl (λ d d_is. the_keeps word_group refl (λ h h_is.
-    variable_keeps (λ y w y_is. the_keeps word_by refl (λ b b_is. pure_keeps (λ z. grammar.source f_is x_is i_is d_is h_is y_is b_is))))))))
+source_keeps = the_keeps word_from refl (λ f f_is. variable_keeps _ (λ x v x_is. the_keeps word_in refl (λ i i_is. the_keeps word_results refl (λ d d_is. the_keeps word_group refl (λ h h_is.
+    variable_keeps _ (λ y w y_is. the_keeps word_by refl (λ b b_is. pure_keeps (λ z. grammar.source f_is x_is i_is d_is h_is y_is b_is))))))))
 
 -- ---- the key
 
 part_keeps : Keeps SpellsPart read.part
 unfolding read.part
-part_keeps = variable_keeps (λ x v x_is. the_keeps t.Point refl (λ p p_is. name_keeps (λ y n y_is. pure_keeps (λ z. grammar.part x_is p_is y_is))))
+part_keeps = variable_keeps _ (λ x v x_is. the_keeps t.Point refl (λ p p_is. name_keeps _ (λ y n y_is. pure_keeps (λ z. grammar.part x_is p_is y_is))))
 
 -- what goes on behind parts that are spelled
 abbrev pub Behind : List (List ℕ) → Tokens → List (List ℕ) → Tokens → Type 0
 Behind = Then SpellsParts SpellsParts
 
 part_turn : (found : List (List ℕ)) (x : Placed) (o : Option (Unit {0})) → the t.Comma x ≡ o → NextKeeps Behind found x (read.part_as found o)
-part_turn found x (Some v) is = bind_keeps (λ n. pure (found ++ n ∷ [])) part_keeps (λ n. pure_keeps (λ z m y d r h s d0. h s (grammar.next_part d0 (the_is t.Comma x v is) y)))
+part_turn found x (Some v) is = bind_keeps (λ n. pure (found ++ n ∷ [])) part_keeps (λ n. pure_keeps (λ z m y d r h s d0. h s (grammar.next_part d0 (taken_is t.Comma x v is) y)))
 part_turn found x None is = λ c s. pure_at {X = Behind found} (λ z s d. d) c _
 
 pub parts_turn : LoopKeeps Behind read.part_next
@@ -66,7 +67,7 @@ parts_keep = loop_keeps tt Behind read.part_next parts_turn
 
 key_alone_keeps : (x : Placed) (v : List ℕ) → variable x ≡ Some v → Keeps (λ m b r. SpellsKey (x ∷ m) b r) (read.key_alone x.at)
 unfolding read.key_alone
-key_alone_keeps x v x_is = the_keeps t.Point refl (λ p p_is. name_keeps (λ y n y_is. pure_keeps (λ z. grammar.alone x_is p_is y_is)))
+key_alone_keeps x v x_is = the_keeps t.Point refl (λ p p_is. name_keeps _ (λ y n y_is. pure_keeps (λ z. grammar.alone x_is p_is y_is)))
 
 key_in_new_keeps : (x : Placed) → Is word_new x → Keeps (λ m b r. SpellsKey (x ∷ m) b r) (read.key_in_new x.at)
 unfolding read.key_in_new
@@ -81,7 +82,7 @@ alone_token x (Some v) is c s = skip_at SpellsKey (read.key_alone x.at) x (key_a
 alone_token x None is c s = refuse_at {X = SpellsKey} tt key_short c _
 
 key_token : (x : Placed) (o : Option (Unit {0})) → the word_new x ≡ o → (c : ℕ) (s : Tokens) → Fits SpellsKey (read.key_as x o) c (x ∷ s) (read.key_as x o c (x ∷ s))
-key_token x (Some v) is c s = skip_at SpellsKey (read.key_in_new x.at) x (key_in_new_keeps x (the_is word_new x v is)) c s
+key_token x (Some v) is c s = skip_at SpellsKey (read.key_in_new x.at) x (key_in_new_keeps x (taken_is word_new x v is)) c s
 key_token x None is c s = alone_token x (variable x) refl c s
 
 key_keeps : Keeps SpellsKey read.key
@@ -92,7 +93,7 @@ key_keeps = choose_keeps SpellsKey read.key_by key_short (λ c. refuse_at {X = S
 
 group_keeps : Keeps SpellsGroup read.group
 unfolding read.group
-group_keeps = the_keeps word_into refl (λ i i_is. variable_keeps (λ x g x_is. the_keeps word_select refl (λ y y_is. the_keeps word_new refl (λ n n_is. the_keeps t.OpenBrace refl (λ b b_is.
+group_keeps = the_keeps word_into refl (λ i i_is. variable_keeps _ (λ x g x_is. the_keeps word_select refl (λ y y_is. the_keeps word_new refl (λ n n_is. the_keeps t.OpenBrace refl (λ b b_is.
     pure_keeps (λ z. grammar.group i_is x_is y_is n_is b_is))))))
 
 -- ---- values
@@ -112,7 +113,7 @@ module _ (g : List ℕ) (x p : Placed) (x_is : Is (t.Word g) x) (p_is : Is t.Poi
 
     part_token : (q : Placed) (o : Option (Unit {0})) → the t.Point q ≡ o → (c : ℕ) (s : Tokens) → Fits InNew (read.key_part_as ns o) c (q ∷ s) (read.key_part_as ns o c (q ∷ s))
     unfolding read.key_part
-    part_token q (Some v) is c s = skip_at InNew read.key_part q (name_keeps (λ y n y_is. pure_keeps (λ z. grammar.key_part x_is p_is k_is refl (the_is t.Point q v is) y_is))) c s
+    part_token q (Some v) is c s = skip_at InNew read.key_part q (name_keeps _ (λ y n y_is. pure_keeps (λ z. grammar.key_part x_is p_is k_is refl (taken_is t.Point q v is) y_is))) c s
     part_token q None is c s = no_part_at (only ns) refl c _
 
     in_new_keeps : Keeps InNew (choose (read.key_part_by ns))
@@ -126,8 +127,8 @@ module _ (g : List ℕ) (x p : Placed) (x_is : Is (t.Word g) x) (p_is : Is t.Poi
   module _ (form : KeyForm) where
     fold_keeps : (f : Placed) (kind : FoldKind) → fold_of f ≡ Some kind → Keeps (λ m b r. SpellsValue g form (x ∷ p ∷ f ∷ m) b r) (read.fold kind)
     unfolding read.fold
-    fold_keeps f kind f_is = the_keeps t.Open refl (λ o o_is. variable_keeps (λ y v y_is. the_keeps t.Arrow refl (λ a a_is. variable_keeps (λ z w z_is. the_keeps t.Point refl (λ q q_is.
-        name_keeps (λ u n u_is. the_keeps t.Close refl (λ c c_is. pure_keeps (λ r. grammar.fold x_is p_is f_is o_is y_is a_is z_is q_is u_is c_is))))))))
+    fold_keeps f kind f_is = the_keeps t.Open refl (λ o o_is. variable_keeps _ (λ y v y_is. the_keeps t.Arrow refl (λ a a_is. variable_keeps _ (λ z w z_is. the_keeps t.Point refl (λ q q_is.
+        name_keeps _ (λ u n u_is. the_keeps t.Close refl (λ c c_is. pure_keeps (λ r. grammar.fold x_is p_is f_is o_is y_is a_is z_is q_is u_is c_is))))))))
 
     abbrev InGroup : Tokens → FoldValue → Tokens → Type 0
     InGroup m b r = SpellsValue g form (x ∷ p ∷ m) b r
@@ -144,7 +145,7 @@ module _ (g : List ℕ) (x p : Placed) (x_is : Is (t.Word g) x) (p_is : Is t.Poi
     fold_token f None is c s = refuse_at {X = InGroup} tt group_value_short c _
 
     value_token : (k : Placed) (o : Option (Unit {0})) → the word_key k ≡ o → (c : ℕ) (s : Tokens) → Fits InGroup (read.value_as form k o) c (k ∷ s) (read.value_as form k o c (k ∷ s))
-    value_token k (Some v) is c s = skip_at InGroup (read.key_value form) k (key_value_keeps form k (the_is word_key k v is)) c s
+    value_token k (Some v) is c s = skip_at InGroup (read.key_value form) k (key_value_keeps form k (taken_is word_key k v is)) c s
     value_token k None is c s = fold_token k (fold_of k) refl c s
 
     group_value_keeps : Keeps InGroup (read.group_value form)
@@ -162,14 +163,14 @@ brace_short : Goes Brace []
 brace_short = record { more = []; tree = false; spells = λ z. open_still }
 
 brace_token : (x : Placed) (o : Option (Unit {0})) → the t.CloseBrace x ≡ o → (c : ℕ) (s : Tokens) → Fits Brace (read.brace_as o) c (x ∷ s) (read.brace_as o c (x ∷ s))
-brace_token x (Some v) is c s = skip_at Brace (pure true) x (pure_keeps (λ z. closed (the_is t.CloseBrace x v is))) c s
+brace_token x (Some v) is c s = skip_at Brace (pure true) x (pure_keeps (λ z. closed (taken_is t.CloseBrace x v is))) c s
 brace_token x None is c s = pure_at {X = Brace} (λ z. open_still) c _
 
 brace_keeps : Keeps Brace read.brace
 unfolding read.brace
 brace_keeps = choose_keeps Brace read.brace_by brace_short (λ c. pure_at {X = Brace} (λ z. open_still) c []) (λ x. brace_token x (the t.CloseBrace x) refl)
 
--- what stands behind a member
+-- what follows a member
 data Behinds : Tokens → Bool → Tokens → Type 0 where
   last : {r : Tokens} {q : Placed} → Is t.CloseBrace q → Behinds (q ∷ r) true r
   last_comma : {r : Tokens} {k q : Placed} → Is t.Comma k → Is t.CloseBrace q → Behinds (k ∷ q ∷ r) true r
@@ -203,7 +204,7 @@ module _ (g : List ℕ) (form : KeyForm) where
 
   bare_keeps : (x : Placed) → Is (t.Word g) x → in_new form ≡ true → Keeps (λ m b r. SpellsFold g form (x ∷ m) b r) (read.bare x.at)
   unfolding read.bare
-  bare_keeps x x_is new = the_keeps t.Point refl (λ p p_is. the_keeps word_key refl (λ k k_is. the_keeps t.Point refl (λ q q_is. name_keeps (λ y n y_is.
+  bare_keeps x x_is new = the_keeps t.Point refl (λ p p_is. the_keeps word_key refl (λ k k_is. the_keeps t.Point refl (λ q q_is. name_keeps _ (λ y n y_is.
       pure_keeps (λ z. grammar.bare x_is new p_is k_is q_is y_is)))))
 
   module _ (x : Placed) (n : List ℕ) (x_is : name x ≡ Some n) where
@@ -218,11 +219,11 @@ module _ (g : List ℕ) (form : KeyForm) where
     bare_where_at g_is false new c s = refuse_at {X = BehindName} tt behind_short c s
 
     bare_at : (o : Option (Unit {0})) → the (t.Word g) x ≡ o → (c : ℕ) (s : Tokens) → Fits BehindName (read.bare_as g form x.at o) c s (read.bare_as g form x.at o c s)
-    bare_at (Some v) is c s = bare_where_at (the_is (t.Word g) x v is) (in_new form) refl c s
+    bare_at (Some v) is c s = bare_where_at (taken_is (t.Word g) x v is) (in_new form) refl c s
     bare_at None is c s = refuse_at {X = BehindName} tt behind_short c s
 
     named_token : (y : Placed) (o : Option (Unit {0})) → the t.Assign y ≡ o → (c : ℕ) (s : Tokens) → Fits BehindName (read.behind_as g form x n o) c (y ∷ s) (read.behind_as g form x n o c (y ∷ s))
-    named_token y (Some v) is c s = skip_at BehindName (read.named g form x.at n) y (named_keeps x n y x_is (the_is t.Assign y v is)) c s
+    named_token y (Some v) is c s = skip_at BehindName (read.named g form x.at n) y (named_keeps x n y x_is (taken_is t.Assign y v is)) c s
     named_token y None is c s = bare_at (the (t.Word g) x) refl c _
 
     behind_keeps : Keeps BehindName (read.behind g form x n)

@@ -7,7 +7,9 @@ use Rattle.exact_parse.proofs.Loops.{loop_ends, loop_more}
 use Rattle.exact_parse.proofs.Meeting.{after_meets}
 use Rattle.index_tokens.specs.declared.token.Token.TheVariants as t
 use Rattle.index_tokens.specs.declared.token.Placed.{Placed}
+use Rattle.index_tokens.specs.Reads.{Kind, Reads}
 use Rattle.index_tokens.specs.Words.{Tokens, Is, the, name, name_as, variable_as, word_new}
+use Rattle.index_tokens.proofs.WordLemmas.{not_taken, word_same}
 use Rattle.index_tree.specs.declared.reduce_query.FoldValue.{FoldValue}
 use Rattle.index_tree.specs.declared.reduce_query.FoldValue.TheVariants as values
 use Rattle.reduce_grammar.specs.declared.spelled.KeyForm.{KeyForm}
@@ -15,12 +17,10 @@ use Rattle.reduce_grammar.specs.declared.spelled.KeyForm.TheVariants as forms
 use Rattle.reduce_grammar.specs.declared.spelled.SpelledKey.{SpelledKey}
 use Rattle.reduce_grammar.specs.declared.spelled.PlacedFold.{PlacedFold}
 use Rattle.reduce_grammar.specs.declared.spelled.SpelledReduce.{SpelledReduce}
-use Rattle.reduce_grammar.specs.Limits.{Kind, most_members, folds_verdict, limit}
+use Rattle.reduce_grammar.specs.Limits.{most_members, folds_verdict, limit}
 use Rattle.reduce_grammar.specs.Reduces.{SpellsSource, source, SpellsPart, part, SpellsParts, first_part, next_part, SpellsKey, alone, in_braces, SpellsGroup, group, SpellsValue, whole_key, key_part, fold, SpellsFold, named, bare, SpellsFolds, last, last_comma, more, SpellsReduce, reduce}
 use Rattle.reduce_grammar.specs.Reduces.{spelled_key, in_new, only, only_part, word_key, fold_as, placed_fold, spelled_reduce}
-use Rattle.reduce_grammar.specs.ReduceReading.{Reads}
 use Rattle.reduce_grammar.specs.ReduceReading as read
-use Rattle.reduce_grammar.proofs.TokenLemmas.{word_same, not_the}
 use Rattle.reduce_grammar.proofs.ReduceKeeps.{Behind, parts_turn}
 
 -- ---- which entries, and the group
@@ -56,7 +56,7 @@ parts_end ns q r c q_is = loop_ends tt Behind read.part_next parts_turn ns c (q 
 
 key_reads : {s r : Tokens} {key : SpelledKey} → SpellsKey s key r → (c : ℕ) → read.key c s ≡ Read key c r
 unfolding read.key read.key_alone read.key_in_new
-key_reads (alone {x = x} {v = v} x_is p_is y_is) c = rw (not_the word_new variable_as refl x v x_is, x_is, p_is, y_is) refl
+key_reads (alone {x = x} {v = v} x_is p_is y_is) c = rw (not_taken word_new variable_as refl x v x_is, x_is, p_is, y_is) refl
 key_reads (in_braces {r = r} {x = x} {q = q} {ns = ns} x_is b_is d q_is) c = rw (x_is, b_is) (parts_read (λ ns. take tt (the t.CloseBrace) >>= λ _. pure (spelled_key x.at (forms.New ns))) d c
     ∙ ap (λ o. and_then o (λ ns. take tt (the t.CloseBrace) >>= λ _. pure (spelled_key x.at (forms.New ns)))) (parts_end ns q r c q_is) ∙ rw q_is refl)
 
@@ -87,7 +87,7 @@ module _ (g : List ℕ) (form : KeyForm) where
   unfolding read.value read.group_value read.fold
   value_reads (whole_key {r = r} {n = n} x p k one) stops c = rw (x, word_same g, p, k) (whole_key_reads form n r c one stops)
   value_reads (key_part {r = r} {q = q} {y = y} {n = n} x p k new q_is y_is) stops c = rw (x, word_same g, p, k) (key_part_reads form q y n r c new q_is y_is)
-  value_reads (fold {f = f} {kind = kind} x p f_is o y a z q u e) stops c = rw (x, word_same g, p, not_the word_key fold_as refl f kind f_is, f_is, o, y, a, z, q, u, e) refl
+  value_reads (fold {f = f} {kind = kind} x p f_is o y a z q u e) stops c = rw (x, word_same g, p, not_taken word_key fold_as refl f kind f_is, f_is, o, y, a, z, q, u, e) refl
 
   member_reads : {s r : Tokens} {a : PlacedFold} → SpellsFold g form s a r → Stops r → (c : ℕ) → read.member g form c s ≡ Read a c r
   unfolding read.member read.behind read.named read.bare
@@ -118,7 +118,7 @@ module _ (g : List ℕ) (form : KeyForm) where
 
   -- a word is no brace
   word_goes_on : {s : Tokens} → WordAt s → read.brace_by (head s) ≡ pure false
-  word_goes_on (word_at {x = x} {n = n} is) = ap read.brace_as (not_the t.CloseBrace name_as refl x n is)
+  word_goes_on (word_at {x = x} {n = n} is) = ap read.brace_as (not_taken t.CloseBrace name_as refl x n is)
 
   -- what is done behind a member
   abbrev behind_member : ℕ → List PlacedFold → PlacedFold → Bool → Reads (List PlacedFold)

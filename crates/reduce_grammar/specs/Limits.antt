@@ -3,14 +3,11 @@ use Rattle.std.specs.Prelude.{ℕ, List}
 use Rattle.exact_parse.specs.Limits.{Verdict, Fine, opens}
 use Rattle.index_tokens.specs.declared.token.Placed.{Placed}
 use Rattle.index_tokens.specs.Words.{Tokens}
+use Rattle.index_tokens.specs.Reads.{Kind}
 use Rattle.reduce_grammar.specs.declared.spelled.KeyForm.{KeyForm}
 use Rattle.reduce_grammar.specs.declared.spelled.PlacedFold.{PlacedFold}
 use Rattle.reduce_grammar.specs.declared.spelled.SpelledReduce.{SpelledReduce}
 use Rattle.reduce_grammar.specs.Reduces.{SpellsFolds, last, last_comma, more, SpellsReduce, reduce}
-
--- of refusals for either cause there is but one kind
-abbrev pub Kind : Type 0
-Kind = Unit {0}
 
 abbrev pub most_members : ℕ
 most_members = 64

@@ -1,8 +1,9 @@
 -- The reading of reduces.
 use Rattle.std.specs.Prelude.{ℕ, zero, suc, List, [], ◌∷◌, ◌++◌, Bool, true, false, if◌then◌else◌, Option, Some, None}
-use Rattle.exact_parse.specs.Steps.{Reader, ◌>>=◌, ◌>>◌, pure, refuse, too_large, choose, skip, take, Next, Ends, More, loop}
+use Rattle.exact_parse.specs.Steps.{◌>>=◌, ◌>>◌, pure, refuse, too_large, choose, skip, take, Next, Ends, More, loop}
 use Rattle.index_tokens.specs.declared.token.Token.TheVariants as t
 use Rattle.index_tokens.specs.declared.token.Placed.{Placed}
+use Rattle.index_tokens.specs.Reads.{Kind, Reads}
 use Rattle.index_tokens.specs.Words.{the, name, variable, word_from, word_in, word_results, word_group, word_by, word_into, word_select, word_new}
 use Rattle.index_tree.specs.declared.reduce_query.FoldKind.{FoldKind}
 use Rattle.index_tree.specs.declared.reduce_query.FoldValue.{FoldValue}
@@ -12,12 +13,8 @@ use Rattle.reduce_grammar.specs.declared.spelled.KeyForm.TheVariants as forms
 use Rattle.reduce_grammar.specs.declared.spelled.SpelledKey.{SpelledKey}
 use Rattle.reduce_grammar.specs.declared.spelled.PlacedFold.{PlacedFold}
 use Rattle.reduce_grammar.specs.declared.spelled.SpelledReduce.{SpelledReduce}
-use Rattle.reduce_grammar.specs.Limits.{Kind, most_members}
+use Rattle.reduce_grammar.specs.Limits.{most_members}
 use Rattle.reduce_grammar.specs.Reduces.{spelled_key, in_new, only, word_key, fold_of, placed_fold, spelled_reduce}
-
--- what reads tokens of the language
-abbrev pub Reads : Type 0 → Type 0
-Reads A = Reader Placed Kind A
 
 -- ---- which entries
 
@@ -42,11 +39,11 @@ part_next found None = Ends (pure found)
 unfoldable pub parts : List (List ℕ) → Reads (List (List ℕ))
 parts = loop tt part_next
 
--- what stands behind the variable
+-- what follows the variable
 unfoldable pub key_alone : ℕ → Reads SpelledKey
 key_alone place = take tt (the t.Point) >>= λ _. take tt name >>= λ n. pure (spelled_key place (forms.Alone n))
 
--- what stands behind `new`
+-- what follows `new`
 unfoldable pub key_in_new : ℕ → Reads SpelledKey
 key_in_new place = take tt (the t.OpenBrace) >>= λ _. part >>= λ n. parts (n ∷ []) >>= λ ns. take tt (the t.CloseBrace) >>= λ _. pure (spelled_key place (forms.New ns))
 
@@ -88,12 +85,12 @@ abbrev pub key_part_by : List (List ℕ) → Option Placed → Reads FoldValue
 key_part_by ns (Some x) = key_part_as ns (the t.Point x)
 key_part_by ns None = no_part_as (only ns)
 
--- what stands behind `Key`
+-- what follows `Key`
 unfoldable pub key_value : KeyForm → Reads FoldValue
 key_value (forms.Alone n) = pure (values.Key n)
 key_value (forms.New ns) = choose (key_part_by ns)
 
--- what stands behind the word of a fold
+-- what follows the word of a fold
 unfoldable pub fold : FoldKind → Reads FoldValue
 fold kind = take tt (the t.Open) >>= λ _. take tt variable >>= λ v. take tt (the t.Arrow) >>= λ _. take tt variable >>= λ _. take tt (the t.Point) >>= λ _.
     take tt name >>= λ n. take tt (the t.Close) >>= λ _. pure (values.Fold kind v n)
@@ -110,7 +107,7 @@ abbrev pub value_by : KeyForm → Option Placed → Reads FoldValue
 value_by form (Some x) = value_as form x (the word_key x)
 value_by form None = refuse tt
 
--- what stands behind a group and its point
+-- what follows a group and its point
 unfoldable pub group_value : KeyForm → Reads FoldValue
 group_value form = choose (value_by form)
 
@@ -119,7 +116,7 @@ value g form = take tt (the (t.Word g)) >>= λ _. take tt (the t.Point) >>= λ _
 
 -- ---- members
 
--- what stands behind a group at the front of a member
+-- what follows a group at the start of a member
 unfoldable pub bare : ℕ → Reads PlacedFold
 bare place = take tt (the t.Point) >>= λ _. take tt (the word_key) >>= λ _. take tt (the t.Point) >>= λ _. take tt name >>= λ n. pure (placed_fold place n (values.Key n))
 
@@ -143,7 +140,7 @@ abbrev pub unless_closed : Bool → Reads Bool
 unless_closed true = pure true
 unless_closed false = take tt (the t.Comma) >>= λ _. brace
 
--- what stands behind a member: whether it is the last
+-- what follows a member: whether it is the last
 unfoldable pub ends : Reads Bool
 ends = brace >>= unless_closed
 
@@ -155,12 +152,12 @@ abbrev pub no_room_by : Option Placed → Reads (List PlacedFold)
 no_room_by (Some x) = no_room_as (name x)
 no_room_by None = refuse tt
 
--- where there is no room for a member
+-- if there is no room for a member
 unfoldable pub no_room : Reads (List PlacedFold)
 no_room = choose no_room_by
 
 module _ (g : List ℕ) (form : KeyForm) where
-  -- what stands behind the name and `=`
+  -- what follows the name and `=`
   unfoldable pub named : ℕ → List ℕ → Reads PlacedFold
   named place n = value g form >>= λ a. pure (placed_fold place n a)
 
@@ -176,7 +173,7 @@ module _ (g : List ℕ) (form : KeyForm) where
   behind_by x n (Some y) = behind_as x n (the t.Assign y)
   behind_by x n None = bare_as x.at (the (t.Word g) x)
 
-  -- what stands behind the first token
+  -- what follows the first token
   unfoldable pub behind : Placed → List ℕ → Reads PlacedFold
   behind x n = choose (behind_by x n)
 

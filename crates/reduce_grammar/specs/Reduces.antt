@@ -18,7 +18,7 @@ use Rattle.reduce_grammar.specs.declared.spelled.SpelledReduce.{SpelledReduce}
 -- ---- which entries
 
 -- source = "from" var "in" "results" "group" var "by"
--- The first variable names an entry. Whether the second is that name too is not told here.
+-- The first variable names an entry. Whether the second is that name too is not decided here.
 pub data SpellsSource : Tokens → List ℕ → Tokens → Type 0 where
   source : {r : Tokens} {f x i d h y b : Placed} {v w : List ℕ} →
       Is word_from f → variable x ≡ Some v → Is word_in i → Is word_results d → Is word_group h → variable y ≡ Some w → Is word_by b →
@@ -45,7 +45,7 @@ pub data SpellsKey : Tokens → SpelledKey → Tokens → Type 0 where
   in_braces : {s r : Tokens} {x b q : Placed} {ns : List (List ℕ)} →
       Is word_new x → Is t.OpenBrace b → SpellsParts s ns (q ∷ r) → Is t.CloseBrace q → SpellsKey (x ∷ b ∷ s) (spelled_key x.at (forms.New ns)) r
 
--- whether the key stands in `new { }`
+-- whether the key is in `new { }`
 abbrev pub in_new : KeyForm → Bool
 in_new (forms.Alone n) = false
 in_new (forms.New ns) = true
@@ -73,7 +73,7 @@ pub data SpellsGroup : Tokens → List ℕ → Tokens → Type 0 where
 
 -- ---- members
 
--- a word that only stands behind a group and a point, and is no reserved one
+-- a word that only follows a group and a point, and is no reserved one
 abbrev pub word_key : Token
 word_key = t.Word (codes "Key")
 
@@ -92,8 +92,8 @@ abbrev pub fold_of : Placed → Option FoldKind
 fold_of x = fold_as x.token
 
 -- value = g "." "Key" [ "." name ] | g "." fold "(" var "=>" var "." name ")", where g is the name of a group, and no other name
--- `Key` with no name behind it stands for a key of one part, and `Key` with a name for one in `new { }`. Whether the key has a part of that name,
--- and whether both variables of a fold are the same, is not told here.
+-- `Key` with no name after it means a key of one part, and `Key` with a name for one in `new { }`. Whether the key has a part of that name,
+-- and whether both variables of a fold are the same, is not decided here.
 pub data SpellsValue (g : List ℕ) (form : KeyForm) : Tokens → FoldValue → Tokens → Type 0 where
   whole_key : {r : Tokens} {x p k : Placed} {n : List ℕ} →
       Is (t.Word g) x → Is t.Point p → Is word_key k → only_part form ≡ Some n → SpellsValue g form (x ∷ p ∷ k ∷ r) (values.Key n) r

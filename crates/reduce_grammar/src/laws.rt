@@ -10,7 +10,7 @@ ghost use Rattle.reduce_grammar.specs.ReduceReading.{reduce_text};
 
 /// The reading of reduces is exact.
 pub fn reduces_are_exact()
-    // What is read is spelled so; where it stops something goes on; and neither hangs on a later token.
+    // What is read is spelled so; if it stops something goes on; and neither depends on a later token.
     ensures keeps { Keeps SpellsReduce reduce_text }
     // What is spelled is read, or refused at the first token past a limit.
     ensures meets { (s r : Tokens) (a : SpelledReduce) (x : SpellsReduce s a r) → Meets (limit s a r x) a r (reduce_text 0 s) }

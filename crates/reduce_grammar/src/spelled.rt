@@ -1,4 +1,4 @@
-//! What tokens spell: a reduce, and where its parts stand.
+//! What tokens spell: a reduce, and the places of its parts.
 use index_tree::{FoldMember, Texts};
 use raven_base::Sequence;
 use raven_value::Text;
@@ -12,18 +12,18 @@ pub enum KeyForm {
     New(Texts),
 }
 
-/// A key, and where it stands.
+/// A key and its place.
 #[derive(Debug, Drop)]
 pub struct SpelledKey {
-    /// Where the first byte of its first token stands, counted from 0.
+    /// The place of the first byte of its first token, counted from 0.
     pub at: usize,
     pub form: KeyForm,
 }
 
-/// A member, and where it stands.
+/// A member and its place.
 #[derive(Debug, Drop)]
 pub struct PlacedFold {
-    /// Where the first byte of its first token stands, counted from 0.
+    /// The place of the first byte of its first token, counted from 0.
     pub at: usize,
     pub member: FoldMember,
 }
@@ -40,7 +40,7 @@ pub struct SpelledReduce {
     /// The name of a group.
     pub group: Text,
 
-    /// Where the first byte of the key's first token stands, counted from 0.
+    /// The place of the first byte of the key's first token, counted from 0.
     pub key_at: usize,
 
     /// The names of the key's parts.

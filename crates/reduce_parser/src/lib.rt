@@ -1,11 +1,10 @@
-//! The reading of reduces from tokens: the tree, or at which token no tree is spelled.
+//! From tokens to reduces: the reduce that they spell, or the token at which they are refused.
 #![tactic(auto)]
 
-mod cause;
-mod mark;
-mod parser;
-mod stop;
+mod folds;
+mod keys;
+mod reading;
+mod reduces;
 mod words;
 
-pub use parser::read_reduce;
-pub use stop::Stop;
+pub use reading::read_reduce;

@@ -1,21 +1,10 @@
 //! Which words a token may be.
 ghost use Rattle.std.specs.Prelude.{◌≡◌, is_some};
-ghost use Rattle.index_tokens.specs.declared.token.Token.TheVariants.{Word};
-ghost use Rattle.index_tokens.specs.Words.{same_token, name_as, variable_as};
+ghost use Rattle.index_tokens.specs.Words.{name_as, variable_as};
 ghost use Rattle.reduce_grammar.specs.Reduces.{fold_word as spec_fold_word, fold_as};
 
 use index_tokens::{Token, is_reserved};
 use index_tree::FoldKind;
-
-/// Whether the token is this word.
-pub fn is_word(token: &Token, word: &str) -> bool
-    ensures { result ≡ same_token (Word word.now) token.now }
-{
-    match token {
-        Token::Word(found) => word == found.as_str(),
-        _ => false,
-    }
-}
 
 fn fold_word(word: &str) -> Option<FoldKind>
     ensures { result ≡ spec_fold_word word.now }

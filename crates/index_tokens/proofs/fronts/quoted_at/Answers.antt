@@ -1,6 +1,0 @@
-use Rattle.std.proofs.Common.{IsUtf8, subst, arith}
-use Rattle.index_tokens.proofs.Seams.{behind_ascii}
-use Rattle.index_tokens.proofs.fronts.quoted_at.Goals as goal
-
-pub quoted-requires : goal.quoted-requires
-quoted-requires c = behind_ascii 34 c.args.behind.now (omega arith) (subst IsUtf8 c.requires.quote c.requires.utf8)
