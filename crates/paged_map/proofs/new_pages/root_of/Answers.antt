@@ -1,0 +1,17 @@
+use Rattle.std.proofs.Common.{◌≡◌, ◌∙◌, ◌++◌, sym, ap, subst, [], ◌∷◌, arith}
+use Rattle.std.proofs.lemmas.List.{length-map}
+use Rattle.paged_map.specs.Level.{IsFilled, IsLevel, level_of}
+use Rattle.paged_map.specs.Shape.{helds}
+use Rattle.paged_map.proofs.Cuts.{filled_branch, filled_end, helds-append}
+use Rattle.paged_map.proofs.new_pages.root_of.Goals as goal
+
+pub returns-then-len-gt1-clause-filled : goal.returns-then-len-gt1-clause-filled
+returns-then-len-gt1-clause-filled g c =
+    let l = length-map c.args.pages.items (λ p. p.value) in
+    subst IsFilled (sym c.in_ok-page_of.ensures.page) (filled_branch (helds c.args.pages.items) (c.requires.level (omega (arith, l))))
+
+pub returns-clause-filled : goal.returns-clause-filled
+returns-clause-filled g c =
+    let ps = helds c.args.pages.items in
+    let e : ps ≡ helds c.pop.new.self.items ++ c.in-Some.page.value ∷ [] = ap helds c.in-Some.ensures.items ∙ helds-append c.pop.new.self.items (c.in-Some.page ∷ []) in
+    filled_end 0 (level_of ps) (helds c.pop.new.self.items) c.in-Some.page.value (subst (IsLevel 0 (level_of ps)) e c.requires.low)
