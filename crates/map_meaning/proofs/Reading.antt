@@ -78,12 +78,12 @@ stays name c [] apart h = h
 stays name c (x ∷ names) apart h =
     stays_by (bytes_eq name x) (bytes_eq c x) name x (others c names) refl (different name c x apart) (λ f. stays name c names apart (second_of (bytes_eq name x) (list_any (bytes_eq name) names) f h))
 
-in_front : (name c : List ℕ) (names : List (List ℕ)) → IsIn name names → IsIn name (c ∷ others c names)
-in_front name c names h = in_front_by (bytes_eq name c) refl
+at_start : (name c : List ℕ) (names : List (List ℕ)) → IsIn name names → IsIn name (c ∷ others c names)
+at_start name c names h = at_start_by (bytes_eq name c) refl
   where
-    in_front_by : (b : Bool) → bytes_eq name c ≡ b → IsIn name (c ∷ others c names)
-    in_front_by true e = either_first (bytes_eq name c) (list_any (bytes_eq name) (others c names)) e
-    in_front_by false e = either_second (bytes_eq name c) (list_any (bytes_eq name) (others c names)) (stays name c names e h)
+    at_start_by : (b : Bool) → bytes_eq name c ≡ b → IsIn name (c ∷ others c names)
+    at_start_by true e = either_first (bytes_eq name c) (list_any (bytes_eq name) (others c names)) e
+    at_start_by false e = either_second (bytes_eq name c) (list_any (bytes_eq name) (others c names)) (stays name c names e h)
 
 in_once : (name : List ℕ) (names : List (List ℕ)) → IsIn name names → IsIn name (each_once names)
 in_once name [] h = h
@@ -91,7 +91,7 @@ in_once name (c ∷ names) h = in_once_by (bytes_eq name c) refl (λ t. in_once 
   where
     in_once_by : (b : Bool) → bytes_eq name c ≡ b → (IsIn name names → IsIn name (each_once names)) → IsIn name (c ∷ others c (each_once names))
     in_once_by true e once = either_first (bytes_eq name c) (list_any (bytes_eq name) (others c (each_once names))) e
-    in_once_by false e once = in_front name c (each_once names) (once (second_of (bytes_eq name c) (list_any (bytes_eq name) names) e h))
+    in_once_by false e once = at_start name c (each_once names) (once (second_of (bytes_eq name c) (list_any (bytes_eq name) names) e h))
 
 covers_by : (scope names : List (List ℕ)) → ((name : List ℕ) → IsIn name names → IsIn name scope) → Covers scope names
 covers_by scope [] all = tt
@@ -101,7 +101,7 @@ covers_by scope (name ∷ names) all = (
 )
 
 covered : (query : MapQuery) → Covers (scope_of query) (all_named query)
-covered query = covers_by (scope_of query) (all_named query) (λ name h. in_front name query.collection (each_once (all_named query)) (in_once name (all_named query) h))
+covered query = covers_by (scope_of query) (all_named query) (λ name h. at_start name query.collection (each_once (all_named query)) (in_once name (all_named query) h))
 
 -- WHAT IS COMPUTED WITHOUT THE ROWS OUT OF A SCOPE IS THE SAME
 

@@ -11,14 +11,14 @@ ghost use Rattle.index_tree.specs.Meaning.{meaning};
 ghost use Rattle.index_tree.specs.Scope.{scope_of, within};
 ghost use Rattle.index_tree.specs.Numbers.{is_within};
 
-/// What a map gives hangs on the document and on what its loads give, and on nothing else: where a second lookup has the same at all ids
+/// What a map gives depends on the document and on what its loads give, and on nothing else: if a second lookup has the same at all ids
 /// that were asked for under the first one, the map gives the same under it, and asks for the same ids.
 pub fn maps_are_local()
     ensures { (query : MapQuery) (d : Row) (find other : Lookup) → AgreeAt (meaning query d find).loads find other →
         meaning query d other ≡ meaning query d find }
 {}
 
-/// A map reads rows of its scope alone: where all others are taken out of the lookup, it gives the same, and asks for the same ids.
+/// A map reads rows of its scope alone: if all others are taken out of the lookup, it gives the same, and asks for the same ids.
 pub fn maps_read_their_scope()
     ensures { (query : MapQuery) (d : Row) (find : Lookup) → meaning query d (within (scope_of query) find) ≡ meaning query d find }
 {}
@@ -28,7 +28,7 @@ pub fn dates_are_read_alike()
     ensures { (s : List ℕ) → result_map_both (λ both. both.0) (λ e. e) (parse_datetime s) ≡ parse_date s }
 {}
 
-/// A number is taken as a result exactly where it has a place in 64 bits with a sign.
+/// A number is taken as a result exactly if it fits 64 bits with a sign.
 pub fn numbers_are_of_64_bits()
     ensures { (n : ℤ) → (is_within n ≡ true) ↔ FitsSigned w64 n }
 {}

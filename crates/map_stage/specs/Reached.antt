@@ -14,7 +14,7 @@ use Rattle.map_stage.specs.HeldView.{held_of}
 abbrev pub binding_of : Binding → List ℕ × Data
 binding_of b = (b.name.now, held_of b.value)
 
--- the latest stands last
+-- the latest is last
 abbrev pub bindings_of : List Binding → List (List ℕ × Data)
 bindings_of bound = reverse (map binding_of bound)
 
@@ -22,7 +22,7 @@ bindings_of bound = reverse (map binding_of bound)
 abbrev pub reached : Option Held → List Id → Asking Data
 reached held asked = record { outcome = option_map held_of held; loads = map folded asked }
 
--- the computation, where the ids were asked for before
+-- the computation, if the ids were asked for before
 abbrev pub from_there : {A : Type 0} → List Id → Asking A → Asking A
 from_there asked c = after (map folded asked) c
 
@@ -34,6 +34,6 @@ Does c old new held = reached held new ≡ from_there old c
 abbrev pub value_under : Lookup → List Binding → Tree → Asking Data
 value_under find bound tree = evaluate find (bindings_of bound) tree
 
--- the names and their values, where the map goes on
+-- the names and their values, if the map goes on
 abbrev pub bound_if : List Binding → Bool → Option Bindings
 bound_if bound goes = if goes then Some (bindings_of bound) else None

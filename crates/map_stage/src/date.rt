@@ -14,7 +14,7 @@ fn without_mark(text: &[u8]) -> &[u8]
     }
 }
 
-/// The number that `Year`, `Month` or `Day` stands for, if the text is a civil date, or one with a time.
+/// The number that `Year`, `Month` or `Day` means, if the text is a civil date, or one with a time.
 pub fn date_part(name: &str, text: &str) -> Option<i64>
     ensures { result ≡ date_part name.now text.now }
 {

@@ -38,7 +38,7 @@ impl<'a, T: Lookup> Scene<'a, T> {
         }
     }
 
-    /// Takes clauses in order. It gives false where a condition is not true, and nothing where the document fails.
+    /// Takes clauses in order. It gives false if a condition is not true, and nothing if the document fails.
     fn bind(&mut self, clauses: &'a [Clause], asked: &mut Ids) -> Result<Option<bool>, NoMemory>
         ensures bound { IfOk result (λ goes. record { outcome = option_map (bound_if self.new.bound.items) goes; loads = map folded asked.new } ≡ from_there asked.old (bound_after (T.rows self.old.rows.now) (bindings_of self.old.bound.items) clauses.now)) }
         ensures rows { self.new.rows.now ≡ self.old.rows.now }
@@ -52,7 +52,7 @@ impl<'a, T: Lookup> Scene<'a, T> {
         Ok(Some(true))
     }
 
-    /// The fields of the members, or nothing where the document fails.
+    /// The fields of the members, or nothing if the document fails.
     fn entry(&self, members: &'a [MapMember], asked: &mut Ids) -> Result<Option<Entry>, NoMemory>
         ensures { IfOk result (λ entry. record { outcome = option_map fields_of entry; loads = map folded asked.new } ≡ from_there asked.old (fields_with (T.rows self.now.rows.now) (bindings_of self.now.bound.items) [] members.now)) }
     {
@@ -67,7 +67,7 @@ impl<'a, T: Lookup> Scene<'a, T> {
     }
 }
 
-/// What a document comes to. The ids that are looked up are added to those asked for before.
+/// What the map gives for a document. The ids that are looked up are added to those asked for before.
 pub fn outcome_of<T: Lookup>(
     alloc: Global,
     query: &MapQuery,

@@ -16,7 +16,7 @@ use raven_value::{Ids, Text};
 use std::borrow::Cow;
 
 impl<'a, T: Lookup> Scene<'a, T> {
-    /// The value of an expression, or nothing where the document fails. The ids that it asks for are added to those asked for before.
+    /// The value of an expression, or nothing if the document fails. The ids that it asks for are added to those asked for before.
     #[cycle(evaluate)]
     pub fn evaluate(&self, expr: &'a Expr, asked: &mut Ids) -> Result<Option<Held<'a>>, NoMemory>
         ensures { IfOk result (Does (value_under (T.rows self.now.rows.now) self.now.bound.items expr.now) asked.old asked.new) }

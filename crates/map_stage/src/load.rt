@@ -20,7 +20,7 @@ fn document_in<'a>(collection: &Text, row: Option<&'a Row>) -> Held<'a>
     }
 }
 
-/// The document of the id, if the value is a text that can be one and the document stands in the collection.
+/// The document of the id, if the value is a text that can be one and the document is in the collection.
 pub fn load<'a, T: Lookup>(
     alloc: Global,
     rows: &'a T,

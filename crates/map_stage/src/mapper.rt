@@ -15,7 +15,7 @@ use std::sync::ledger::Ledger;
 /// The fields of an entry with their names, in the order of the map's members.
 pub type Entry = Sequence<(Text, Scalar)>;
 
-/// What a document comes to.
+/// What the map gives for a document.
 #[derive(Debug, Drop)]
 pub enum Outcome {
     /// Its entry.
@@ -42,7 +42,7 @@ pub trait Mapper {
 
     /// The result for a document. What is not a document is taken as null.
     ///
-    /// Each call counts one map, whatever comes of it, also where no memory was found. It does not count the rows that are looked up.
+    /// Each call counts one map, whatever it gives, also if no memory was found. It does not count the rows that are looked up.
     fn map<T: Lookup, L: Ledger>(
         &self,
         alloc: Global,
@@ -53,6 +53,7 @@ pub trait Mapper {
         ensures mapped { IfOk result (λ mapped. mapped_view mapped ≡ meaning self.now doc.now (T.rows rows.now)) }
         ensures counted { steps.new ≡ one_map_more steps.old };
 
-    /// It hangs on the document and on what the lookups give, and on nothing else.
-    ghost local: { (m : Self) (d : is.Row) (find other : asking.Lookup) → asking.AgreeAt (meaning m d find).loads find other → meaning m d other ≡ meaning m d find };
+    /// It depends on the document and on what the lookups give, and on nothing else.
+    ghost local: { (m : Self) (d : is.Row) (find other : asking.Lookup) →
+        asking.AgreeAt (meaning m d find).loads find other → meaning m d other ≡ meaning m d find };
 }

@@ -18,7 +18,7 @@ use std::alloc::Global;
 use std::borrow::Cow;
 use std::cmp::Ordering;
 
-/// The member of an object, or the part of a date that is a text. Of all else, and where there is none, it is null.
+/// The member of an object, or the part of a date that is a text. For all else, and if there is none, it is null.
 pub fn part_of<'a>(holder: &Held<'a>, name: &Text) -> Held<'a>
     ensures { held_of result ≡ part_of name.now (held_of holder.now) }
 {
@@ -35,7 +35,7 @@ pub fn part_of<'a>(holder: &Held<'a>, name: &Text) -> Held<'a>
     }
 }
 
-/// What an operator gives for its operand, or nothing where the result does not fit.
+/// What an operator gives for its operand, or nothing if the result does not fit.
 pub fn unary<'a>(op: UnaryOp, operand: &Held<'a>) -> Option<Held<'a>>
     ensures { option_map held_of result ≡ unary op (held_of operand.now) }
 {
@@ -48,7 +48,7 @@ pub fn unary<'a>(op: UnaryOp, operand: &Held<'a>) -> Option<Held<'a>>
     }
 }
 
-/// What an operator gives for its two operands, or nothing where the result does not fit or the divisor is zero.
+/// What an operator gives for its two operands, or nothing if the result does not fit or the divisor is zero.
 pub fn binary<'a>(
     alloc: Global,
     op: BinaryOp,
