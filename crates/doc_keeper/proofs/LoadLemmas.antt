@@ -13,7 +13,7 @@ use Rattle.doc_store.proofs.MapLemmas.{none_out}
 use Rattle.raven_ports.proofs.RisingLemmas.{IsPast, last_on, past_on, rises_on}
 use Rattle.raven_ports.specs.Faults.{Rose}
 use Rattle.raven_ports.specs.Plan.{Plan, calls_later, one_later}
-use Rattle.doc_keeper.specs.Loading.{AreCalls, IsCause, IsLoaded, IsPage, Tells}
+use Rattle.doc_keeper.specs.Loading.{AreCalls, IsCause, IsLoaded, IsPage, IsPageFault}
 use Rattle.doc_keeper.specs.declared.loading.LoadFault.{LoadFault}
 use Rattle.doc_keeper.specs.declared.loading.LoadFault.TheVariants.{Failed, KeptBad, NoMemory}
 
@@ -86,13 +86,13 @@ pub passed : (max : ℕ) (earlier more : List Row) (k : KeptRow) (ks : List Kept
 passed max earlier more k ks is = behind-append max earlier (k ∷ []) ks ∙ ap (λ l. then_rows max l ks) is
 
 -- a fault among the first is that of all
-tells_then : (max : ℕ) (f : LoadFault) (l : Result (List Row) ℕ) (ks : List KeptRow) → Tells f l → Tells f (then_rows max l ks)
-tells_then max Failed l ks h = h
-tells_then max (KeptBad etag) l ks h = ap (λ x. then_rows max x ks) h
-tells_then max NoMemory l ks h = h
+fault_then : (max : ℕ) (f : LoadFault) (l : Result (List Row) ℕ) (ks : List KeptRow) → IsPageFault f l → IsPageFault f (then_rows max l ks)
+fault_then max Failed l ks h = h
+fault_then max (KeptBad etag) l ks h = ap (λ x. then_rows max x ks) h
+fault_then max NoMemory l ks h = h
 
-pub tells_on : (max : ℕ) (earlier : List Row) (f : LoadFault) (xs ys : List KeptRow) → Tells f (rows_behind max earlier xs) → Tells f (rows_behind max earlier (xs ++ ys))
-tells_on max earlier f xs ys h = subst (Tells f) (sym (behind-append max earlier xs ys)) (tells_then max f (rows_behind max earlier xs) ys h)
+pub fault_on : (max : ℕ) (earlier : List Row) (f : LoadFault) (xs ys : List KeptRow) → IsPageFault f (rows_behind max earlier xs) → IsPageFault f (rows_behind max earlier (xs ++ ys))
+fault_on max earlier f xs ys h = subst (IsPageFault f) (sym (behind-append max earlier xs ys)) (fault_then max f (rows_behind max earlier xs) ys h)
 
 -- HOW MANY ROWS
 
@@ -154,16 +154,16 @@ rest_past low (k ∷ given) rest up =
 -- PAGES
 
 -- all rows are those that were given and the rest, which begins with this page
-pub record Told (given page all : List KeptRow) : Type 0 where
+pub record IsSplit (given page all : List KeptRow) : Type 0 where
   pub rest : List KeptRow
   pub split : all ≡ given ++ rest
-  pub front : page ≡ take 1024 rest
+  pub prefix : page ≡ take 1024 rest
   pub order : EtagsRise None all
 
 -- and once the page is given too
-after_page : (given page all : List KeptRow) (t : Told given page all) → all ≡ (given ++ page) ++ drop 1024 t.rest
+after_page : (given page all : List KeptRow) (t : IsSplit given page all) → all ≡ (given ++ page) ++ drop 1024 t.rest
 after_page given page all t =
-    t.split ∙ ap (λ xs. given ++ xs) (sym (take-append-drop 1024 t.rest) ∙ ap (λ xs. xs ++ drop 1024 t.rest) (sym t.front)) ∙ sym (append_assoc given page (drop 1024 t.rest))
+    t.split ∙ ap (λ xs. given ++ xs) (sym (take-append-drop 1024 t.rest) ∙ ap (λ xs. xs ++ drop 1024 t.rest) (sym t.prefix)) ∙ sym (append_assoc given page (drop 1024 t.rest))
 
 -- what was loaded so far, and the page that comes next
 pub record SoFar (max : ℕ) (held : Option (List KeptRow)) (loaded : List Row) (after : Option ℕ) (page : List KeptRow) : Type 0 where
@@ -172,24 +172,24 @@ pub record SoFar (max : ℕ) (held : Option (List KeptRow)) (loaded : List Row) 
   pub last : last_kept None given ≡ after
   pub read : rows_in max given ≡ Ok loaded
   pub next : EtagsRise after page
-  pub told : IfSome held (Told given page)
+  pub known : IfSome held (IsSplit given page)
 
-told_start : (held : Option (List KeptRow)) (page : List KeptRow) → IsPage held None page → IfSome held (Told [] page)
-told_start None page p = tt
-told_start (Some all) page p = record { rest = all; split = refl; front = p.rows ∙ ap (take 1024) (rest_past None [] all p.order); order = p.order }
+split_start : (held : Option (List KeptRow)) (page : List KeptRow) → IsPage held None page → IfSome held (IsSplit [] page)
+split_start None page p = tt
+split_start (Some all) page p = record { rest = all; split = refl; prefix = p.rows ∙ ap (take 1024) (rest_past None [] all p.order); order = p.order }
 
 pub start : (max : ℕ) (held : Option (List KeptRow)) (loaded : List Row) (page : List KeptRow) → loaded ≡ [] → IsPage held None page → SoFar max held loaded None page
-start max held loaded page none p = record { given = []; rising = tt; last = refl; read = ap Ok (sym none); next = p.rising; told = told_start held page p }
+start max held loaded page none p = record { given = []; rising = tt; last = refl; read = ap Ok (sym none); next = p.rising; known = split_start held page p }
 
-told_next : (held : Option (List KeptRow)) (after : Option ℕ) (given page more : List KeptRow) → last_kept None (given ++ page) ≡ after → IfSome held (Told given page) → IsPage held after more
-    → IfSome held (Told (given ++ page) more)
-told_next None after given page more is told p = tt
-told_next (Some all) after given page more is told p =
-    let split = after_page given page all told in
-    let past : filter (is_past after) all ≡ drop 1024 told.rest =
-    ap (λ xs. filter (is_past after) xs) split ∙ ap (λ e. filter (is_past e) ((given ++ page) ++ drop 1024 told.rest)) (sym is)
-    ∙ rest_past None (given ++ page) (drop 1024 told.rest) (subst (EtagsRise None) split p.order) in
-    record { rest = drop 1024 told.rest; split = split; front = p.rows ∙ ap (take 1024) past; order = p.order }
+split_next : (held : Option (List KeptRow)) (after : Option ℕ) (given page more : List KeptRow) → last_kept None (given ++ page) ≡ after → IfSome held (IsSplit given page) → IsPage held after more
+    → IfSome held (IsSplit (given ++ page) more)
+split_next None after given page more is known p = tt
+split_next (Some all) after given page more is known p =
+    let split = after_page given page all known in
+    let past : filter (is_past after) all ≡ drop 1024 known.rest =
+    ap (λ xs. filter (is_past after) xs) split ∙ ap (λ e. filter (is_past e) ((given ++ page) ++ drop 1024 known.rest)) (sym is)
+    ∙ rest_past None (given ++ page) (drop 1024 known.rest) (subst (EtagsRise None) split p.order) in
+    record { rest = drop 1024 known.rest; split = split; prefix = p.rows ∙ ap (take 1024) past; order = p.order }
 
 pub go_on : (max : ℕ) (held : Option (List KeptRow)) (loaded further : List Row) (after now : Option ℕ) (page more : List KeptRow) → SoFar max held loaded after page
     → rows_behind max loaded page ≡ Ok further → now ≡ last_kept after page → IsPage held now more → SoFar max held further now more
@@ -201,43 +201,43 @@ go_on max held loaded further after now page more s is at p =
       last = ends;
       read = behind-append max [] s.given page ∙ ap (λ l. then_rows max l page) s.read ∙ is;
       next = p.rising;
-      told = told_next held now s.given page more ends s.told p;
+      known = split_next held now s.given page more ends s.known p;
     }
 
 no_rest : (rest : List KeptRow) → [] ≡ take 1024 rest → rest ≡ []
 no_rest [] h = refl
 no_rest (k ∷ rest) h = let e = ap length h in absurd (omega (arith, length-take 1024 (k ∷ rest)))
 
-told_done : (held : Option (List KeptRow)) (given : List KeptRow) → IfSome held (Told given []) → IfSome held (λ all. given ≡ all)
-told_done None given told = tt
-told_done (Some all) given told = sym (told.split ∙ ap (λ xs. given ++ xs) (no_rest told.rest told.front) ∙ append-nil given)
+split_done : (held : Option (List KeptRow)) (given : List KeptRow) → IfSome held (IsSplit given []) → IfSome held (λ all. given ≡ all)
+split_done None given known = tt
+split_done (Some all) given known = sym (known.split ∙ ap (λ xs. given ++ xs) (no_rest known.rest known.prefix) ∙ append-nil given)
 
 pub finish : (max : ℕ) (held : Option (List KeptRow)) (loaded rows : List Row) (after : Option ℕ) (page : List KeptRow) → SoFar max held loaded after page → page ≡ [] → rows ≡ loaded → IsLoaded max held (Ok rows)
 finish max held loaded rows after page s none is = record {
   given = s.given;
   rising = s.rising;
-  all = told_done held s.given (subst (λ p. IfSome held (Told s.given p)) none s.told);
+  all = split_done held s.given (subst (λ p. IfSome held (IsSplit s.given p)) none s.known);
   rows = s.read ∙ ap Ok (sym is);
 }
 
-bad_in : (max etag : ℕ) (held : Option (List KeptRow)) (given page : List KeptRow) → EtagsRise None (given ++ page) → rows_in max (given ++ page) ≡ Err etag → IfSome held (Told given page)
+bad_in : (max etag : ℕ) (held : Option (List KeptRow)) (given page : List KeptRow) → EtagsRise None (given ++ page) → rows_in max (given ++ page) ≡ Err etag → IfSome held (IsSplit given page)
     → IsLoaded max held (Err etag)
-bad_in max etag None given page up bad told = record { given = given ++ page; rising = up; all = tt; rows = bad }
-bad_in max etag (Some all) given page up bad told = record {
+bad_in max etag None given page up bad known = record { given = given ++ page; rising = up; all = tt; rows = bad }
+bad_in max etag (Some all) given page up bad known = record {
   given = all;
-  rising = told.order;
+  rising = known.order;
   all = refl;
   rows =
-      ap (rows_in max) (after_page given page all told) ∙ behind-append max [] (given ++ page) (drop 1024 told.rest)
-      ∙ ap (λ l. then_rows max l (drop 1024 told.rest)) bad;
+      ap (rows_in max) (after_page given page all known) ∙ behind-append max [] (given ++ page) (drop 1024 known.rest)
+      ∙ ap (λ l. then_rows max l (drop 1024 known.rest)) bad;
 }
 
 pub stop : (max : ℕ) (held : Option (List KeptRow)) (loaded : List Row) (after : Option ℕ) (page : List KeptRow) (f : LoadFault) → SoFar max held loaded after page
-    → Tells f (rows_behind max loaded page) → IsCause max held f
+    → IsPageFault f (rows_behind max loaded page) → IsCause max held f
 stop max held loaded after page Failed s h = tt
 stop max held loaded after page (KeptBad etag) s h =
     bad_in max etag held s.given page (rises_on None s.given page s.rising (subst (λ e. EtagsRise e page) (sym s.last) s.next))
-    (behind-append max [] s.given page ∙ ap (λ l. then_rows max l page) s.read ∙ h) s.told
+    (behind-append max [] s.given page ∙ ap (λ l. then_rows max l page) s.read ∙ h) s.known
 stop max held loaded after page NoMemory s h = tt
 
 -- how many rows are loaded

@@ -5,7 +5,7 @@ use Rattle.raven_data.specs.Rows.{Row}
 use Rattle.doc_store.specs.declared.opening.OpenFault.{OpenFault}
 use Rattle.doc_store.specs.declared.opening.OpenFault.TheVariants.{KeptBad, NoMemory}
 
--- a bad row is one of no form, and is told by its etag; want of memory may come anywhere
-abbrev pub Tells : OpenFault → KeptRow → Option Row → Type 0
-Tells (KeptBad etag) k row = (etag ≡ k.etag) × (row ≡ None)
-Tells NoMemory k row = Unit {0}
+-- a bad row is no row of a store, and is named by its etag; memory may run out anywhere
+abbrev pub IsRowFault : OpenFault → KeptRow → Option Row → Type 0
+IsRowFault (KeptBad etag) k row = (etag ≡ k.etag) × (row ≡ None)
+IsRowFault NoMemory k row = Unit {0}

@@ -17,24 +17,24 @@ pub record IsPage (held : Option (List KeptRow)) (after : Option ℕ) (page : Li
   pub order : IfSome held (λ all. EtagsRise None all)
   pub rising : EtagsRise after page
 
--- these are the rows in what the keeper gave, or the etag of the first bad one; where the keeper tells what it holds, it gave all
+-- these are the rows in what the keeper gave, or the etag of the first bad one; if the keeper reports what it holds, it gave all of that
 pub record IsLoaded (max : ℕ) (held : Option (List KeptRow)) (loaded : Result (List Row) ℕ) : Type 0 where
   pub given : List KeptRow
   pub rising : EtagsRise None given
   pub all : IfSome held (λ rows. given ≡ rows)
   pub rows : rows_in max given ≡ loaded
 
--- a bad row is the first that breaks the form, and is told by its etag
+-- a bad row is the first invalid one, and is named by its etag
 abbrev pub IsCause : ℕ → Option (List KeptRow) → LoadFault → Type 0
 IsCause max held Failed = Unit {0}
 IsCause max held (KeptBad etag) = IsLoaded max held (Err etag)
 IsCause max held NoMemory = Unit {0}
 
--- a bad row among rows that were given, by its etag
-abbrev pub Tells : LoadFault → Result (List Row) ℕ → Type 0
-Tells Failed loaded = ⊥
-Tells (KeptBad etag) loaded = loaded ≡ Err etag
-Tells NoMemory loaded = Unit {0}
+-- a bad row is the first invalid one among the rows of a page, and is named by its etag
+abbrev pub IsPageFault : LoadFault → Result (List Row) ℕ → Type 0
+IsPageFault Failed loaded = ⊥
+IsPageFault (KeptBad etag) loaded = loaded ≡ Err etag
+IsPageFault NoMemory loaded = Unit {0}
 
 -- some calls later
 pub record AreCalls (before after : Option Plan) : Type 0 where

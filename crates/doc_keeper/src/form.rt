@@ -1,4 +1,4 @@
-//! Which kept rows are in the form of a row.
+//! Which stored rows are valid.
 ghost use Rattle.std.specs.Prelude.{◌≡◌, ◌&&◌, IfErr, IfOk, None, Some, if◌then◌else◌, length, map, nat_lt, option_map};
 ghost use Rattle.std.specs.List.{list_any};
 ghost use Rattle.std.specs.Str.{bytes_eq};
@@ -9,7 +9,7 @@ ghost use Rattle.raven_value.specs.RowView.{body_of};
 ghost use Rattle.raven_value.specs.View.{data_of, pair_of};
 ghost use Rattle.spec_store.specs.Commit.{is_own as spec_is_own};
 ghost use Rattle.spec_store.specs.Kept.{body_in as spec_body_in, document_in as spec_document_in, is_clean as spec_is_clean, is_etag, is_stored as spec_is_stored, row_in as spec_row_in};
-ghost use Rattle.doc_keeper.specs.Form.{Tells};
+ghost use Rattle.doc_keeper.specs.Form.{IsRowFault};
 
 use doc_store::OpenFault;
 use doc_txn::is_own;
@@ -108,7 +108,7 @@ fn id_in(alloc: Global, text: &Text) -> Result<Option<Id>, NoMemory>
     }
 }
 
-// Whether the etag, the collection and the moment are in the form.
+// Whether the etag, the collection and the moment are valid.
 fn is_in_bounds(kept: &KeptRow) -> bool
     ensures { result ≡ is_etag kept.now.etag && nat_lt 0 (length kept.now.collection) && nat_lt kept.now.changed moments_end }
 {
@@ -139,14 +139,14 @@ fn row_in(alloc: Global, kept: &KeptRow) -> Result<Option<Row>, NoMemory>
     }))
 }
 
-/// The row that is kept so.
+/// The row of a stored row.
 ///
-/// A kept row is bad where its etag is not from 1 to 9,007,199,254,740,991; where its id is none; where its collection is
-/// empty; where its body has more than 1,048,576 bytes, or is not the text that is written for an object whose `@metadata` is
-/// an object without the members that the server writes itself; and where it was changed in the year 9999 or later.
+/// A stored row is bad if its etag is not from 1 to 9,007,199,254,740,991; if its id is invalid; if its collection is empty;
+/// if its body has more than 1,048,576 bytes, or is not the text that is written for an object whose `@metadata` is an object
+/// without the members that the server writes itself; or if it was changed in the year 9999 or later.
 pub fn row_of(alloc: Global, kept: &KeptRow) -> Result<Row, OpenFault>
     ensures ok { IfOk result (λ row. spec_row_in kept.now ≡ Some row) }
-    ensures fault { IfErr result (λ fault. Tells fault kept.now (spec_row_in kept.now)) }
+    ensures fault { IfErr result (λ fault. IsRowFault fault kept.now (spec_row_in kept.now)) }
 {
     match row_in(alloc, kept)? {
         Some(row) => Ok(row),

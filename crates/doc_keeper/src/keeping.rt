@@ -1,4 +1,4 @@
-//! How a row is kept.
+//! How a row is stored.
 ghost use Rattle.std.specs.Prelude.{◌≡◌, IfOk};
 ghost use Rattle.raven_data.specs.Kept.{all_kept as spec_all_kept, body_text as spec_body_text, kept as spec_kept};
 ghost use Rattle.raven_data.specs.Written.{text_of};
@@ -27,7 +27,7 @@ fn body_text(alloc: Global, body: &Body) -> Result<Option<Text>, NoMemory>
     }
 }
 
-/// The row as it is kept: a document as the text that is written for it.
+/// The row as it is stored: a document as the text that is written for it.
 pub fn kept(alloc: Global, row: &Row) -> Result<KeptRow, NoMemory>
     ensures { IfOk result (λ kept. kept ≡ spec_kept row.now) }
 {
@@ -40,7 +40,7 @@ pub fn kept(alloc: Global, row: &Row) -> Result<KeptRow, NoMemory>
     })
 }
 
-/// The rows as they are kept, in the same order.
+/// The rows as they are stored, in the same order.
 pub fn all_kept(alloc: Global, rows: &Rows) -> Result<KeptRows, NoMemory>
     ensures { IfOk result (λ all. all ≡ spec_all_kept rows.now) }
 {

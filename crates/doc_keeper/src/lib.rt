@@ -1,4 +1,4 @@
-//! How a row is kept, and which kept rows are those of a database.
+//! How a row is stored, and which stored rows are those of a database.
 #![tactic(auto)]
 
 mod form;

@@ -1,6 +1,6 @@
 //! Loading the rows of a database from their keeper.
 ghost use Rattle.std.specs.Prelude.{◌≡◌, ◌≤◌, ◌++◌, ℕ, [], ◌∷◌, true, option_map, IfErr, IfOk, IsErrOf, Ok, length};
-ghost use Rattle.doc_keeper.specs.Loading.{AreCalls, IsCause, IsLoaded, IsPage, Tells};
+ghost use Rattle.doc_keeper.specs.Loading.{AreCalls, IsCause, IsLoaded, IsPage, IsPageFault};
 ghost use Rattle.doc_keeper.specs.declared.loading.LoadFault.TheVariants.{NoMemory as OutOfMemory};
 ghost use Rattle.raven_data.specs.Kept.{last_kept};
 ghost use Rattle.spec_store.specs.Kept.{max_etag, may_stand_behind, rows_behind};
@@ -34,7 +34,7 @@ pub enum LoadFault {
         etag: u64,
     },
 
-    /// No memory was found.
+    /// It ran out of memory.
     #[error("no memory was found")]
     NoMemory,
 }
@@ -88,7 +88,7 @@ impl Loaded {
         rows
     }
 
-    // Whether the row may stand behind these.
+    // Whether the row may come after these.
     fn may_go_on(&self, row: &Row, max: u32) -> bool
         ensures { result ≡ may_stand_behind max self.now row.now }
     {
@@ -108,10 +108,10 @@ impl Loaded {
         Ok(Loaded { rows, store })
     }
 
-    // These rows and the one that is kept so.
+    // These rows and the row of this stored one.
     fn with_kept(self, alloc: Global, kept: &KeptRow, max: u32) -> Result<Loaded, LoadFault>
         ensures ok { IfOk result (λ loaded. rows_behind max self (kept.now ∷ []) ≡ Ok loaded) }
-        ensures fault { IfErr result (λ fault. Tells fault (rows_behind max self (kept.now ∷ []))) }
+        ensures fault { IfErr result (λ fault. IsPageFault fault (rows_behind max self (kept.now ∷ []))) }
     {
         let row = match row_of(alloc, kept) {
             Ok(row) => row,
@@ -127,10 +127,10 @@ impl Loaded {
         }
     }
 
-    // These rows and those that are kept so.
+    // These rows and the rows of these stored ones.
     fn with_page(self, alloc: Global, page: &[KeptRow], max: u32) -> Result<Loaded, LoadFault>
         ensures ok { IfOk result (λ loaded. rows_behind max self page.now ≡ Ok loaded) }
-        ensures fault { IfErr result (λ fault. Tells fault (rows_behind max self page.now)) }
+        ensures fault { IfErr result (λ fault. IsPageFault fault (rows_behind max self page.now)) }
     {
         let mut loaded = self;
         for kept in page {
@@ -143,7 +143,7 @@ impl Loaded {
     }
 }
 
-// The etag of the last of these rows, or this one where there are none.
+// The etag of the last of these rows, or `after` if there are none.
 fn last_etag(after: Option<u64>, page: &[KeptRow]) -> Option<u64>
     ensures { result ≡ last_kept after page.now }
 {
@@ -160,12 +160,12 @@ fn load_page<K: Keeper>(
     keeper: &mut K,
     after: Option<u64>,
 ) -> Result<KeptRows, LoadFault>
-    ensures page { IfOk result (IsPage (K.Keeper.held keeper.old) after) }
-    ensures fault { IfErr result (λ fault. (max : ℕ) → IsCause max (K.Keeper.held keeper.old) fault) }
-    ensures same { K.Keeper.held keeper.new ≡ K.Keeper.held keeper.old }
-    ensures called { K.Keeper.plan keeper.new ≡ option_map one_later (K.Keeper.plan keeper.old) }
-    ensures later { K.Keeper.count keeper.old ≤ K.Keeper.count keeper.new }
-    ensures cause { IsErrOf result LoadFault.Failed → Rose (K.Keeper.count keeper.old) (K.Keeper.count keeper.new) }
+    ensures page { IfOk result (IsPage (K.state keeper.old).held after) }
+    ensures fault { IfErr result (λ fault. (max : ℕ) → IsCause max (K.state keeper.old).held fault) }
+    ensures same { (K.state keeper.new).held ≡ (K.state keeper.old).held }
+    ensures called { (K.state keeper.new).plan ≡ option_map one_later (K.state keeper.old).plan }
+    ensures later { (K.state keeper.old).count ≤ (K.state keeper.new).count }
+    ensures cause { IsErrOf result LoadFault.Failed → Rose (K.state keeper.old).count (K.state keeper.new).count }
 {
     match keeper.load(alloc, after, PAGE) {
         Ok(page) => Ok(page),
@@ -176,21 +176,21 @@ fn load_page<K: Keeper>(
 
 /// All rows that the keeper has, in order of etag.
 ///
-/// A kept row is bad where `row_of` refuses it; where its etag is not past those of the rows before it; where one of these
-/// has its id, without regard to case; and where there are `limits.rows` of them. Of several the first is told.
+/// A stored row is bad if `row_of` refuses it; if its etag is not past those of the rows before it; if one of these has its id,
+/// without regard to case; or if there are `limits.rows` of them. Of several the first is named.
 #[tactic(auto, using(crate::proofs::LoadLemmas::calls))]
 pub fn load_all<K: Keeper>(
     alloc: Global,
     keeper: &mut K,
     limits: &Limits,
 ) -> Result<Rows, LoadFault>
-    ensures ok { IfOk result (λ rows. IsLoaded limits.now.rows (K.Keeper.held keeper.old) (Ok rows)) }
+    ensures ok { IfOk result (λ rows. IsLoaded limits.now.rows (K.state keeper.old).held (Ok rows)) }
     ensures most { IfOk result (λ rows. length rows ≤ limits.now.rows) }
-    ensures fault { IfErr result (IsCause limits.now.rows (K.Keeper.held keeper.old)) }
-    ensures same { K.Keeper.held keeper.new ≡ K.Keeper.held keeper.old }
-    ensures called { AreCalls (K.Keeper.plan keeper.old) (K.Keeper.plan keeper.new) }
-    ensures later { K.Keeper.count keeper.old ≤ K.Keeper.count keeper.new }
-    ensures cause { IsErrOf result LoadFault.Failed → Rose (K.Keeper.count keeper.old) (K.Keeper.count keeper.new) }
+    ensures fault { IfErr result (IsCause limits.now.rows (K.state keeper.old).held) }
+    ensures same { (K.state keeper.new).held ≡ (K.state keeper.old).held }
+    ensures called { AreCalls (K.state keeper.old).plan (K.state keeper.new).plan }
+    ensures later { (K.state keeper.old).count ≤ (K.state keeper.new).count }
+    ensures cause { IsErrOf result LoadFault.Failed → Rose (K.state keeper.old).count (K.state keeper.new).count }
 {
     let mut loaded = Loaded::new(alloc)?;
     let mut after = None;

@@ -33,6 +33,19 @@ impl CaseClock {
     }
 }
 
+impl Clock for CaseClock {
+    ghost moment = { λ _. None };
+
+    fn now(&self) -> u64 {
+        match self {
+            CaseClock::Still(clock) => clock.now(),
+            CaseClock::Ticking(clock) => clock.now(),
+        }
+    }
+
+    fn nap(&self) {}
+}
+
 /// A clock that moves on with each call, up to the last moment.
 #[derive(Drop)]
 pub struct TickingClock {

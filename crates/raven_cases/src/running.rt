@@ -1,10 +1,9 @@
 //! Cases, run and printed.
 use crate::case::{Case, Run};
-use crate::clock::CaseClock;
 use crate::printing::{out_of_memory, print_rows, print_status, print_written};
 use raven_base::Bytes;
-use raven_console::{Status, raven};
-use raven_ports::{ByteSink, ByteSource, Clock, MemKeeper};
+use raven_console::{Finish, raven};
+use raven_ports::{ByteSink, ByteSource, MemKeeper};
 use std::io::{self, Write};
 use std::sync::Arc;
 
@@ -23,7 +22,7 @@ pub fn run_case<R: AllocGlobal, W: Write>(rt: &R, case: Case, out: &mut W) -> io
     writeln!(out)
 }
 
-/// Runs once, prints what came of it, and gives the keeper back.
+/// Runs once, prints what came of it, and returns the keeper.
 fn print_run<R: AllocGlobal, W: Write>(
     rt: &R,
     run: Run,
@@ -41,24 +40,9 @@ fn print_run<R: AllocGlobal, W: Write>(
     let alloc = rt.alloc();
     let mut input = ByteSource::of(Bytes::of(script), reads);
     let mut output = ByteSink::of(Bytes::new(alloc), writes);
-    let (status, keeper) = match clock {
-        CaseClock::Still(clock) => run_over(
-            rt,
-            &arguments,
-            &mut input,
-            &mut output,
-            keeper,
-            clock,
-        )?,
-        CaseClock::Ticking(clock) => run_over(
-            rt,
-            &arguments,
-            &mut input,
-            &mut output,
-            keeper,
-            clock,
-        )?,
-    };
+    let clock = Arc::new(alloc, clock)?;
+    let Finish { status, keeper } = raven(rt, &arguments, &mut input, &mut output, keeper, clock);
+    let keeper = keeper.unwrap();
     print_status(out, status)?;
     print_written(out, output.held())?;
     if shows_rows {
@@ -66,17 +50,4 @@ fn print_run<R: AllocGlobal, W: Write>(
         print_rows(alloc, out, rows.as_slice())?;
     }
     Ok(keeper)
-}
-
-fn run_over<R: AllocGlobal, C: Clock + Drop>(
-    rt: &R,
-    arguments: &[String],
-    input: &mut ByteSource,
-    output: &mut ByteSink,
-    keeper: MemKeeper,
-    clock: C,
-) -> io::Result<(Status, MemKeeper)> {
-    let clock = Arc::new(rt.alloc(), clock)?;
-    let finish = raven(rt, arguments, input, output, keeper, clock);
-    Ok((finish.status, finish.keeper.unwrap()))
 }

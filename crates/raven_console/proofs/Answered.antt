@@ -1,4 +1,4 @@
--- What is written for a line, and what it leaves, by what it comes to.
+-- What is written for a line, and what it leaves, by what it means.
 use Rattle.std.proofs.Common.{◌≡◌, ℕ, List, [], Bool, true, Option, Some, None, Result, Ok, Err, IfOk, refl, sym, ap, ◌∙◌, subst}
 use Rattle.std.specs.Prelude.{option_map}
 use Rattle.raven_data.specs.Faults.{Fault}
@@ -11,22 +11,23 @@ use Rattle.raven_script.specs.LineView.{Answers, IsReading}
 use Rattle.raven_script.specs.RequestView.{IsBadId, IsBadName, line_view}
 use Rattle.raven_script.specs.declared.request.Line.{Line}
 use Rattle.raven_console.specs.Answering.{IsAnswered, IsRefusedLine}
-use Rattle.raven_console.specs.Outside.{KeeperState, Asked, circumstance, given, rows_in}
+use Rattle.raven_ports.specs.States.{KeeperState}
+use Rattle.raven_console.specs.Devices.{Asked, circumstance, given, rows_in}
 
 -- REFUSALS
 
 pub refused_line : (line : List ℕ) (read : LineRead) (refusal : ReadRefusal) (reply : Reply) → IsLine line read → read ≡ Err refusal → reply ≡ refusal_reply refusal → IsRefusedLine line reply
-refused_line line read refusal reply said is told = record { refusal = refusal; said = subst (IsLine line) is said; told = told }
+refused_line line read refusal reply means is reply_is = record { refusal = refusal; means = subst (IsLine line) is means; reply_is = reply_is }
 
 pub refused_id : (line : List ℕ) (got : LineRead) (fault : Option Fault) (reply : Reply) → IsLine line got → IsBadId fault got → ((f : Fault) → fault ≡ Some f → reply ≡ fault_reply f) → IsRefusedLine line reply
-refused_id line got None reply said h told = absurd h
-refused_id line got (Some f) reply said h told = refused_line line got (BadId f) reply said h (told f refl)
+refused_id line got None reply means h of_fault = absurd h
+refused_id line got (Some f) reply means h of_fault = refused_line line got (BadId f) reply means h (of_fault f refl)
 
 pub refused_name : (line : List ℕ) (got : LineRead) (fault : Option Fault) (reply : Reply) → IsLine line got → IsBadName fault got → ((f : Fault) → fault ≡ Some f → reply ≡ fault_reply f) → IsRefusedLine line reply
-refused_name line got None reply said h told = absurd h
-refused_name line got (Some f) reply said h told = refused_line line got (BadName f) reply said h (told f refl)
+refused_name line got None reply means h of_fault = absurd h
+refused_name line got (Some f) reply means h of_fault = refused_line line got (BadName f) reply means h (of_fault f refl)
 
--- what holds of a result holds of it in other words
+-- what holds of a result holds of it as something that follows
 pub if_ok : {T E : Type 0} (r : Result T E) (P Q : T → Type 0) → ((t : T) → P t → Q t) → IfOk r P → IfOk r Q
 if_ok (Ok t) P Q f h = f t h
 if_ok (Err e) P Q f h = tt
@@ -36,9 +37,9 @@ if_ok (Err e) P Q f h = tt
 -- nothing was asked of the keeper
 unasked : (line : List ℕ) (now : ℕ) (before after : KeeperState) (M N : Machine) (text : List ℕ) (read : LineRead) → IsLine line read → after ≡ before → N ≡ M
     → text ≡ written_for M (circumstance now true before after) read → M ≡ left_by M (circumstance now true before after) read → [] ≡ rows_in M now read → IsAnswered line now true before after M N text
-unasked line now before after M N text read said same still t m r = record {
+unasked line now before after M N text read means same still t m r = record {
   read = read;
-  said = said;
+  means = means;
   reply = t;
   machine = still ∙ m;
   asked = subst (λ all. Asked before after true all) r (refl, same);
@@ -46,20 +47,20 @@ unasked line now before after M N text read said same still t m r = record {
 
 pub answers-refused : (line : List ℕ) (now : ℕ) (before after : KeeperState) (M N : Machine) (text : List ℕ) (reply : Reply) → IsRefusedLine line reply → text ≡ printed reply → after ≡ before → N ≡ M
     → IsAnswered line now true before after M N text
-answers-refused line now before after M N text reply h t same still = unasked line now before after M N text (Err h.refusal) h.said same still (t ∙ ap printed h.told) refl refl
+answers-refused line now before after M N text reply h t same still = unasked line now before after M N text (Err h.refusal) h.means same still (t ∙ ap printed h.reply_is) refl refl
 
 pub answers-none : (line : List ℕ) (now : ℕ) (before after : KeeperState) (M N : Machine) (text : List ℕ) → IsLine line (Ok None) → text ≡ [] → after ≡ before → N ≡ M → IsAnswered line now true before after M N text
-answers-none line now before after M N text said t same still = unasked line now before after M N text (Ok None) said same still t refl refl
+answers-none line now before after M N text means t same still = unasked line now before after M N text (Ok None) means same still t refl refl
 
 pub answers-done : (line : List ℕ) (now : ℕ) (taken : Bool) (before after : KeeperState) (M N : Machine) (text : List ℕ) (request : Request) → IsLine line (Ok (Some (Do request)))
     → text ≡ printed (step M (circumstance now taken before after).keeping now request).reply → N ≡ (step M (circumstance now taken before after).keeping now request).machine
     → Asked before after taken (change_of M now request).rows → IsAnswered line now taken before after M N text
-answers-done line now taken before after M N text request said t m a = record { read = Ok (Some (Do request)); said = said; reply = t; machine = m; asked = a }
+answers-done line now taken before after M N text request means t m a = record { read = Ok (Some (Do request)); means = means; reply = t; machine = m; asked = a }
 
--- what was read is that to which the line comes
-pub comes : (line : List ℕ) (found : Option Line) → Answers (asked_of line) (Ok found) → IsLine line (Ok (option_map line_view found))
-comes line found h = subst (IsLine line) h.told h.comes
+-- what was read is what the line means
+pub line_means : (line : List ℕ) (found : Option Line) → Answers (asked_of line) (Ok found) → IsLine line (Ok (option_map line_view found))
+line_means line found h = subst (IsLine line) h.told h.comes
 
 pub ruleset refusals = (refused_line, refused_id, refused_name)
 
-pub ruleset answers = (answers-refused, answers-none, answers-done, comes)
+pub ruleset answers = (answers-refused, answers-none, answers-done, line_means)

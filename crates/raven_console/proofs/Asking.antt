@@ -1,7 +1,8 @@
 -- What asking a keeper does.
 use Rattle.std.proofs.Common.{◌≡◌, ◌≢◌, List, [], ◌∷◌, Bool, true, refl}
 use Rattle.raven_data.specs.Rows.{Row}
-use Rattle.raven_console.specs.Outside.{KeeperState, Asked, AskedOnce}
+use Rattle.raven_ports.specs.States.{KeeperState}
+use Rattle.raven_console.specs.Devices.{Asked, AskedOnce}
 
 pub not_asked : (before after : KeeperState) (rows : List Row) → rows ≡ [] → after ≡ before → Asked before after true rows
 not_asked before after [] e s = (refl, s)

@@ -1,52 +1,201 @@
--- How a run ends.
-use Rattle.std.proofs.Common.{◌≡◌, ◌⊎◌, inl, inr, ℕ, List, Option, Some, None, IfSome, [], sym, subst}
-use Rattle.raven_data.specs.Kept.{KeptRow}
+-- How a run ends, by its status.
+use Rattle.std.proofs.Common.{◌≡◌, ◌≤◌, ◌⊎◌, inl, inr, ℕ, List, Option, Some, None, IfSome, [], length, refl, sym, subst}
+use Rattle.raven_ports.specs.Faults.{Rose}
+use Rattle.raven_ports.specs.States.{KeeperState}
+use Rattle.spec_server.specs.Lines.{max_input}
 use Rattle.spec_server.specs.Machine.{Machine}
 use Rattle.spec_server.specs.Options.{Options, options_in, setting_with}
-use Rattle.raven_console.specs.Outcome.{Answers, Begins, Finished, IsKeptBad, IsBad, Loads, Opens, Stopped, StoppedEarly, StopsBefore, StopsIn}
-use Rattle.raven_console.specs.Outside.{KeeperState, Keeps}
+use Rattle.raven_console.specs.declared.status.Status.{Status}
+use Rattle.raven_console.specs.declared.status.Status.TheVariants as is
+use Rattle.raven_console.specs.Answers.{Answers, StopsIn, StopsShort, state_of}
+use Rattle.raven_console.specs.Devices.{Keeps}
+use Rattle.raven_console.specs.Ends.{EndsRightly}
+use Rattle.raven_console.specs.Input.{IsRead, TakesMore, TakesWithin}
+use Rattle.raven_console.specs.Openings.{IsBad, Loads, Opens}
+use Rattle.raven_console.specs.Runs.{Begins, Finished, HasNoFault, HoldsSame, IsKeptBad, IsValid, Run, Stopped, StoppedEarly}
+use Rattle.raven_console.proofs.Completes.{no_options, not_bad, not_more, not_none}
+
+-- WHAT EACH STATUS NEEDS
+
+-- the arguments are valid
+abbrev AreValid : Run → Type 0
+AreValid run = (options : Options) × (options_in run.arguments ≡ Some options)
+
+abbrev Read : Run → Type 0
+Read run = IsRead run.before.input.left run.after.input.left
+
+abbrev Short : Run → Type 0
+Short run = IfSome run.before.input.left (StoppedEarly run) ⊎ IfSome run.before.input.left (Stopped run)
+
+abbrev Cause : Run → Status → Type 0
+Cause run is.Done = AreValid run × Read run × IfSome run.before.input.left (Finished run)
+Cause run is.Usage = options_in run.arguments ≡ None
+Cause run is.ReadFault = AreValid run × Rose run.before.input.faults run.after.input.faults × TakesWithin run.before.input.left run.after.input.left
+Cause run is.WriteFault = AreValid run × Rose run.before.output.faults run.after.output.faults × Read run × IfSome run.before.input.left (Stopped run)
+Cause run is.KeptFault = AreValid run × Rose run.before.keeper.count run.after.keeper.count
+Cause run (is.KeptBad etag) = AreValid run × IsKeptBad run etag
+Cause run is.InputTooLarge = AreValid run × TakesMore run.before.input.left run.after.input.left
+Cause run is.NoMemory = HoldsSame run ⊎ Short run
+
+done_of : (run : Run) (s : Status) → Cause run s → s ≡ is.Done → IfSome run.before.input.left (Finished run)
+done_of run is.Done c e = c.2
+done_of run other c e = absurd cc
+
+usage_of : (run : Run) (s : Status) → Cause run s → s ≡ is.Usage → options_in run.arguments ≡ None
+usage_of run is.Usage c e = c
+usage_of run other c e = absurd cc
+
+not_malformed : (run : Run) → AreValid run → options_in run.arguments ≡ None → ⊥
+not_malformed run v e = not_none (options_in run.arguments) v.0 v.1 e
+
+ordered_of : (run : Run) (s : Status) → Cause run s → options_in run.arguments ≡ None → (s ≡ is.Usage) ⊎ (s ≡ is.NoMemory)
+ordered_of run is.Done c e = absurd (not_malformed run c.0 e)
+ordered_of run is.Usage c e = inl refl
+ordered_of run is.ReadFault c e = absurd (not_malformed run c.0 e)
+ordered_of run is.WriteFault c e = absurd (not_malformed run c.0 e)
+ordered_of run is.KeptFault c e = absurd (not_malformed run c.0 e)
+ordered_of run (is.KeptBad etag) c e = absurd (not_malformed run c.0 e)
+ordered_of run is.InputTooLarge c e = absurd (not_malformed run c.0 e)
+ordered_of run is.NoMemory c e = inr refl
+
+read_fault_of : (run : Run) (s : Status) → Cause run s → s ≡ is.ReadFault → Rose run.before.input.faults run.after.input.faults
+read_fault_of run is.ReadFault c e = c.1
+read_fault_of run other c e = absurd cc
+
+write_fault_of : (run : Run) (s : Status) → Cause run s → s ≡ is.WriteFault → Rose run.before.output.faults run.after.output.faults
+write_fault_of run is.WriteFault c e = c.1
+write_fault_of run other c e = absurd cc
+
+kept_fault_of : (run : Run) (s : Status) → Cause run s → s ≡ is.KeptFault → Rose run.before.keeper.count run.after.keeper.count
+kept_fault_of run is.KeptFault c e = c.1
+kept_fault_of run other c e = absurd cc
+
+kept_bad_of : (run : Run) (s : Status) → Cause run s → (etag : ℕ) → s ≡ is.KeptBad etag → IsKeptBad run etag
+kept_bad_of run (is.KeptBad found) c etag e = let same : found ≡ etag = cc in subst (IsKeptBad run) same c.1
+kept_bad_of run other c etag e = absurd cc
+
+read_of : (run : Run) (s : Status) → Cause run s → (s ≡ is.Done) ⊎ (s ≡ is.WriteFault) → Read run
+read_of run is.Done c e = c.1
+read_of run is.WriteFault c e = c.2
+read_of run other c (inl e) = absurd cc
+read_of run other c (inr e) = absurd cc
+
+stopped_of : (run : Run) (s : Status) → Cause run s → s ≡ is.WriteFault → IfSome run.before.input.left (Stopped run)
+stopped_of run is.WriteFault c e = c.3
+stopped_of run other c e = absurd cc
+
+memory_of : (run : Run) (s : Status) → Cause run s → s ≡ is.NoMemory → HoldsSame run ⊎ Short run
+memory_of run is.NoMemory c e = c
+memory_of run other c e = absurd cc
+
+too_large_of : (run : Run) (s : Status) → Cause run s → s ≡ is.InputTooLarge → TakesMore run.before.input.left run.after.input.left
+too_large_of run is.InputTooLarge c e = c.1
+too_large_of run other c e = absurd cc
+
+within_of : (run : Run) (s : Status) → Cause run s → s ≡ is.ReadFault → TakesWithin run.before.input.left run.after.input.left
+within_of run is.ReadFault c e = c.2
+within_of run other c e = absurd cc
+
+complete_of : (run : Run) (s : Status) → Cause run s → IsValid run → HasNoFault run → (s ≡ is.Done) ⊎ (s ≡ is.NoMemory)
+complete_of run is.Done c v n = inl refl
+complete_of run is.Usage c v n = absurd (no_options run v c)
+complete_of run is.ReadFault c v n = absurd (n.input c.1)
+complete_of run is.WriteFault c v n = absurd (n.output c.1)
+complete_of run is.KeptFault c v n = absurd (n.keeper c.1)
+complete_of run (is.KeptBad etag) c v n = absurd (not_bad run etag v c.1)
+complete_of run is.InputTooLarge c v n = absurd (not_more run v c.1)
+complete_of run is.NoMemory c v n = inr refl
+
+ends_as : (run : Run) (s : Status) → Cause run s → EndsRightly s run
+ends_as run s c = record {
+  done = done_of run s c;
+  usage = usage_of run s c;
+  ordered = ordered_of run s c;
+  read_fault = read_fault_of run s c;
+  write_fault = write_fault_of run s c;
+  kept_fault = kept_fault_of run s c;
+  kept_bad = kept_bad_of run s c;
+  read = read_of run s c;
+  stopped = stopped_of run s c;
+  memory = memory_of run s c;
+  too_large = too_large_of run s c;
+  within = within_of run s c;
+  complete = complete_of run s c;
+}
+
+-- ENDS BEFORE THE FIRST LINE
+
+pub ends_usage : (run : Run) → options_in run.arguments ≡ None → EndsRightly is.Usage run
+ends_usage run e = ends_as run is.Usage e
+
+pub ends_early : (run : Run) → run.after.output.held ≡ run.before.output.held → run.after.keeper.held ≡ run.before.keeper.held → EndsRightly is.NoMemory run
+ends_early run o k = ends_as run is.NoMemory (inl (o, k))
+
+pub ends_read_fault : (run : Run) (o : Options) → options_in run.arguments ≡ Some o → Rose run.before.input.faults run.after.input.faults
+    → TakesWithin run.before.input.left run.after.input.left → EndsRightly is.ReadFault run
+ends_read_fault run o e r t = ends_as run is.ReadFault ((o, e), r, t)
+
+pub ends_too_large : (run : Run) (o : Options) → options_in run.arguments ≡ Some o → TakesMore run.before.input.left run.after.input.left → EndsRightly is.InputTooLarge run
+ends_too_large run o e t = ends_as run is.InputTooLarge ((o, e), t)
+
+pub ends_kept_fault : (run : Run) (o : Options) → options_in run.arguments ≡ Some o → Rose run.before.keeper.count run.after.keeper.count → EndsRightly is.KeptFault run
+ends_kept_fault run o e r = ends_as run is.KeptFault ((o, e), r)
+
+pub ends_kept_bad : (run : Run) (o : Options) (etag : ℕ) → options_in run.arguments ≡ Some o → IsBad (setting_with o.base) run.before.keeper.held etag → EndsRightly (is.KeptBad etag) run
+ends_kept_bad run o etag e b = ends_as run (is.KeptBad etag) ((o, e), record { options = o; ordered = e; bad = b })
+
+-- ENDS AFTER THE FIRST LINE
+
+-- the input was read, and the database was opened
+pub record HasBegun (run : Run) (script : List ℕ) (begun : KeeperState) (M : Machine) : Type 0 where
+  pub options : Options
+  pub ordered : options_in run.arguments ≡ Some options
+  pub opens : Opens (setting_with options.base) run.before.keeper.held M
+  pub loads : Loads run.before.keeper begun
+  pub all : IfSome run.before.input.left (λ left. (left ≡ script) × (run.after.input.left ≡ Some []))
+  pub size : length script ≤ max_input
+
+begins : (run : Run) (script : List ℕ) (begun : KeeperState) (M : Machine) → HasBegun run script begun M → Begins run begun M
+begins run script begun M h = record { options = h.options; ordered = h.ordered; opens = h.opens; loads = h.loads }
 
 -- the whole script was read
 of_script : (left after : Option (List ℕ)) (script : List ℕ) (P : List ℕ → Type 0) → IfSome left (λ l. (l ≡ script) × (after ≡ Some [])) → P script → IfSome left P
 of_script None after script P h p = tt
 of_script (Some l) after script P h p = subst P (sym h.0) p
 
-begins : (words : List (List ℕ)) (o : Options) (before begun : KeeperState) (M : Machine) → options_in words ≡ Some o → Opens (setting_with o.base) before.held M → Loads before begun
-    → Begins words before begun M
-begins words o before begun M e opens loads = record { options = o; ordered = e; opens = opens; loads = loads }
+was_read : (left after : Option (List ℕ)) (script : List ℕ) → IfSome left (λ l. (l ≡ script) × (after ≡ Some [])) → length script ≤ max_input → IsRead left after
+was_read None after script h n = tt
+was_read (Some l) after script h n = (h.1, subst (λ s. length s ≤ max_input) (sym h.0) n)
 
-pub finished : (words : List (List ℕ)) (clock : Option ℕ) (before begun after : KeeperState) (old new left left_after : Option (List ℕ)) (script : List ℕ) (o : Options) (M N : Machine)
-    → options_in words ≡ Some o → Opens (setting_with o.base) before.held M → Loads before begun → IfSome left (λ l. (l ≡ script) × (left_after ≡ Some []))
-    → Answers clock begun after old new script M N → Keeps after.held N → IfSome left (Finished words clock before after old new)
-finished words clock before begun after old new left left_after script o M N e opens loads all a k =
-    of_script left left_after script (Finished words clock before after old new) all
-    (record { begun = begun; first = M; last = N; begins = begins words o before begun M e opens loads; answers = a; holds = k.holds })
+stopped : (run : Run) (script : List ℕ) (begun : KeeperState) (M N : Machine) → HasBegun run script begun M
+    → StopsIn run.clock script (state_of M begun run.before.output) (state_of N run.after.keeper run.after.output) → Keeps run.after.keeper.held N → IfSome run.before.input.left (Stopped run)
+stopped run script begun M N h a k =
+    of_script run.before.input.left run.after.input.left script (Stopped run) h.all
+    (record { begun = begun; first = M; last = N; begins = begins run script begun M h; stops = a; holds = k.holds })
 
-pub stopped : (words : List (List ℕ)) (clock : Option ℕ) (before begun after : KeeperState) (old new left left_after : Option (List ℕ)) (script : List ℕ) (o : Options) (M N : Machine)
-    → options_in words ≡ Some o → Opens (setting_with o.base) before.held M → Loads before begun → IfSome left (λ l. (l ≡ script) × (left_after ≡ Some []))
-    → StopsIn clock begun after old new script M N → Keeps after.held N → IfSome left (Stopped words clock before after old new)
-stopped words clock before begun after old new left left_after script o M N e opens loads all a k =
-    of_script left left_after script (Stopped words clock before after old new) all
-    (record { begun = begun; first = M; last = N; begins = begins words o before begun M e opens loads; stops = a; holds = k.holds })
+short : (run : Run) (script : List ℕ) (begun : KeeperState) (M N : Machine) → HasBegun run script begun M
+    → StopsShort run.clock script (state_of M begun run.before.output) (state_of N run.after.keeper run.after.output) → Keeps run.after.keeper.held N → Short run
+short run script begun M N h (inl a) k =
+    inl (of_script run.before.input.left run.after.input.left script (StoppedEarly run) h.all
+    (record { begun = begun; first = M; last = N; begins = begins run script begun M h; stops = a; holds = k.holds }))
+short run script begun M N h (inr a) k = inr (stopped run script begun M N h a k)
 
-pub stopped_early : (words : List (List ℕ)) (clock : Option ℕ) (before begun after : KeeperState) (old new left left_after : Option (List ℕ)) (script : List ℕ) (o : Options) (M N : Machine)
-    → options_in words ≡ Some o → Opens (setting_with o.base) before.held M → Loads before begun → IfSome left (λ l. (l ≡ script) × (left_after ≡ Some []))
-    → StopsBefore clock begun after old new script M N → Keeps after.held N → IfSome left (StoppedEarly words clock before after old new)
-stopped_early words clock before begun after old new left left_after script o M N e opens loads all a k =
-    of_script left left_after script (StoppedEarly words clock before after old new) all
-    (record { begun = begun; first = M; last = N; begins = begins words o before begun M e opens loads; stops = a; holds = k.holds })
+pub ends_done : (run : Run) (script : List ℕ) (begun : KeeperState) (M N : Machine) → HasBegun run script begun M
+    → Answers run.clock script (state_of M begun run.before.output) (state_of N run.after.keeper run.after.output) → Keeps run.after.keeper.held N → EndsRightly is.Done run
+ends_done run script begun M N h a k =
+    ends_as run is.Done
+    ((h.options, h.ordered), was_read run.before.input.left run.after.input.left script h.all h.size,
+    of_script run.before.input.left run.after.input.left script (Finished run) h.all
+    (record { begun = begun; first = M; last = N; begins = begins run script begun M h; answers = a; holds = k.holds }))
 
--- before one of the lines or at its reply
-pub stopped_short : (words : List (List ℕ)) (clock : Option ℕ) (before begun after : KeeperState) (old new left left_after : Option (List ℕ)) (script : List ℕ) (o : Options) (M N : Machine)
-    → options_in words ≡ Some o → Opens (setting_with o.base) before.held M → Loads before begun → IfSome left (λ l. (l ≡ script) × (left_after ≡ Some []))
-    → StopsBefore clock begun after old new script M N ⊎ StopsIn clock begun after old new script M N → Keeps after.held N
-    → IfSome left (StoppedEarly words clock before after old new) ⊎ IfSome left (Stopped words clock before after old new)
-stopped_short words clock before begun after old new left left_after script o M N e opens loads all (inl a) k =
-    inl (stopped_early words clock before begun after old new left left_after script o M N e opens loads all a k)
-stopped_short words clock before begun after old new left left_after script o M N e opens loads all (inr a) k =
-    inr (stopped words clock before begun after old new left left_after script o M N e opens loads all a k)
+pub ends_stopped : (run : Run) (script : List ℕ) (begun : KeeperState) (M N : Machine) → HasBegun run script begun M
+    → StopsIn run.clock script (state_of M begun run.before.output) (state_of N run.after.keeper run.after.output) → Keeps run.after.keeper.held N
+    → Rose run.before.output.faults run.after.output.faults → EndsRightly is.WriteFault run
+ends_stopped run script begun M N h a k r =
+    ends_as run is.WriteFault ((h.options, h.ordered), r, was_read run.before.input.left run.after.input.left script h.all h.size, stopped run script begun M N h a k)
 
-pub kept_bad : (words : List (List ℕ)) (held : Option (List KeptRow)) (etag : ℕ) (o : Options) → options_in words ≡ Some o → IsBad (setting_with o.base) held etag → IsKeptBad words held etag
-kept_bad words held etag o e b = record { options = o; ordered = e; bad = b }
+pub ends_short : (run : Run) (script : List ℕ) (begun : KeeperState) (M N : Machine) → HasBegun run script begun M
+    → StopsShort run.clock script (state_of M begun run.before.output) (state_of N run.after.keeper run.after.output) → Keeps run.after.keeper.held N → EndsRightly is.NoMemory run
+ends_short run script begun M N h a k = ends_as run is.NoMemory (inr (short run script begun M N h a k))
 
-pub ruleset ends = (finished, stopped, kept_bad)
+pub ruleset ends = (ends_usage, ends_early, ends_read_fault, ends_too_large, ends_kept_fault, ends_kept_bad)

@@ -9,9 +9,10 @@ use Rattle.raven_laws.proofs.KeepLemmas.{change-rows}
 use Rattle.spec_store.proofs.KeepLemmas.{kept-with_rows, next-alone, next-behind}
 use Rattle.raven_laws.proofs.MachineLemmas.{step-Moves}
 use Rattle.raven_console.specs.Answering.{IsAnswered}
-use Rattle.raven_console.specs.Outside.{KeeperState, Asked, Keeps, circumstance, given, rows_in}
+use Rattle.raven_ports.specs.States.{KeeperState}
+use Rattle.raven_console.specs.Devices.{Asked, Keeps, circumstance, given, rows_in}
 
--- THE ROWS OF A CHANGE ARE IN ORDER BEHIND WHAT THE KEEPER HOLDS
+-- THE ROWS OF A CHANGE ARE IN ORDER AFTER WHAT THE KEEPER HOLDS
 
 pub rising : (M : Machine) (now : ℕ) (request : Request) (rows : List Row) → rows ≡ (change_of M now request).rows → EtagsRise None (all_kept rows)
 rising M now request rows e = subst (λ all. EtagsRise None (all_kept all)) (sym e) (next-alone _ (change_of M now request).rows (change-rows M now request).next)

@@ -4,7 +4,7 @@ pub mod Runs
 pub mod Answered
 pub mod Asking
 pub mod Performed
-pub mod WordLemmas
+pub mod ArgumentLemmas
 pub mod Opened
 pub mod Ended
 pub mod Completes

@@ -22,8 +22,9 @@ use Rattle.doc_keeper.specs.Loading.{AreCalls, IsLoaded}
 use Rattle.raven_world.specs.Opened as worlds
 use Rattle.raven_laws.proofs.OpenLemmas.{opened_from-Sound, opened_from-rows}
 use Rattle.raven_reading.proofs.TextLemmas.{opened-told}
-use Rattle.raven_console.specs.Outcome.{IsBad, Loads, Opens}
-use Rattle.raven_console.specs.Outside.{KeeperState, Keeps}
+use Rattle.raven_ports.specs.States.{KeeperState}
+use Rattle.raven_console.specs.Devices.{Keeps}
+use Rattle.raven_console.specs.Openings.{IsBad, Loads, Opens}
 
 -- THE LIMITS OF THE PROGRAM
 
@@ -32,7 +33,7 @@ limits_are base limits h = ap (λ (s : Setting). (let x : Setting = record { bas
 
 -- ROWS THAT ARE READ ARE ROWS OF A STORE
 
--- what a row says of itself that is in the form
+-- a valid row, as far as it is seen by itself
 record IsFit (r : Row) : Type 0 where
   pub etag : nat_le r.etag max_etag ≡ true
   pub collection : nat_lt 0 (length r.collection) ≡ true
@@ -120,27 +121,27 @@ back None given h = tt
 back (Some all) given h = sym h
 
 -- what opens the rows opens what is held
-held_opens : (s : Setting) (held : List KeptRow) (told : Result (List Row) ℕ) (M : Result Machine ℕ) → rows_in s.max_rows held ≡ told → IsOpenedBy s told M → IsOpened s held M
-held_opens s held told M is h = subst (λ t. IsOpenedBy s t M) (sym is) h
+held_opens : (s : Setting) (held : List KeptRow) (read : Result (List Row) ℕ) (M : Result Machine ℕ) → rows_in s.max_rows held ≡ read → IsOpenedBy s read M → IsOpened s held M
+held_opens s held read M is h = subst (λ t. IsOpenedBy s t M) (sym is) h
 
--- where the rows are those of the keeper and the world is theirs
+-- if the rows are those of the keeper and the world is theirs
 pub opens : (base : List ℕ) (limits : Limits) (held : Option (List KeptRow)) (rows : List Row) (M : Machine) → setting_of base_id limits ≡ program → IsLoaded limits.rows held (Ok rows)
     → OpensAs (setting_of base limits) rows M → Opens (setting_with base) held M
 opens base limits held rows M l is e =
     let whole = held_opens (setting_of base limits) is.given (Ok rows) (Ok M) is.rows e in
-    record { rows = is.given; told = back held is.given is.all; opened = subst (λ s. IsOpened s is.given (Ok M)) (limits_are base limits l) whole }
+    record { rows = is.given; whole = back held is.given is.all; opened = subst (λ s. IsOpened s is.given (Ok M)) (limits_are base limits l) whole }
 
 bad_of : (s : Setting) (held : Option (List KeptRow)) (given : List KeptRow) (etag : ℕ) → IfSome held (λ all. given ≡ all) → IsOpened s given (Err etag) → IsBad s held etag
 bad_of s None given etag h e = tt
 bad_of s (Some all) given etag h e = subst (λ x. IsOpened s x (Err etag)) h e
 
--- where a row is bad as it is read
+-- if a row is bad as it is read
 pub bad_row : (base : List ℕ) (limits : Limits) (held : Option (List KeptRow)) (etag : ℕ) → setting_of base_id limits ≡ program → IsLoaded limits.rows held (Err etag) → IsBad (setting_with base) held etag
 bad_row base limits held etag l is =
     subst (λ s. IsBad s held etag) (limits_are base limits l)
     (bad_of (setting_of base limits) held is.given etag is.all (held_opens (setting_of base limits) is.given (Err etag) (Err etag) is.rows refl))
 
--- where a row is bad as the row of a definition
+-- if a row is bad as the row of a definition
 pub bad_definition : (base : List ℕ) (limits : Limits) (held : Option (List KeptRow)) (rows : List Row) (etag : ℕ) → setting_of base_id limits ≡ program → IsLoaded limits.rows held (Ok rows)
     → worlds.IsBadRow (setting_of base limits) rows etag → IsBad (setting_with base) held etag
 bad_definition base limits held rows etag l is (inl first) = absurd (let none = read_are_sound limits.rows is.given rows is.rows in cc)
@@ -151,9 +152,9 @@ bad_definition base limits held rows etag l is (inr later) =
 -- the keeper holds the rows of the machine that it opens
 pub keeps_from : (setting : Setting) (held after : Option (List KeptRow)) (M : Machine) → after ≡ held → Opens setting held M → Keeps after M
 keeps_from setting held after M e o =
-    let as_told = opened-told setting o.rows M o.opened in
-    let is = opened_from-rows setting o.rows M as_told.opened in
-    subst (λ h. Keeps h M) (sym e) (record { sound = opened_from-Sound setting o.rows M as_told; holds = by held o.told is.kept })
+    let as_read = opened-told setting o.rows M o.opened in
+    let is = opened_from-rows setting o.rows M as_read.opened in
+    subst (λ h. Keeps h M) (sym e) (record { sound = opened_from-Sound setting o.rows M as_read; holds = by held o.whole is.kept })
   where
     by : (held : Option (List KeptRow)) → IfSome held (λ all. all ≡ o.rows) → all_kept M.world.store.rows ≡ o.rows → IfSome held (λ all. all ≡ all_kept M.world.store.rows)
     by None h k = tt

@@ -3,7 +3,8 @@ use Rattle.std.proofs.Common.{◌≡◌, ℕ, List, [], ◌∷◌, Bool, true, f
 use Rattle.raven_data.specs.Rows.{Row}
 use Rattle.spec_server.specs.Machine.{Machine, Change, Replied, Request, change_of, settled, same_machine, step}
 use Rattle.spec_server.specs.Replies.{KeeperFault, printed}
-use Rattle.raven_console.specs.Outside.{KeeperState, Asked, circumstance}
+use Rattle.raven_ports.specs.States.{KeeperState}
+use Rattle.raven_console.specs.Devices.{Asked, circumstance}
 use Rattle.raven_console.proofs.Kept.{rising, past}
 
 taken_by : (M : Machine) (c : Change) (rows : List Row) (now : ℕ) (before after : KeeperState) → c.rows ≡ rows

@@ -2,13 +2,14 @@
 use Rattle.std.proofs.Common.{◌≡◌, ℕ, ◌<◌, List, [], ◌∷◌, ◌++◌, Bool, Option, IfSome, refl, ap, sym, ◌∙◌, append_assoc, subst}
 use Rattle.std.proofs.lemmas.List.{append-nil}
 use Rattle.raven_data.specs.Moments.{moments_end}
-use Rattle.raven_ports.specs.Told.{appended}
+use Rattle.raven_ports.specs.Reported.{appended}
+use Rattle.raven_ports.specs.States.{KeeperState, SinkState}
 use Rattle.spec_server.specs.Lines.{lines}
 use Rattle.spec_server.specs.Machine.{Machine}
 use Rattle.spec_server.specs.Script.{Given, reply_to, replies_to, after_line, after_lines}
 use Rattle.raven_console.specs.Answering.{IsAnswered}
-use Rattle.raven_console.specs.Outside.{KeeperState, Asked, Come, Comes, MayTell, given, rows_in}
-use Rattle.raven_console.specs.Outcome.{Answers, GivesFront, StopsBefore, StopsIn, texts_of}
+use Rattle.raven_console.specs.Devices.{AreGiven, Asked, IsGiven, MayGive, given, rows_in}
+use Rattle.raven_console.specs.Answers.{Answers, GivesPrefix, ServerState, StopsBefore, StopsIn, texts_of}
 use Rattle.raven_console.proofs.Pieces.{appended-appended, appended-nil}
 
 replies_to-after : (done : List Given) (line : Given) (M : Machine) → replies_to (done ++ line ∷ []) M ≡ replies_to done M ++ reply_to line (after_lines done M)
@@ -24,93 +25,95 @@ texts_of-after : (done : List Given) (line : Given) (more : List (List ℕ)) →
 texts_of-after [] line more = refl
 texts_of-after (l ∷ ls) line more = ap (λ z. l.line ∷ z) (texts_of-after ls line more)
 
-come_on : (clock : Option ℕ) (before at after : KeeperState) (M : Machine) (done : List Given) (line : Given) → Come clock before at M done → Comes clock at after (after_lines done M) line
-    → Come clock before after M (done ++ line ∷ [])
-come_on clock before at after M [] line e c = (after, (let P : KeeperState → Type 0 = λ k. Comes clock k after M line in subst P e c), refl)
-come_on clock before at after M (l ∷ ls) line h c = (h.0, h.1, come_on clock h.0 at after (after_line l M) ls line h.2 c)
+one_more_given : (clock : Option ℕ) (before at after : KeeperState) (M : Machine) (done : List Given) (line : Given) → AreGiven clock before at M done
+    → IsGiven clock at after (after_lines done M) line → AreGiven clock before after M (done ++ line ∷ [])
+one_more_given clock before at after M [] line e c = (after, (let P : KeeperState → Type 0 = λ k. IsGiven clock k after M line in subst P e c), refl)
+one_more_given clock before at after M (l ∷ ls) line h c = (h.0, h.1, one_more_given clock h.0 at after (after_line l M) ls line h.2 c)
 
--- some lines were answered, and the rest is still to be
-pub record HasRun (clock : Option ℕ) (before at : KeeperState) (old now : Option (List ℕ)) (script rest : List ℕ) (M N : Machine) : Type 0 where
+-- some lines were answered, and the rest is left
+pub record HasRun (clock : Option ℕ) (script : List ℕ) (before at : ServerState) (rest : List ℕ) : Type 0 where
   pub done : List Given
   pub split : lines script ≡ texts_of done ++ lines rest
-  pub come : Come clock before at M done
-  pub given : now ≡ appended old (replies_to done M)
-  pub left : N ≡ after_lines done M
+  pub given : AreGiven clock before.keeper at.keeper before.machine done
+  pub written : at.output.held ≡ appended before.output.held (replies_to done before.machine)
+  pub left : at.machine ≡ after_lines done before.machine
 
 -- the line that was answered
-pub record Answered (clock : Option ℕ) (at after : KeeperState) (N O : Machine) (line : List ℕ) (moment : ℕ) (taken : Bool) (reply : List ℕ) : Type 0 where
-  pub moment_is : MayTell clock moment
-  pub answer : IsAnswered line moment taken at after N O reply
+pub record Answered (clock : Option ℕ) (at after : ServerState) (line : List ℕ) (moment : ℕ) (taken : Bool) (reply : List ℕ) : Type 0 where
+  pub moment_is : MayGive clock moment
+  pub answer : IsAnswered line moment taken at.keeper after.keeper at.machine after.machine reply
 
-pub answered : (clock : Option ℕ) (at after : KeeperState) (N O : Machine) (line : List ℕ) (moment : ℕ) (taken : Bool) (reply : List ℕ)
-    → moment < moments_end → IfSome clock (λ m. moment ≡ m) → IsAnswered line moment taken at after N O reply → Answered clock at after N O line moment taken reply
-answered clock at after N O line moment taken reply b s a = record { moment_is = record { below = b; still = s }; answer = a }
+pub answered : (clock : Option ℕ) (at after : ServerState) (line : List ℕ) (moment : ℕ) (taken : Bool) (reply : List ℕ) → moment < moments_end → IfSome clock (λ m. moment ≡ m)
+    → IsAnswered line moment taken at.keeper after.keeper at.machine after.machine reply → Answered clock at after line moment taken reply
+answered clock at after line moment taken reply b s a = record { moment_is = record { below = b; still = s }; answer = a }
 
-came : (clock : Option ℕ) (at after : KeeperState) (N L O : Machine) (line : List ℕ) (moment : ℕ) (taken : Bool) (reply : List ℕ) → N ≡ L
-    → (a : Answered clock at after N O line moment taken reply) → Comes clock at after L (given line a.answer.read moment taken at after)
-came clock at after N L O line moment taken reply e a = record {
+-- the line as it was given, to a machine that is the one before it
+line_given : (clock : Option ℕ) (at after : ServerState) (M : Machine) (line : List ℕ) (moment : ℕ) (taken : Bool) (reply : List ℕ) → at.machine ≡ M
+    → (a : Answered clock at after line moment taken reply) → IsGiven clock at.keeper after.keeper M (given line a.answer.read moment taken at.keeper after.keeper)
+line_given clock at after M line moment taken reply e a = record {
   line = line;
   read = a.answer.read;
   now = moment;
   taken = taken;
   is = refl;
-  said = a.answer.said;
+  means = a.answer.means;
   moment = a.moment_is;
-  asked = let P : Machine → Type 0 = λ x. Asked at after taken (rows_in x moment a.answer.read) in subst P e a.answer.asked;
+  asked = let P : Machine → Type 0 = λ x. Asked at.keeper after.keeper taken (rows_in x moment a.answer.read) in subst P e a.answer.asked;
 }
 
-pub starts : (clock : Option ℕ) (k : KeeperState) (old : Option (List ℕ)) (script : List ℕ) (M : Machine) → HasRun clock k k old old script script M M
-starts clock k old script M = record { done = []; split = refl; come = refl; given = sym (appended-nil old); left = refl }
+pub starts : (clock : Option ℕ) (script : List ℕ) (state : ServerState) → HasRun clock script state state script
+starts clock script state = record { done = []; split = refl; given = refl; written = sym (appended-nil state.output.held); left = refl }
 
-pub runs_on : (clock : Option ℕ) (before at after : KeeperState) (old now new : Option (List ℕ)) (script rest line more : List ℕ) (M N O : Machine) (moment : ℕ) (taken : Bool) (reply : List ℕ)
-    → HasRun clock before at old now script rest M N → lines rest ≡ line ∷ lines more → Answered clock at after N O line moment taken reply → new ≡ appended now reply
-    → HasRun clock before after old new script more M O
-runs_on clock before at after old now new script rest line more M N O moment taken reply h l a k =
-    let g : Given = given line a.answer.read moment taken at after in
+pub runs_on : (clock : Option ℕ) (script : List ℕ) (before at after : ServerState) (rest line more : List ℕ) (moment : ℕ) (taken : Bool) (reply : List ℕ)
+    → HasRun clock script before at rest → lines rest ≡ line ∷ lines more → Answered clock at after line moment taken reply → after.output.held ≡ appended at.output.held reply
+    → HasRun clock script before after more
+runs_on clock script before at after rest line more moment taken reply h l a k =
+    let g : Given = given line a.answer.read moment taken at.keeper after.keeper in
+    let M : Machine = before.machine in
     record {
       done = h.done ++ g ∷ [];
       split = h.split ∙ ap (λ z. texts_of h.done ++ z) l ∙ sym (texts_of-after h.done g (lines more));
-      come = come_on clock before at after M h.done g h.come (came clock at after N (after_lines h.done M) O line moment taken reply h.left a);
-      given = k ∙ ap (λ z. appended z reply) h.given ∙ appended-appended old (replies_to h.done M) reply
-          ∙ ap (λ z. appended old (replies_to h.done M ++ z)) (a.answer.reply ∙ ap (reply_to g) h.left) ∙ ap (appended old) (sym (replies_to-after h.done g M));
+      given = one_more_given clock before.keeper at.keeper after.keeper M h.done g h.given (line_given clock at after (after_lines h.done M) line moment taken reply h.left a);
+      written = k ∙ ap (λ z. appended z reply) h.written ∙ appended-appended before.output.held (replies_to h.done M) reply
+          ∙ ap (λ z. appended before.output.held (replies_to h.done M ++ z)) (a.answer.reply ∙ ap (reply_to g) h.left) ∙ ap (appended before.output.held) (sym (replies_to-after h.done g M));
       left = a.answer.machine ∙ ap (after_line g) h.left ∙ sym (after_lines-after h.done g M);
     }
 
-pub runs_out : (clock : Option ℕ) (before at : KeeperState) (old now : Option (List ℕ)) (script rest : List ℕ) (M N : Machine) → HasRun clock before at old now script rest M N → rest ≡ []
-    → Answers clock before at old now script M N
-runs_out clock before at old now script rest M N h e =
-    record { all = h.done; split = h.split ∙ ap (λ z. texts_of h.done ++ lines z) e ∙ append-nil (texts_of h.done); come = h.come; given = h.given; executed = h.left }
+pub runs_out : (clock : Option ℕ) (script : List ℕ) (before at : ServerState) (rest : List ℕ) → HasRun clock script before at rest → rest ≡ [] → Answers clock script before at
+runs_out clock script before at rest h e =
+    record { all = h.done; split = h.split ∙ ap (λ z. texts_of h.done ++ lines z) e ∙ append-nil (texts_of h.done); given = h.given; written = h.written; executed = h.left }
 
-pub stops_in : (clock : Option ℕ) (before at after : KeeperState) (old now new : Option (List ℕ)) (script rest line : List ℕ) (more : List (List ℕ)) (M N O : Machine) (moment : ℕ) (taken : Bool) (reply : List ℕ)
-    → HasRun clock before at old now script rest M N → lines rest ≡ line ∷ more → Answered clock at after N O line moment taken reply → GivesFront now new reply
-    → StopsIn clock before after old new script M O
-stops_in clock before at after old now new script rest line more M N O moment taken reply h l a k =
-    let g : Given = given line a.answer.read moment taken at after in
+pub stops_in : (clock : Option ℕ) (script : List ℕ) (before at after : ServerState) (rest line : List ℕ) (more : List (List ℕ)) (moment : ℕ) (taken : Bool) (reply : List ℕ)
+    → HasRun clock script before at rest → lines rest ≡ line ∷ more → Answered clock at after line moment taken reply → GivesPrefix at.output.held after.output.held reply
+    → StopsIn clock script before after
+stops_in clock script before at after rest line more moment taken reply h l a k =
+    let g : Given = given line a.answer.read moment taken at.keeper after.keeper in
+    let M : Machine = before.machine in
     record {
       done = h.done;
       line = g;
       more = more;
-      part = k.front;
+      part = k.prefix;
       rest = k.rest;
       split = h.split ∙ ap (λ z. texts_of h.done ++ z) l ∙ sym (texts_of-after h.done g more);
       piece = ap (reply_to g) (sym h.left) ∙ sym a.answer.reply ∙ k.split;
-      come = come_on clock before at after M h.done g h.come (came clock at after N (after_lines h.done M) O line moment taken reply h.left a);
-      given = k.given ∙ ap (λ z. appended z k.front) h.given ∙ appended-appended old (replies_to h.done M) k.front;
+      given = one_more_given clock before.keeper at.keeper after.keeper M h.done g h.given (line_given clock at after (after_lines h.done M) line moment taken reply h.left a);
+      written = k.given ∙ ap (λ z. appended z k.prefix) h.written ∙ appended-appended before.output.held (replies_to h.done M) k.prefix;
       executed = a.answer.machine ∙ ap (after_line g) h.left ∙ sym (after_lines-after h.done g M);
     }
 
-pub stops_before : (clock : Option ℕ) (before at after : KeeperState) (old now : Option (List ℕ)) (script rest line : List ℕ) (more : List (List ℕ)) (M N : Machine)
-    → HasRun clock before at old now script rest M N → lines rest ≡ line ∷ more → after.held ≡ at.held → StopsBefore clock before after old now script M N
-stops_before clock before at after old now script rest line more M N h l s = record {
+pub stops_before : (clock : Option ℕ) (script : List ℕ) (before at after : ServerState) (rest line : List ℕ) (more : List (List ℕ)) → HasRun clock script before at rest → lines rest ≡ line ∷ more
+    → after.keeper.held ≡ at.keeper.held → after.output ≡ at.output → after.machine ≡ at.machine → StopsBefore clock script before after
+stops_before clock script before at after rest line more h l s w m = record {
   done = h.done;
   line = line;
   more = more;
   split = h.split ∙ ap (λ z. texts_of h.done ++ z) l;
-  reached = at;
-  come = h.come;
-  same = s;
+  reached = at.keeper;
   given = h.given;
-  executed = h.left;
+  same = s;
+  written = ap (λ (z : SinkState). z.held) w ∙ h.written;
+  executed = m ∙ h.left;
 }
 
 pub ruleset steps = (starts, answered, runs_on, runs_out)

@@ -1,11 +1,12 @@
 pub mod LineEnds
 pub mod Input
-pub mod Outside
+pub mod Devices
 pub mod Answering
-pub mod Outcome
-pub mod OutcomeView
-pub mod Ends
-pub mod WordsView
+pub mod Answers
 pub mod Openings
+pub mod Runs
+pub mod Ends
+pub mod OutcomeView
+pub mod ArgumentsView
 pub mod Prepared
 pub mod Statuses

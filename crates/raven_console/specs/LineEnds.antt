@@ -1,4 +1,4 @@
--- Where a line ends.
+-- The ends of lines.
 use Rattle.std.specs.Prelude.{◌≡◌, ◌≢◌, ◌<◌, length, slice_index, ℕ, List, [], ◌∷◌, ◌==◌, if◌then◌else◌}
 
 -- without the CR at its end
@@ -7,7 +7,7 @@ without_cr [] = []
 without_cr (b ∷ []) = if b == 13 then [] else b ∷ []
 without_cr (b ∷ c ∷ bs) = b ∷ without_cr (c ∷ bs)
 
--- the first LF stands at n
+-- the first LF is at n
 pub record IsFirstEnd (bytes : List ℕ) (n : ℕ) : Type 0 where
   pub within : n < length bytes
   pub here : slice_index bytes n ≡ 10

@@ -14,7 +14,7 @@ number_of (is.KeptBad etag) = 6
 number_of is.InputTooLarge = 9
 number_of is.NoMemory = 10
 
--- the name, as it stands on standard error
+-- the name, as it is written to standard error
 abbrev pub name_of : Status → List ℕ
 name_of is.Done = codes "Done"
 name_of is.Usage = codes "Usage"

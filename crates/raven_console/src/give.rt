@@ -1,18 +1,18 @@
-//! Giving whole pieces.
+//! Writing whole pieces.
 ghost use Rattle.std.specs.Prelude.{◌≡◌, ◌≤◌, OnOk, OnErr, IsErrOf};
 ghost use Rattle.raven_ports.specs.Faults.{Rose};
-ghost use Rattle.raven_ports.specs.Told.{appended};
-ghost use Rattle.raven_console.specs.Outcome.{GivesFront};
+ghost use Rattle.raven_ports.specs.Reported.{appended};
+ghost use Rattle.raven_console.specs.Answers.{GivesPrefix};
 
 use raven_ports::{Sink, SinkFault};
 
-/// Gives all of these bytes, or a front of them where it stops.
+/// Gives all of these bytes to a sink; if it fails, a prefix of them.
 #[tactic(auto, using(crate::proofs::Pieces::runs))]
 pub(crate) fn give_all<O: Sink>(sink: &mut O, bytes: &[u8]) -> Result<(), SinkFault>
-    ensures ok { OnOk result (O.held sink.new ≡ appended (O.held sink.old) bytes.now) }
-    ensures err { OnErr result (GivesFront (O.held sink.old) (O.held sink.new) bytes.now) }
-    ensures later { O.faults sink.old ≤ O.faults sink.new }
-    ensures cause { IsErrOf result SinkFault.Failed → Rose (O.faults sink.old) (O.faults sink.new) }
+    ensures ok { OnOk result ((O.state sink.new).held ≡ appended (O.state sink.old).held bytes.now) }
+    ensures err { OnErr result (GivesPrefix (O.state sink.old).held (O.state sink.new).held bytes.now) }
+    ensures later { (O.state sink.old).faults ≤ (O.state sink.new).faults }
+    ensures cause { IsErrOf result SinkFault.Failed → Rose (O.state sink.old).faults (O.state sink.new).faults }
 {
     let mut rest = bytes;
     while !rest.is_empty() {

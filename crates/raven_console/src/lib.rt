@@ -1,6 +1,7 @@
-//! The program, over where its bytes come from and go to.
+//! The program, over any input, output, keeper and clock.
 #![tactic(auto)]
 
+mod arguments;
 mod give;
 mod keeping;
 mod lines;
@@ -12,11 +13,10 @@ mod read;
 mod refusal;
 mod run;
 mod status;
-mod words;
 
+pub use arguments::outside;
 pub use machine::{Answer, Machine};
 pub use options::Outside;
 pub use raven_script::{Line, ReadRefusal, Request, line};
 pub use run::{Finish, answer_lines, raven};
 pub use status::Status;
-pub use words::outside;

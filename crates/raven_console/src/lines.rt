@@ -22,7 +22,7 @@ fn without_cr(line: &[u8]) -> &[u8]
     }
 }
 
-/// The first line of these bytes, and what stands behind it.
+/// The first line of these bytes, and what follows it.
 #[tactic(auto, using(crate::proofs::LineLemmas::cuts))]
 pub(crate) fn next_line(bytes: &[u8]) -> (&[u8], &[u8])
     requires { 0 < length bytes.now }

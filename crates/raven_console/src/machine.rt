@@ -5,7 +5,7 @@ ghost use Rattle.spec_server.specs.Machine.{change_of, step};
 ghost use Rattle.spec_server.specs.Replies.{KeeperFault, printed as spec_printed};
 ghost use Rattle.raven_reply.specs.ReplyView.{reply_view};
 ghost use Rattle.raven_console.specs.Answering.{IsAnswered};
-ghost use Rattle.raven_console.specs.Outside.{Asked, Keeps, circumstance, seen};
+ghost use Rattle.raven_console.specs.Devices.{Asked, Keeps, circumstance};
 ghost use Rattle.raven_console.specs.OutcomeView.{world_left};
 ghost use Rattle.raven_console.specs.Prepared.{IsPrepared};
 ghost use Rattle.raven_world.specs.Told.{machine_of};
@@ -57,7 +57,7 @@ fn printed(alloc: Global, reply: &Reply) -> Result<Vec<u8>, NoMemory>
     Ok(text)
 }
 
-// All that a change needs before the keeper is asked: what is written for it, the new world where there is one, and its rows.
+// All that a change needs before the keeper is asked: what is written for it, the new world if there is one, and its rows.
 #[derive(Drop)]
 struct Prepared {
     text: Vec<u8>,
@@ -120,12 +120,14 @@ impl Machine {
         now: u64,
         request: Request,
     ) -> Result<Answer, NoMemory>
-        requires keeps { Keeps (K.held keeper.old) self.old }
-        ensures reply { IfOk result (λ a. a.text.items ≡ spec_printed (step self.old (circumstance now a.taken (seen (K.held keeper.old) (K.plan keeper.old) (K.count keeper.old)) (seen (K.held keeper.new) (K.plan keeper.new) (K.count keeper.new))).keeping now (request_view request)).reply) }
-        ensures machine { IfOk result (λ a. self.new ≡ (step self.old (circumstance now a.taken (seen (K.held keeper.old) (K.plan keeper.old) (K.count keeper.old)) (seen (K.held keeper.new) (K.plan keeper.new) (K.count keeper.new))).keeping now (request_view request)).machine) }
-        ensures asked { IfOk result (λ a. Asked (seen (K.held keeper.old) (K.plan keeper.old) (K.count keeper.old)) (seen (K.held keeper.new) (K.plan keeper.new) (K.count keeper.new)) a.taken (change_of self.old now (request_view request)).rows) }
-        ensures err { OnErr result ((self.new ≡ self.old) × (K.held keeper.new ≡ K.held keeper.old)) }
-        ensures later { K.count keeper.old ≤ K.count keeper.new }
+        requires keeps { Keeps (K.state keeper.old).held self.old }
+        ensures reply { IfOk result (λ a. a.text.items ≡
+            spec_printed (step self.old (circumstance now a.taken (K.state keeper.old) (K.state keeper.new)).keeping now (request_view request)).reply) }
+        ensures machine { IfOk result (λ a. self.new ≡
+            (step self.old (circumstance now a.taken (K.state keeper.old) (K.state keeper.new)).keeping now (request_view request)).machine) }
+        ensures asked { IfOk result (λ a. Asked (K.state keeper.old) (K.state keeper.new) a.taken (change_of self.old now (request_view request)).rows) }
+        ensures err { OnErr result ((self.new ≡ self.old) × ((K.state keeper.new).held ≡ (K.state keeper.old).held)) }
+        ensures later { (K.state keeper.old).count ≤ (K.state keeper.new).count }
     {
         let before = keeper.faults();
         let prepared = prepare(alloc, &self.world, now, request)?;
@@ -135,8 +137,8 @@ impl Machine {
         not_taken(alloc, before, keeper.faults())
     }
 
-    /// What is written for a line that comes at this moment, in microseconds since 1970. The keeper holds the rows of the database, where
-    /// it tells them. A fault of the keeper and want of memory change nothing.
+    /// What is written for a line at this moment, in microseconds since 1970. The keeper holds the rows of the database, if it reports
+    /// them. If the keeper fails or memory runs out, nothing changes.
     #[tactic(auto, using(crate::proofs::Answered::answers))]
     pub fn answer<K: Keeper>(
         &mut self,
@@ -146,10 +148,10 @@ impl Machine {
         bytes: &[u8],
     ) -> Result<Answer, NoMemory>
         requires below { now < moments_end }
-        requires keeps { Keeps (K.held keeper.old) self.old }
-        ensures answered { IfOk result (λ a. IsAnswered bytes.now now a.taken (seen (K.held keeper.old) (K.plan keeper.old) (K.count keeper.old)) (seen (K.held keeper.new) (K.plan keeper.new) (K.count keeper.new)) self.old self.new a.text.items) }
-        ensures err { OnErr result ((self.new ≡ self.old) × (K.held keeper.new ≡ K.held keeper.old)) }
-        ensures later { K.count keeper.old ≤ K.count keeper.new }
+        requires keeps { Keeps (K.state keeper.old).held self.old }
+        ensures answered { IfOk result (λ a. IsAnswered bytes.now now a.taken (K.state keeper.old) (K.state keeper.new) self.old self.new a.text.items) }
+        ensures err { OnErr result ((self.new ≡ self.old) × ((K.state keeper.new).held ≡ (K.state keeper.old).held)) }
+        ensures later { (K.state keeper.old).count ≤ (K.state keeper.new).count }
     {
         match line(alloc, bytes) {
             Ok(Some(Line::Do(request))) => self.perform(alloc, keeper, now, request),

@@ -2,9 +2,8 @@
 ghost use Rattle.std.specs.Prelude.{◌≡◌, ◌≤◌, IfErr, IfOk, IsErrOf};
 ghost use Rattle.spec_server.specs.Options.{setting_with};
 ghost use Rattle.raven_ports.specs.Faults.{Rose};
-ghost use Rattle.raven_console.specs.Outcome.{IsBad, Loads, Opens};
-ghost use Rattle.raven_console.specs.Outside.{Keeps, seen};
-ghost use Rattle.raven_console.specs.Openings.{TellsBad};
+ghost use Rattle.raven_console.specs.Devices.{Keeps};
+ghost use Rattle.raven_console.specs.Openings.{Loads, NamesBadRow, Opens};
 
 use crate::machine::Machine;
 use doc_keeper::{LoadFault, load_all};
@@ -14,18 +13,18 @@ use raven_ports::Keeper;
 use raven_world::World;
 use std::alloc::Global;
 
-/// The machine of the rows that the keeper holds. The keeper holds them as before, whatever comes.
+/// The machine of the rows that the keeper holds. The keeper holds what it held, whatever is returned.
 #[tactic(auto, using(crate::proofs::Opened::opening))]
 pub(crate) fn open_from<K: Keeper>(
     alloc: Global,
     keeper: &mut K,
     base: BaseId,
 ) -> Result<Machine, LoadFault>
-    ensures opens { IfOk result (λ machine. Opens (setting_with base) (K.held keeper.old) machine) }
-    ensures keeps { IfOk result (λ machine. Keeps (K.held keeper.new) machine) }
-    ensures bad { IfErr result (λ fault. TellsBad (setting_with base) (K.held keeper.old) fault) }
-    ensures fault { IsErrOf result LoadFault.Failed → Rose (K.count keeper.old) (K.count keeper.new) }
-    ensures loads { Loads (seen (K.held keeper.old) (K.plan keeper.old) (K.count keeper.old)) (seen (K.held keeper.new) (K.plan keeper.new) (K.count keeper.new)) }
+    ensures opens { IfOk result (λ machine. Opens (setting_with base) (K.state keeper.old).held machine) }
+    ensures keeps { IfOk result (λ machine. Keeps (K.state keeper.new).held machine) }
+    ensures bad { IfErr result (λ fault. NamesBadRow (setting_with base) (K.state keeper.old).held fault) }
+    ensures fault { IsErrOf result LoadFault.Failed → Rose (K.state keeper.old).count (K.state keeper.new).count }
+    ensures loads { Loads (K.state keeper.old) (K.state keeper.new) }
 {
     let limits = Limits::program();
     let rows = match load_all(alloc, keeper, &limits) {

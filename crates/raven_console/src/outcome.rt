@@ -14,7 +14,7 @@ use raven_value::{Rows, Text};
 use raven_world::{Answered, Change, Reply, World, WorldFault};
 use std::alloc::Global;
 
-/// The reply to a request, the new world where there is one, and the rows that it wrote.
+/// The reply to a request, the new world if there is one, and the rows that it wrote.
 #[derive(Drop)]
 pub struct Outcome {
     pub reply: Reply,

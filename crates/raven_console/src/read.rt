@@ -19,19 +19,19 @@ pub(crate) enum ReadEnd {
     /// There are more bytes than may be read.
     TooLarge,
 
-    /// No memory was found.
+    /// It ran out of memory.
     NoMemory,
 }
 
-/// All that is left of a source. Of an input that is too large it takes one byte more than may be read.
+/// All that is left of a source. If the input is too large, it takes one byte more than may be read.
 #[tactic(auto, using(crate::proofs::Pieces::pieces))]
 pub(crate) fn read_all<S: Source>(alloc: Global, source: &mut S) -> Result<Vec<u8>, ReadEnd>
-    ensures all { IfOk result (λ v. IfSome (S.left source.old) (λ left. (left ≡ v.items) × (S.left source.new ≡ Some []))) }
+    ensures all { IfOk result (λ v. IfSome (S.state source.old).left (λ left. (left ≡ v.items) × ((S.state source.new).left ≡ Some []))) }
     ensures size { IfOk result (λ v. length v.items ≤ max_input) }
-    ensures large { IsErrOf result ReadEnd.TooLarge → TakesMore (S.left source.old) (S.left source.new) }
-    ensures within { IsErrOf result ReadEnd.Fault → TakesWithin (S.left source.old) (S.left source.new) }
-    ensures later { S.faults source.old ≤ S.faults source.new }
-    ensures cause { IsErrOf result ReadEnd.Fault → Rose (S.faults source.old) (S.faults source.new) }
+    ensures large { IsErrOf result ReadEnd.TooLarge → TakesMore (S.state source.old).left (S.state source.new).left }
+    ensures within { IsErrOf result ReadEnd.Fault → TakesWithin (S.state source.old).left (S.state source.new).left }
+    ensures later { (S.state source.old).faults ≤ (S.state source.new).faults }
+    ensures cause { IsErrOf result ReadEnd.Fault → Rose (S.state source.old).faults (S.state source.new).faults }
 {
     let mut all = Vec::new(alloc);
     let mut buf = [0u8; 4096];

@@ -7,19 +7,19 @@ pub enum Status {
     /// The input was read to its end, and all replies were written.
     Done,
 
-    /// The words are not of the form. Nothing was read or written.
+    /// The arguments are malformed. Nothing was read or written.
     Usage,
 
     /// A call of the input failed. Nothing was written.
     ReadFault,
 
-    /// A call of the output failed. What was written is a front of the replies.
+    /// A call of the output failed. What was written is a prefix of the replies.
     WriteFault,
 
     /// A call of the keeper failed while the database was opened. Nothing was written.
     KeptFault,
 
-    /// The keeper holds a row that breaks the form. Nothing was written.
+    /// The keeper holds an invalid row. Nothing was written.
     KeptBad {
         /// The etag of the first such row.
         etag: u64,
@@ -28,7 +28,7 @@ pub enum Status {
     /// The input has more than 16,777,216 bytes. Nothing was written.
     InputTooLarge,
 
-    /// No memory was found. The replies to all earlier lines are whole.
+    /// Memory ran out. The replies to all earlier lines are whole.
     NoMemory,
 }
 

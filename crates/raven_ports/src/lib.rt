@@ -1,4 +1,4 @@
-//! The outside: where bytes come from and go to, and memory that stands for it.
+//! The devices of the program: input, output, keeper and clock, and the same in memory.
 #![tactic(auto)]
 
 mod calls;

@@ -5,7 +5,7 @@ ghost use Rattle.raven_data.specs.Kept.{EtagsRise, is_past as spec_is_past, keep
 ghost use Rattle.raven_data.specs.Folding.{same_key};
 ghost use Rattle.raven_ports.specs.Faults.{Rose};
 ghost use Rattle.raven_ports.specs.Filed.{is_among};
-ghost use Rattle.raven_ports.specs.KeptMemory.{keeper_faults, plan_of};
+ghost use Rattle.raven_ports.specs.KeptMemory.{keeper_state};
 ghost use Rattle.raven_ports.specs.Plan.{is_failing, one_later};
 
 use crate::calls::Calls;
@@ -21,7 +21,7 @@ use std::marker::Model;
 /// committed before; and time, but no memory, with the number of the rows that it was made with.
 #[derive(Drop)]
 pub struct MemKeeper {
-    /// What it was made with, but for what commits have replaced. Several of these may have one id.
+    /// What it was made with, without what commits have replaced. Several of these may have one id.
     given: Vec<KeptRow>,
     /// What was committed to it; none before the first commit.
     committed: Option<Committed>,
@@ -50,7 +50,7 @@ fn is_past(after: Option<u64>, row: &KeptRow) -> bool
     }
 }
 
-// Copies of the first rows past an etag, at most so many.
+// Copies of the first rows past an etag, at most `max`.
 fn first_past(
     alloc: Global,
     rows: &[KeptRow],
@@ -71,28 +71,28 @@ fn first_past(
     Ok(found)
 }
 
-// Whether the two rows are of one id.
+// Whether the two rows have the same id.
 fn has_one_id(row: &KeptRow, other: &KeptRow) -> bool
     ensures { result ≡ same_key (kept_key row.now) (kept_key other.now) }
 {
     row.id.as_str().eq_ignore_ascii_case(other.id.as_str())
 }
 
-// Whether one of these rows is of the id of this one.
+// Whether one of these rows has the id of this one.
 fn is_replaced(rows: &[KeptRow], held: &KeptRow) -> bool
     ensures { result ≡ is_among rows.now held.now }
 {
     rows.iter().any(|row| has_one_id(row, held))
 }
 
-// Takes the rows of these rows' ids out.
+// Takes out the rows that have the id of one of these.
 fn take_out(held: &mut Vec<KeptRow>, rows: &[KeptRow])
     ensures { held.new.items ≡ filter (λ x. not (is_among rows.now x)) held.old.items }
 {
     held.retain(|row| !is_replaced(rows, row));
 }
 
-// Copies of the first rows past an etag, at most so many, of those given and then of those committed.
+// Copies of the first rows past an etag, at most `max`, of those given and then of those committed.
 fn loaded(
     alloc: Global,
     given: &[KeptRow],
@@ -137,7 +137,7 @@ impl MemKeeper {
         }
     }
 
-    /// Copies of the rows that it holds, in order of etag. It is no call of those that may be told to fail.
+    /// Copies of the rows that it holds, in order of etag. It is none of the counted calls, and never fails by the list.
     pub fn rows(&self, alloc: Global) -> Result<KeptRows, NoMemory>
         ensures { IfOk result (λ rows. rows ≡ self.now.rows) }
     {
@@ -150,11 +150,7 @@ impl MemKeeper {
 }
 
 impl Keeper for MemKeeper {
-    ghost held = { λ k. Some k.rows };
-
-    ghost plan = { λ k. Some (plan_of k) };
-
-    ghost count = { keeper_faults };
+    ghost state = { keeper_state };
 
     fn faults(&self) -> u64 {
         self.calls.faults()

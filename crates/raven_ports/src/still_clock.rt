@@ -5,7 +5,7 @@ ghost use Rattle.raven_data.specs.Limits.{moments_end};
 use crate::keeper::Clock;
 use std::marker::Model;
 
-/// A clock that always tells one moment, seen by contracts as that moment.
+/// A clock that always gives one moment, seen by contracts as that moment.
 #[derive(Debug, Drop)]
 pub struct StillClock {
     moment: u64,
@@ -23,7 +23,7 @@ impl Model for StillClock {
 }
 
 impl StillClock {
-    /// A clock that tells this moment, in microseconds since 1970 in UTC, which is before the year 9999.
+    /// A clock that gives this moment, in microseconds since 1970 in UTC, which is before the year 9999.
     pub fn at(moment: u64) -> StillClock
         requires { moment < moments_end }
         ensures { result ≡ moment }

@@ -17,7 +17,7 @@ fn made(alloc: Global, count: u32) -> Result<PagedMap<u32, u32>, Fail> {
     Ok(PagedMap::from_sorted(alloc, pairs)?)
 }
 
-// How many pairs stand in their places before the first that does not.
+// How many pairs are in their places before the first that is not.
 fn in_place(map: &PagedMap<u32, u32>) -> u32 {
     let mut count = 0u32;
     for pair in map.iter() {

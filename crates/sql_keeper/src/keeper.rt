@@ -26,10 +26,10 @@ const LOAD: &str =
 const PUT: &str =
     "INSERT INTO kept (key, etag, id, collection, body, changed) VALUES (?1, ?2, ?3, ?4, ?5, ?6) ON CONFLICT (key) DO UPDATE SET etag = excluded.etag, id = excluded.id, collection = excluded.collection, body = excluded.body, changed = excluded.changed";
 
-/// A keeper in a database of SQLite, which it has for itself. It tells nothing of what it holds.
+/// A keeper in a database of SQLite, which it has for itself. It does not report what it holds.
 ///
-/// Each call that is refused for another cause than want of memory is a fault. So is a load that meets a row whose columns do
-/// not fit a kept row, or whose etag is not past the one before it.
+/// Each call that is refused is a fault, unless it ran out of memory. So is a load that meets a row whose columns do not fit a
+/// stored row, or whose etag is not past the one before it.
 #[derive(Drop)]
 pub struct SqlKeeper<S: Alter + Drop> {
     alloc: Global,
@@ -165,7 +165,7 @@ fn load_rows<S: Alter>(
     }
 }
 
-// A number as the database has it, whose column is named where it does not fit.
+// A number as the database has it. If it does not fit, the error names the column.
 fn number(value: u64, column: usize) -> Result<i64, Error> {
     i64::try_from(value).map_err(|_| Error::IntegralValueOutOfRange(column))
 }
@@ -226,7 +226,7 @@ impl<S: Alter + Drop> SqlKeeper<S> {
         }
     }
 
-    // Counts a fault, unless it is want of memory.
+    // Counts a fault, unless it is out of memory.
     fn counted(&mut self, fault: KeeperFault) -> KeeperFault
         ensures same { result ≡ fault }
         ensures later { self.old.faults ≤ self.new.faults }
@@ -250,10 +250,10 @@ impl SqlKeeper<MemStore> {
 }
 
 impl SqlKeeper<FileStore<FileFrom<Wary>>> {
-    /// A keeper in the file at a path, which is made where there is none. The keeper has the file for itself, with the log
-    /// beside it, whose name ends in `-wal`.
+    /// A keeper in the file at a path, which is made if there is none. The keeper has the file for itself, with the log next to
+    /// it, whose name ends in `-wal`.
     ///
-    /// It fails where the file is no database of SQLite, is open elsewhere, or has anything but the table of a keeper.
+    /// It fails if the file is no database of SQLite, is open elsewhere, or has anything but the table of a keeper.
     pub fn in_file(
         rt: &HostRuntime,
         path: &str,
@@ -266,11 +266,7 @@ impl SqlKeeper<FileStore<FileFrom<Wary>>> {
 }
 
 impl<S: Alter + Drop> Keeper for SqlKeeper<S> {
-    ghost held = { λ _. None };
-
-    ghost plan = { λ _. None };
-
-    ghost count = { λ k. k.faults };
+    ghost state = { λ k. record { held = None; plan = None; count = k.faults } };
 
     fn faults(&self) -> u64 {
         self.faults

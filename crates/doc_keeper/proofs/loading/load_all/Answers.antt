@@ -1,14 +1,14 @@
 use Rattle.std.proofs.Common.{List, Option, refl, ap, sym, subst, ◌∙◌, length, arith}
 use Rattle.raven_data.specs.Kept.{KeptRow, last_kept}
 use Rattle.spec_store.specs.Kept.{rows_behind}
-use Rattle.doc_keeper.specs.Loading.{IsCause, IsPage, Tells}
+use Rattle.doc_keeper.specs.Loading.{IsCause, IsPage, IsPageFault}
 use Rattle.doc_keeper.specs.declared.loading.LoadFault.TheVariants.{Failed}
 use Rattle.doc_keeper.proofs.LoadLemmas.{start, go_on, stop, finish, few, smaller, rose_since, other_error, has_none, first_call, one_more_call}
 use Rattle.doc_keeper.proofs.loading.load_all.Goals as goal
 
 pub loop-alloc-init : goal.loop-alloc-init
 loop-alloc-init g c = record {
-  so_far = start c.args.limits.now.rows (g.K.Keeper.held c.args.keeper.now) c.in_ok-loaded.loaded c.in-Ok.first c.in_ok-loaded.ensures c.in-Ok.ensures.page;
+  so_far = start c.args.limits.now.rows (g.K.Keeper.state c.args.keeper.now).held c.in_ok-loaded.loaded c.in-Ok.first c.in_ok-loaded.ensures c.in-Ok.ensures.page;
   called = first_call _ _ c.load_page.ensures.called;
   same = c.load_page.ensures.same;
   later = c.load_page.ensures.later;
@@ -17,7 +17,7 @@ loop-alloc-init g c = record {
 pub loop-alloc-preserved : goal.loop-alloc-preserved
 loop-alloc-preserved g c = record {
   so_far =
-      go_on c.args.limits.now.rows (g.K.Keeper.held c.args.keeper.now) c.loop-alloc.loaded c.in-Ok-with_page.more c.loop-alloc.after c.last_etag-after.result c.loop-alloc.page c.in-Ok-load_page.next
+      go_on c.args.limits.now.rows (g.K.Keeper.state c.args.keeper.now).held c.loop-alloc.loaded c.in-Ok-with_page.more c.loop-alloc.after c.last_etag-after.result c.loop-alloc.page c.in-Ok-load_page.next
       c.loop-alloc.invariant.so_far (ap (rows_behind c.args.limits.now.rows c.loop-alloc.loaded) (sym c.as_slice.ensures) ∙ c.in-Ok-with_page.ensures.ok)
       (c.last_etag-after.ensures ∙ ap (last_kept c.loop-alloc.after) c.as_slice-in-loop-alloc.ensures)
       (subst (λ (held : Option (List KeptRow)). IsPage held c.last_etag-after.result c.in-Ok-load_page.next) c.loop-alloc.invariant.same c.in-Ok-load_page.ensures.page);
@@ -37,8 +37,8 @@ returns-in-Err-clause-fault g c = c.in-Err.ensures.fault c.args.limits.now.rows
 
 pub returns-in-Err-with_page-clause-fault : goal.returns-in-Err-with_page-clause-fault
 returns-in-Err-with_page-clause-fault g c =
-    stop c.args.limits.now.rows (g.K.Keeper.held c.args.keeper.now) c.loop-alloc.loaded c.loop-alloc.after c.loop-alloc.page c.in-Err-with_page.fault c.loop-alloc.invariant.so_far
-    (subst (λ (page : List KeptRow). Tells c.in-Err-with_page.fault (rows_behind c.args.limits.now.rows c.loop-alloc.loaded page)) c.as_slice.ensures c.in-Err-with_page.ensures.fault)
+    stop c.args.limits.now.rows (g.K.Keeper.state c.args.keeper.now).held c.loop-alloc.loaded c.loop-alloc.after c.loop-alloc.page c.in-Err-with_page.fault c.loop-alloc.invariant.so_far
+    (subst (λ (page : List KeptRow). IsPageFault c.in-Err-with_page.fault (rows_behind c.args.limits.now.rows c.loop-alloc.loaded page)) c.as_slice.ensures c.in-Err-with_page.ensures.fault)
 
 pub returns-in-Err-load_page-clause-fault : goal.returns-in-Err-load_page-clause-fault
 returns-in-Err-load_page-clause-fault g c =
@@ -50,7 +50,7 @@ returns-in-Err-load_page-clause-cause g c =
 
 pub returns-clause-ok : goal.returns-clause-ok
 returns-clause-ok g c =
-    finish c.args.limits.now.rows (g.K.Keeper.held c.args.keeper.now) c.loop-alloc.loaded c.into_rows.result c.loop-alloc.after c.loop-alloc.page c.loop-alloc.invariant.so_far
+    finish c.args.limits.now.rows (g.K.Keeper.state c.args.keeper.now).held c.loop-alloc.loaded c.into_rows.result c.loop-alloc.after c.loop-alloc.page c.loop-alloc.invariant.so_far
     (has_none c.is_empty.result c.loop-alloc.page c.is_empty.ensures c.loop-alloc-test.false) c.into_rows.ensures
 
 pub returns-clause-most : goal.returns-clause-most

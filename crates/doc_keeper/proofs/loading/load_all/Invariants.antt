@@ -6,10 +6,10 @@ use Rattle.doc_keeper.proofs.loading.load_all.Given as goal
 -- the rows so far and the next page; the keeper holds what it held
 abbrev pub invariant-loop-alloc : goal.invariant-loop-alloc
 invariant-loop-alloc g l = record {
-  so_far : SoFar l.limits.rows (g.K.Keeper.held l.fn.keeper) l.loaded l.after l.page;
-  called : AreCalls (g.K.Keeper.plan l.fn.keeper) (g.K.Keeper.plan l.keeper);
-  same : g.K.Keeper.held l.keeper ≡ g.K.Keeper.held l.fn.keeper;
-  later : g.K.Keeper.count l.fn.keeper ≤ g.K.Keeper.count l.keeper;
+  so_far : SoFar l.limits.rows (g.K.Keeper.state l.fn.keeper).held l.loaded l.after l.page;
+  called : AreCalls (g.K.Keeper.state l.fn.keeper).plan (g.K.Keeper.state l.keeper).plan;
+  same : (g.K.Keeper.state l.keeper).held ≡ (g.K.Keeper.state l.fn.keeper).held;
+  later : (g.K.Keeper.state l.fn.keeper).count ≤ (g.K.Keeper.state l.keeper).count;
 }
 
 -- each page has rows

@@ -4,8 +4,8 @@ use Rattle.raven_console.proofs.give.give_all.Given as goal
 
 abbrev pub invariant-loop-rest : goal.invariant-loop-rest
 invariant-loop-rest g l = record {
-  given : Continues (g.O.Sink.held l.fn.sink) (g.O.Sink.held l.sink) l.rest l.bytes;
-  later : g.O.Sink.faults l.fn.sink ≤ g.O.Sink.faults l.sink;
+  given : Continues (g.O.Sink.state l.fn.sink).held (g.O.Sink.state l.sink).held l.rest l.bytes;
+  later : (g.O.Sink.state l.fn.sink).faults ≤ (g.O.Sink.state l.sink).faults;
 }
 
 abbrev pub decreases-loop-rest : goal.decreases-loop-rest

@@ -5,5 +5,5 @@ use Rattle.raven_console.proofs.Kept.{past}
 use Rattle.raven_console.proofs.machine.Machine.perform.Goals as goal
 
 pub keep-requires-clause-past : goal.keep-requires-clause-past
-keep-requires-clause-past g c = past (g.K.Keeper.held c.args.keeper.now) c.args.self.now c.args.now (request_view c.args.request) c.in_ok-prepared.prepared.rows c.requires.keeps
+keep-requires-clause-past g c = past (g.K.Keeper.state c.args.keeper.now).held c.args.self.now c.args.now (request_view c.args.request) c.in_ok-prepared.prepared.rows c.requires.keeps
     (c.in_ok-prepared.ensures.rows ∙ ap (λ (M : Machine). (change_of M c.args.now (request_view c.args.request)).rows) c.self.view_is)

@@ -1,11 +1,11 @@
--- The words of the program, read one pair after another.
+-- The arguments of the program, read one pair after another.
 use Rattle.std.proofs.Common.{Bor, arith, ◌≡◌, ℕ, List, [], ◌∷◌, Option, Some, None, Bool, true, false, not, String, Global, string_bytes, refl, ap, sym, ◌∙◌, map}
 use Rattle.std.specs.Prelude.{◌&&◌, if◌then◌else◌, codes}
 use Rattle.std.specs.Option.{is_some, option_map}
 use Rattle.std.specs.Str.{bytes_eq}
 use Rattle.std.proofs.lemmas.Slice.Eq.{bytes_eq-Decides}
 use Rattle.spec_server.specs.Options.{Options, Pairs, are_known, are_once, base_in, has_name, is_value, options_in, pairs_in, run_names, run_options, value_named}
-use Rattle.raven_console.specs.WordsView.{Texts, bytes_of, texts_in}
+use Rattle.raven_console.specs.ArgumentsView.{Texts, bytes_of, texts_in}
 
 -- the first of them that is there
 abbrev pub or_else : Option (List ℕ) → Option (List ℕ) → Option (List ℕ)
@@ -18,7 +18,7 @@ data_name = codes "--data"
 abbrev id_name : List ℕ
 id_name = codes "--id"
 
--- what these pairs give beside a file and a base id that were given before them
+-- what these pairs give after a file and a base id that were given before them
 abbrev pub joined : Option (List ℕ) → Option (List ℕ) → Option Pairs → Option Texts
 joined file base None = None
 joined file base (Some ps) =
@@ -78,14 +78,14 @@ unknown_pair n v file base (Some ps) d i = rw d (rw i refl)
 
 -- ONE STEP
 
-two_words : (ws behind more : List (String Global)) (n v : String Global) → ws ≡ n ∷ behind → behind ≡ v ∷ more → map string_bytes ws ≡ string_bytes n ∷ string_bytes v ∷ map string_bytes more
-two_words ws behind more n v e f = ap (map string_bytes) (e ∙ ap (λ z. n ∷ z) f)
+two_arguments : (ws after_name more : List (String Global)) (n v : String Global) → ws ≡ n ∷ after_name → after_name ≡ v ∷ more → map string_bytes ws ≡ string_bytes n ∷ string_bytes v ∷ map string_bytes more
+two_arguments ws after_name more n v e f = ap (map string_bytes) (e ∙ ap (λ z. n ∷ z) f)
 
--- the words from here on, of which two are a pair
-pair_step : (ws behind more : List (String Global)) (n v : String Global) (file base : Option (List ℕ)) → ws ≡ n ∷ behind → behind ≡ v ∷ more → is_value (string_bytes v) ≡ true
+-- the arguments from here on, of which two are a pair
+pair_step : (ws after_name more : List (String Global)) (n v : String Global) (file base : Option (List ℕ)) → ws ≡ n ∷ after_name → after_name ≡ v ∷ more → is_value (string_bytes v) ≡ true
     → joined file base (pairs_in (map string_bytes ws)) ≡ joined file base (option_map (λ ps. (string_bytes n, string_bytes v) ∷ ps) (pairs_in (map string_bytes more)))
-pair_step ws behind more n v file base e f h =
-    ap (λ z. joined file base (pairs_in z)) (two_words ws behind more n v e f)
+pair_step ws after_name more n v file base e f h =
+    ap (λ z. joined file base (pairs_in z)) (two_arguments ws after_name more n v e f)
     ∙ ap (λ t. joined file base (if t then option_map (λ ps. (string_bytes n, string_bytes v) ∷ ps) (pairs_in (map string_bytes more)) else None)) h
 
 pub not_both : (b : Bool) → b ≡ true → b ≡ false → ⊥
@@ -102,21 +102,21 @@ some_held (Some w) h = (w.now, refl)
 named : (n m : List ℕ) → bytes_eq n m ≡ true → n ≡ m
 named n m h = (bytes_eq-Decides n m).0 h
 
-pub file_taken : (ws behind more : List (String Global)) (n v : String Global) (file : Option (Bor (List ℕ))) (base : Option (List ℕ)) → ws ≡ n ∷ behind → behind ≡ v ∷ more
+pub file_taken : (ws after_name more : List (String Global)) (n v : String Global) (file : Option (Bor (List ℕ))) (base : Option (List ℕ)) → ws ≡ n ∷ after_name → after_name ≡ v ∷ more
     → is_value (string_bytes v) ≡ true → bytes_eq (string_bytes n) data_name ≡ true → is_some file ≡ false
     → joined (bytes_of file) base (pairs_in (map string_bytes ws)) ≡ joined (Some (string_bytes v)) base (pairs_in (map string_bytes more))
-file_taken ws behind more n v file base e f h m k =
+file_taken ws after_name more n v file base e f h m k =
     ap (λ z. joined z base (pairs_in (map string_bytes ws))) (nothing_held file k)
-    ∙ pair_step ws behind more n v None base e f h
+    ∙ pair_step ws after_name more n v None base e f h
     ∙ ap (λ z. joined None base (option_map (λ ps. (z, string_bytes v) ∷ ps) (pairs_in (map string_bytes more)))) (named (string_bytes n) data_name m)
     ∙ a_file (string_bytes v) base (pairs_in (map string_bytes more))
 
-pub base_taken : (ws behind more : List (String Global)) (n v : String Global) (file : Option (List ℕ)) (base : Option (Bor (List ℕ))) → ws ≡ n ∷ behind → behind ≡ v ∷ more
+pub base_taken : (ws after_name more : List (String Global)) (n v : String Global) (file : Option (List ℕ)) (base : Option (Bor (List ℕ))) → ws ≡ n ∷ after_name → after_name ≡ v ∷ more
     → is_value (string_bytes v) ≡ true → bytes_eq (string_bytes n) id_name ≡ true → is_some base ≡ false
     → joined file (bytes_of base) (pairs_in (map string_bytes ws)) ≡ joined file (Some (string_bytes v)) (pairs_in (map string_bytes more))
-base_taken ws behind more n v file base e f h m k =
+base_taken ws after_name more n v file base e f h m k =
     ap (λ z. joined file z (pairs_in (map string_bytes ws))) (nothing_held base k)
-    ∙ pair_step ws behind more n v file None e f h
+    ∙ pair_step ws after_name more n v file None e f h
     ∙ ap (λ z. joined file None (option_map (λ ps. (z, string_bytes v) ∷ ps) (pairs_in (map string_bytes more)))) (named (string_bytes n) id_name m)
     ∙ a_base (string_bytes v) file (pairs_in (map string_bytes more))
 
@@ -139,11 +139,11 @@ pair_refused n v file base o p q = by_file (bytes_eq n data_name) (bytes_eq n id
         ∙ two_bases v held.0 (bytes_of file) o
     by_file false false d e = unknown_pair n v (bytes_of file) (bytes_of base) o d e
 
-pub words_refused : (ws behind more : List (String Global)) (n v : String Global) (file base : Option (Bor (List ℕ))) → ws ≡ n ∷ behind → behind ≡ v ∷ more → is_value (string_bytes v) ≡ true
+pub arguments_refused : (ws after_name more : List (String Global)) (n v : String Global) (file base : Option (Bor (List ℕ))) → ws ≡ n ∷ after_name → after_name ≡ v ∷ more → is_value (string_bytes v) ≡ true
     → (bytes_eq (string_bytes n) data_name ≡ true → is_some file ≡ true) → (bytes_eq (string_bytes n) id_name ≡ true → is_some base ≡ true)
     → joined (bytes_of file) (bytes_of base) (pairs_in (map string_bytes ws)) ≡ None
-words_refused ws behind more n v file base e f h p q =
-    pair_step ws behind more n v (bytes_of file) (bytes_of base) e f h ∙ pair_refused (string_bytes n) (string_bytes v) file base (pairs_in (map string_bytes more)) p q
+arguments_refused ws after_name more n v file base e f h p q =
+    pair_step ws after_name more n v (bytes_of file) (bytes_of base) e f h ∙ pair_refused (string_bytes n) (string_bytes v) file base (pairs_in (map string_bytes more)) p q
 
 -- THE OPTIONS
 

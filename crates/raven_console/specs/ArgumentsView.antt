@@ -1,4 +1,4 @@
--- What is read of the words that the program is called with.
+-- What is read of the arguments of the program.
 use Rattle.std.specs.Borrow.{Bor}
 use Rattle.std.specs.Prelude.{ℕ, List, ◌&&◌, if◌then◌else◌, Option, Some, None, codes}
 use Rattle.std.specs.Option.{option_map}
@@ -14,7 +14,7 @@ Texts = Option (List ℕ) × Option (List ℕ)
 abbrev pub texts_view : Option (Bor (List ℕ)) × Option (Bor (List ℕ)) → Texts
 texts_view texts = (bytes_of texts.0, bytes_of texts.1)
 
--- the values of the names, where the pairs are of the form
+-- the values of the names, if the pairs are valid
 abbrev pub texts_in : Option Pairs → Option Texts
 texts_in None = None
 texts_in (Some pairs) =

@@ -3,10 +3,10 @@ use Rattle.std.specs.Option.{is_some}
 use Rattle.std.specs.Prelude.{codes}
 use Rattle.std.specs.Str.{bytes_eq}
 use Rattle.spec_server.specs.Options.{is_value, pairs_in}
-use Rattle.raven_console.specs.WordsView.{bytes_of}
-use Rattle.raven_console.proofs.WordLemmas.{joined, file_taken, base_taken, words_refused, not_both}
-use Rattle.raven_console.proofs.words.texts.Goals.{else-eq-via-then-eq+else-is_none, else-eq-via-else-eq, else-eq-2-via-then-eq-2+else-is_none-2, else-eq-2-via-else-eq-2}
-use Rattle.raven_console.proofs.words.texts.Goals as goal
+use Rattle.raven_console.specs.ArgumentsView.{bytes_of}
+use Rattle.raven_console.proofs.ArgumentLemmas.{joined, file_taken, base_taken, arguments_refused, not_both}
+use Rattle.raven_console.proofs.arguments.texts.Goals.{else-eq-via-then-eq+else-is_none, else-eq-via-else-eq, else-eq-2-via-then-eq-2+else-is_none-2, else-eq-2-via-else-eq-2}
+use Rattle.raven_console.proofs.arguments.texts.Goals as goal
 
 pub returns-else-eq-2 : goal.returns-else-eq-2
 returns-else-eq-2 c =
@@ -24,7 +24,7 @@ returns-else-eq-2 c =
       | else-eq-2-via-else-eq-2 w ↦ λ h. absurd (not_both c.eq-else-eq.result (sym is-id ∙ h) w.if-eq-2.false)
     ] in
     sym (c.loop-name.invariant.read
-    ∙ words_refused _ _ _ _ _ c.loop-name.file c.loop-name.base c.in-Some.ensures.cases.0 c.in-Some-split_first.ensures.cases.0 is-value twice-data twice-id)
+    ∙ arguments_refused _ _ _ _ _ c.loop-name.file c.loop-name.base c.in-Some.ensures.cases.0 c.in-Some-split_first.ensures.cases.0 is-value twice-data twice-id)
 
 pub loop-name-preserved-then-is_none : goal.loop-name-preserved-then-is_none
 loop-name-preserved-then-is_none c = record {

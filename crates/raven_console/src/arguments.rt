@@ -1,7 +1,7 @@
-//! The words that the program is called with: a command, and then pairs of a name and a value.
+//! The arguments of the program: a command, and then pairs of a name and a value.
 ghost use Rattle.std.specs.Prelude.{◌≡◌, ◌↔◌, IfOk, IfSome, None, map, option_map, string_bytes};
 ghost use Rattle.spec_server.specs.Options.{base_in, is_value as spec_is_value, options_in, pairs_in};
-ghost use Rattle.raven_console.specs.WordsView.{bytes_of, file_named, options_view, texts_in, texts_view};
+ghost use Rattle.raven_console.specs.ArgumentsView.{bytes_of, file_named, options_view, texts_in, texts_view};
 
 use crate::options::{Outside, RunOptions};
 use doc_txn::BaseId;
@@ -9,7 +9,7 @@ use raven_base::NoMemory;
 use raven_value::Text;
 use std::alloc::Global;
 
-// A value has a byte, and does not begin with `-`, so that no name is taken for a value.
+// A value is not empty and does not begin with `-`, so that no name is taken for a value.
 fn is_value(text: &str) -> bool
     ensures { result ≡ spec_is_value text.now }
 {
@@ -19,16 +19,16 @@ fn is_value(text: &str) -> bool
     }
 }
 
-// The values of `--data` and `--id`, where the words are pairs of these names and values, no name twice.
-#[tactic(auto, using(crate::proofs::WordLemmas::pairs))]
-fn texts(words: &[String]) -> Option<(Option<&str>, Option<&str>)>
-    ensures { option_map texts_view result ≡ texts_in (pairs_in (map string_bytes words.now)) }
+// The values of `--data` and `--id`, if the arguments are pairs of these names and values, no name twice.
+#[tactic(auto, using(crate::proofs::ArgumentLemmas::pairs))]
+fn texts(arguments: &[String]) -> Option<(Option<&str>, Option<&str>)>
+    ensures { option_map texts_view result ≡ texts_in (pairs_in (map string_bytes arguments.now)) }
 {
     let mut file: Option<&str> = None;
     let mut base: Option<&str> = None;
-    let mut rest = words;
-    while let Some((name, behind)) = rest.split_first() {
-        let Some((value, more)) = behind.split_first() else {
+    let mut rest = arguments;
+    while let Some((name, after_name)) = rest.split_first() {
+        let Some((value, more)) = after_name.split_first() else {
             return None;
         };
         if !is_value(value.as_str()) {
@@ -64,11 +64,11 @@ fn base_of(alloc: Global, text: Option<&str>) -> Result<Option<BaseId>, NoMemory
     }
 }
 
-/// The options that the words give: none exactly where they are not of the form.
-pub(crate) fn options(alloc: Global, words: &[String]) -> Result<Option<RunOptions>, NoMemory>
-    ensures { IfOk result (λ found. option_map options_view found ≡ options_in (map string_bytes words.now)) }
+/// The options in the arguments; none exactly if they are malformed.
+pub(crate) fn options(alloc: Global, arguments: &[String]) -> Result<Option<RunOptions>, NoMemory>
+    ensures { IfOk result (λ found. option_map options_view found ≡ options_in (map string_bytes arguments.now)) }
 {
-    let Some((command, more)) = words.split_first() else {
+    let Some((command, more)) = arguments.split_first() else {
         return Ok(None);
     };
     if command.as_str() != "run" {
@@ -86,14 +86,14 @@ pub(crate) fn options(alloc: Global, words: &[String]) -> Result<Option<RunOptio
     }
 }
 
-/// What the words ask to be made outside: none exactly where they are not of the form, so that the program would answer `Usage`. `run`
-/// does not listen.
-pub fn outside(alloc: Global, words: &[String]) -> Result<Option<Outside>, NoMemory>
-    ensures form { IfOk result (λ found. (found ≡ None) ↔ (options_in (map string_bytes words.now) ≡ None)) }
-    ensures file { IfOk result (λ found. option_map (λ o. o.file) found ≡ option_map file_named (options_in (map string_bytes words.now))) }
+/// What the arguments ask the caller to make; none exactly if they are malformed, so that the program would return `Usage`. `run` does
+/// not listen.
+pub fn outside(alloc: Global, arguments: &[String]) -> Result<Option<Outside>, NoMemory>
+    ensures form { IfOk result (λ found. (found ≡ None) ↔ (options_in (map string_bytes arguments.now) ≡ None)) }
+    ensures file { IfOk result (λ found. option_map (λ o. o.file) found ≡ option_map file_named (options_in (map string_bytes arguments.now))) }
     ensures unheard { IfOk result (λ found. IfSome found (λ o. (o.port ≡ 0) × (o.workers ≡ 0) × (o.connections ≡ None))) }
 {
-    match options(alloc, words)? {
+    match options(alloc, arguments)? {
         Some(options) => {
             let RunOptions { file, .. } = options;
             Ok(Some(Outside {

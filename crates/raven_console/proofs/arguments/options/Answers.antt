@@ -1,9 +1,9 @@
 use Rattle.std.proofs.Common.{None, Some, ap, sym, ◌∙◌}
 use Rattle.std.specs.Prelude.{codes}
 use Rattle.std.specs.Str.{bytes_eq}
-use Rattle.raven_console.specs.WordsView.{bytes_of}
-use Rattle.raven_console.proofs.WordLemmas.{not_refused, options_of, run_read}
-use Rattle.raven_console.proofs.words.options.Goals as goal
+use Rattle.raven_console.specs.ArgumentsView.{bytes_of}
+use Rattle.raven_console.proofs.ArgumentLemmas.{not_refused, options_of, run_read}
+use Rattle.raven_console.proofs.arguments.options.Goals as goal
 
 pub returns-in_default-texts : goal.returns-in_default-texts
 returns-in_default-texts c =

@@ -1,0 +1,96 @@
+-- A whole run of the program.
+use Rattle.std.specs.Prelude.{◌≡◌, ℕ, ◌≤◌, List, length, Option, Some, Ok}
+use Rattle.raven_data.specs.Kept.{KeptRow}
+use Rattle.raven_ports.specs.Faults.{Rose}
+use Rattle.raven_ports.specs.States.{KeeperState, SinkState, SourceState}
+use Rattle.spec_server.specs.Lines.{max_input}
+use Rattle.spec_server.specs.Machine.{Machine}
+use Rattle.spec_server.specs.Options.{Options, options_in, setting_with}
+use Rattle.index_lang.specs.Openings.{IsOpened}
+use Rattle.raven_console.specs.Answers.{Answers, StopsBefore, StopsIn, state_of}
+use Rattle.raven_console.specs.Devices.{Holds}
+use Rattle.raven_console.specs.Openings.{IsBad, Loads, Opens}
+
+-- the devices at one moment
+pub record Devices : Type 0 where
+  pub input : SourceState
+  pub output : SinkState
+  pub keeper : KeeperState
+
+abbrev pub devices_of : SourceState → SinkState → KeeperState → Devices
+devices_of input output keeper = record { input = input; output = output; keeper = keeper }
+
+-- a run: its arguments, the one moment of its clock if the clock stands still, and the devices before and after
+pub record Run : Type 0 where
+  pub arguments : List (List ℕ)
+  pub clock : Option ℕ
+  pub before : Devices
+  pub after : Devices
+
+-- THE BEGINNING
+
+-- the arguments are valid, and the database of the stored rows was opened
+pub record Begins (run : Run) (begun : KeeperState) (M : Machine) : Type 0 where
+  pub options : Options
+  pub ordered : options_in run.arguments ≡ Some options
+  pub opens : Opens (setting_with options.base) run.before.keeper.held M
+  pub loads : Loads run.before.keeper begun
+
+-- the arguments are valid, and the row of this etag is the first invalid one that the keeper holds
+pub record IsKeptBad (run : Run) (etag : ℕ) : Type 0 where
+  pub options : Options
+  pub ordered : options_in run.arguments ≡ Some options
+  pub bad : IsBad (setting_with options.base) run.before.keeper.held etag
+
+-- the output and the keeper hold what they held
+abbrev pub HoldsSame : Run → Type 0
+HoldsSame run = (run.after.output.held ≡ run.before.output.held) × (run.after.keeper.held ≡ run.before.keeper.held)
+
+-- THE END, OF A RUN WITH THIS INPUT
+
+-- all lines were executed and all replies were written, and the keeper holds the rows of the last store
+pub record Finished (run : Run) (script : List ℕ) : Type 0 where
+  pub begun : KeeperState
+  pub first : Machine
+  pub last : Machine
+  pub begins : Begins run begun first
+  pub answers : Answers run.clock script (state_of first begun run.before.output) (state_of last run.after.keeper run.after.output)
+  pub holds : Holds run.after.keeper.held last
+
+-- it stopped at the reply to one of the lines, and the keeper holds the rows of the store after this line
+pub record Stopped (run : Run) (script : List ℕ) : Type 0 where
+  pub begun : KeeperState
+  pub first : Machine
+  pub last : Machine
+  pub begins : Begins run begun first
+  pub stops : StopsIn run.clock script (state_of first begun run.before.output) (state_of last run.after.keeper run.after.output)
+  pub holds : Holds run.after.keeper.held last
+
+-- it stopped before one of the lines, and the keeper holds the rows of the store before this line
+pub record StoppedEarly (run : Run) (script : List ℕ) : Type 0 where
+  pub begun : KeeperState
+  pub first : Machine
+  pub last : Machine
+  pub begins : Begins run begun first
+  pub stops : StopsBefore run.clock script (state_of first begun run.before.output) (state_of last run.after.keeper run.after.output)
+  pub holds : Holds run.after.keeper.held last
+
+-- COMPLETENESS
+
+-- the arguments are valid, the input is no longer than may be read, and the stored rows open; both devices report these
+pub record IsValid (run : Run) : Type 0 where
+  pub options : Options
+  pub ordered : options_in run.arguments ≡ Some options
+  pub script : List ℕ
+  pub input : run.before.input.left ≡ Some script
+  pub within : length script ≤ max_input
+  pub rows : List KeptRow
+  pub kept : run.before.keeper.held ≡ Some rows
+  pub machine : Machine
+  pub opens : IsOpened (setting_with options.base) rows (Ok machine)
+
+-- no count of faults rose
+pub record HasNoFault (run : Run) : Type 0 where
+  pub input : ¬ Rose run.before.input.faults run.after.input.faults
+  pub output : ¬ Rose run.before.output.faults run.after.output.faults
+  pub keeper : ¬ Rose run.before.keeper.count run.after.keeper.count
