@@ -1,59 +1,29 @@
-//! The clocks that a run may have.
+//! The clock of a run.
 ghost use Rattle.std.specs.Prelude.{◌≡◌, ◌<◌, None};
 
-use raven_ports::{Clock, StillClock};
+use raven_ports::Clock;
 use raven_value::END_OF_MOMENTS;
 use std::cell::Cell;
 
-/// The clock of a run.
+/// A clock that moves on by a step with each call, up to the last moment that there is. With a step of 0 it stands still.
 #[derive(Drop)]
-pub enum CaseClock {
-    Still(StillClock),
-    Ticking(TickingClock),
-}
-
-impl CaseClock {
-    /// A clock that always returns this moment, if a clock may return it.
-    pub fn still(moment: u64) -> Option<CaseClock> {
-        if moment < END_OF_MOMENTS {
-            Some(CaseClock::Still(StillClock::at(moment)))
-        } else {
-            None
-        }
-    }
-
-    /// A clock that returns this moment first, if a clock may return it, and then moves on by a step with each call.
-    pub fn ticking(first: u64, step: u64) -> Option<CaseClock> {
-        if first < END_OF_MOMENTS {
-            let next = Cell::new(first);
-            Some(CaseClock::Ticking(TickingClock { next, step }))
-        } else {
-            None
-        }
-    }
-}
-
-impl Clock for CaseClock {
-    ghost moment = { λ _. None };
-
-    fn now(&self) -> u64 {
-        match self {
-            CaseClock::Still(clock) => clock.now(),
-            CaseClock::Ticking(clock) => clock.now(),
-        }
-    }
-
-    fn nap(&self) {}
-}
-
-/// A clock that moves on with each call, up to the last moment.
-#[derive(Drop)]
-pub struct TickingClock {
+pub struct CaseClock {
     next: Cell<u64>,
     step: u64,
 }
 
-impl Clock for TickingClock {
+impl CaseClock {
+    /// A clock that returns this moment first, if a clock may return it.
+    pub fn new(first: u64, step: u64) -> Option<CaseClock> {
+        if first >= END_OF_MOMENTS {
+            return None;
+        }
+        let next = Cell::new(first);
+        Some(CaseClock { next, step })
+    }
+}
+
+impl Clock for CaseClock {
     ghost moment = { λ _. None };
 
     fn now(&self) -> u64 {

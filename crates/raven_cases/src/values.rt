@@ -49,11 +49,8 @@ pub fn arguments_in(alloc: Global, value: &str) -> Result<Vec<String>, LineFault
 
 /// A clock, as `5` or `5 +1`.
 pub fn clock_in(value: &str) -> Result<CaseClock, LineFault> {
-    let clock = match value.split_once(" +") {
-        Some((first, step)) => CaseClock::ticking(number_in(first)?, number_in(step)?),
-        None => CaseClock::still(number_in(value)?),
-    };
-    clock.ok_or(LineFault::Mistake)
+    let (first, step) = value.split_once(" +").unwrap_or((value, "0"));
+    CaseClock::new(number_in(first)?, number_in(step)?).ok_or(LineFault::Mistake)
 }
 
 /// The tombstone of an etag and a moment, as `7 0`.
