@@ -4,7 +4,7 @@ use Rattle.std.proofs.lemmas.Bool.{ltb-true, lt-ltb, le-ltb}
 use Rattle.std.proofs.lemmas.List.{append_assoc, append-nil, length-append, length-take, take-append-drop}
 use Rattle.raven_data.specs.Kept.{KeptRow, EtagsRise, is_past, last_kept}
 use Rattle.raven_data.specs.Rows.{Row, key}
-use Rattle.spec_store.specs.Kept.{may_stand_behind, row_behind, row_in, or_bad_row, rows_behind, rows_in, max_etag}
+use Rattle.spec_store.specs.Kept.{can_follow, row_if_it_follows, row_in, or_bad_row, rows_after, rows_in, max_etag}
 use Rattle.spec_store.specs.Store.{Store, row_at, put, last_of, with_row}
 use Rattle.spec_store.proofs.StoreLemmas.{both_true, last_of-put}
 use Rattle.doc_store.specs.Bounds.{IsWithin}
@@ -24,26 +24,26 @@ no_row None h = refl
 no_row (Some r) h = cc
 
 -- what a row that may go on is
-pub is_newer : (max : ℕ) (rows : List Row) (r : Row) → may_stand_behind max rows r ≡ true → last_of 0 rows < r.etag
+pub is_newer : (max : ℕ) (rows : List Row) (r : Row) → can_follow max rows r ≡ true → last_of 0 rows < r.etag
 is_newer max rows r h = ltb-true (last_of 0 rows) r.etag (both_true _ _ (both_true _ _ h).0).0
 
-pub is_fresh : (max : ℕ) (rows : List Row) (r : Row) → may_stand_behind max rows r ≡ true → row_at (key r) rows ≡ None
+pub is_fresh : (max : ℕ) (rows : List Row) (r : Row) → can_follow max rows r ≡ true → row_at (key r) rows ≡ None
 is_fresh max rows r h = no_row (row_at (key r) rows) (both_true _ _ (both_true _ _ h).0).1
 
-pub has_room : (max : ℕ) (rows : List Row) (r : Row) → may_stand_behind max rows r ≡ true → length rows < max
+pub has_room : (max : ℕ) (rows : List Row) (r : Row) → can_follow max rows r ≡ true → length rows < max
 has_room max rows r h = ltb-true (length rows) max (both_true _ _ h).1
 
 -- it goes to the end
-pub at_end : (max : ℕ) (rows : List Row) (r : Row) → may_stand_behind max rows r ≡ true → put r rows ≡ rows ++ r ∷ []
+pub at_end : (max : ℕ) (rows : List Row) (r : Row) → can_follow max rows r ≡ true → put r rows ≡ rows ++ r ∷ []
 at_end max rows r h = ap (λ xs. xs ++ r ∷ []) (none_out (key r) rows (is_fresh max rows r h))
 
-stands_in : (max : ℕ) (S : Store) (r : Row) → may_stand_behind max S.rows r ≡ true → MayStand S r
+stands_in : (max : ℕ) (S : Store) (r : Row) → can_follow max S.rows r ≡ true → MayStand S r
 stands_in max S r h = record {
   newer = is_newer max S.rows r h;
   same = λ x found. let none = is_fresh max S.rows r h in absurd cc;
 }
 
-within_in : (max : ℕ) (S : Store) (r : Row) → may_stand_behind max S.rows r ≡ true → r.etag ≤ max_etag → max < 2 ^ 32 → IsWithin (with_row S r)
+within_in : (max : ℕ) (S : Store) (r : Row) → can_follow max S.rows r ≡ true → r.etag ≤ max_etag → max < 2 ^ 32 → IsWithin (with_row S r)
 within_in max S r h few small = record {
   etags = let a = last_of-put 0 r S.rows in omega arith;
   rows = let a = ap length (at_end max S.rows r h) in let b = has_room max S.rows r h in omega (arith, length-append S.rows (r ∷ []));
@@ -53,16 +53,16 @@ within_in max S r h few small = record {
 abbrev pub IsOf : Store → List Row → Type 0
 IsOf S rows = S ≡ record { rows = rows }
 
-goes_in : (max : ℕ) (S : Store) (rows : List Row) (r : Row) → IsOf S rows → may_stand_behind max rows r ≡ true → may_stand_behind max S.rows r ≡ true
-goes_in max S rows r of h = subst (λ (T : Store). may_stand_behind max T.rows r ≡ true) (sym of) h
+goes_in : (max : ℕ) (S : Store) (rows : List Row) (r : Row) → IsOf S rows → can_follow max rows r ≡ true → can_follow max S.rows r ≡ true
+goes_in max S rows r of h = subst (λ (T : Store). can_follow max T.rows r ≡ true) (sym of) h
 
-pub stands : (max : ℕ) (S : Store) (rows : List Row) (r : Row) → IsOf S rows → may_stand_behind max rows r ≡ true → MayStand S r
+pub stands : (max : ℕ) (S : Store) (rows : List Row) (r : Row) → IsOf S rows → can_follow max rows r ≡ true → MayStand S r
 stands max S rows r of h = stands_in max S r (goes_in max S rows r of h)
 
-pub stays_within : (max : ℕ) (S : Store) (rows : List Row) (r : Row) → IsOf S rows → may_stand_behind max rows r ≡ true → r.etag ≤ max_etag → max < 2 ^ 32 → IsWithin (with_row S r)
+pub stays_within : (max : ℕ) (S : Store) (rows : List Row) (r : Row) → IsOf S rows → can_follow max rows r ≡ true → r.etag ≤ max_etag → max < 2 ^ 32 → IsWithin (with_row S r)
 stays_within max S rows r of h few small = within_in max S r (goes_in max S rows r of h) few small
 
-pub stays_of : (max : ℕ) (S N : Store) (rows more : List Row) (r : Row) → IsOf S rows → may_stand_behind max rows r ≡ true → N ≡ with_row S r → more ≡ rows ++ r ∷ [] → IsOf N more
+pub stays_of : (max : ℕ) (S N : Store) (rows more : List Row) (r : Row) → IsOf S rows → can_follow max rows r ≡ true → N ≡ with_row S r → more ≡ rows ++ r ∷ [] → IsOf N more
 stays_of max S N rows more r of h is so =
     is ∙ ap (λ (T : Store). with_row T r) of ∙ ap (λ (xs : List Row). record { rows = xs }) (at_end max rows r h ∙ sym so)
 
@@ -70,19 +70,19 @@ stays_of max S N rows more r of h is so =
 
 abbrev pub then_rows : ℕ → Result (List Row) ℕ → List KeptRow → Result (List Row) ℕ
 then_rows max (Err etag) ks = Err etag
-then_rows max (Ok rows) ks = rows_behind max rows ks
+then_rows max (Ok rows) ks = rows_after max rows ks
 
 -- rows go behind, one part of them after another
-pub behind-append : (max : ℕ) (earlier : List Row) (xs ys : List KeptRow) → rows_behind max earlier (xs ++ ys) ≡ then_rows max (rows_behind max earlier xs) ys
+pub behind-append : (max : ℕ) (earlier : List Row) (xs ys : List KeptRow) → rows_after max earlier (xs ++ ys) ≡ then_rows max (rows_after max earlier xs) ys
 behind-append max earlier [] ys = refl
 behind-append max earlier (k ∷ xs) ys =
-    elim (row_behind max earlier (row_in k)) as (λ o. or_bad_row k.etag o (λ r. rows_behind max (earlier ++ r ∷ []) (xs ++ ys)) ≡ then_rows max (or_bad_row k.etag o (λ r. rows_behind max (earlier ++ r ∷ []) xs)) ys) [
+    elim (row_if_it_follows max earlier (row_in k)) as (λ o. or_bad_row k.etag o (λ r. rows_after max (earlier ++ r ∷ []) (xs ++ ys)) ≡ then_rows max (or_bad_row k.etag o (λ r. rows_after max (earlier ++ r ∷ []) xs)) ys) [
       | None ↦ refl
       | Some r ↦ behind-append max (earlier ++ r ∷ []) xs ys
     ]
 
 -- a row that is good is passed
-pub passed : (max : ℕ) (earlier more : List Row) (k : KeptRow) (ks : List KeptRow) → rows_behind max earlier (k ∷ []) ≡ Ok more → rows_behind max earlier (k ∷ ks) ≡ rows_behind max more ks
+pub passed : (max : ℕ) (earlier more : List Row) (k : KeptRow) (ks : List KeptRow) → rows_after max earlier (k ∷ []) ≡ Ok more → rows_after max earlier (k ∷ ks) ≡ rows_after max more ks
 passed max earlier more k ks is = behind-append max earlier (k ∷ []) ks ∙ ap (λ l. then_rows max l ks) is
 
 -- a fault among the first is that of all
@@ -91,31 +91,31 @@ fault_then max Failed l ks h = h
 fault_then max (KeptBad etag) l ks h = ap (λ x. then_rows max x ks) h
 fault_then max NoMemory l ks h = h
 
-pub fault_on : (max : ℕ) (earlier : List Row) (f : LoadFault) (xs ys : List KeptRow) → IsPageFault f (rows_behind max earlier xs) → IsPageFault f (rows_behind max earlier (xs ++ ys))
-fault_on max earlier f xs ys h = subst (IsPageFault f) (sym (behind-append max earlier xs ys)) (fault_then max f (rows_behind max earlier xs) ys h)
+pub fault_on : (max : ℕ) (earlier : List Row) (f : LoadFault) (xs ys : List KeptRow) → IsPageFault f (rows_after max earlier xs) → IsPageFault f (rows_after max earlier (xs ++ ys))
+fault_on max earlier f xs ys h = subst (IsPageFault f) (sym (behind-append max earlier xs ys)) (fault_then max f (rows_after max earlier xs) ys h)
 
 -- HOW MANY ROWS
 
-behind_length : (max : ℕ) (earlier rows : List Row) (ks : List KeptRow) → rows_behind max earlier ks ≡ Ok rows → length rows ≡ length earlier + length ks
+behind_length : (max : ℕ) (earlier rows : List Row) (ks : List KeptRow) → rows_after max earlier ks ≡ Ok rows → length rows ≡ length earlier + length ks
 behind_length max earlier rows [] is = let same : earlier ≡ rows = cc in let e = ap length same in omega arith
 behind_length max earlier rows (k ∷ ks) is =
-    elim (row_behind max earlier (row_in k)) as (λ o. or_bad_row k.etag o (λ r. rows_behind max (earlier ++ r ∷ []) ks) ≡ Ok rows → length rows ≡ length earlier + suc (length ks)) [
+    elim (row_if_it_follows max earlier (row_in k)) as (λ o. or_bad_row k.etag o (λ r. rows_after max (earlier ++ r ∷ []) ks) ≡ Ok rows → length rows ≡ length earlier + suc (length ks)) [
       | None ↦ λ h. absurd cc
       | Some r ↦ λ h. let e = behind_length max (earlier ++ r ∷ []) rows ks h in omega (arith, length-append earlier (r ∷ []))
     ] is
 
-row_behind-may : (max : ℕ) (earlier : List Row) (o : Option Row) (r : Row) → row_behind max earlier o ≡ Some r → may_stand_behind max earlier r ≡ true
+row_behind-may : (max : ℕ) (earlier : List Row) (o : Option Row) (r : Row) → row_if_it_follows max earlier o ≡ Some r → can_follow max earlier r ≡ true
 row_behind-may max earlier None r h = absurd cc
 row_behind-may max earlier (Some x) r h =
-    elim (may_stand_behind max earlier x) as (λ b. may_stand_behind max earlier x ≡ b → cond b (Some x) None ≡ Some r → may_stand_behind max earlier r ≡ true) [
-      | true ↦ λ e is. let same : x ≡ r = cc in subst (λ y. may_stand_behind max earlier y ≡ true) same e
+    elim (can_follow max earlier x) as (λ b. can_follow max earlier x ≡ b → cond b (Some x) None ≡ Some r → can_follow max earlier r ≡ true) [
+      | true ↦ λ e is. let same : x ≡ r = cc in subst (λ y. can_follow max earlier y ≡ true) same e
       | false ↦ λ e is. absurd cc
     ] refl h
 
-behind_most : (max : ℕ) (earlier rows : List Row) (ks : List KeptRow) → length earlier ≤ max → rows_behind max earlier ks ≡ Ok rows → length rows ≤ max
+behind_most : (max : ℕ) (earlier rows : List Row) (ks : List KeptRow) → length earlier ≤ max → rows_after max earlier ks ≡ Ok rows → length rows ≤ max
 behind_most max earlier rows [] few is = let same : earlier ≡ rows = cc in let e = ap length same in omega arith
 behind_most max earlier rows (k ∷ ks) few is =
-    elim (row_behind max earlier (row_in k)) as (λ o. row_behind max earlier (row_in k) ≡ o → or_bad_row k.etag o (λ r. rows_behind max (earlier ++ r ∷ []) ks) ≡ Ok rows → length rows ≤ max) [
+    elim (row_if_it_follows max earlier (row_in k)) as (λ o. row_if_it_follows max earlier (row_in k) ≡ o → or_bad_row k.etag o (λ r. rows_after max (earlier ++ r ∷ []) ks) ≡ Ok rows → length rows ≤ max) [
       | None ↦ λ e h. absurd cc
       | Some r ↦ λ e h.
           let room = has_room max earlier r (row_behind-may max earlier (row_in k) r e) in
@@ -192,7 +192,7 @@ split_next (Some all) after given page more is known p =
     record { rest = drop 1024 known.rest; split = split; prefix = p.rows ∙ ap (take 1024) past; order = p.order }
 
 pub go_on : (max : ℕ) (held : Option (List KeptRow)) (loaded further : List Row) (after now : Option ℕ) (page more : List KeptRow) → SoFar max held loaded after page
-    → rows_behind max loaded page ≡ Ok further → now ≡ last_kept after page → IsPage held now more → SoFar max held further now more
+    → rows_after max loaded page ≡ Ok further → now ≡ last_kept after page → IsPage held now more → SoFar max held further now more
 go_on max held loaded further after now page more s is at p =
     let ends : last_kept None (s.given ++ page) ≡ now = last_on None s.given page ∙ ap (λ e. last_kept e page) s.last ∙ sym at in
     record {
@@ -233,7 +233,7 @@ bad_in max etag (Some all) given page up bad known = record {
 }
 
 pub stop : (max : ℕ) (held : Option (List KeptRow)) (loaded : List Row) (after : Option ℕ) (page : List KeptRow) (f : LoadFault) → SoFar max held loaded after page
-    → IsPageFault f (rows_behind max loaded page) → IsCause max held f
+    → IsPageFault f (rows_after max loaded page) → IsCause max held f
 stop max held loaded after page Failed s h = tt
 stop max held loaded after page (KeptBad etag) s h =
     bad_in max etag held s.given page (rises_on None s.given page s.rising (subst (λ e. EtagsRise e page) (sym s.last) s.next))
@@ -261,7 +261,7 @@ has_rows : (b : Bool) (page : List KeptRow) → IsTrue b ↔ (page ≡ []) → b
 has_rows b [] is h = let e : b ≡ true = is.1 refl in absurd cc
 has_rows b (k ∷ page) is h = omega arith
 
-pub smaller : (max : ℕ) (loaded further : List Row) (page : List KeptRow) (b : Bool) → length further ≤ max → rows_behind max loaded page ≡ Ok further → IsTrue b ↔ (page ≡ []) → b ≡ false
+pub smaller : (max : ℕ) (loaded further : List Row) (page : List KeptRow) (b : Bool) → length further ≤ max → rows_after max loaded page ≡ Ok further → IsTrue b ↔ (page ≡ []) → b ≡ false
     → max - length further < max - length loaded
 smaller max loaded further page b most is none h = let a = behind_length max loaded further page is in let c = has_rows b page none h in omega arith
 

@@ -7,7 +7,7 @@ ghost use Rattle.raven_data.specs.Moments.{moments_end};
 ghost use Rattle.raven_data.specs.Written.{text_of};
 ghost use Rattle.raven_value.specs.RowView.{body_of};
 ghost use Rattle.raven_value.specs.View.{data_of, pair_of};
-ghost use Rattle.spec_store.specs.Commit.{is_own as spec_is_own};
+ghost use Rattle.spec_store.specs.Commit.{is_server_member as spec_is_own};
 ghost use Rattle.spec_store.specs.Kept.{body_in as spec_body_in, document_in as spec_document_in, is_clean as spec_is_clean, is_etag, is_stored as spec_is_stored, row_in as spec_row_in};
 ghost use Rattle.doc_keeper.specs.Form.{IsRowFault};
 

@@ -3,7 +3,7 @@ ghost use Rattle.std.specs.Prelude.{◌≡◌, ◌≤◌, ◌++◌, ℕ, [], ◌
 ghost use Rattle.doc_keeper.specs.Loading.{AreCalls, IsCause, IsLoaded, IsPage, IsPageFault};
 ghost use Rattle.doc_keeper.specs.declared.loading.LoadFault.TheVariants.{NoMemory as OutOfMemory};
 ghost use Rattle.raven_data.specs.Kept.{last_kept};
-ghost use Rattle.spec_store.specs.Kept.{max_etag, may_stand_behind, rows_behind};
+ghost use Rattle.spec_store.specs.Kept.{max_etag, can_follow, rows_after};
 ghost use Rattle.raven_ports.specs.Faults.{Rose};
 ghost use Rattle.raven_ports.specs.Plan.{one_later};
 
@@ -90,14 +90,14 @@ impl Loaded {
 
     // Whether the row may come after these.
     fn may_go_on(&self, row: &Row, max: u32) -> bool
-        ensures { result ≡ may_stand_behind max self.now row.now }
+        ensures { result ≡ can_follow max self.now row.now }
     {
         self.store.last() < row.etag && self.store.get(&row.id).is_none() && self.store.len() < max
     }
 
     // These rows and one more.
     fn with_row(self, alloc: Global, row: Row, max: u32) -> Result<Loaded, NoMemory>
-        requires goes_on { may_stand_behind max self row ≡ true }
+        requires goes_on { can_follow max self row ≡ true }
         requires etag { row.etag ≤ max_etag }
         ensures { IfOk result (λ loaded. loaded ≡ self ++ row ∷ []) }
     {
@@ -110,8 +110,8 @@ impl Loaded {
 
     // These rows and the row of this stored one.
     fn with_kept(self, alloc: Global, kept: &KeptRow, max: u32) -> Result<Loaded, LoadFault>
-        ensures ok { IfOk result (λ loaded. rows_behind max self (kept.now ∷ []) ≡ Ok loaded) }
-        ensures fault { IfErr result (λ fault. IsPageFault fault (rows_behind max self (kept.now ∷ []))) }
+        ensures ok { IfOk result (λ loaded. rows_after max self (kept.now ∷ []) ≡ Ok loaded) }
+        ensures fault { IfErr result (λ fault. IsPageFault fault (rows_after max self (kept.now ∷ []))) }
     {
         let row = match row_of(alloc, kept) {
             Ok(row) => row,
@@ -129,8 +129,8 @@ impl Loaded {
 
     // These rows and the rows of these stored ones.
     fn with_page(self, alloc: Global, page: &[KeptRow], max: u32) -> Result<Loaded, LoadFault>
-        ensures ok { IfOk result (λ loaded. rows_behind max self page.now ≡ Ok loaded) }
-        ensures fault { IfErr result (λ fault. IsPageFault fault (rows_behind max self page.now)) }
+        ensures ok { IfOk result (λ loaded. rows_after max self page.now ≡ Ok loaded) }
+        ensures fault { IfErr result (λ fault. IsPageFault fault (rows_after max self page.now)) }
     {
         let mut loaded = self;
         for kept in page {

@@ -6,7 +6,7 @@ ghost use Rattle.raven_data.specs.Limits.{max_etag};
 ghost use Rattle.raven_data.specs.Rows.{is_document, key};
 ghost use Rattle.spec_store.specs.Store.{IsStore, empty_store, last, row_at, with_row, with_rows};
 ghost use Rattle.spec_store.specs.Later.{MayFollowAll};
-ghost use Rattle.spec_store.specs.Stale.{newest, past, stale, taken};
+ghost use Rattle.spec_store.specs.Stale.{newest, past, stale, batch_rows};
 ghost use Rattle.raven_data.specs.Tables.{table_of};
 ghost use Rattle.std.specs.FinMap.{values};
 ghost use Rattle.doc_store.specs.Bounds.{IsWithin};
@@ -116,7 +116,7 @@ impl Store {
         scope: &Scope,
         max: u32,
     ) -> Result<(Rows, bool), NoMemory>
-        ensures rows { IfOk result (λ r. r.0 ≡ taken scope.now etag self.now max) }
+        ensures rows { IfOk result (λ r. r.0 ≡ batch_rows scope.now etag self.now max) }
         ensures more { IfOk result (λ r. IsTrue r.1 ↔ (max < length (past scope.now etag self.now))) }
     {
         let later = self.by_etag.range(&etag, &self.last);

@@ -3,13 +3,13 @@ use Rattle.std.proofs.Common.{◌≡◌, ℕ, ◌+◌, List, [], ◌∷◌, ◌+
 use Rattle.std.specs.Option.{option_map}
 use Rattle.raven_data.specs.Rows.{Row}
 use Rattle.spec_store.specs.Store.{Store}
-use Rattle.spec_store.specs.Commit.{Command, Writer, Setting, Refused, Written, after_command, commit_from, etags_taken, refusal_of, row_of, unless, with_option, with_written}
+use Rattle.spec_store.specs.Commit.{Command, Writer, Setting, Refused, Written, after_command, commit_from, etags_taken, refusal_of, row_of, or_refused, with_option, with_written}
 
 pub takes_on : (at : ℕ) (s : Setting) (w : Writer) (now : ℕ) (cs more : List Command) (c : Command) (done new : Written) (all : Result Written Refused)
     → cs ≡ c ∷ more → commit_from at s w now cs done ≡ all → refusal_of s w done.store c ≡ None → new ≡ with_written (row_of now done.store c) done → commit_from (at + 1) s w now more new ≡ all
 takes_on at s w now cs more c done new all split h none is =
     ap (commit_from (at + 1) s w now more) is
-    ∙ ap (λ o. unless o at (commit_from (at + 1) s w now more (with_written (row_of now done.store c) done))) (sym none)
+    ∙ ap (λ o. or_refused o at (commit_from (at + 1) s w now more (with_written (row_of now done.store c) done))) (sym none)
     ∙ ap (λ xs. commit_from at s w now xs done) (sym split) ∙ h
 
 store_of : (row : Option Row) (done : Written) → (with_written row done).store ≡ with_option done.store row

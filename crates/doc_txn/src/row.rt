@@ -2,7 +2,7 @@
 ghost use Rattle.std.specs.Prelude.{◌≡◌, IfOk, Some, None, if◌then◌else◌, option_and_then, option_copied};
 ghost use Rattle.raven_data.specs.Rows.{doc, is_document};
 ghost use Rattle.raven_value.specs.View.{data_of};
-ghost use Rattle.spec_store.specs.Commit.{collection_of as spec_collection_of, kept_spelling, row_of as spec_row_of, stored as spec_stored, tombstone as spec_tombstone};
+ghost use Rattle.spec_store.specs.Commit.{collection_of as spec_collection_of, row_spelling, row_of as spec_row_of, stored_body as spec_stored, tombstone as spec_tombstone};
 ghost use Rattle.doc_txn.specs.CommandView.{command_view};
 
 use crate::command::Command;
@@ -24,7 +24,7 @@ pub fn live<'a>(row: Option<&'a Row>) -> Option<&'a Row>
 
 /// The id as the row that has it spells it, or as it is spelled here if no row has it.
 pub fn spelling(id: &Id, old: Option<&Row>) -> Result<Id, NoMemory>
-    ensures { IfOk result (λ spelled. spelled ≡ kept_spelling id.now (option_copied old.entry)) }
+    ensures { IfOk result (λ spelled. spelled ≡ row_spelling id.now (option_copied old.entry)) }
 {
     match old {
         Some(row) => Ok(row.id.clone()?),

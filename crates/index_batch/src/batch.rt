@@ -1,7 +1,7 @@
 //! Batches: how an index catches up.
 ghost use Rattle.std.specs.Prelude.{◌≡◌, IfOk, cond, length};
 ghost use Rattle.raven_data.specs.Tables.{note_rows};
-ghost use Rattle.spec_store.specs.Stale.{taken};
+ghost use Rattle.spec_store.specs.Stale.{batch_rows};
 ghost use Rattle.index_tree.specs.Mapper.{mapper_of};
 ghost use Rattle.spec_index.specs.Mapping.{touched};
 ghost use Rattle.spec_store.specs.Store.{last, last_of};
@@ -37,7 +37,7 @@ pub fn next<M: Mapper, L: Ledger>(
 ) -> Result<Option<IndexVersion>, NoMemory>
     requires means { Means (M.meaning mapper.now) version.now.definition }
     ensures next { IfOk result (λ next. next ≡ batch version.now store.now max) }
-    ensures maps { let rows = taken (reads version.now) version.now.etag store.now max in MapsAtMost (length (documents_among (note_rows version.now.table rows) (touched (mapper_of version.now.definition) version.now.table rows))) steps.old steps.new }
+    ensures maps { let rows = batch_rows (reads version.now) version.now.etag store.now max in MapsAtMost (length (documents_among (note_rows version.now.table rows) (touched (mapper_of version.now.definition) version.now.table rows))) steps.old steps.new }
 {
     let scope = version.scope(alloc)?;
     let (taken, more) = store.rows_after(alloc, version.etag(), &scope, max)?;

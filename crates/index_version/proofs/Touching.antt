@@ -13,7 +13,7 @@ use Rattle.raven_data.specs.Folding.{folded, key_cmp, same_key}
 use Rattle.raven_data.specs.Rows.{Row, key}
 use Rattle.raven_data.specs.Tables.{Table, note_rows}
 use Rattle.index_tree.specs.Mapper.{Mapper, is_mapped}
-use Rattle.spec_index.specs.Mapping.{is_taken, loads_taken, touched}
+use Rattle.spec_index.specs.Mapping.{is_in_batch, loads_taken, touched}
 use Rattle.spec_store.proofs.TableLemmas.{tied}
 use Rattle.spec_store.proofs.KeyedLemmas.{differ_less}
 use Rattle.spec_store.proofs.StoreLemmas.{either_false, same_itself, same_means}
@@ -99,14 +99,14 @@ loads_false (r ∷ rows) = loads_false rows
 
 -- a document that is mapped and not taken loads a taken row where its loads are found to
 loading : (m : Mapper) (T : Table) (rows : List Row) (q : List ℕ) → IsFiled T
-    → holds_at (λ d. is_mapped m d && loads_taken m T rows d && not (is_taken rows (key d))) (get T q) ≡ (not (is_taken rows q) && list_any (λ r. is_loaded (key r) (given_at m T q)) rows)
+    → holds_at (λ d. is_mapped m d && loads_taken m T rows d && not (is_in_batch rows (key d))) (get T q) ≡ (not (is_in_batch rows q) && list_any (λ r. is_loaded (key r) (given_at m T q)) rows)
 loading m T rows q filed =
-    elim (get T q) as (λ o. get T q ≡ o → holds_at (λ d. is_mapped m d && loads_taken m T rows d && not (is_taken rows (key d))) o ≡ (not (is_taken rows q) && list_any (λ r. is_loaded (key r) (found o)) rows)) [
-      | None ↦ λ e. sym (ap (λ b. not (is_taken rows q) && b) (loads_false rows) ∙ and_false (not (is_taken rows q)))
-      | Some d ↦ λ e. ap (λ k. is_mapped m d && loads_taken m T rows d && not (is_taken rows k)) (sym (filed q d e))
-          ∙ elim (is_mapped m d) as (λ b. (b && loads_taken m T rows d && not (is_taken rows q)) ≡ (not (is_taken rows q) && list_any (λ r. is_loaded (key r) (cond b (Some (record { id = d.id; mapped = m.meaning d T })) None)) rows)) [
-            | true ↦ and_turned (loads_taken m T rows d) (not (is_taken rows q)) ∙ ap (λ b. not (is_taken rows q) && b) (swapped (m.meaning d T).loads rows)
-            | false ↦ sym (ap (λ b. not (is_taken rows q) && b) (loads_false rows) ∙ and_false (not (is_taken rows q)))
+    elim (get T q) as (λ o. get T q ≡ o → holds_at (λ d. is_mapped m d && loads_taken m T rows d && not (is_in_batch rows (key d))) o ≡ (not (is_in_batch rows q) && list_any (λ r. is_loaded (key r) (found o)) rows)) [
+      | None ↦ λ e. sym (ap (λ b. not (is_in_batch rows q) && b) (loads_false rows) ∙ and_false (not (is_in_batch rows q)))
+      | Some d ↦ λ e. ap (λ k. is_mapped m d && loads_taken m T rows d && not (is_in_batch rows k)) (sym (filed q d e))
+          ∙ elim (is_mapped m d) as (λ b. (b && loads_taken m T rows d && not (is_in_batch rows q)) ≡ (not (is_in_batch rows q) && list_any (λ r. is_loaded (key r) (cond b (Some (record { id = d.id; mapped = m.meaning d T })) None)) rows)) [
+            | true ↦ and_turned (loads_taken m T rows d) (not (is_in_batch rows q)) ∙ ap (λ b. not (is_in_batch rows q) && b) (swapped (m.meaning d T).loads rows)
+            | false ↦ sym (ap (λ b. not (is_in_batch rows q) && b) (loads_false rows) ∙ and_false (not (is_in_batch rows q)))
           ]
     ] refl
   where
@@ -132,13 +132,13 @@ any_pair m T G L x (r ∷ rows) kept = λ i. (kept.pairs x r.id ∙ ap (is_loade
 
 -- the ids are those that were taken, and those that load one of them
 abbrev pub AreTouched : Track → List Row → List (List ℕ) → Type 0
-AreTouched L rows ids = (x : List ℕ) → is_one_of x ids ≡ (is_taken rows (folded x) || list_any (λ r. is_pair x r.id L) rows)
+AreTouched L rows ids = (x : List ℕ) → is_one_of x ids ≡ (is_in_batch rows (folded x) || list_any (λ r. is_pair x r.id L) rows)
 
 reached : (m : Mapper) (T : Table) (G : FinMap key_cmp Given) (L : Track) (rows : List Row) (ids : List (List ℕ)) → AreKept m T G L → AreTouched L rows ids
-    → (q : List ℕ) → q ≡ folded q → list_any (same_key q) (map folded ids) ≡ (is_taken rows q || list_any (λ r. is_loaded (key r) (given_at m T q)) rows)
+    → (q : List ℕ) → q ≡ folded q → list_any (same_key q) (map folded ids) ≡ (is_in_batch rows q || list_any (λ r. is_loaded (key r) (given_at m T q)) rows)
 reached m T G L rows ids kept are q own =
-    subst (λ k. list_any (same_key k) (map folded ids) ≡ (is_taken rows k || list_any (λ r. is_loaded (key r) (given_at m T k)) rows)) (sym own)
-    (sym (one_of_folded q ids) ∙ are q ∙ ap (λ b. is_taken rows (folded q) || b) (any_pair m T G L q rows kept))
+    subst (λ k. list_any (same_key k) (map folded ids) ≡ (is_in_batch rows k || list_any (λ r. is_loaded (key r) (given_at m T k)) rows)) (sym own)
+    (sym (one_of_folded q ids) ∙ are q ∙ ap (λ b. is_in_batch rows (folded q) || b) (any_pair m T G L q rows kept))
 
 -- what is no folded form has no row
 unfiled : (m : Mapper) (T : Table) (q : List ℕ) → same_key q (folded q) ≡ false → IsFiled T → given_at m T q ≡ None
@@ -153,7 +153,7 @@ pub others_same : (m : Mapper) (T : Table) (G : FinMap key_cmp Given) (L : Track
     → (q : List ℕ) → list_any (same_key q) (map folded ids) ≡ false → given_at m (note_rows T rows) q ≡ given_at m T q
 others_same m T G L rows ids kept are q out = elim (same_key q (folded q)) as (λ b. same_key q (folded q) ≡ b → given_at m (note_rows T rows) q ≡ given_at m T q) [
   | true ↦ λ e.
-      let none = either_false (is_taken rows q) (list_any (λ r. is_loaded (key r) (given_at m T q)) rows) (sym (reached m T G L rows ids kept are q (same_means q (folded q) e)) ∙ out) in
+      let none = either_false (is_in_batch rows q) (list_any (λ r. is_loaded (key r) (given_at m T q)) rows) (sym (reached m T G L rows ids kept are q (same_means q (folded q) e)) ∙ out) in
       gives_same m T rows q none.0 none.1
   | false ↦ λ e. unfiled m (note_rows T rows) q e (filed_rows T rows kept.filed) ∙ sym (unfiled m T q e kept.filed)
 ] refl
@@ -170,14 +170,14 @@ mapped_touched m T G L rows ids kept are q some h = elim (same_key q (folded q))
   | true ↦ λ e.
       list_any-append (same_key q) (map key (filter (is_mapped m) rows)) (map key (filter test (values T)))
       ∙ ap (λ b. list_any (same_key q) (map key (filter (is_mapped m) rows)) || b) (any_value test q T kept.filed ∙ loading m T rows q kept.filed)
-      ∙ covered (list_any (same_key q) (map key (filter (is_mapped m) rows))) (is_taken rows q) (list_any (λ r. is_loaded (key r) (given_at m T q)) rows)
+      ∙ covered (list_any (same_key q) (map key (filter (is_mapped m) rows))) (is_in_batch rows q) (list_any (λ r. is_loaded (key r) (given_at m T q)) rows)
       (λ taken none. let nothing : given_at m (note_rows T rows) q ≡ None = gives_none m (note_rows T rows) (get (note_rows T rows) q) (taken_unmapped m T rows q taken none) in cc)
       (sym (reached m T G L rows ids kept are q (same_means q (folded q) e)) ∙ h)
   | false ↦ λ e. absurd (let none = none_unfolded q ids e in cc)
 ] refl
   where
     test : Row → Bool
-    test d = is_mapped m d && loads_taken m T rows d && not (is_taken rows (key d))
+    test d = is_mapped m d && loads_taken m T rows d && not (is_in_batch rows (key d))
 
 -- HOW MANY
 

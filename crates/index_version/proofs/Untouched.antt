@@ -8,7 +8,7 @@ use Rattle.raven_data.specs.Rows.{Row, key, is_document}
 use Rattle.spec_store.specs.Store.{row_at}
 use Rattle.raven_data.specs.Tables.{Table, note_row, note_rows}
 use Rattle.index_tree.specs.Mapper.{AlikeAt, Mapper, is_mapped}
-use Rattle.spec_index.specs.Mapping.{is_taken}
+use Rattle.spec_index.specs.Mapping.{is_in_batch}
 use Rattle.spec_store.proofs.TableLemmas.{get-note_row}
 use Rattle.spec_store.proofs.StoreLemmas.{same_itself, same_means}
 use Rattle.index_version.specs.Kept.{Given, given_at, given_of, is_loaded}
@@ -44,7 +44,7 @@ either p q (x ∷ xs) = ap (λ b. (p x || q x) || b) (either p q xs) ∙ arrange
     arranged false false c d = refl
 
 -- one of the loads is taken where one of the taken rows is loaded
-pub swapped : (loads : List (List ℕ)) (rows : List Row) → list_any (is_taken rows) loads ≡ list_any (λ r. list_any (same_key (key r)) loads) rows
+pub swapped : (loads : List (List ℕ)) (rows : List Row) → list_any (is_in_batch rows) loads ≡ list_any (λ r. list_any (same_key (key r)) loads) rows
 swapped [] rows = sym (none_there rows)
 swapped (l ∷ loads) rows =
     (λ i. taken_is l rows i || swapped loads rows i)
@@ -58,7 +58,7 @@ swapped (l ∷ loads) rows =
 -- WHAT IS NOT TAKEN
 
 -- an id that was not taken has the row that it had
-left_alone : (T : Table) (rows : List Row) (q : List ℕ) → is_taken rows q ≡ false → get (note_rows T rows) q ≡ get T q
+left_alone : (T : Table) (rows : List Row) (q : List ℕ) → is_in_batch rows q ≡ false → get (note_rows T rows) q ≡ get T q
 left_alone T [] q h = refl
 left_alone T (r ∷ rows) q h =
     elim (same_key q (key r)) as (λ b. same_key q (key r) ≡ b → is_some (cond b (Some r) (row_at q rows)) ≡ false → get (note_rows (note_row T r) rows) q ≡ get T q) [
@@ -66,16 +66,16 @@ left_alone T (r ∷ rows) q h =
       | false ↦ λ e g. left_alone (note_row T r) rows q g ∙ get-note_row T r q ∙ ap (λ b. cond b (cond (is_document r) (Some r) None) (get T q)) e
     ] refl h
 
-all_left_alone : (T : Table) (rows : List Row) (ids : List (List ℕ)) → list_any (is_taken rows) ids ≡ false → AlikeAt ids T (note_rows T rows)
+all_left_alone : (T : Table) (rows : List Row) (ids : List (List ℕ)) → list_any (is_in_batch rows) ids ≡ false → AlikeAt ids T (note_rows T rows)
 all_left_alone T rows [] h = tt
 all_left_alone T rows (q ∷ ids) h =
-    elim (is_taken rows q) as (λ b. is_taken rows q ≡ b → (b || list_any (is_taken rows) ids) ≡ false → AlikeAt (q ∷ ids) T (note_rows T rows)) [
+    elim (is_in_batch rows q) as (λ b. is_in_batch rows q ≡ b → (b || list_any (is_in_batch rows) ids) ≡ false → AlikeAt (q ∷ ids) T (note_rows T rows)) [
       | true ↦ λ e g. absurd cc
       | false ↦ λ e g. (sym (left_alone T rows q e), all_left_alone T rows ids g)
     ] refl h
 
 -- where neither an id was taken nor what it loads, the map gives the same
-pub gives_same : (m : Mapper) (T : Table) (rows : List Row) (q : List ℕ) → is_taken rows q ≡ false → list_any (λ r. is_loaded (key r) (given_at m T q)) rows ≡ false
+pub gives_same : (m : Mapper) (T : Table) (rows : List Row) (q : List ℕ) → is_in_batch rows q ≡ false → list_any (λ r. is_loaded (key r) (given_at m T q)) rows ≡ false
     → given_at m (note_rows T rows) q ≡ given_at m T q
 gives_same m T rows q out none = ap (option_and_then (given_of m (note_rows T rows))) (left_alone T rows q out) ∙ of_row (get T q) none
   where
@@ -129,7 +129,7 @@ all_unmapped m T [] q h none = h
 all_unmapped m T (r ∷ rows) q h none = all_unmapped m (note_row T r) rows q (noted_unmapped m T r q (λ e. h) (none_here m r rows q none)) (none_later m r rows q none)
 
 -- where an id was taken, but no row of it that is mapped, it is not mapped afterwards
-pub taken_unmapped : (m : Mapper) (T : Table) (rows : List Row) (q : List ℕ) → is_taken rows q ≡ true → list_any (same_key q) (map key (filter (is_mapped m) rows)) ≡ false → unmapped m (get (note_rows T rows) q) ≡ true
+pub taken_unmapped : (m : Mapper) (T : Table) (rows : List Row) (q : List ℕ) → is_in_batch rows q ≡ true → list_any (same_key q) (map key (filter (is_mapped m) rows)) ≡ false → unmapped m (get (note_rows T rows) q) ≡ true
 taken_unmapped m T [] q taken none = absurd cc
 taken_unmapped m T (r ∷ rows) q taken none =
     elim (same_key q (key r)) as (λ b. same_key q (key r) ≡ b → is_some (cond b (Some r) (row_at q rows)) ≡ true → unmapped m (get (note_rows (note_row T r) rows) q) ≡ true) [

@@ -8,7 +8,7 @@ use Rattle.raven_data.specs.Codes.{text_code}
 use Rattle.raven_data.specs.Folding.{folded, key_cmp, same_key}
 use Rattle.raven_data.specs.Rows.{Row, key}
 use Rattle.raven_data.specs.Tables.{Table}
-use Rattle.spec_index.specs.Find.{has_words}
+use Rattle.spec_index.specs.Find.{field_is_text}
 use Rattle.index_tree.specs.Meaning.{Fields, Outcome, Entry, NoEntry, Failed, Mapped}
 use Rattle.index_tree.specs.Mapper.{Mapper, is_mapped}
 use Rattle.spec_index.specs.Mapping.{entry_of}
@@ -38,7 +38,7 @@ has_entry Failed = false
 
 -- it has an entry whose field is that text, without regard to case
 abbrev pub outcome_has_words : List ℕ → List ℕ → Outcome → Bool
-outcome_has_words name words (Entry fields) = has_words name words fields
+outcome_has_words name words (Entry fields) = field_is_text name words fields
 outcome_has_words name words NoEntry = false
 outcome_has_words name words Failed = false
 

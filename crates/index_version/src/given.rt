@@ -2,7 +2,7 @@
 ghost use Rattle.std.specs.Prelude.{◌≡◌, false, map};
 ghost use Rattle.raven_data.specs.Folding.{folded};
 ghost use Rattle.raven_data.specs.Scalars.{holds, Is, words as spec_words};
-ghost use Rattle.spec_index.specs.Find.{has_words};
+ghost use Rattle.spec_index.specs.Find.{field_is_text};
 ghost use Rattle.spec_index.specs.Mapping.{has_failed};
 ghost use Rattle.raven_value.specs.ScalarView.{scalar_view};
 ghost use Rattle.map_stage.specs.MappedView.{fields_of, mapped_view, outcome_view};
@@ -89,7 +89,7 @@ fn outcome_has_words(outcome: &Outcome, field: &str, words: &str) -> bool
 }
 
 fn has_words_in(fields: &[(Text, Scalar)], name: &str, words: &str) -> bool
-    ensures { result ≡ has_words name.now words.now (fields_of fields.now) }
+    ensures { result ≡ field_is_text name.now words.now (fields_of fields.now) }
 {
     for field in fields {
         if name == field.0.as_str() {

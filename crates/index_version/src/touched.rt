@@ -2,7 +2,7 @@
 ghost use Rattle.std.specs.Prelude.{◌≡◌, ◌||◌, ℕ, List, IfOk};
 ghost use Rattle.std.specs.List.{list_any};
 ghost use Rattle.raven_data.specs.Folding.{folded};
-ghost use Rattle.spec_index.specs.Mapping.{is_taken};
+ghost use Rattle.spec_index.specs.Mapping.{is_in_batch};
 ghost use Rattle.reference_track.specs.Sets.{AreInOrder, is_one_of};
 ghost use Rattle.reference_track.specs.Tracks.{is_pair};
 
@@ -13,7 +13,7 @@ use std::alloc::Global;
 
 /// The taken ids, of whatever collection, and those that load one of them, each once.
 pub fn touched_ids(alloc: Global, referrers: &Referrers, taken: &[Row]) -> Result<Ids, NoMemory>
-    ensures ids { IfOk result (λ ids. (x : List ℕ) → is_one_of x ids ≡ is_taken taken.now (folded x) || list_any (λ r. is_pair x r.id referrers.now) taken.now) }
+    ensures ids { IfOk result (λ ids. (x : List ℕ) → is_one_of x ids ≡ is_in_batch taken.now (folded x) || list_any (λ r. is_pair x r.id referrers.now) taken.now) }
     ensures once { IfOk result (λ ids. AreInOrder ids) }
 {
     let loading = all_loading(alloc, referrers, taken)?;
@@ -42,7 +42,7 @@ fn with_all(alloc: Global, set: IdSet, ids: &[Id]) -> Result<IdSet, NoMemory>
 }
 
 fn with_taken(alloc: Global, set: IdSet, taken: &[Row]) -> Result<IdSet, NoMemory>
-    ensures { IfOk result (λ new. (x : List ℕ) → is_one_of x new ≡ is_taken taken.now (folded x) || is_one_of x set) }
+    ensures { IfOk result (λ new. (x : List ℕ) → is_one_of x new ≡ is_in_batch taken.now (folded x) || is_one_of x set) }
 {
     let mut new = set;
     for row in taken {

@@ -4,7 +4,7 @@ ghost use Rattle.raven_data.specs.Tables.{note_rows};
 ghost use Rattle.spec_index.specs.Find.{found_in};
 ghost use Rattle.spec_index.specs.Mapping.{failures, scratch};
 ghost use Rattle.index_tree.specs.Mapper.{mapper_of};
-ghost use Rattle.spec_index.specs.World.{fresh, reads};
+ghost use Rattle.spec_index.specs.World.{new_version, reads};
 ghost use Rattle.index_definition.specs.DefinitionView.{definition_view};
 ghost use Rattle.index_version.specs.Meaning.{Means};
 ghost use Rattle.index_version.specs.Renewed.{MapsAtMost, touched_documents};
@@ -60,7 +60,7 @@ impl Model for IndexVersion {
 impl IndexVersion {
     /// An index that has recorded nothing yet.
     pub fn fresh(alloc: Global, definition: Arc<Definition>) -> Result<IndexVersion, NoMemory>
-        ensures { IfOk result (λ version. version ≡ fresh (definition_view definition.value.body)) }
+        ensures { IfOk result (λ version. version ≡ new_version (definition_view definition.value.body)) }
     {
         Ok(IndexVersion {
             definition,

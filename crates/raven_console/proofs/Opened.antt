@@ -8,7 +8,7 @@ use Rattle.raven_data.specs.Kept.{KeptRow, all_kept}
 use Rattle.raven_data.specs.Moments.{moments_end}
 use Rattle.raven_data.specs.Rows.{Row, Body, key}
 use Rattle.spec_store.specs.Commit.{Setting}
-use Rattle.spec_store.specs.Kept.{body_in, is_etag, max_etag, may_stand_behind, row_behind, row_in, rows_behind, rows_in, or_bad_row}
+use Rattle.spec_store.specs.Kept.{body_in, is_etag, max_etag, can_follow, row_if_it_follows, row_in, rows_after, rows_in, or_bad_row}
 use Rattle.spec_server.specs.Machine.{Machine}
 use Rattle.index_lang.specs.Openings.{IsOpened, IsOpenedBy, OpensAs}
 use Rattle.spec_server.specs.Options.{setting_with}
@@ -68,7 +68,7 @@ none_is (Some r) h = absurd cc
 all_true : (a b c d e : Bool) → a ≡ true → b ≡ true → c ≡ true → d ≡ true → e ≡ true → a && b && c && d && e ≡ true
 all_true a b c d e p q r s t = ap (λ x. x && b && c && d && e) p ∙ ap (λ x. true && x && c && d && e) q ∙ ap (λ x. true && true && x && d && e) r ∙ ap (λ x. true && true && true && x && e) s ∙ ap (λ x. true && true && true && true && x) t
 
-behind_is_sound : (max : ℕ) (earlier : List Row) (r : Row) → may_stand_behind max earlier r ≡ true → IsFit r → is_sound_after earlier r ≡ true
+behind_is_sound : (max : ℕ) (earlier : List Row) (r : Row) → can_follow max earlier r ≡ true → IsFit r → is_sound_after earlier r ≡ true
 behind_is_sound max earlier r h f =
     let all = both_true (nat_lt (last_of 0 earlier) r.etag && is_none (row_at (key r) earlier)) (nat_lt (length earlier) max) h in
     let two = both_true (nat_lt (last_of 0 earlier) r.etag) (is_none (row_at (key r) earlier)) all.0 in
@@ -80,7 +80,7 @@ record AreSound (max : ℕ) (earlier : List Row) (rows : List Row) : Type 0 wher
   pub sound : first_bad earlier new ≡ None
   pub few : length earlier ≤ max → length rows ≤ max
 
-more_are : (max : ℕ) (earlier : List Row) (r : Row) (rows : List Row) → may_stand_behind max earlier r ≡ true → is_sound_after earlier r ≡ true → AreSound max (earlier ++ r ∷ []) rows → AreSound max earlier rows
+more_are : (max : ℕ) (earlier : List Row) (r : Row) (rows : List Row) → can_follow max earlier r ≡ true → is_sound_after earlier r ≡ true → AreSound max (earlier ++ r ∷ []) rows → AreSound max earlier rows
 more_are max earlier r rows m s h = record {
   new = r ∷ h.new;
   split = h.split ∙ append_assoc earlier (r ∷ []) h.new;
@@ -88,7 +88,7 @@ more_are max earlier r rows m s h = record {
   few = λ le. h.few (let l = length-append earlier (r ∷ []) in let f = ltb-true (length earlier) max (both_true (nat_lt (last_of 0 earlier) r.etag && is_none (row_at (key r) earlier)) (nat_lt (length earlier) max) m).1 in omega arith);
 }
 
-rows_behind-AreSound : (max : ℕ) (earlier : List Row) (ks : List KeptRow) (rows : List Row) → rows_behind max earlier ks ≡ Ok rows → AreSound max earlier rows
+rows_behind-AreSound : (max : ℕ) (earlier : List Row) (ks : List KeptRow) (rows : List Row) → rows_after max earlier ks ≡ Ok rows → AreSound max earlier rows
 rows_behind-AreSound max earlier [] rows h = record {
   new = [];
   split = sym (same earlier rows h) ∙ sym (append-nil earlier);
@@ -100,16 +100,16 @@ rows_behind-AreSound max earlier [] rows h = record {
     same a b e = cc
 rows_behind-AreSound max earlier (k ∷ ks) rows h = at (row_in k) refl h (λ r g. rows_behind-AreSound max (earlier ++ r ∷ []) ks rows g)
   where
-    with : (r : Row) (b : Bool) → row_in k ≡ Some r → may_stand_behind max earlier r ≡ b
-        → or_bad_row k.etag (cond b (Some r) None) (λ r. rows_behind max (earlier ++ r ∷ []) ks) ≡ Ok rows
-        → ((r : Row) → rows_behind max (earlier ++ r ∷ []) ks ≡ Ok rows → AreSound max (earlier ++ r ∷ []) rows) → AreSound max earlier rows
+    with : (r : Row) (b : Bool) → row_in k ≡ Some r → can_follow max earlier r ≡ b
+        → or_bad_row k.etag (cond b (Some r) None) (λ r. rows_after max (earlier ++ r ∷ []) ks) ≡ Ok rows
+        → ((r : Row) → rows_after max (earlier ++ r ∷ []) ks ≡ Ok rows → AreSound max (earlier ++ r ∷ []) rows) → AreSound max earlier rows
     with r true e m g more = more_are max earlier r rows m (behind_is_sound max earlier r m (row_in-IsFit k r e)) (more r g)
     with r false e m g more = absurd cc
 
-    at : (o : Option Row) → row_in k ≡ o → or_bad_row k.etag (row_behind max earlier o) (λ r. rows_behind max (earlier ++ r ∷ []) ks) ≡ Ok rows
-        → ((r : Row) → rows_behind max (earlier ++ r ∷ []) ks ≡ Ok rows → AreSound max (earlier ++ r ∷ []) rows) → AreSound max earlier rows
+    at : (o : Option Row) → row_in k ≡ o → or_bad_row k.etag (row_if_it_follows max earlier o) (λ r. rows_after max (earlier ++ r ∷ []) ks) ≡ Ok rows
+        → ((r : Row) → rows_after max (earlier ++ r ∷ []) ks ≡ Ok rows → AreSound max (earlier ++ r ∷ []) rows) → AreSound max earlier rows
     at None e g more = absurd cc
-    at (Some r) e g more = with r (may_stand_behind max earlier r) e refl g more
+    at (Some r) e g more = with r (can_follow max earlier r) e refl g more
 
 read_are_sound : (max : ℕ) (held : List KeptRow) (rows : List Row) → rows_in max held ≡ Ok rows → first_bad [] rows ≡ None
 read_are_sound max held rows h = let a = rows_behind-AreSound max [] held rows h in subst (λ xs. first_bad [] xs ≡ None) (sym a.split) a.sound

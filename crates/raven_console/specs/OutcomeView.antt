@@ -3,7 +3,7 @@ use Rattle.std.specs.Prelude.{Option, Some, None}
 use Rattle.spec_index.specs.World as is
 use Rattle.spec_server.specs.Machine.{Change}
 use Rattle.raven_reply.specs.ReplyView.{reply_view}
-use Rattle.raven_world.specs.Told.{machine_of}
+use Rattle.raven_world.specs.WorldView.{machine_of}
 use Rattle.raven_console.specs.declared.outcome.Outcome.{Outcome}
 
 -- the new world, or the one that was there

@@ -3,7 +3,7 @@ use Rattle.std.specs.Prelude.{◌≡◌}
 use Rattle.spec_index.specs.World as is
 use Rattle.spec_server.specs.Machine.{Change}
 use Rattle.spec_server.specs.Replies.{printed}
-use Rattle.raven_world.specs.Told.{machine_of}
+use Rattle.raven_world.specs.WorldView.{machine_of}
 use Rattle.raven_console.specs.OutcomeView.{world_left}
 use Rattle.raven_console.specs.declared.machine.Prepared.{Prepared}
 

@@ -8,7 +8,7 @@ ghost use Rattle.raven_console.specs.Answering.{IsAnswered};
 ghost use Rattle.raven_console.specs.Devices.{Asked, Keeps, circumstance};
 ghost use Rattle.raven_console.specs.OutcomeView.{world_left};
 ghost use Rattle.raven_console.specs.Prepared.{IsPrepared};
-ghost use Rattle.raven_world.specs.Told.{machine_of};
+ghost use Rattle.raven_world.specs.WorldView.{machine_of};
 ghost use Rattle.raven_script.specs.RequestView.{request_view};
 
 use crate::keeping::keep;

@@ -20,9 +20,9 @@ use Rattle.spec_store.specs.Commit.{Setting}
 use Rattle.spec_index.specs.World.{Slot, World, reads, serving}
 use Rattle.spec_server.specs.Replies.{Reply}
 use Rattle.spec_server.specs.Machine.{Machine, Event, Keeping, Request, Put, Delete, Bulk, Get, Define, Remove, Auto, Find, Pump, Stale, Indexes, Stats, start, run, step, answer_find, answer_stale, is_stale, listing}
-use Rattle.spec_index.specs.Find.{has_words, found_in}
+use Rattle.spec_index.specs.Find.{field_is_text, found_in}
 use Rattle.spec_server.specs.Sound.{Has, Sound}
-use Rattle.raven_laws.specs.Claims.{Flag, FlagIsExact, IsAsKept, flag, flags_in, ids_in, find_reply, listed_flag, FreshIsFromScratch, FlagsAreExact, IdsAreAsKept}
+use Rattle.raven_laws.specs.Claims.{Flag, FlagIsExact, IsSpelledAsStored, flag, flags_in, ids_in, find_reply, listed_flag, FreshIsFromScratch, FlagsAreExact, IdsAreSpelledAsStored}
 use Rattle.spec_store.proofs.StoreLemmas.{same_itself}
 use Rattle.spec_store.proofs.TableLemmas.{tied}
 use Rattle.raven_laws.proofs.IndexLemmas.{fresh_whole}
@@ -154,7 +154,7 @@ named id NoEntry e h = absurd cc
 named id Failed e h = absurd cc
 
 -- the id of each entry of an index is spelled as the store spells it
-pub entries-IsAsKept : (W : World) (s : Slot) (e : List ℕ × Fields) → Sound W → Has W.slots s → Has (scratch (mapper_of s.version.definition) s.version.table) e → IsAsKept W.store e.0
+pub entries-IsAsKept : (W : World) (s : Slot) (e : List ℕ × Fields) → Sound W → Has W.slots s → Has (scratch (mapper_of s.version.definition) s.version.table) e → IsSpelledAsStored W.store e.0
 entries-IsAsKept W s e o at h =
     let m = mapper_of s.version.definition in
     let d = Has-filter_map (λ x. entry_of x.id (m.meaning x s.version.table).outcome) (mapped_documents m s.version.table) e h in
@@ -163,19 +163,19 @@ entries-IsAsKept W s e o at h =
     let a = f.agrees in
     let k = a.known q.0 d.0 q.1 in
     let under = (a.filed q.0 d.0 q.1).0 in
-    subst (IsAsKept W.store) (named d.0.id (m.meaning d.0 s.version.table).outcome e d.2)
+    subst (IsSpelledAsStored W.store) (named d.0.id (m.meaning d.0 s.version.table).outcome e d.2)
     (record { row = k.row; found = ap (λ x. row_at x W.store.rows) (sym under) ∙ k.found; spelled = k.spelled })
 
-pub Sound-ids : (M : Machine) → Sound M.world → IdsAreAsKept M
+pub Sound-ids : (M : Machine) → Sound M.world → IdsAreSpelledAsStored M
 Sound-ids M o index field ws id = by (serving M.world.slots index) refl
   where
-    by : (found : Option Slot) → serving M.world.slots index ≡ found → Has (ids_in (answer_find M.world index field ws found)) id → IsAsKept M.world.store id
+    by : (found : Option Slot) → serving M.world.slots index ≡ found → Has (ids_in (answer_find M.world index field ws found)) id → IsSpelledAsStored M.world.store id
     by None is h = absurd h
     by (Some s) is h =
         let m = mapper_of s.version.definition in
-        let e = Has-map (λ x. x.0) (filter (λ x. has_words field ws x.1) (scratch m s.version.table)) id h in
-        subst (IsAsKept M.world.store) e.2
-        (entries-IsAsKept M.world s e.0 o (served M.world.slots index s is).0 (Has-filter (λ x. has_words field ws x.1) (scratch m s.version.table) e.0 e.1))
+        let e = Has-map (λ x. x.0) (filter (λ x. field_is_text field ws x.1) (scratch m s.version.table)) id h in
+        subst (IsSpelledAsStored M.world.store) e.2
+        (entries-IsAsKept M.world s e.0 o (served M.world.slots index s is).0 (Has-filter (λ x. field_is_text field ws x.1) (scratch m s.version.table) e.0 e.1))
 
 -- AFTER A RUN
 
@@ -189,9 +189,9 @@ run-fresh setting events = Sound-fresh (run events (start setting)) (run-Sound s
 pub run-flags : (setting : Setting) (events : List Event) → FlagsAreExact (run events (start setting))
 run-flags setting events = Sound-flags (run events (start setting)) (run-Sound setting events)
 
-pub run-ids : (setting : Setting) (events : List Event) → IdsAreAsKept (run events (start setting))
+pub run-ids : (setting : Setting) (events : List Event) → IdsAreSpelledAsStored (run events (start setting))
 run-ids setting events = Sound-ids (run events (start setting)) (run-Sound setting events)
 
 pub run-entries : (setting : Setting) (events : List Event) (s : Slot) (e : List ℕ × Fields) → let W = (run events (start setting)).world in
-    Has W.slots s → Has (scratch (mapper_of s.version.definition) s.version.table) e → IsAsKept W.store e.0
+    Has W.slots s → Has (scratch (mapper_of s.version.definition) s.version.table) e → IsSpelledAsStored W.store e.0
 run-entries setting events s e = entries-IsAsKept (run events (start setting)).world s e (run-Sound setting events)

@@ -7,7 +7,7 @@ use Rattle.index_tree.specs.Definitions.{Definition}
 use Rattle.spec_store.specs.Store.{Store, last}
 use Rattle.spec_index.specs.Optimiser.{Choice, Make, Merge, Shape, Use, beats, best, better, chosen, covers, first_free, free_name, has_collection, has_path, is_fresh, is_of, name_of, pick, slot_shape, width}
 use Rattle.spec_index.specs.World.{Slot, SlotRefusal, added, serving}
-use Rattle.spec_server.specs.Machine.{Keeping, Machine, one_field, reslotted, settled, use_or_make}
+use Rattle.spec_server.specs.Machine.{Keeping, Machine, one_field, change_of_slots, settled, use_or_make}
 use Rattle.spec_server.specs.Replies.{Reply}
 use Rattle.spec_server.specs.Sound.{Has, NumbersRise, Sound}
 use Rattle.raven_laws.specs.Choices.{AutoIsAnswered, Before, FollowsChoice, IsMakeAnswer, IsBefore, IsChosen, IsFirstFree, IsNumberedName, IsUsed, numbered_name}
@@ -186,10 +186,10 @@ choice-followed M k now (Make shape) o few =
     let d = Definition.Auto shape.collection shape.fields in
     let free : serving W.slots name ≡ None = name_of-free W.slots (last W.store + 1) shape (let a = o.limits.slots in omega arith) in
     elim (nat_le W.setting.max_slots (length W.slots)) as (λ b. nat_le W.setting.max_slots (length W.slots) ≡ b
-    → IsMakeAnswer M k now name d (settled M k (reslotted M now Reply.Index name
+    → IsMakeAnswer M k now name d (settled M k (change_of_slots M now Reply.Index name
     (cond b (Err SlotRefusal.TooManyIndexes) (cond (is_some (serving W.slots name)) (Err SlotRefusal.NameServes) (Ok (added W name d))))))) [
-      | true ↦ λ e. inl (record { full = leb-true W.setting.max_slots (length W.slots) e; told = refl })
-      | false ↦ λ e. subst (λ found. IsMakeAnswer M k now name d (settled M k (reslotted M now Reply.Index name (cond (is_some found) (Err SlotRefusal.NameServes) (Ok (added W name d))))))
+      | true ↦ λ e. inl (record { full = leb-true W.setting.max_slots (length W.slots) e; reply = refl })
+      | false ↦ λ e. subst (λ found. IsMakeAnswer M k now name d (settled M k (change_of_slots M now Reply.Index name (cond (is_some found) (Err SlotRefusal.NameServes) (Ok (added W name d))))))
           (sym free) (inr (new-answered M k now name d free e))
     ] refl
 

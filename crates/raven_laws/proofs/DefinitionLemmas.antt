@@ -10,13 +10,13 @@ use Rattle.index_tree.specs.declared.reduce_query.FoldMember.{FoldMember}
 use Rattle.index_tree.specs.declared.reduce_query.ReduceQuery.{ReduceQuery}
 use Rattle.spec_store.specs.Store.{last, put}
 use Rattle.index_tree.specs.Definitions.{Definition, Static, Auto, map_code, path_code, said_code, reduce_said, is_same, same_codes, same_definition, same_reduce}
-use Rattle.spec_store.specs.Commit.{Command, AnyVector, Server, Written, document_at, refusal_of, tombstone, unless, with_written}
+use Rattle.spec_store.specs.Commit.{Command, AnyVector, Server, Written, document_at, refusal_of, tombstone, or_refused, with_written}
 use Rattle.spec_index.specs.World.{Slot, SlotRefusal, added, define_at, index_id, is_named, is_reserved_name, max_index_name, removed, row_body, serving, unless_refused}
 use Rattle.spec_server.specs.Sound.{Has, IsListed, Sound}
 use Rattle.spec_server.specs.Replies.{Reply}
-use Rattle.spec_server.specs.Machine.{Machine, Keeping, Replied, Pump, brought_on, brought_on_if, pump_at, reslotted, rewrote, same_machine, settled, step}
-use Rattle.raven_laws.specs.Definitions.{BatchIsAnswered, DefineIsAnswered, IsBroughtOn, IsDefineAnswer, IsNewIndex, IsNoIndex, IsRemoveAnswer, IsRemoved, IsRowRefused, MayBeGiven, OtherSlotsStay, RemoveIsAnswered, SameReduces, SaysTheSame, new_slot}
-use Rattle.raven_laws.specs.Writes.{IsUnkept}
+use Rattle.spec_server.specs.Machine.{Machine, Keeping, Replied, Pump, after_batch, after_batch_if_named, pump_at, change_of_slots, rewrote, same_machine, settled, step}
+use Rattle.raven_laws.specs.Definitions.{BatchIsAnswered, DefineIsAnswered, IsAdvanced, IsDefineAnswer, IsNewIndex, IsNoIndex, IsRemoveAnswer, IsRemoved, IsRowRefused, MayBeGiven, OtherSlotsStay, RemoveIsAnswered, SameReduces, SaysTheSame, new_slot}
+use Rattle.raven_laws.specs.Writes.{IsKeeperFault}
 use Rattle.spec_store.proofs.StoreLemmas.{both_true, found_key, same_itself}
 use Rattle.spec_store.proofs.CommitLemmas.{put_key}
 use Rattle.raven_laws.proofs.ListedLemmas.{in_indexes_collection, listed-document}
@@ -101,8 +101,8 @@ module _ (M : Machine) (k : Keeping) (now : ℕ) (name : List ℕ) (d : Definiti
   }
 
   pub new-answered : serving M.world.slots name ≡ None → nat_le M.world.setting.max_slots (length M.world.slots) ≡ false
-      → let replied = settled M k (reslotted M now Reply.Index name (Ok (added M.world name d))) in
-      IsRowRefused M now (Command.Put (index_id name) AnyVector (row_body d) ∷ []) replied ⊎ (IsUnkept M k replied ⊎ IsNewIndex M k name d replied)
+      → let replied = settled M k (change_of_slots M now Reply.Index name (Ok (added M.world name d))) in
+      IsRowRefused M now (Command.Put (index_id name) AnyVector (row_body d) ∷ []) replied ⊎ (IsKeeperFault M k replied ⊎ IsNewIndex M k name d replied)
   new-answered free room =
       let id = index_id name in
       let c = Command.Put id AnyVector (row_body d) in
@@ -113,14 +113,14 @@ module _ (M : Machine) (k : Keeping) (now : ℕ) (name : List ℕ) (d : Definiti
       let under = put_key id rows in
       let kept : Replied = record { reply = Reply.Index name; machine = record { world = record { setting = M.world.setting; store = done.store; slots = slots; notes = M.world.notes } } } in
       elim (refusal_of M.world.setting Server M.world.store c) as (λ o. refusal_of M.world.setting Server M.world.store c ≡ o
-      → let replied = settled M k (rewrote M (Reply.Index name) slots (unless o 0 (Ok done))) in
-      IsRowRefused M now (c ∷ []) replied ⊎ (IsUnkept M k replied ⊎ IsNewIndex M k name d replied)) [
+      → let replied = settled M k (rewrote M (Reply.Index name) slots (or_refused o 0 (Ok done))) in
+      IsRowRefused M now (c ∷ []) replied ⊎ (IsKeeperFault M k replied ⊎ IsNewIndex M k name d replied)) [
         | None ↦ λ e. inr (elim (first_or_not k.takes) [
           | inl taken ↦ inr (subst (λ b. IsNewIndex M k name d (cond b kept (same_machine M (Reply.KeeperFault k.before k.after)))) (sym taken) (record {
             allowed = record { unrefused = e; taken = taken };
             free = free;
             room = leb-false M.world.setting.max_slots (length M.world.slots) room;
-            told = refl;
+            reply = refl;
             slots = refl;
             serves = served-pushed M.world.slots (new_slot M name d) name free (same_itself (folded name));
             listed = new-row-listed;
@@ -128,34 +128,34 @@ module _ (M : Machine) (k : Keeping) (now : ℕ) (name : List ℕ) (d : Definiti
           }))
           | inr failed ↦ inl (unkept M k kept failed.0 failed.1)
         ])
-        | Some kind ↦ λ e. inl (record { refused = record { at = 0; kind = kind }; cause = ap (λ o. unless o 0 (Ok done)) e; told = refl })
+        | Some kind ↦ λ e. inl (record { refused = record { at = 0; kind = kind }; cause = ap (λ o. or_refused o 0 (Ok done)) e; reply = refl })
       ] refl
 
   define-kept : MayBeGiven name → serving M.world.slots name ≡ None → nat_le M.world.setting.max_slots (length M.world.slots) ≡ false
-      → IsDefineAnswer M k now name d (settled M k (reslotted M now Reply.Index name (Ok (added M.world name d))))
+      → IsDefineAnswer M k now name d (settled M k (change_of_slots M now Reply.Index name (Ok (added M.world name d))))
   define-kept given free room = elim (new-answered free room) [
     | inl refused ↦ inr (inr (inr (inr (inr (inl (record { given = given; free = free; row = refused }))))))
     | inr (inl failed) ↦ inr (inr (inr (inr (inr (inr (inl failed))))))
     | inr (inr new) ↦ inr (inr (inr (inr (inr (inr (inr (record { given = given; new = new })))))))
   ]
 
-  define-at : (there : Option Slot) → serving M.world.slots name ≡ there → MayBeGiven name → IsDefineAnswer M k now name d (settled M k (reslotted M now Reply.Index name (define_at M.world name d there)))
+  define-at : (there : Option Slot) → serving M.world.slots name ≡ there → MayBeGiven name → IsDefineAnswer M k now name d (settled M k (change_of_slots M now Reply.Index name (define_at M.world name d there)))
   define-at None free given =
       elim (nat_le M.world.setting.max_slots (length M.world.slots)) as (λ b. nat_le M.world.setting.max_slots (length M.world.slots) ≡ b
-      → IsDefineAnswer M k now name d (settled M k (reslotted M now Reply.Index name (cond b (Err SlotRefusal.TooManyIndexes) (Ok (added M.world name d)))))) [
-        | true ↦ λ e. inr (inr (inr (inr (inl (record { given = given; free = free; full = leb-true M.world.setting.max_slots (length M.world.slots) e; told = refl })))))
+      → IsDefineAnswer M k now name d (settled M k (change_of_slots M now Reply.Index name (cond b (Err SlotRefusal.TooManyIndexes) (Ok (added M.world name d)))))) [
+        | true ↦ λ e. inr (inr (inr (inr (inl (record { given = given; free = free; full = leb-true M.world.setting.max_slots (length M.world.slots) e; reply = refl })))))
         | false ↦ λ e. define-kept given free e
       ] refl
   define-at (Some s) serves given =
       elim (same_definition d s.version.definition) as (λ b. same_definition d s.version.definition ≡ b
-      → IsDefineAnswer M k now name d (settled M k (reslotted M now Reply.Index name (cond b (Ok (record { slots = M.world.slots; commands = []; name = s.name })) (Err SlotRefusal.NameServes))))) [
-        | true ↦ λ e. inr (inr (inr (inl (record { given = given; slot = s; serves = serves; same = (definitions-told d s.version.definition).0 e; told = refl }))))
+      → IsDefineAnswer M k now name d (settled M k (change_of_slots M now Reply.Index name (cond b (Ok (record { slots = M.world.slots; commands = []; name = s.name })) (Err SlotRefusal.NameServes))))) [
+        | true ↦ λ e. inr (inr (inr (inl (record { given = given; slot = s; serves = serves; same = (definitions-told d s.version.definition).0 e; reply = refl }))))
         | false ↦ λ e. inr (inr (inl (record {
           given = given;
           slot = s;
           serves = serves;
           other = λ h. let f = (definitions-told d s.version.definition).1 h in cc;
-          told = refl;
+          reply = refl;
         })))
       ] refl
 
@@ -163,12 +163,12 @@ module _ (M : Machine) (k : Keeping) (now : ℕ) (name : List ℕ) (d : Definiti
   define-answered =
       let rest = define_at M.world name d (serving M.world.slots name) in
       elim (is_reserved_name name) as (λ b. is_reserved_name name ≡ b
-      → IsDefineAnswer M k now name d (settled M k (reslotted M now Reply.Index name (unless_refused (cond b (Some SlotRefusal.ReservedName)
+      → IsDefineAnswer M k now name d (settled M k (change_of_slots M now Reply.Index name (unless_refused (cond b (Some SlotRefusal.ReservedName)
       (cond (nat_lt max_index_name (length name)) (Some (SlotRefusal.NameTooLong (length name))) None)) rest)))) [
-        | true ↦ λ e. inl (record { reserved = e; told = refl })
+        | true ↦ λ e. inl (record { reserved = e; reply = refl })
         | false ↦ λ e. elim (nat_lt max_index_name (length name)) as (λ b. nat_lt max_index_name (length name) ≡ b
-            → IsDefineAnswer M k now name d (settled M k (reslotted M now Reply.Index name (unless_refused (cond b (Some (SlotRefusal.NameTooLong (length name))) None) rest)))) [
-              | true ↦ λ f. inr (inl (record { unreserved = e; long = ltb-true max_index_name (length name) f; told = refl }))
+            → IsDefineAnswer M k now name d (settled M k (change_of_slots M now Reply.Index name (unless_refused (cond b (Some (SlotRefusal.NameTooLong (length name))) None) rest)))) [
+              | true ↦ λ f. inr (inl (record { unreserved = e; long = ltb-true max_index_name (length name) f; reply = refl }))
               | false ↦ λ f. define-at (serving M.world.slots name) refl (record { unreserved = e; short = ltb-false max_index_name (length name) f })
             ] refl
       ] refl
@@ -182,8 +182,8 @@ none-serves slots name = elim (serving (others_of name slots) name) as (λ o. se
 ] refl
 
 removed-answered : (M : Machine) (k : Keeping) (now : ℕ) (name : List ℕ) (there : Option Slot) → serving M.world.slots name ≡ there → Sound M.world
-    → IsRemoveAnswer M k now name (settled M k (reslotted M now Reply.Removed name (removed M.world name there)))
-removed-answered M k now name None e o = inl (record { none = e; told = refl })
+    → IsRemoveAnswer M k now name (settled M k (change_of_slots M now Reply.Removed name (removed M.world name there)))
+removed-answered M k now name None e o = inl (record { none = e; reply = refl })
 removed-answered M k now name (Some s) serves o =
     let id = index_id s.name in
     let c = Command.Delete id AnyVector in
@@ -196,13 +196,13 @@ removed-answered M k now name (Some s) serves o =
     let less = others_of name M.world.slots in
     let kept : Replied = record { reply = Reply.Removed s.name; machine = record { world = record { setting = M.world.setting; store = record { rows = put t rows }; slots = less; notes = M.world.notes } } } in
     elim (refusal_of M.world.setting Server M.world.store c) as (λ r. refusal_of M.world.setting Server M.world.store c ≡ r
-    → IsRemoveAnswer M k now name (settled M k (rewrote M (Reply.Removed s.name) less (unless r 0 (Ok (done (document_at M.world.store (folded id)))))))) [
+    → IsRemoveAnswer M k now name (settled M k (rewrote M (Reply.Removed s.name) less (or_refused r 0 (Ok (done (document_at M.world.store (folded id)))))))) [
       | None ↦ λ e. subst (λ x. IsRemoveAnswer M k now name (settled M k (rewrote M (Reply.Removed s.name) less (Ok (done x))))) (sym there) (inr (inr (elim (first_or_not k.takes) [
         | inl taken ↦ inr (subst (λ b. IsRemoved M k now name (cond b kept (same_machine M (Reply.KeeperFault k.before k.after)))) (sym taken) (record {
           slot = s;
           serves = serves;
           allowed = record { unrefused = e; taken = taken };
-          told = refl;
+          reply = refl;
           gone = none-serves M.world.slots name;
           others = record {
             kept = λ x h other. into-filter (λ y. not (is_named name y)) M.world.slots x h (ap not other);
@@ -218,7 +218,7 @@ removed-answered M k now name (Some s) serves o =
       | Some kind ↦ λ e. inr (inl (record {
         slot = s;
         serves = serves;
-        row = record { refused = record { at = 0; kind = kind }; cause = ap (λ x. unless x 0 (Ok (done (document_at M.world.store (folded id))))) e; told = refl };
+        row = record { refused = record { at = 0; kind = kind }; cause = ap (λ x. or_refused x 0 (Ok (done (document_at M.world.store (folded id))))) e; reply = refl };
       }))
     ] refl
   where
@@ -231,13 +231,13 @@ remove-answered M k now name o = removed-answered M k now name (serving M.world.
 -- A BATCH FOR ONE INDEX
 
 abbrev brought : Machine → ℕ → List ℕ → Slot → Slot
-brought M max name = brought_on_if M.world.store max name
+brought M max name = after_batch_if_named M.world.store max name
 
-brought-named : (M : Machine) (max : ℕ) (name : List ℕ) (s : Slot) → is_named name s ≡ true → brought M max name s ≡ brought_on M.world.store max s
-brought-named M max name s is = ap (λ b. cond b (brought_on M.world.store max s) s) is
+brought-named : (M : Machine) (max : ℕ) (name : List ℕ) (s : Slot) → is_named name s ≡ true → brought M max name s ≡ after_batch M.world.store max s
+brought-named M max name s is = ap (λ b. cond b (after_batch M.world.store max s) s) is
 
 brought-other : (M : Machine) (max : ℕ) (name : List ℕ) (s : Slot) → is_named name s ≡ false → brought M max name s ≡ s
-brought-other M max name s is = ap (λ b. cond b (brought_on M.world.store max s) s) is
+brought-other M max name s is = ap (λ b. cond b (after_batch M.world.store max s) s) is
 
 map-others : (M N : Machine) (max : ℕ) (name : List ℕ) → N.world.slots ≡ map (brought M max name) M.world.slots → OtherSlotsStay M name N
 map-others M N max name e = record {
@@ -254,15 +254,15 @@ map-others M N max name e = record {
 pub batch-answered : (M : Machine) (k : Keeping) (now max : ℕ) (name : List ℕ) → BatchIsAnswered M k now max name
 batch-answered M k now max name = by (serving M.world.slots name) refl
   where
-    by : (there : Option Slot) → serving M.world.slots name ≡ there → let replied = settled M k (pump_at M max name there) in IsNoIndex M name replied ⊎ IsBroughtOn M max name replied
-    by None e = inl (record { none = e; told = refl })
+    by : (there : Option Slot) → serving M.world.slots name ≡ there → let replied = settled M k (pump_at M max name there) in IsNoIndex M name replied ⊎ IsAdvanced M max name replied
+    by None e = inl (record { none = e; reply = refl })
     by (Some s) e =
         let at = served M.world.slots name s e in
         let named : is_named name s ≡ true = subst (λ q. same_key (folded name) q ≡ true) at.1 (same_itself (folded name)) in
         inr (record {
           slot = s;
           serves = e;
-          told = refl;
+          reply = refl;
           brought = subst (Has (map (brought M max name) M.world.slots)) (brought-named M max name s named) (Has-mapped (brought M max name) M.world.slots s at.0);
           others = map-others M (settled M k (pump_at M max name (Some s))).machine max name refl;
           store = refl;

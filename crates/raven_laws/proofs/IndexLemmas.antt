@@ -14,7 +14,7 @@ use Rattle.spec_store.specs.Store.{row_at, last_of, AreRising, AreApart, Store, 
 use Rattle.spec_store.specs.Later.{StillHas, Later}
 use Rattle.raven_data.specs.Tables.{Table, Scope, in_scope, note_row, note_rows}
 use Rattle.spec_index.specs.Index.{record_of, Agrees, etag_after, etag_of_batch, documents}
-use Rattle.spec_store.specs.Stale.{past, taken, left_over, up_to, stale}
+use Rattle.spec_store.specs.Stale.{past, batch_rows, left_over, up_to, stale}
 use Rattle.spec_store.proofs.StoreLemmas.{same_row, both_true, found_etag, found_key, same_means, row_at-append, found_passing, passing_found, AreApart-filter, AreApart-front, AreRising-filter, AreRising-front, AreRising-back, last_of-rising, last_of-append, last_of-filter, row_at-filter, only_if, any_false}
 use Rattle.spec_store.proofs.LaterLemmas.{StillHas-then}
 use Rattle.spec_store.proofs.TableLemmas.{get-note_row}
@@ -121,7 +121,7 @@ Agrees-taken scope T S e rows new s a t = record {
     ] refl
 
 -- a batch takes such rows
-pub Taken-batch : (scope : Scope) (S : Store) (e max : ℕ) → IsStore S → e ≤ last S → Taken scope S e (taken scope e S max) (etag_of_batch scope e S max)
+pub Taken-batch : (scope : Scope) (S : Store) (e max : ℕ) → IsStore S → e ≤ last S → Taken scope S e (batch_rows scope e S max) (etag_of_batch scope e S max)
 Taken-batch scope S e max s le = record {
   apart = AreApart-front tk lo (subst AreApart (sym both) apart);
   from = λ q r h.
@@ -139,7 +139,7 @@ Taken-batch scope S e max s le = record {
     p r = in_scope scope r && nat_lt e r.etag
 
     tk : List Row
-    tk = taken scope e S max
+    tk = batch_rows scope e S max
 
     lo : List Row
     lo = left_over scope e S max
@@ -180,8 +180,8 @@ Taken-batch scope S e max s le = record {
         let most = last_of-filter e 0 p S.rows s.rising le in omega arith
 
 pub Agrees-batch : (scope : Scope) (T : Table) (S : Store) (e max : ℕ) → IsStore S → Agrees scope T S e → e ≤ last S
-    → Agrees scope (note_rows T (taken scope e S max)) S (etag_of_batch scope e S max)
-Agrees-batch scope T S e max s a le = Agrees-taken scope T S e (taken scope e S max) (etag_of_batch scope e S max) s a (Taken-batch scope S e max s le)
+    → Agrees scope (note_rows T (batch_rows scope e S max)) S (etag_of_batch scope e S max)
+Agrees-batch scope T S e max s a le = Agrees-taken scope T S e (batch_rows scope e S max) (etag_of_batch scope e S max) s a (Taken-batch scope S e max s le)
 
 -- an index that is not stale for a cutoff has recorded all up to it
 pub fresh_exact : (scope : Scope) (T : Table) (S : Store) (e : ℕ) (cutoff : Option ℕ) → Agrees scope T S e → stale S scope e cutoff ≡ false

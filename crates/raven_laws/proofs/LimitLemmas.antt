@@ -5,7 +5,7 @@ use Rattle.std.specs.Option.{option_map}
 use Rattle.raven_data.specs.Folding.{folded, same_key}
 use Rattle.raven_data.specs.Rows.{Row, key}
 use Rattle.spec_store.specs.Store.{row_at, put, Store, last}
-use Rattle.spec_store.specs.Commit.{Command, Put, Delete, Writer, Setting, Refusal, StoreFull, Written, first_of, refusal_of, reserved, too_large, collection_changed, conflict, store_full, takes_etag, refuse_if, EtagsSpent, etags_spent, document_at, tombstone, row_of, with_written, unless, commit_from}
+use Rattle.spec_store.specs.Commit.{Command, Put, Delete, Writer, Setting, Refusal, StoreFull, Written, first_of, refusal_of, reserved, too_large, collection_changed, conflict, store_full, takes_etag, refuse_if, EtagsSpent, etags_spent, document_at, tombstone, row_of, with_written, or_refused, commit_from}
 use Rattle.spec_server.specs.Sound.{Has}
 use Rattle.spec_store.proofs.StoreLemmas.{same_row, found_key}
 use Rattle.spec_store.proofs.LaterLemmas.{last-with}
@@ -74,7 +74,7 @@ row_of-fits s w now S (Delete id expected) r le h is =
 pub commit_from-fits : (at : ℕ) (s : Setting) (w : Writer) (now : ℕ) (cs : List Command) (done new : Written) → length done.store.rows ≤ s.max_rows → commit_from at s w now cs done ≡ Ok new → length new.store.rows ≤ s.max_rows
 commit_from-fits at s w now [] done new le h = subst (λ (x : Written). length x.store.rows ≤ s.max_rows) (let e : done ≡ new = cc in e) le
 commit_from-fits at s w now (c ∷ cs) done new le h =
-    elim (refusal_of s w done.store c) as (λ o. refusal_of s w done.store c ≡ o → unless o at (commit_from (at + 1) s w now cs (with_written (row_of now done.store c) done)) ≡ Ok new → length new.store.rows ≤ s.max_rows) [
+    elim (refusal_of s w done.store c) as (λ o. refusal_of s w done.store c ≡ o → or_refused o at (commit_from (at + 1) s w now cs (with_written (row_of now done.store c) done)) ≡ Ok new → length new.store.rows ≤ s.max_rows) [
       | None ↦ λ e g. elim (row_of now done.store c) as (λ o. row_of now done.store c ≡ o → commit_from (at + 1) s w now cs (with_written o done) ≡ Ok new → length new.store.rows ≤ s.max_rows) [
         | None ↦ λ f k. commit_from-fits (at + 1) s w now cs done new le k
         | Some r ↦ λ f k. commit_from-fits (at + 1) s w now cs (with_written (Some r) done) new (row_of-fits s w now done.store c r le e f) k
@@ -106,7 +106,7 @@ takes now S (Delete id expected) r is = elim (document_at S (folded id)) as (λ 
 pub commit_from-last : (at : ℕ) (s : Setting) (w : Writer) (now : ℕ) (cs : List Command) (done new : Written) → last done.store ≤ 9007199254740991 → commit_from at s w now cs done ≡ Ok new → last new.store ≤ 9007199254740991
 commit_from-last at s w now [] done new le h = subst (λ (x : Written). last x.store ≤ 9007199254740991) (let e : done ≡ new = cc in e) le
 commit_from-last at s w now (c ∷ cs) done new le h =
-    elim (refusal_of s w done.store c) as (λ o. refusal_of s w done.store c ≡ o → unless o at (commit_from (at + 1) s w now cs (with_written (row_of now done.store c) done)) ≡ Ok new → last new.store ≤ 9007199254740991) [
+    elim (refusal_of s w done.store c) as (λ o. refusal_of s w done.store c ≡ o → or_refused o at (commit_from (at + 1) s w now cs (with_written (row_of now done.store c) done)) ≡ Ok new → last new.store ≤ 9007199254740991) [
       | None ↦ λ e g. elim (row_of now done.store c) as (λ o. row_of now done.store c ≡ o → commit_from (at + 1) s w now cs (with_written o done) ≡ Ok new → last new.store ≤ 9007199254740991) [
         | None ↦ λ f k. commit_from-last (at + 1) s w now cs done new le k
         | Some r ↦ λ f k.

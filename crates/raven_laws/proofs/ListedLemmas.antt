@@ -8,7 +8,7 @@ use Rattle.raven_data.specs.Folding.{folded, same_key}
 use Rattle.raven_data.specs.Rows.{Row, Body, doc, gone, key, is_document}
 use Rattle.spec_store.specs.Store.{row_at, put, Store, last, with_row}
 use Rattle.index_tree.specs.Definitions.{Definition, Static, Auto}
-use Rattle.spec_store.specs.Commit.{Command, Put, Delete, AnyVector, Writer, Client, Setting, Refusal, Written, first_of, refusal_of, reserved, is_reserved, is_index_id, too_large, collection_changed, conflict, store_full, etags_spent, collection_of, stored, kept_spelling, document_at, tombstone, row_of, with_written, with_option, after_commands, unless, commit_from}
+use Rattle.spec_store.specs.Commit.{Command, Put, Delete, AnyVector, Writer, Client, Setting, Refusal, Written, first_of, refusal_of, reserved, is_reserved, is_index_id, too_large, collection_changed, conflict, store_full, etags_spent, collection_of, stored_body, row_spelling, document_at, tombstone, row_of, with_written, with_option, after_commands, or_refused, commit_from}
 use Rattle.spec_index.specs.World.{Slot, index_id, row_body}
 use Rattle.spec_server.specs.Sound.{Has, IsListed, AreListed}
 use Rattle.spec_store.proofs.StoreLemmas.{same_row, either_false, row_at-put, same_itself, same_means, found_key}
@@ -20,7 +20,7 @@ use Rattle.raven_laws.proofs.SlotLemmas.{Has-map, Has-mapped}
 pub commit_from-applied : (at : ℕ) (s : Setting) (w : Writer) (now : ℕ) (cs : List Command) (done new : Written) → commit_from at s w now cs done ≡ Ok new → new.store ≡ after_commands now cs done.store
 commit_from-applied at s w now [] done new h = let same : new ≡ done = cc in ap (λ (x : Written). x.store) same
 commit_from-applied at s w now (c ∷ cs) done new h =
-    elim (refusal_of s w done.store c) as (λ r. unless r at (commit_from (at + 1) s w now cs (with_written (row_of now done.store c) done)) ≡ Ok new → new.store ≡ after_commands now cs (with_option done.store (row_of now done.store c))) [
+    elim (refusal_of s w done.store c) as (λ r. or_refused r at (commit_from (at + 1) s w now cs (with_written (row_of now done.store c) done)) ≡ Ok new → new.store ≡ after_commands now cs (with_option done.store (row_of now done.store c))) [
       | None ↦ λ g. commit_from-applied (at + 1) s w now cs (with_written (row_of now done.store c) done) new g ∙ ap (after_commands now cs) (written (row_of now done.store c))
       | Some kind ↦ λ g. absurd cc
     ] h
@@ -61,7 +61,7 @@ put-AreListed S slots more now name d new l there called under means from to = r
       found = found_at (folded (index_id new.name)) ∙ ap (λ b. cond b (Some r) (row_at (folded (index_id new.name)) S.rows)) (subst (λ k. same_key (folded (index_id new.name)) k ≡ true) (index_joined new.name name called) (same_itself (folded (index_id new.name))));
       etag = sym under;
       collection = in_indexes_collection d;
-      body = ap (λ x. doc (stored (row_body x))) (sym means);
+      body = ap (λ x. doc (stored_body (row_body x))) (sym means);
     })
     | inr old ↦
         let i = l.each x old.0 in
@@ -85,7 +85,7 @@ put-AreListed S slots more now name d new l there called under means from to = r
 }
   where
     r : Row
-    r = record { etag = last S + 1; id = kept_spelling (index_id name) (row_at (folded (index_id name)) S.rows); collection = collection_of (row_body d); body = doc (stored (row_body d)); changed = now }
+    r = record { etag = last S + 1; id = row_spelling (index_id name) (row_at (folded (index_id name)) S.rows); collection = collection_of (row_body d); body = doc (stored_body (row_body d)); changed = now }
 
     found_at : (q : List ℕ) → row_at q (put r S.rows) ≡ cond (same_key q (folded (index_id name))) (Some r) (row_at q S.rows)
     found_at q = row_at-put q r S.rows ∙ ap (λ k. cond (same_key q k) (Some r) (row_at q S.rows)) (put_key (index_id name) S.rows)
@@ -184,7 +184,7 @@ client-AreListed s S slots now (Delete id expected) h l = by (document_at S (fol
 pub clients-AreListed : (at : ℕ) (s : Setting) (now : ℕ) (cs : List Command) (done new : Written) (slots : List Slot) → commit_from at s Client now cs done ≡ Ok new → AreListed done.store slots → AreListed new.store slots
 clients-AreListed at s now [] done new slots h l = let same : done ≡ new = cc in subst (λ (x : Written). AreListed x.store slots) same l
 clients-AreListed at s now (c ∷ cs) done new slots h l =
-    elim (refusal_of s Client done.store c) as (λ r. refusal_of s Client done.store c ≡ r → unless r at (commit_from (at + 1) s Client now cs (with_written (row_of now done.store c) done)) ≡ Ok new → AreListed new.store slots) [
+    elim (refusal_of s Client done.store c) as (λ r. refusal_of s Client done.store c ≡ r → or_refused r at (commit_from (at + 1) s Client now cs (with_written (row_of now done.store c) done)) ≡ Ok new → AreListed new.store slots) [
       | None ↦ λ e g. clients-AreListed (at + 1) s now cs (with_written (row_of now done.store c) done) new slots g (written (row_of now done.store c) (client-AreListed s done.store slots now c e l))
       | Some kind ↦ λ e g. absurd cc
     ] refl h
@@ -205,7 +205,7 @@ map-AreListed S f slots keeps l = record {
         collection = i.collection;
         etag = i.etag ∙ sym k.1;
         found = ap (λ n. row_at (folded (index_id n)) S.rows) k.0 ∙ i.found;
-        body = i.body ∙ ap (λ d. doc (stored (row_body d))) (sym k.2);
+        body = i.body ∙ ap (λ d. doc (stored_body (row_body d))) (sym k.2);
       });
   only = λ q r h is c. let s = l.only q r h is c in (f s.0, Has-mapped f slots s.0 s.1, s.2 ∙ ap (λ n. folded (index_id n)) (sym (keeps s.0 s.1).0));
 }

@@ -3,14 +3,14 @@ use Rattle.std.proofs.Common.{◌≡◌, ℕ, ◌+◌, ◌<◌, ◌≤◌, List,
 use Rattle.raven_data.specs.Rows.{Row}
 use Rattle.spec_store.specs.Store.{Store, last, IsStore}
 use Rattle.spec_store.specs.Later.{Later}
-use Rattle.spec_store.specs.Stale.{taken}
+use Rattle.spec_store.specs.Stale.{batch_rows}
 use Rattle.spec_index.specs.Index.{etag_of_batch}
 use Rattle.index_tree.specs.Definitions.{Definition}
 use Rattle.spec_index.specs.Optimiser.{Choice, Use, Make, Merge, pick, name_of}
-use Rattle.spec_store.specs.Commit.{Command, Put, Delete, Writer, Client, Server, Setting, Refused, Written, refusal_of, row_of, with_written, unless, commit_from, commit}
-use Rattle.spec_server.specs.Replies as told
+use Rattle.spec_store.specs.Commit.{Command, Put, Delete, Writer, Client, Server, Setting, Refused, Written, refusal_of, row_of, with_written, or_refused, commit_from, commit}
+use Rattle.spec_server.specs.Replies as replies
 use Rattle.spec_index.specs.World.{Slot, World, reads, advanced, batch, serving, SlotChange, SlotRefusal, define, define_named, is_named, remove}
-use Rattle.spec_server.specs.Machine.{Machine, Request, Put as PutOne, Delete as DeleteOne, Bulk, Get, Define, Remove, Auto, Find, Pump, Stale, Indexes, Stats, Event, Keeping, Change, is_taken, same_machine, settled, single_reply, wrote, write, rewrote, reslotted, use_or_make, one_field, or_as_before, brought_on, brought_on_if, with_slots, pump, pump_at, pump_for, change_of, step, start, after, run}
+use Rattle.spec_server.specs.Machine.{Machine, Request, Put as PutOne, Delete as DeleteOne, Bulk, Get, Define, Remove, Auto, Find, Pump, Stale, Indexes, Stats, Event, Keeping, Change, is_taken, same_machine, settled, single_reply, wrote, write, rewrote, change_of_slots, use_or_make, one_field, or_as_before, after_batch, after_batch_if_named, with_slots, pump, pump_at, pump_for, change_of, step, start, after, run}
 use Rattle.spec_server.specs.Sound.{Has, NumbersRise, NamesApart, AreListed, Sound, LaterW}
 use Rattle.spec_store.proofs.LaterLemmas.{Later-itself, IsStore-with, last-with}
 use Rattle.spec_store.proofs.CommitLemmas.{row_of-follows, commit-Commits}
@@ -66,7 +66,7 @@ Turns-Moves W S slots o t = record {
 
 -- WRITES
 
-wrote-Moves : (now : ℕ) (M : Machine) (reply : List told.Result → told.Reply) (commands : List Command) (o : Result Written Refused) → Sound M.world → commit M.world.setting Client now commands M.world.store ≡ o → Moves M.world (wrote M reply now commands o).machine.world
+wrote-Moves : (now : ℕ) (M : Machine) (reply : List replies.Result → replies.Reply) (commands : List Command) (o : Result Written Refused) → Sound M.world → commit M.world.setting Client now commands M.world.store ≡ o → Moves M.world (wrote M reply now commands o).machine.world
 wrote-Moves now M reply commands (Err refused) o is = Moves-itself M.world o
 wrote-Moves now M reply commands (Ok w) o is =
     let c = commit-Commits M.world.setting Client now commands M.world.store w o.store is in
@@ -87,7 +87,7 @@ wrote-Moves now M reply commands (Ok w) o is =
 commit_from-grows : (at : ℕ) (s : Setting) (w : Writer) (now : ℕ) (cs : List Command) (done new : Written) → IsStore done.store → commit_from at s w now cs done ≡ Ok new → last done.store ≤ last new.store
 commit_from-grows at s w now [] done new o h = let same : done ≡ new = cc in let e = ap (λ (x : Written). last x.store) same in omega arith
 commit_from-grows at s w now (c ∷ cs) done new o h =
-    elim (refusal_of s w done.store c) as (λ r. refusal_of s w done.store c ≡ r → unless r at (commit_from (at + 1) s w now cs (with_written (row_of now done.store c) done)) ≡ Ok new → last done.store ≤ last new.store) [
+    elim (refusal_of s w done.store c) as (λ r. refusal_of s w done.store c ≡ r → or_refused r at (commit_from (at + 1) s w now cs (with_written (row_of now done.store c) done)) ≡ Ok new → last done.store ≤ last new.store) [
       | None ↦ λ e g. elim (row_of now done.store c) as (λ r. row_of now done.store c ≡ r → commit_from (at + 1) s w now cs (with_written r done) ≡ Ok new → last done.store ≤ last new.store) [
         | None ↦ λ f k. commit_from-grows (at + 1) s w now cs done new o k
         | Some r ↦ λ f k.
@@ -102,7 +102,7 @@ put-grows : (s : Setting) (w : Writer) (now : ℕ) (cs : List Command) (S : Stor
 put-grows s w now [] S new o h p = absurd p
 put-grows s w now (Delete id expected ∷ cs) S new o h p = absurd p
 put-grows s w now (Put id expected body ∷ cs) S new o h p =
-    elim (refusal_of s w S (Put id expected body)) as (λ r. refusal_of s w S (Put id expected body) ≡ r → unless r 0 (commit_from (0 + 1) s w now cs (with_written (row_of now S (Put id expected body)) (record { store = S; rows = [] }))) ≡ Ok new → last S < last new.store) [
+    elim (refusal_of s w S (Put id expected body)) as (λ r. refusal_of s w S (Put id expected body) ≡ r → or_refused r 0 (commit_from (0 + 1) s w now cs (with_written (row_of now S (Put id expected body)) (record { store = S; rows = [] }))) ≡ Ok new → last S < last new.store) [
       | None ↦ λ e g. elim (row_of now S (Put id expected body)) as (λ r. row_of now S (Put id expected body) ≡ r → commit_from (0 + 1) s w now cs (with_written r (record { store = S; rows = [] })) ≡ Ok new → last S < last new.store) [
         | None ↦ λ f k. absurd cc
         | Some r ↦ λ f k.
@@ -113,7 +113,7 @@ put-grows s w now (Put id expected body ∷ cs) S new o h p =
       | Some kind ↦ λ e g. absurd cc
     ] refl h
 
-rewrote-Moves : (now : ℕ) (M : Machine) (reply : told.Reply) (c : SlotChange) (o : Result Written Refused) → Sound M.world → ((S : Store) → Onto M.world c S → Settles M.world c S)
+rewrote-Moves : (now : ℕ) (M : Machine) (reply : replies.Reply) (c : SlotChange) (o : Result Written Refused) → Sound M.world → ((S : Store) → Onto M.world c S → Settles M.world c S)
     → commit M.world.setting Server now c.commands M.world.store ≡ o → Moves M.world (rewrote M reply c.slots o).machine.world
 rewrote-Moves now M reply c (Err refused) o by is = Moves-itself M.world o
 rewrote-Moves now M reply c (Ok w) o by is =
@@ -137,8 +137,8 @@ rewrote-Moves now M reply c (Ok w) o by is =
       etags = commit_from-last 0 M.world.setting Server now c.commands _ w o.limits.etags is;
     })
 
-reslotted-Moves : (now : ℕ) (M : Machine) (reply : List ℕ → told.Reply) (name : List ℕ) (r : Result SlotChange SlotRefusal) → Sound M.world
-    → ((c : SlotChange) → r ≡ Ok c → Sound M.world → (S : Store) → Onto M.world c S → Settles M.world c S) → Moves M.world (reslotted M now reply name r).machine.world
+reslotted-Moves : (now : ℕ) (M : Machine) (reply : List ℕ → replies.Reply) (name : List ℕ) (r : Result SlotChange SlotRefusal) → Sound M.world
+    → ((c : SlotChange) → r ≡ Ok c → Sound M.world → (S : Store) → Onto M.world c S → Settles M.world c S) → Moves M.world (change_of_slots M now reply name r).machine.world
 reslotted-Moves now M reply name (Err refusal) o by = Moves-itself M.world o
 reslotted-Moves now M reply name (Ok c) o by = rewrote-Moves now M (reply c.name) c (commit M.world.setting Server now c.commands M.world.store) o (by c refl o) refl
 
@@ -147,12 +147,12 @@ auto-Moves now M (Use s) o = Moves-itself M.world o
 auto-Moves now M (Make shape) o =
     let name = name_of M.world.slots (last M.world.store + 1) shape in
     let d = Definition.Auto shape.collection shape.fields in
-    reslotted-Moves now M told.Index name (define M.world name d) o (define-Settles M.world name d)
+    reslotted-Moves now M replies.Index name (define M.world name d) o (define-Settles M.world name d)
 auto-Moves now M Merge o = Moves-itself M.world o
 
 -- BATCHES
 
-brought-Comes : (W : World) (x : Slot) (max : ℕ) → Sound W → Has W.slots x → Comes W W.store [] (brought_on W.store max x)
+brought-Comes : (W : World) (x : Slot) (max : ℕ) → Sound W → Has W.slots x → Comes W W.store [] (after_batch W.store max x)
 brought-Comes W x max o h =
     elim (batch x.version W.store max) as (λ b. batch x.version W.store max ≡ b → Comes W W.store [] (record { number = x.number; name = x.name; version = or_as_before x.version b; row = x.row })) [
       | None ↦ λ e. stays W W.store [] x o (Later-itself W.store) h
@@ -172,8 +172,8 @@ pub record Keeps (x y : Slot) : Type 0 where
   pub definition : y.version.definition ≡ x.version.definition
 
 -- a batch keeps the definition
-pub brought-Keeps : (S : Store) (max : ℕ) (x : Slot) → Keeps x (brought_on S max x)
-brought-Keeps S max x = record { number = refl; name = refl; row = refl; definition = by (taken (reads x.version) x.version.etag S max) }
+pub brought-Keeps : (S : Store) (max : ℕ) (x : Slot) → Keeps x (after_batch S max x)
+brought-Keeps S max x = record { number = refl; name = refl; row = refl; definition = by (batch_rows (reads x.version) x.version.etag S max) }
   where
     by : (rows : List Row) → (or_as_before x.version (advanced x.version rows (etag_of_batch (reads x.version) x.version.etag S max))).definition ≡ x.version.definition
     by [] = refl
@@ -195,21 +195,21 @@ mapped-Moves M f o comes keeps = Turns-Moves M.world M.world.store (map f M.worl
 })
 
 pump-Moves : (M : Machine) (max : ℕ) → Sound M.world → Moves M.world (pump M max).machine.world
-pump-Moves M max o = mapped-Moves M (brought_on M.world.store max) o (λ x h. brought-Comes M.world x max o h) (brought-Keeps M.world.store max)
+pump-Moves M max o = mapped-Moves M (after_batch M.world.store max) o (λ x h. brought-Comes M.world x max o h) (brought-Keeps M.world.store max)
 
 -- a batch for one name
 pump_at-Moves : (M : Machine) (max : ℕ) (name : List ℕ) (there : Option Slot) → Sound M.world → Moves M.world (pump_at M max name there).machine.world
 pump_at-Moves M max name None o = Moves-itself M.world o
-pump_at-Moves M max name (Some s) o = mapped-Moves M (brought_on_if M.world.store max name) o comes keeps
+pump_at-Moves M max name (Some s) o = mapped-Moves M (after_batch_if_named M.world.store max name) o comes keeps
   where
-    comes : (x : Slot) → Has M.world.slots x → Comes M.world M.world.store [] (brought_on_if M.world.store max name x)
-    comes x h = elim (is_named name x) as (λ b. Comes M.world M.world.store [] (cond b (brought_on M.world.store max x) x)) [
+    comes : (x : Slot) → Has M.world.slots x → Comes M.world M.world.store [] (after_batch_if_named M.world.store max name x)
+    comes x h = elim (is_named name x) as (λ b. Comes M.world M.world.store [] (cond b (after_batch M.world.store max x) x)) [
       | true ↦ brought-Comes M.world x max o h
       | false ↦ stays M.world M.world.store [] x o (Later-itself M.world.store) h
     ]
 
-    keeps : (x : Slot) → Keeps x (brought_on_if M.world.store max name x)
-    keeps x = elim (is_named name x) as (λ b. Keeps x (cond b (brought_on M.world.store max x) x)) [
+    keeps : (x : Slot) → Keeps x (after_batch_if_named M.world.store max name x)
+    keeps x = elim (is_named name x) as (λ b. Keeps x (cond b (after_batch M.world.store max x) x)) [
       | true ↦ brought-Keeps M.world.store max x
       | false ↦ record { number = refl; name = refl; row = refl; definition = refl }
     ]
@@ -220,16 +220,16 @@ pump_for-Moves M max (Some name) o = pump_at-Moves M max name (serving M.world.s
 
 -- RUNS
 
-write-Moves : (now : ℕ) (M : Machine) (reply : List told.Result → told.Reply) (commands : List Command) → Sound M.world → Moves M.world (write M reply now commands).machine.world
+write-Moves : (now : ℕ) (M : Machine) (reply : List replies.Result → replies.Reply) (commands : List Command) → Sound M.world → Moves M.world (write M reply now commands).machine.world
 write-Moves now M reply commands o = wrote-Moves now M reply commands (commit M.world.setting Client now commands M.world.store) o refl
 
 change-Moves : (M : Machine) (now : ℕ) (r : Request) → Sound M.world → Moves M.world (change_of M now r).machine.world
 change-Moves M now (PutOne id expected body) o = write-Moves now M single_reply (Command.Put id expected body ∷ []) o
 change-Moves M now (DeleteOne id expected) o = write-Moves now M single_reply (Command.Delete id expected ∷ []) o
-change-Moves M now (Bulk commands) o = write-Moves now M told.Bulk commands o
+change-Moves M now (Bulk commands) o = write-Moves now M replies.Bulk commands o
 change-Moves M now (Get id) o = Moves-itself M.world o
-change-Moves M now (Define name d) o = reslotted-Moves now M told.Index name (define_named M.world name d) o (define_named-Settles M.world name d)
-change-Moves M now (Remove name) o = reslotted-Moves now M told.Removed name (remove M.world name) o (remove-Settles M.world name)
+change-Moves M now (Define name d) o = reslotted-Moves now M replies.Index name (define_named M.world name d) o (define_named-Settles M.world name d)
+change-Moves M now (Remove name) o = reslotted-Moves now M replies.Removed name (remove M.world name) o (remove-Settles M.world name)
 change-Moves M now (Auto collection field) o = auto-Moves now M (pick (one_field collection field) M.world.store M.world.slots) o
 change-Moves M now (Find index field ws) o = Moves-itself M.world o
 change-Moves M now (Pump max index) o = pump_for-Moves M max index o
@@ -239,7 +239,7 @@ change-Moves M now Stats o = Moves-itself M.world o
 
 -- whatever the keeper does
 settled-Moves : (M : Machine) (k : Keeping) (c : Change) → Sound M.world → Moves M.world c.machine.world → Moves M.world (settled M k c).machine.world
-settled-Moves M k c o m = elim (is_taken k c.rows) as (λ b. Moves M.world (cond b (record { reply = c.reply; machine = c.machine }) (same_machine M (told.KeeperFault k.before k.after))).machine.world) [
+settled-Moves M k c o m = elim (is_taken k c.rows) as (λ b. Moves M.world (cond b (record { reply = c.reply; machine = c.machine }) (same_machine M (replies.KeeperFault k.before k.after))).machine.world) [
   | true ↦ m
   | false ↦ Moves-itself M.world o
 ]

@@ -11,10 +11,10 @@ use Rattle.raven_data.specs.Rows.{Row, key, is_document}
 use Rattle.spec_store.specs.Store.{row_at, AreApart, Store, last, IsStore}
 use Rattle.raven_data.specs.Tables.{Table, note_rows}
 use Rattle.spec_index.specs.Index.{Agrees, etag_of_batch}
-use Rattle.spec_store.specs.Stale.{taken}
+use Rattle.spec_store.specs.Stale.{batch_rows}
 use Rattle.index_tree.specs.Meaning.{Mapped}
 use Rattle.index_tree.specs.Mapper.{Mapper, AlikeAt, scope_of, is_mapped}
-use Rattle.spec_index.specs.Mapping.{result_of, is_taken, loads_taken, touched, Results, set_result, remapped, AreResults}
+use Rattle.spec_index.specs.Mapping.{result_of, is_in_batch, loads_taken, touched, Results, set_result, remapped, AreResults}
 use Rattle.spec_store.proofs.StoreLemmas.{same_row, either_false, same_itself, same_means}
 use Rattle.raven_laws.proofs.IndexLemmas.{noted, get-note_rows, Taken, Taken-batch}
 use Rattle.spec_store.proofs.TableLemmas.{tied}
@@ -72,11 +72,11 @@ lacks_entry p q (x ∷ es) r h is own =
     ] h
 
 -- an id that is looked up and was not taken has what it had
-alike : (T : Table) (rows : List Row) (loads : List (List ℕ)) → AreApart rows → list_any (is_taken rows) loads ≡ false → AlikeAt loads T (note_rows T rows)
+alike : (T : Table) (rows : List Row) (loads : List (List ℕ)) → AreApart rows → list_any (is_in_batch rows) loads ≡ false → AlikeAt loads T (note_rows T rows)
 unfolding noted
 alike T rows [] apart h = tt
 alike T rows (q ∷ qs) apart h =
-    let f = either_false (is_taken rows q) (list_any (is_taken rows) qs) h in
+    let f = either_false (is_in_batch rows q) (list_any (is_in_batch rows) qs) h in
     (sym (get-note_rows T rows q apart ∙ ap (λ o. noted o (get T q)) (not_there (row_at q rows) f.0)), alike T rows qs apart f.1)
   where
     not_there : (o : Option Row) → is_some o ≡ false → o ≡ None
@@ -110,7 +110,7 @@ untouched m T S e new rows a t q h =
     ] refl
   where
     test : Row → Bool
-    test d = is_mapped m d && loads_taken m T rows d && not (is_taken rows (key d))
+    test d = is_mapped m d && loads_taken m T rows d && not (is_in_batch rows (key d))
 
     lists : (list_any (same_key q) (map key (filter (is_mapped m) rows)) ≡ false) × (list_any (same_key q) (map key (filter test (values T))) ≡ false)
     lists = any-append (same_key q) (map key (filter (is_mapped m) rows)) (map key (filter test (values T))) h
@@ -131,12 +131,12 @@ untouched m T S e new rows a t q h =
           ap (λ b. cond b (Some (m.meaning d T)) None) (ap (λ c. bytes_eq c m.collection) c ∙ out)
     ] refl
 
-    unloaded : (d : Row) → get T q ≡ Some d → is_mapped m d ≡ true → row_at q rows ≡ None → list_any (is_taken rows) (m.meaning d T).loads ≡ false
+    unloaded : (d : Row) → get T q ≡ Some d → is_mapped m d ≡ true → row_at q rows ≡ None → list_any (is_in_batch rows) (m.meaning d T).loads ≡ false
     unloaded d at inside none =
         let own = (a.filed q d at).0 in
         let f = lacks_entry test q (entries T) d lists.1 (sym (get-entries T q) ∙ at) own in
-        let free : is_taken rows (key d) ≡ false = ap is_some (subst (λ k. row_at k rows ≡ None) own none) in
-        let g = ap (λ b. b && loads_taken m T rows d && not (is_taken rows (key d))) (sym inside) ∙ f in
+        let free : is_in_batch rows (key d) ≡ false = ap is_some (subst (λ k. row_at k rows ≡ None) own none) in
+        let g = ap (λ b. b && loads_taken m T rows d && not (is_in_batch rows (key d))) (sym inside) ∙ f in
         and_true (loads_taken m T rows d) (ap (λ b. loads_taken m T rows d && not b) (sym free) ∙ g)
 
 -- THE RESULTS AFTER A BATCH
@@ -160,7 +160,7 @@ get-remapped m T (k ∷ qs) K q =
 
 -- mapping again what a batch touches gives what mapping all from scratch gives
 pub remapped-AreResults : (m : Mapper) (T : Table) (S : Store) (e max : ℕ) (K : Results) → IsStore S → Agrees (scope_of m) T S e → e ≤ last S → AreResults m T K
-    → let rows = taken (scope_of m) e S max in AreResults m (note_rows T rows) (remapped m (note_rows T rows) (touched m T rows) K)
+    → let rows = batch_rows (scope_of m) e S max in AreResults m (note_rows T rows) (remapped m (note_rows T rows) (touched m T rows) K)
 remapped-AreResults m T S e max K s a le k = λ q.
     get-remapped m (note_rows T rows) (touched m T rows) K q
     ∙ elim (list_any (same_key q) (touched m T rows)) as (λ b. list_any (same_key q) (touched m T rows) ≡ b → cond b (result_of m (note_rows T rows) q) (get K q) ≡ result_of m (note_rows T rows) q) [
@@ -169,4 +169,4 @@ remapped-AreResults m T S e max K s a le k = λ q.
     ] refl
   where
     rows : List Row
-    rows = taken (scope_of m) e S max
+    rows = batch_rows (scope_of m) e S max

@@ -16,7 +16,7 @@ use Rattle.index_tree.specs.Mapper.{mapper_of, scope_of, is_mapped}
 use Rattle.spec_index.specs.Mapping.{mapped_documents, entry_of, scratch}
 use Rattle.spec_store.specs.Commit.{Setting}
 use Rattle.spec_server.specs.Machine.{Machine, Event, start, run}
-use Rattle.spec_index.specs.Find.{has_words, found_in}
+use Rattle.spec_index.specs.Find.{field_is_text, found_in}
 use Rattle.spec_server.specs.Sound.{Has, Sound}
 use Rattle.raven_laws.specs.Claims.{IsMatch, ids_in, FreshIsExact}
 use Rattle.spec_store.proofs.StoreLemmas.{both_true, found_key}
@@ -82,8 +82,8 @@ found-IsMatch : (S : Store) (d : Definition) (field ws id : List ℕ) → IsStor
 found-IsMatch S d field ws id s h =
     let m = mapper_of d in
     let U = documents (scope_of m) S in
-    let e = Has-map (λ x. x.0) (filter (λ x. has_words field ws x.1) (scratch m U)) id h in
-    let r = Has-filter_map (λ x. entry_of x.id (m.meaning x U).outcome) (mapped_documents m U) e.0 (Has-filter (λ x. has_words field ws x.1) (scratch m U) e.0 e.1) in
+    let e = Has-map (λ x. x.0) (filter (λ x. field_is_text field ws x.1) (scratch m U)) id h in
+    let r = Has-filter_map (λ x. entry_of x.id (m.meaning x U).outcome) (mapped_documents m U) e.0 (Has-filter (λ x. field_is_text field ws x.1) (scratch m U) e.0 e.1) in
     let k = document-row (scope_of m) S r.0 s (Has-filter (is_mapped m) (values U) r.0 r.1) in
     let g = given r.0.id (m.meaning r.0 U).outcome e.0 r.2 in
     record {
@@ -94,7 +94,7 @@ found-IsMatch S d field ws id s h =
       mapped = passes (is_mapped m) (values U) r.0 r.1;
       fields = e.0.1;
       gives = g.1;
-      matches = passes (λ x. has_words field ws x.1) (scratch m U) e.0 e.1;
+      matches = passes (λ x. field_is_text field ws x.1) (scratch m U) e.0 e.1;
     }
 
 IsMatch-found : (S : Store) (d : Definition) (field ws id : List ℕ) → IsStore S → IsMatch S d field ws id → Has (found_in (mapper_of d) (documents (scope_of (mapper_of d)) S) field ws) id
@@ -106,7 +106,7 @@ IsMatch-found S d field ws id s x =
     let listed = into-filter_map (λ y. entry_of y.id (m.meaning y U).outcome) (mapped_documents m U) x.row (x.row.id, x.fields)
     (into-filter (is_mapped m) (values U) x.row there x.mapped) (ap (entry_of x.row.id) x.gives) in
     subst (Has (found_in m U field ws)) x.spelled
-    (Has-mapped (λ y. y.0) (filter (λ y. has_words field ws y.1) (scratch m U)) (x.row.id, x.fields) (into-filter (λ y. has_words field ws y.1) (scratch m U) (x.row.id, x.fields) listed x.matches))
+    (Has-mapped (λ y. y.0) (filter (λ y. field_is_text field ws y.1) (scratch m U)) (x.row.id, x.fields) (into-filter (λ y. field_is_text field ws y.1) (scratch m U) (x.row.id, x.fields) listed x.matches))
 
 pub Sound-exact : (M : Machine) → Sound M.world → FreshIsExact M
 Sound-exact M o index field ws id s h is_fresh =

@@ -18,13 +18,13 @@ use Rattle.raven_data.specs.Rows.{Row, Body, doc, gone, key, is_document}
 use Rattle.raven_data.specs.Written.{text_of}
 use Rattle.spec_store.specs.Store.{row_at, last_of, AreRising, AreApart, IsStore}
 use Rattle.index_tree.specs.Definitions.{Definition, Auto}
-use Rattle.spec_store.specs.Commit.{Setting, is_index_id, stored}
-use Rattle.spec_index.specs.World.{Slot, fresh, index_id, row_body}
+use Rattle.spec_store.specs.Commit.{Setting, is_index_id, stored_body}
+use Rattle.spec_index.specs.World.{Slot, new_version, index_id, row_body}
 use Rattle.spec_server.specs.Machine.{Machine}
 use Rattle.spec_server.specs.Opening.{OpenedFrom, is_part, auto_read, map_read, form_of, body_form, NoForm, ReadRow, is_defining, name_in, may_be_named, is_filed, is_too_many, slot_of, with_slot, slots_with, slots_after, or_bad, and_then, slots_from, opened_with, rows_of}
-use Rattle.spec_store.specs.Kept.{max_body, max_etag, is_stored, document_of, document_in, body_in, is_etag, row_in, may_stand_behind, row_behind, or_bad_row, rows_behind, rows_in}
+use Rattle.spec_store.specs.Kept.{max_body, max_etag, is_stored, document_of, document_in, body_in, is_etag, row_in, can_follow, row_if_it_follows, or_bad_row, rows_after, rows_in}
 use Rattle.spec_server.specs.Sound.{Has, Fits, NumbersRise, NamesApart, AreListed, Sound}
-use Rattle.raven_laws.specs.Opened.{IsTold, IsToldIn, IsToldBy, AreTold, OpenedAsTold}
+use Rattle.raven_laws.specs.Opened.{AgreesWithForm, AgreesWithBody, HasOwnDefinition, HaveOwnDefinitions, OpenedFaithfully}
 use Rattle.spec_store.proofs.StoreLemmas.{same_row, both_true, either_false, same_itself, same_means, found_key, row_at-append, last_of-append}
 use Rattle.raven_laws.proofs.SlotLemmas.{Has-append, Has-left, Has-right, find-Has, NumbersRise-push, Fits-fresh}
 use Rattle.raven_laws.proofs.MemberLemmas.{Rises, read_rises, they_are}
@@ -143,7 +143,7 @@ is-none (Some r) h = absurd cc
 last_of-push : (low : ℕ) (rows : List Row) (r : Row) → last_of low (rows ++ r ∷ []) ≡ r.etag
 last_of-push low rows r = last_of-append low rows (r ∷ [])
 
-Stand-push : (max : ℕ) (rows : List Row) (k : KeptRow) (r : Row) → Stand max rows → IsRowOf k r → may_stand_behind max rows r ≡ true → Stand max (rows ++ r ∷ [])
+Stand-push : (max : ℕ) (rows : List Row) (k : KeptRow) (r : Row) → Stand max rows → IsRowOf k r → can_follow max rows r ≡ true → Stand max (rows ++ r ∷ [])
 Stand-push max rows k r s is may =
     let a = both_true (nat_lt (last_of 0 rows) r.etag && is_none (row_at (key r) rows)) (nat_lt (length rows) max) may in
     let b = both_true (nat_lt (last_of 0 rows) r.etag) (is_none (row_at (key r) rows)) a.0 in
@@ -168,22 +168,22 @@ all_kept-push : (rows : List Row) (r : Row) → all_kept (rows ++ r ∷ []) ≡ 
 all_kept-push [] r = refl
 all_kept-push (x ∷ rows) r = ap (λ ks. kept x ∷ ks) (all_kept-push rows r)
 
-pub may_behind : (max : ℕ) (earlier : List Row) (o : Option Row) (r : Row) → row_behind max earlier o ≡ Some r → (o ≡ Some r) × (may_stand_behind max earlier r ≡ true)
+pub may_behind : (max : ℕ) (earlier : List Row) (o : Option Row) (r : Row) → row_if_it_follows max earlier o ≡ Some r → (o ≡ Some r) × (can_follow max earlier r ≡ true)
 may_behind max earlier None r h = absurd cc
-may_behind max earlier (Some x) r h = elim (may_stand_behind max earlier x) as (λ b. may_stand_behind max earlier x ≡ b → cond b (Some x) None ≡ Some r → (Some x ≡ Some r) × (may_stand_behind max earlier r ≡ true)) [
-  | true ↦ λ e g. (g, subst (λ y. may_stand_behind max earlier y ≡ true) (same_row x r g) e)
+may_behind max earlier (Some x) r h = elim (can_follow max earlier x) as (λ b. can_follow max earlier x ≡ b → cond b (Some x) None ≡ Some r → (Some x ≡ Some r) × (can_follow max earlier r ≡ true)) [
+  | true ↦ λ e g. (g, subst (λ y. can_follow max earlier y ≡ true) (same_row x r g) e)
   | false ↦ λ e g. absurd cc
 ] refl h
 
 same_rows : (a b : List Row) → (let r : Result (List Row) ℕ = Ok a in r) ≡ Ok b → a ≡ b
 same_rows a b h = cc
 
-rows_behind-Stand : (max : ℕ) (earlier : List Row) (ks : List KeptRow) (rows : List Row) → Stand max earlier → rows_behind max earlier ks ≡ Ok rows
+rows_behind-Stand : (max : ℕ) (earlier : List Row) (ks : List KeptRow) (rows : List Row) → Stand max earlier → rows_after max earlier ks ≡ Ok rows
     → (all_kept rows ≡ all_kept earlier ++ ks) × Stand max rows
 rows_behind-Stand max earlier [] rows s h =
     let same = same_rows earlier rows h in (ap all_kept (sym same) ∙ sym (append-nil (all_kept earlier)), subst (Stand max) same s)
 rows_behind-Stand max earlier (k ∷ ks) rows s h =
-    elim (row_behind max earlier (row_in k)) as (λ o. row_behind max earlier (row_in k) ≡ o → or_bad_row k.etag o (λ r. rows_behind max (earlier ++ r ∷ []) ks) ≡ Ok rows
+    elim (row_if_it_follows max earlier (row_in k)) as (λ o. row_if_it_follows max earlier (row_in k) ≡ o → or_bad_row k.etag o (λ r. rows_after max (earlier ++ r ∷ []) ks) ≡ Ok rows
     → (all_kept rows ≡ all_kept earlier ++ k ∷ ks) × Stand max rows) [
       | None ↦ λ e g. absurd cc
       | Some r ↦ λ e g.
@@ -368,18 +368,18 @@ four_of-rise words = ((refl, (refl, (refl, tt))), ((refl, (refl, tt)), ((refl, t
 members-told : (ms : Entries) (d : Definition) → Rises (object ms) → length (pairs_of ms) ≡ 4
     → (auto : Option Definition) → auto_read (member (codes "@metadata") ms) (member (codes "Collection") ms) (member (codes "Fields") ms) (member (codes "Kind") ms) ≡ auto
     → (words : Option (List ℕ)) → map_read (member (codes "@metadata") ms) (member (codes "Kind") ms) (member (codes "Map") ms) (member (codes "Reduce") ms) ≡ words
-    → IsTold (form_of auto words) d → object ms ≡ stored (row_body d)
+    → AgreesWithForm (form_of auto words) d → object ms ≡ stored_body (row_body d)
 members-told ms d up n (Some told) e words k h =
     let a = auto_read-IsAuto (member (codes "@metadata") ms) (member (codes "Collection") ms) (member (codes "Fields") ms) (member (codes "Kind") ms) told e in
     let they = they_are (four a.name a.field) ms (four-rise a.name a.field) up (a.metadata_is, (a.collection_is, (a.fields_are, (a.kind_is, tt)))) (omega arith) in
-    ap object they ∙ ap (λ x. stored (row_body x)) (a.definition_is ∙ sym h)
+    ap object they ∙ ap (λ x. stored_body (row_body x)) (a.definition_is ∙ sym h)
 members-told ms d up n None e (Some words) k h =
     let a = map_read-IsStatic (member (codes "@metadata") ms) (member (codes "Kind") ms) (member (codes "Map") ms) (member (codes "Reduce") ms) words k in
     let they = they_are (four_of words) ms (four_of-rise words) up (a.metadata_is, (a.kind_is, (a.map_is, (a.reduce_is, tt)))) (omega arith) in
-    ap object they ∙ ap (λ x. stored (row_body x)) (sym h.1)
+    ap object they ∙ ap (λ x. stored_body (row_body x)) (sym h.1)
 members-told ms d up n None e None k h = absurd h
 
-told-is : (v : Data) (d : Definition) → Rises v → IsTold (body_form v) d → v ≡ stored (row_body d)
+told-is : (v : Data) (d : Definition) → Rises v → AgreesWithForm (body_form v) d → v ≡ stored_body (row_body d)
 told-is null d up h = absurd h
 told-is (flag b) d up h = absurd h
 told-is (num n) d up h = absurd h
@@ -388,12 +388,12 @@ told-is (array ds) d up h = absurd h
 told-is (object ms) d up h =
     let auto = auto_read (member (codes "@metadata") ms) (member (codes "Collection") ms) (member (codes "Fields") ms) (member (codes "Kind") ms) in
     let words = map_read (member (codes "@metadata") ms) (member (codes "Kind") ms) (member (codes "Map") ms) (member (codes "Reduce") ms) in
-    elim (length (pairs_of ms) == 4) as (λ b. length (pairs_of ms) == 4 ≡ b → IsTold (cond b (form_of auto words) NoForm) d → object ms ≡ stored (row_body d)) [
+    elim (length (pairs_of ms) == 4) as (λ b. length (pairs_of ms) == 4 ≡ b → AgreesWithForm (cond b (form_of auto words) NoForm) d → object ms ≡ stored_body (row_body d)) [
       | true ↦ λ e g. members-told ms d up (eqb-true (length (pairs_of ms)) 4 e) auto refl words refl g
       | false ↦ λ e g. absurd g
     ] refl h
 
-pub toldin-is : (b : Body) (d : Definition) → BodyRises b → IsToldIn b d → b ≡ doc (stored (row_body d))
+pub toldin-is : (b : Body) (d : Definition) → BodyRises b → AgreesWithBody b d → b ≡ doc (stored_body (row_body d))
 toldin-is (doc v) d up h = ap doc (told-is v d up h)
 toldin-is gone d up h = absurd h
 
@@ -419,7 +419,7 @@ pub record IsMade (rows : List Row) (x : Slot) : Type 0 where
   pub defining : is_defining from ≡ true
   pub indexed : is_index_id from.id ≡ true
   pub definition : Definition
-  pub told : IsToldIn from.body definition
+  pub told : AgreesWithBody from.body definition
   pub made : slot_of from definition ≡ x
 
 -- the slots of the rows so far
@@ -457,7 +457,7 @@ plain-AreMade max rows slots r a up plain = record {
 
 -- the row of a definition adds its slot
 defining-AreMade : (max : ℕ) (rows : List Row) (slots : List Slot) (r : Row) (d : Definition) → AreMade max rows slots → last_of 0 rows < r.etag → length slots < max
-    → is_defining r ≡ true → is_index_id r.id ≡ true → IsToldIn r.body d → AreMade max (rows ++ r ∷ []) (slots ++ slot_of r d ∷ [])
+    → is_defining r ≡ true → is_index_id r.id ≡ true → AgreesWithBody r.body d → AreMade max (rows ++ r ∷ []) (slots ++ slot_of r d ∷ [])
 defining-AreMade max rows slots r d a up room is filed means = record {
   rising = NumbersRise-push 0 slots (slot_of r d) a.rising (omega arith) (λ x h. let u = a.under x h in omega arith);
   under = λ x h. let l = last_of-push 0 rows r in elim (Has-append slots (slot_of r d ∷ []) x h) [
@@ -521,7 +521,7 @@ with_slot-is slots r (Some d) more h = elim (may_be_named d (name_in r)) as (λ 
   | false ↦ λ e g. absurd cc
 ] refl h
 
-slots_after-AreMade : (s : Setting) (n : ℕ) (rows : List Row) (slots : List Slot) (x : ReadRow) (more : List Slot) → AreMade s.max_slots rows slots → last_of 0 rows < x.row.etag → IsToldBy x
+slots_after-AreMade : (s : Setting) (n : ℕ) (rows : List Row) (slots : List Slot) (x : ReadRow) (more : List Slot) → AreMade s.max_slots rows slots → last_of 0 rows < x.row.etag → HasOwnDefinition x
     → slots_after s n slots x ≡ Some more → AreMade s.max_slots (rows ++ x.row ∷ []) more
 slots_after-AreMade s n rows slots x more a up told h =
     let t = taken-of s n slots x more h in
@@ -538,7 +538,7 @@ same_opened : (a b : List Slot) → (let r : Result (List Slot) ℕ = Ok a in r)
 same_opened a b h = cc
 
 slots_from-AreMade : (s : Setting) (n : ℕ) (earlier : List Row) (slots : List Slot) (xs : List ReadRow) (all : List Slot) → AreMade s.max_slots earlier slots
-    → AreRising (last_of 0 earlier) (rows_of xs) → AreTold xs → slots_from s n slots xs ≡ Ok all → AreMade s.max_slots (earlier ++ rows_of xs) all
+    → AreRising (last_of 0 earlier) (rows_of xs) → HaveOwnDefinitions xs → slots_from s n slots xs ≡ Ok all → AreMade s.max_slots (earlier ++ rows_of xs) all
 slots_from-AreMade s n earlier slots [] all a up told h =
     subst (λ rows. AreMade s.max_slots rows all) (sym (append-nil earlier)) (subst (AreMade s.max_slots earlier) (same_opened slots all h) a)
 slots_from-AreMade s n earlier slots (x ∷ xs) all a up told h =
@@ -597,7 +597,7 @@ opened-listed max rows slots s most a = record {
         found = ap (λ (z : Slot). row_at (folded (index_id z.name)) rows) (sym m.made) ∙ ap (λ k. row_at k rows) (sym (indexed m.from.id m.indexed)) ∙ Has-found rows m.from s.apart m.there;
         etag = ap (λ (z : Slot). z.row) m.made;
         collection = (bytes_eq-Decides m.from.collection (codes "@indexes")).0 shut.1;
-        body = toldin-is m.from.body m.definition (s.rises m.from m.there) m.told ∙ ap (λ (z : Slot). doc (stored (row_body z.version.definition))) m.made;
+        body = toldin-is m.from.body m.definition (s.rises m.from m.there) m.told ∙ ap (λ (z : Slot). doc (stored_body (row_body z.version.definition))) m.made;
       };
   only = λ q r h is c.
       let at = find-Has (λ x. same_key q (key x)) rows r h in
@@ -633,7 +633,7 @@ same_machine_of a b h = cc
 
 -- slots that have recorded nothing yet
 abbrev AreFresh : List Slot → Type 0
-AreFresh slots = (x : Slot) → Has slots x → x.version ≡ fresh x.version.definition
+AreFresh slots = (x : Slot) → Has slots x → x.version ≡ new_version x.version.definition
 
 one-fresh : (s : Setting) (n : ℕ) (slots : List Slot) (x : ReadRow) (more : List Slot) → AreFresh slots → slots_after s n slots x ≡ Some more → AreFresh more
 one-fresh s n slots x more f h =
@@ -643,7 +643,7 @@ one-fresh s n slots x more f h =
           let w = with_slot-is slots x.row x.definition more g in
           subst AreFresh w.brought (λ y at. elim (Has-append slots (slot_of x.row w.definition ∷ []) y at) [
             | inl old ↦ f y old
-            | inr (inl e) ↦ subst (λ (z : Slot). z.version ≡ fresh z.version.definition) e refl
+            | inr (inl e) ↦ subst (λ (z : Slot). z.version ≡ new_version z.version.definition) e refl
             | inr (inr no_more) ↦ absurd no_more
           ])
       | false ↦ λ g. subst AreFresh (same_slots slots more g) f
@@ -662,7 +662,7 @@ pub record HoldsRows (s : Setting) (held : List KeptRow) (M : Machine) : Type 0 
   pub kept : all_kept M.world.store.rows ≡ held
   pub setting : M.world.setting ≡ s
   pub notes : M.world.notes ≡ []
-  pub slots : (x : Slot) → Has M.world.slots x → x.version ≡ fresh x.version.definition
+  pub slots : (x : Slot) → Has M.world.slots x → x.version ≡ new_version x.version.definition
 
 holds-rows : (s : Setting) (held : List KeptRow) (M : Machine) (xs : List ReadRow) → AreRowsOf s.max_rows held (rows_of xs)
     → (r : Result (List Slot) ℕ) → slots_from s 0 [] xs ≡ r → opened_with s (rows_of xs) r ≡ Ok M → HoldsRows s held M
@@ -674,7 +674,7 @@ holds-rows s held M xs f (Ok slots) k g =
 pub opened_from-rows : (s : Setting) (held : List KeptRow) (M : Machine) → OpenedFrom s held M → HoldsRows s held M
 opened_from-rows s held M from = holds-rows s held M from.read (rows_in-AreRowsOf s.max_rows held (rows_of from.read) from.rows) (slots_from s 0 [] from.read) refl from.opens
 
-opened-sound : (s : Setting) (held : List KeptRow) (M : Machine) (xs : List ReadRow) → AreRowsOf s.max_rows held (rows_of xs) → AreTold xs
+opened-sound : (s : Setting) (held : List KeptRow) (M : Machine) (xs : List ReadRow) → AreRowsOf s.max_rows held (rows_of xs) → HaveOwnDefinitions xs
     → (r : Result (List Slot) ℕ) → slots_from s 0 [] xs ≡ r → opened_with s (rows_of xs) r ≡ Ok M → Sound M.world
 opened-sound s held M xs f told (Err etag) k g = absurd cc
 opened-sound s held M xs f told (Ok slots) k g =
@@ -682,6 +682,6 @@ opened-sound s held M xs f told (Ok slots) k g =
     let a = slots_from-AreMade s 0 [] [] xs slots (none-AreMade s.max_slots) stand.rising told k in
     subst (λ (N : Machine). Sound N.world) (same_machine_of (machine_of s (rows_of xs) slots) M g) (world-Sound s (rows_of xs) slots f.stand a)
 
-pub opened_from-Sound : (s : Setting) (held : List KeptRow) (M : Machine) → OpenedAsTold s held M → Sound M.world
+pub opened_from-Sound : (s : Setting) (held : List KeptRow) (M : Machine) → OpenedFaithfully s held M → Sound M.world
 opened_from-Sound s held M o =
     let from = o.opened in opened-sound s held M from.read (rows_in-AreRowsOf s.max_rows held (rows_of from.read) from.rows) o.told (slots_from s 0 [] from.read) refl from.opens

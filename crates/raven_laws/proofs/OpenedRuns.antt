@@ -5,8 +5,8 @@ use Rattle.spec_store.specs.Commit.{Setting}
 use Rattle.spec_server.specs.Machine.{Machine, Event, run}
 use Rattle.spec_server.specs.Script.{Given, after_lines, events_of}
 use Rattle.spec_server.specs.Sound.{Sound, LaterW}
-use Rattle.raven_laws.specs.Claims.{FreshIsFromScratch, FreshIsExact, FlagsAreExact, IdsAreAsKept}
-use Rattle.raven_laws.specs.Opened.{OpenedAsTold}
+use Rattle.raven_laws.specs.Claims.{FreshIsFromScratch, FreshIsExact, FlagsAreExact, IdsAreSpelledAsStored}
+use Rattle.raven_laws.specs.Opened.{OpenedFaithfully}
 use Rattle.raven_laws.proofs.MachineLemmas.{run-Moves, run-append}
 use Rattle.raven_laws.proofs.MatchLemmas.{Sound-exact}
 use Rattle.raven_laws.proofs.AnswerLemmas.{Sound-fresh, Sound-flags, Sound-ids}
@@ -30,42 +30,42 @@ go-lines M all o = subst (λ (N : Machine). Sound N.world) (sym (lines-run all M
 
 -- FROM STORED ROWS
 
-pub kept-Sound : (setting : Setting) (held : List KeptRow) (M : Machine) (es : List Event) → OpenedAsTold setting held M → Sound (run es M).world
+pub kept-Sound : (setting : Setting) (held : List KeptRow) (M : Machine) (es : List Event) → OpenedFaithfully setting held M → Sound (run es M).world
 kept-Sound setting held M es h = go-Sound M es (opened_from-Sound setting held M h)
 
-pub kept-LaterW : (setting : Setting) (held : List KeptRow) (M : Machine) (es more : List Event) → OpenedAsTold setting held M → LaterW (run es M).world (run (es ++ more) M).world
+pub kept-LaterW : (setting : Setting) (held : List KeptRow) (M : Machine) (es more : List Event) → OpenedFaithfully setting held M → LaterW (run es M).world (run (es ++ more) M).world
 kept-LaterW setting held M es more h = go-on M es more (opened_from-Sound setting held M h)
 
-pub kept-fresh : (setting : Setting) (held : List KeptRow) (M : Machine) (es : List Event) → OpenedAsTold setting held M → FreshIsFromScratch (run es M)
+pub kept-fresh : (setting : Setting) (held : List KeptRow) (M : Machine) (es : List Event) → OpenedFaithfully setting held M → FreshIsFromScratch (run es M)
 kept-fresh setting held M es h = Sound-fresh (run es M) (kept-Sound setting held M es h)
 
-pub kept-exact : (setting : Setting) (held : List KeptRow) (M : Machine) (es : List Event) → OpenedAsTold setting held M → FreshIsExact (run es M)
+pub kept-exact : (setting : Setting) (held : List KeptRow) (M : Machine) (es : List Event) → OpenedFaithfully setting held M → FreshIsExact (run es M)
 kept-exact setting held M es h = Sound-exact (run es M) (kept-Sound setting held M es h)
 
-pub kept-flags : (setting : Setting) (held : List KeptRow) (M : Machine) (es : List Event) → OpenedAsTold setting held M → FlagsAreExact (run es M)
+pub kept-flags : (setting : Setting) (held : List KeptRow) (M : Machine) (es : List Event) → OpenedFaithfully setting held M → FlagsAreExact (run es M)
 kept-flags setting held M es h = Sound-flags (run es M) (kept-Sound setting held M es h)
 
-pub kept-ids : (setting : Setting) (held : List KeptRow) (M : Machine) (es : List Event) → OpenedAsTold setting held M → IdsAreAsKept (run es M)
+pub kept-ids : (setting : Setting) (held : List KeptRow) (M : Machine) (es : List Event) → OpenedFaithfully setting held M → IdsAreSpelledAsStored (run es M)
 kept-ids setting held M es h = Sound-ids (run es M) (kept-Sound setting held M es h)
 
 -- SCRIPTS FROM STORED ROWS
 
-pub lines-Sound : (setting : Setting) (held : List KeptRow) (M : Machine) (all : List Given) → OpenedAsTold setting held M → Sound (after_lines all M).world
+pub lines-Sound : (setting : Setting) (held : List KeptRow) (M : Machine) (all : List Given) → OpenedFaithfully setting held M → Sound (after_lines all M).world
 lines-Sound setting held M all h = go-lines M all (opened_from-Sound setting held M h)
 
-pub lines-LaterW : (setting : Setting) (held : List KeptRow) (M : Machine) (all more : List Given) → OpenedAsTold setting held M → LaterW (after_lines all M).world (after_lines (all ++ more) M).world
+pub lines-LaterW : (setting : Setting) (held : List KeptRow) (M : Machine) (all more : List Given) → OpenedFaithfully setting held M → LaterW (after_lines all M).world (after_lines (all ++ more) M).world
 lines-LaterW setting held M all more h =
     let N = after_lines all M in
     subst (λ (P : Machine). LaterW N.world P.world) (sym (lines-append all more M ∙ lines-run more N)) (go-LaterW N (events_of more) (lines-Sound setting held M all h))
 
-pub lines-fresh : (setting : Setting) (held : List KeptRow) (M : Machine) (all : List Given) → OpenedAsTold setting held M → FreshIsFromScratch (after_lines all M)
+pub lines-fresh : (setting : Setting) (held : List KeptRow) (M : Machine) (all : List Given) → OpenedFaithfully setting held M → FreshIsFromScratch (after_lines all M)
 lines-fresh setting held M all h = Sound-fresh (after_lines all M) (lines-Sound setting held M all h)
 
-pub lines-exact : (setting : Setting) (held : List KeptRow) (M : Machine) (all : List Given) → OpenedAsTold setting held M → FreshIsExact (after_lines all M)
+pub lines-exact : (setting : Setting) (held : List KeptRow) (M : Machine) (all : List Given) → OpenedFaithfully setting held M → FreshIsExact (after_lines all M)
 lines-exact setting held M all h = Sound-exact (after_lines all M) (lines-Sound setting held M all h)
 
-pub lines-flags : (setting : Setting) (held : List KeptRow) (M : Machine) (all : List Given) → OpenedAsTold setting held M → FlagsAreExact (after_lines all M)
+pub lines-flags : (setting : Setting) (held : List KeptRow) (M : Machine) (all : List Given) → OpenedFaithfully setting held M → FlagsAreExact (after_lines all M)
 lines-flags setting held M all h = Sound-flags (after_lines all M) (lines-Sound setting held M all h)
 
-pub lines-ids : (setting : Setting) (held : List KeptRow) (M : Machine) (all : List Given) → OpenedAsTold setting held M → IdsAreAsKept (after_lines all M)
+pub lines-ids : (setting : Setting) (held : List KeptRow) (M : Machine) (all : List Given) → OpenedFaithfully setting held M → IdsAreSpelledAsStored (after_lines all M)
 lines-ids setting held M all h = Sound-ids (after_lines all M) (lines-Sound setting held M all h)

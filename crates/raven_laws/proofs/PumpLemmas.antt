@@ -6,10 +6,10 @@ use Rattle.std.proofs.lemmas.List.{drop_all}
 use Rattle.raven_data.specs.Rows.{Row, key}
 use Rattle.spec_store.specs.Store.{row_at, Store, last, IsStore}
 use Rattle.raven_data.specs.Tables.{Scope, in_scope}
-use Rattle.spec_store.specs.Stale.{past, taken, left_over, stale}
+use Rattle.spec_store.specs.Stale.{past, batch_rows, left_over, stale}
 use Rattle.spec_index.specs.Index.{etag_after, etag_of_batch}
 use Rattle.spec_index.specs.World.{Version, Slot, reads, advanced}
-use Rattle.spec_server.specs.Machine.{Event, or_as_before, brought_on, pumping, pump, is_stale, start, run}
+use Rattle.spec_server.specs.Machine.{Event, or_as_before, after_batch, pumping, pump, is_stale, start, run}
 use Rattle.spec_store.specs.Commit.{Setting}
 use Rattle.spec_server.specs.Sound.{Has}
 use Rattle.spec_store.proofs.StoreLemmas.{either_false, same_itself, found_etag}
@@ -51,10 +51,10 @@ take_none zero = refl
 take_none (suc max) = refl
 
 -- if a batch takes nothing, the index is not stale
-nothing_taken : (S : Store) (scope : Scope) (e max : ℕ) → 1 ≤ max → taken scope e S max ≡ [] → stale S scope e None ≡ false
+nothing_taken : (S : Store) (scope : Scope) (e max : ℕ) → 1 ≤ max → batch_rows scope e S max ≡ [] → stale S scope e None ≡ false
 nothing_taken S scope e max some h = stale_past S scope e ∙ none_any (λ r. in_scope scope r && nat_lt e r.etag) S.rows (taken_none max (past scope e S) some h)
 
-takes_nothing : (S : Store) (scope : Scope) (e max : ℕ) → stale S scope e None ≡ false → taken scope e S max ≡ []
+takes_nothing : (S : Store) (scope : Scope) (e max : ℕ) → stale S scope e None ≡ false → batch_rows scope e S max ≡ []
 takes_nothing S scope e max h =
     ap (take max) (none_left (λ r. in_scope scope r && nat_lt e r.etag) S.rows (sym (stale_past S scope e) ∙ h)) ∙ take_none max
 
@@ -62,7 +62,7 @@ takes_nothing S scope e max h =
 
 pub stays-fresh : (S : Store) (s : Slot) (max : ℕ) → IsStore S → s.version.etag ≤ last S → 1 ≤ max → ((pumping S max s).to ≡ (pumping S max s).from) ↔ (is_stale S s ≡ false)
 stays-fresh S s max o within some =
-    elim (taken (reads v) v.etag S max) as (λ tk. taken (reads v) v.etag S max ≡ tk → ((or_as_before v (advanced v tk new)).etag ≡ v.etag) ↔ (is_stale S s ≡ false)) [
+    elim (batch_rows (reads v) v.etag S max) as (λ tk. batch_rows (reads v) v.etag S max ≡ tk → ((or_as_before v (advanced v tk new)).etag ≡ v.etag) ↔ (is_stale S s ≡ false)) [
       | [] ↦ λ e. (λ _. nothing_taken S (reads v) v.etag max some e, λ _. refl)
       | r ∷ rows ↦ λ e. (
         λ same. absurd (let f = t.from (key r) r (subst (λ tk. row_at (key r) tk ≡ Some r) (sym e) (first r rows)) in let a = ltb-true v.etag r.etag f.2 in let b = f.3 in omega arith),
@@ -76,7 +76,7 @@ stays-fresh S s max o within some =
     new : ℕ
     new = etag_of_batch (reads v) v.etag S max
 
-    t : Taken (reads v) S v.etag (taken (reads v) v.etag S max) new
+    t : Taken (reads v) S v.etag (batch_rows (reads v) v.etag S max) new
     t = Taken-batch (reads v) S v.etag max o within
 
     first : (r : Row) (rows : List Row) → row_at (key r) (r ∷ rows) ≡ Some r
@@ -84,14 +84,14 @@ stays-fresh S s max o within some =
 
 -- A BATCH THAT TAKES ALL LEAVES NOTHING UNSEEN
 
-pub all-fresh : (S : Store) (s : Slot) (max : ℕ) → IsStore S → 1 ≤ max → length S.rows ≤ max → is_stale S (brought_on S max s) ≡ false
+pub all-fresh : (S : Store) (s : Slot) (max : ℕ) → IsStore S → 1 ≤ max → length S.rows ≤ max → is_stale S (after_batch S max s) ≡ false
 all-fresh S s max o some most =
-    elim (taken (reads v) v.etag S max) as (λ tk. taken (reads v) v.etag S max ≡ tk → let w = or_as_before v (advanced v tk (etag_of_batch (reads v) v.etag S max)) in stale S (reads w) w.etag None ≡ false) [
+    elim (batch_rows (reads v) v.etag S max) as (λ tk. batch_rows (reads v) v.etag S max ≡ tk → let w = or_as_before v (advanced v tk (etag_of_batch (reads v) v.etag S max)) in stale S (reads w) w.etag None ≡ false) [
       | [] ↦ λ e. nothing_taken S (reads v) v.etag max some e
       | r ∷ rows ↦ λ e. seen-fresh S (reads v) (etag_of_batch (reads v) v.etag S max) None o (λ u.
           let a = (found_etag 0 u.id S.rows u.row o.rising u.found).1 in
           let b = u.past in
-          let c = ap (λ lo. etag_after v.etag (taken (reads v) v.etag S max) lo (last S)) nothing_left in omega arith)
+          let c = ap (λ lo. etag_after v.etag (batch_rows (reads v) v.etag S max) lo (last S)) nothing_left in omega arith)
     ] refl
   where
     v : Version
@@ -113,5 +113,5 @@ pub run-all : (setting : Setting) (events : List Event) (s : Slot) (max : ℕ) �
 run-all setting events s max some most h =
     let M = run events (start setting) in
     let o = run-Sound setting events in
-    let x = Has-map (brought_on M.world.store max) M.world.slots s h in
+    let x = Has-map (after_batch M.world.store max) M.world.slots s h in
     subst (λ (y : Slot). is_stale M.world.store y ≡ false) x.2 (all-fresh M.world.store x.0 max o.store some most)

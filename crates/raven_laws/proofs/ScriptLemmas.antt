@@ -5,7 +5,7 @@ use Rattle.spec_store.specs.Commit.{Setting}
 use Rattle.spec_server.specs.Machine.{Machine, Event, start, run}
 use Rattle.spec_server.specs.Sound.{Sound, LaterW}
 use Rattle.spec_server.specs.Script.{Do, LineRead, Circumstance, Given, event_of, left_by, after_line, after_lines, events_of}
-use Rattle.raven_laws.specs.Claims.{FreshIsFromScratch, FreshIsExact, FlagsAreExact, IdsAreAsKept}
+use Rattle.raven_laws.specs.Claims.{FreshIsFromScratch, FreshIsExact, FlagsAreExact, IdsAreSpelledAsStored}
 use Rattle.raven_laws.proofs.MachineLemmas.{run-Sound, run-Moves}
 use Rattle.raven_laws.proofs.MatchLemmas.{Sound-exact}
 use Rattle.raven_laws.proofs.AnswerLemmas.{Sound-fresh, Sound-flags, Sound-ids}
@@ -41,5 +41,5 @@ lines-exact setting all = Sound-exact (after_lines all (start setting)) (lines-S
 pub lines-flags : (setting : Setting) (all : List Given) → FlagsAreExact (after_lines all (start setting))
 lines-flags setting all = Sound-flags (after_lines all (start setting)) (lines-Sound setting all)
 
-pub lines-ids : (setting : Setting) (all : List Given) → IdsAreAsKept (after_lines all (start setting))
+pub lines-ids : (setting : Setting) (all : List Given) → IdsAreSpelledAsStored (after_lines all (start setting))
 lines-ids setting all = Sound-ids (after_lines all (start setting)) (lines-Sound setting all)

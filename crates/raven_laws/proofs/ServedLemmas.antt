@@ -8,8 +8,8 @@ use Rattle.spec_store.specs.Commit.{Client, Command, Refused, Server, Written, c
 use Rattle.spec_index.specs.Optimiser.{Choice, Make, Merge, Use, name_of, pick}
 use Rattle.spec_index.specs.World.{Slot, SlotChange, SlotRefusal, World, added, added_if_room, batch, define, define_at, define_named, is_named, name_refusal, removed, serving, unless_refused}
 use Rattle.spec_server.specs.Replies.{Reply, Result as Done}
-use Rattle.spec_server.specs.Replies as told
-use Rattle.spec_server.specs.Machine.{Auto, Bulk, Change, Define, Delete, Find, Get, Indexes, Keeping, Machine, Pump, Put, Remove, Request, Stale, Stats, brought_on, brought_on_if, change_of, is_taken, one_field, or_as_before, pump, pump_at, reslotted, rewrote, same_machine, settled, single_reply, use_or_make, write, wrote}
+use Rattle.spec_server.specs.Replies as replies
+use Rattle.spec_server.specs.Machine.{Auto, Bulk, Change, Define, Delete, Find, Get, Indexes, Keeping, Machine, Pump, Put, Remove, Request, Stale, Stats, after_batch, after_batch_if_named, change_of, is_taken, one_field, or_as_before, pump, pump_at, change_of_slots, rewrote, same_machine, settled, single_reply, use_or_make, write, wrote}
 use Rattle.spec_server.specs.Sound.{Continues, Has, Sound}
 use Rattle.spec_store.proofs.StoreLemmas.{same_means}
 use Rattle.raven_laws.specs.Served.{ServedStays, StaysOrIsRemoved, StillServes}
@@ -81,7 +81,7 @@ rewrote-Stays M reply c (Err refused) has = itself M
 rewrote-Stays M reply c (Ok w) has = λ name s h. itself (rewrote M reply c.slots (Ok w)).machine name s (has name s h)
 
 reslotted-Stays : (M : Machine) (now : ℕ) (reply : List ℕ → Reply) (name : List ℕ) (r : Result SlotChange SlotRefusal) → ((c : SlotChange) → r ≡ Ok c → HasServed M.world c)
-    → Stays M (reslotted M now reply name r).machine
+    → Stays M (change_of_slots M now reply name r).machine
 reslotted-Stays M now reply name (Err refusal) has = itself M
 reslotted-Stays M now reply name (Ok c) has = rewrote-Stays M (reply c.name) c (commit M.world.setting Server now c.commands M.world.store) (has c refl)
 
@@ -117,12 +117,12 @@ auto-Stays M now (Use s) = itself M
 auto-Stays M now (Make shape) =
     let name = name_of M.world.slots (last M.world.store + 1) shape in
     let d = Definition.Auto shape.collection shape.fields in
-    reslotted-Stays M now told.Index name (define M.world name d) (define-has M.world name d)
+    reslotted-Stays M now replies.Index name (define M.world name d) (define-has M.world name d)
 auto-Stays M now Merge = itself M
 
 -- BATCHES
 
-brought-Continues : (W : World) (x : Slot) (max : ℕ) → Sound W → Has W.slots x → Continues x (brought_on W.store max x)
+brought-Continues : (W : World) (x : Slot) (max : ℕ) → Sound W → Has W.slots x → Continues x (after_batch W.store max x)
 brought-Continues W x max o h =
     elim (batch x.version W.store max) as (λ b. batch x.version W.store max ≡ b → Continues x (record { number = x.number; name = x.name; version = or_as_before x.version b; row = x.row })) [
       | None ↦ λ e. record { number = refl; definition = refl; onward = omega arith }
@@ -131,16 +131,16 @@ brought-Continues W x max o h =
 
 pump-Stays : (M : Machine) (max : ℕ) → Sound M.world → Stays M (pump M max).machine
 pump-Stays M max o name s h = record {
-  slot = brought_on M.world.store max s;
-  serves = serving-map (brought_on M.world.store max) M.world.slots name s (λ x. (brought-Keeps M.world.store max x).name) h;
+  slot = after_batch M.world.store max s;
+  serves = serving-map (after_batch M.world.store max) M.world.slots name s (λ x. (brought-Keeps M.world.store max x).name) h;
   continues = brought-Continues M.world s max o (served M.world.slots name s h).0;
 }
 
-if_named-name : (S : Store) (max : ℕ) (name : List ℕ) (x : Slot) → (brought_on_if S max name x).name ≡ x.name
-if_named-name S max name x = elim (is_named name x) as (λ b. (cond b (brought_on S max x) x).name ≡ x.name) [ true ↦ (brought-Keeps S max x).name | false ↦ refl ]
+if_named-name : (S : Store) (max : ℕ) (name : List ℕ) (x : Slot) → (after_batch_if_named S max name x).name ≡ x.name
+if_named-name S max name x = elim (is_named name x) as (λ b. (cond b (after_batch S max x) x).name ≡ x.name) [ true ↦ (brought-Keeps S max x).name | false ↦ refl ]
 
-if_named-Continues : (W : World) (x : Slot) (max : ℕ) (name : List ℕ) → Sound W → Has W.slots x → Continues x (brought_on_if W.store max name x)
-if_named-Continues W x max name o h = elim (is_named name x) as (λ b. Continues x (cond b (brought_on W.store max x) x)) [
+if_named-Continues : (W : World) (x : Slot) (max : ℕ) (name : List ℕ) → Sound W → Has W.slots x → Continues x (after_batch_if_named W.store max name x)
+if_named-Continues W x max name o h = elim (is_named name x) as (λ b. Continues x (cond b (after_batch W.store max x) x)) [
   | true ↦ brought-Continues W x max o h
   | false ↦ record { number = refl; definition = refl; onward = omega arith }
 ]
@@ -148,8 +148,8 @@ if_named-Continues W x max name o h = elim (is_named name x) as (λ b. Continues
 pump_at-Stays : (M : Machine) (max : ℕ) (name : List ℕ) (there : Option Slot) → Sound M.world → Stays M (pump_at M max name there).machine
 pump_at-Stays M max name None o n s h = itself M n s h
 pump_at-Stays M max name (Some t) o n s h = record {
-  slot = brought_on_if M.world.store max name s;
-  serves = serving-map (brought_on_if M.world.store max name) M.world.slots n s (if_named-name M.world.store max name) h;
+  slot = after_batch_if_named M.world.store max name s;
+  serves = serving-map (after_batch_if_named M.world.store max name) M.world.slots n s (if_named-name M.world.store max name) h;
   continues = if_named-Continues M.world s max name o (served M.world.slots n s h).0;
 }
 
@@ -174,7 +174,7 @@ taken-removal M given x S name s there h =
     ] refl
 
 remove-answered : (M : Machine) (k : Keeping) (now : ℕ) (given : List ℕ) (there : Option Slot) → serving M.world.slots given ≡ there
-    → (name : List ℕ) (s : Slot) → serving M.world.slots name ≡ Some s → StaysOrIsRemoved (Remove given) (settled M k (reslotted M now Reply.Removed given (removed M.world given there))) name s
+    → (name : List ℕ) (s : Slot) → serving M.world.slots name ≡ Some s → StaysOrIsRemoved (Remove given) (settled M k (change_of_slots M now Reply.Removed given (removed M.world given there))) name s
 remove-answered M k now given None e name s h = inl (itself M name s h)
 remove-answered M k now given (Some x) e name s h = by (commit M.world.setting Server now (taken_out M.world given x).commands M.world.store)
   where
@@ -196,10 +196,10 @@ step-served M k now (Put id expected body) o name s h =
 step-served M k now (Delete id expected) o name s h =
     inl (settled-Stays M k (write M single_reply now (Command.Delete id expected ∷ [])) (wrote-Stays M single_reply now (Command.Delete id expected ∷ []) (commit M.world.setting Client now (Command.Delete id expected ∷ []) M.world.store)) name s h)
 step-served M k now (Bulk commands) o name s h =
-    inl (settled-Stays M k (write M told.Bulk now commands) (wrote-Stays M told.Bulk now commands (commit M.world.setting Client now commands M.world.store)) name s h)
+    inl (settled-Stays M k (write M replies.Bulk now commands) (wrote-Stays M replies.Bulk now commands (commit M.world.setting Client now commands M.world.store)) name s h)
 step-served M k now (Get id) o name s h = inl (itself M name s h)
 step-served M k now (Define given d) o name s h =
-    inl (settled-Stays M k (change_of M now (Define given d)) (reslotted-Stays M now told.Index given (define_named M.world given d) (define_named-has M.world given d)) name s h)
+    inl (settled-Stays M k (change_of M now (Define given d)) (reslotted-Stays M now replies.Index given (define_named M.world given d) (define_named-has M.world given d)) name s h)
 step-served M k now (Remove given) o name s h = remove-answered M k now given (serving M.world.slots given) refl name s h
 step-served M k now (Auto collection field) o name s h =
     inl (settled-Stays M k (change_of M now (Auto collection field)) (auto-Stays M now (pick (one_field collection field) M.world.store M.world.slots)) name s h)

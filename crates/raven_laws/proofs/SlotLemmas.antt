@@ -6,10 +6,10 @@ use Rattle.raven_data.specs.Rows.{Row}
 use Rattle.spec_store.specs.Store.{Store, IsStore}
 use Rattle.spec_store.specs.Later.{Later}
 use Rattle.spec_index.specs.Index.{Agrees, etag_of_batch}
-use Rattle.spec_store.specs.Stale.{taken}
+use Rattle.spec_store.specs.Stale.{batch_rows}
 use Rattle.raven_data.specs.Tables.{note_rows}
 use Rattle.index_tree.specs.Definitions.{Definition}
-use Rattle.spec_index.specs.World.{Version, Slot, reads, fresh, advanced, batch, serving}
+use Rattle.spec_index.specs.World.{Version, Slot, reads, new_version, advanced, batch, serving}
 use Rattle.spec_server.specs.Sound.{Has, Fits, NumbersRise, NamesApart}
 use Rattle.spec_store.proofs.StoreLemmas.{found_etag, same_itself, same_means}
 use Rattle.raven_laws.proofs.IndexLemmas.{Taken, Agrees-later, Agrees-batch, Taken-batch}
@@ -147,7 +147,7 @@ serves slots s apart h = elim (serving slots s.name) as (λ o. serving slots s.n
 pub Fits-later : (S N : Store) (v : Version) → Fits S v → Later S N → Fits N v
 Fits-later S N v f l = record { agrees = Agrees-later (reads v) v.table S N v.etag f.agrees l f.within; within = let a = f.within in let b = l.grown in omega arith }
 
-pub Fits-fresh : (S : Store) (d : Definition) → IsStore S → Fits S (fresh d)
+pub Fits-fresh : (S : Store) (d : Definition) → IsStore S → Fits S (new_version d)
 Fits-fresh S d s = record {
   agrees = record {
     known = λ q t h. absurd (none q t h);
@@ -159,7 +159,7 @@ Fits-fresh S d s = record {
   within = omega arith;
 }
   where
-    none : (q : List ℕ) (t : Row) → get (fresh d).table q ≡ Some t → ⊥
+    none : (q : List ℕ) (t : Row) → get (new_version d).table q ≡ Some t → ⊥
     none q t h = let e = sym (get-empty key_cmp q) ∙ h in cc
 
 pub record Brought (S : Store) (v new : Version) : Type 0 where
@@ -168,9 +168,9 @@ pub record Brought (S : Store) (v new : Version) : Type 0 where
   pub onward : v.etag ≤ new.etag
 
 pub batch-Brought : (S : Store) (v new : Version) (max : ℕ) → IsStore S → Fits S v → batch v S max ≡ Some new → Brought S v new
-batch-Brought S v new max s f is = by (taken (reads v) v.etag S max) (Agrees-batch (reads v) v.table S v.etag max s f.agrees f.within) is
+batch-Brought S v new max s f is = by (batch_rows (reads v) v.etag S max) (Agrees-batch (reads v) v.table S v.etag max s f.agrees f.within) is
   where
-    t : Taken (reads v) S v.etag (taken (reads v) v.etag S max) (etag_of_batch (reads v) v.etag S max)
+    t : Taken (reads v) S v.etag (batch_rows (reads v) v.etag S max) (etag_of_batch (reads v) v.etag S max)
     t = Taken-batch (reads v) S v.etag max s f.within
 
     by : (rows : List Row) → Agrees (reads v) (note_rows v.table rows) S (etag_of_batch (reads v) v.etag S max) → advanced v rows (etag_of_batch (reads v) v.etag S max) ≡ Some new → Brought S v new

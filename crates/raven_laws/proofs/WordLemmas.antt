@@ -5,7 +5,7 @@ use Rattle.std.proofs.lemmas.Fmt.{decimal-digits_value, decimal_is_IsNumeral, di
 use Rattle.std.proofs.lemmas.Str.Parse.{IsDigitsTest, IsNumeralModel, digits_value_short, numerals_by_fold}
 use Rattle.std.specs.Fmt.{decimal}
 use Rattle.std.specs.List.{list_all}
-use Rattle.spec_server.specs.Script.{after_space, before_space, both_parts, has_byte, is_digit, number_from, number_of, word_and_rest}
+use Rattle.spec_server.specs.Script.{after_space, before_space, both_parts, has_byte, is_digit, number_from, number_of, argument_and_rest}
 use Rattle.raven_laws.specs.Words.{IsNumber, IsSplit, zeros}
 
 -- THE FIRST SPACE
@@ -34,7 +34,7 @@ both-Some (b ∷ bs) (Some (c ∷ cs)) w r h =
     let rest : c ∷ cs ≡ r = ap (λ (x : List ℕ × List ℕ). x.1) same in
     (word, ap Some rest, subst (λ xs. 0 < length xs) word (omega arith), subst (λ xs. 0 < length xs) rest (omega arith))
 
-split-from : (text w r : List ℕ) → word_and_rest text ≡ Some (w, r) → IsSplit text w r
+split-from : (text w r : List ℕ) → argument_and_rest text ≡ Some (w, r) → IsSplit text w r
 split-from text w r h =
     let b = both-Some (before_space text) (after_space text) w r h in
     record {
@@ -63,14 +63,14 @@ both-of [] r h g = absurd (omega arith)
 both-of (b ∷ bs) [] h g = absurd (omega arith)
 both-of (b ∷ bs) (c ∷ cs) h g = refl
 
-split-to : (text w r : List ℕ) → IsSplit text w r → word_and_rest text ≡ Some (w, r)
+split-to : (text w r : List ℕ) → IsSplit text w r → argument_and_rest text ≡ Some (w, r)
 split-to text w r s =
-    ap word_and_rest s.parts
+    ap argument_and_rest s.parts
     ∙ ap (λ x. both_parts x (after_space (w ++ 32 ∷ r))) (before-append w r s.spaceless)
     ∙ ap (both_parts w) (after-append w r s.spaceless)
     ∙ both-of w r s.word_has_bytes s.rest_has_bytes
 
-pub word-split : (text w r : List ℕ) → (word_and_rest text ≡ Some (w, r)) ↔ IsSplit text w r
+pub word-split : (text w r : List ℕ) → (argument_and_rest text ≡ Some (w, r)) ↔ IsSplit text w r
 word-split text w r = (split-from text w r, split-to text w r)
 
 -- NUMBERS

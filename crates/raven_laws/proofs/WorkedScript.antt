@@ -15,7 +15,7 @@ use Rattle.raven_data.specs.Json.{JsonRefusal, not_json, too_deep, reading, whol
 use Rattle.raven_data.specs.Scan.{is_too_deep, outside}
 use Rattle.spec_store.specs.Commit.{AnyVector, Vector}
 use Rattle.spec_server.specs.Replies.{Found, printed}
-use Rattle.spec_server.specs.Machine.{Machine, Request, Delete, Get, Remove, Auto, Find, Pump, Stale, Indexes, Stats, start, untroubled}
+use Rattle.spec_server.specs.Machine.{Machine, Request, Delete, Get, Remove, Auto, Find, Pump, Stale, Indexes, Stats, start, takes_all}
 use Rattle.spec_server.specs.Lines.{lines}
 use Rattle.spec_server.specs.Script.{Do, ReadRefusal, UnknownLine, BadJson, BadId, BadName, BadMember, Given, then_read, put_read, json_read, request_of, line_of, LineRead, Plain, Defining, texts_of_body, index_of, asked_to_define, asked_of, written_for, left_by, reply_to, after_line, replies_to}
 use Rattle.spec_store.specs.Limits.{program}
@@ -225,11 +225,11 @@ index_nothing = refl
 
 -- a line at moment 0, with a keeper that takes all
 abbrev plainly : List ℕ → Given
-plainly line = record { line = line; read = line_of line; circumstance = record { now = 0; keeping = untroubled } }
+plainly line = record { line = line; read = line_of line; circumstance = record { now = 0; keeping = takes_all } }
 
 abbrev written_from : List LineRead → Machine → List ℕ
 written_from [] M = []
-written_from (r ∷ rs) M = written_for M (record { now = 0; keeping = untroubled }) r ++ written_from rs (left_by M (record { now = 0; keeping = untroubled }) r)
+written_from (r ∷ rs) M = written_for M (record { now = 0; keeping = takes_all }) r ++ written_from rs (left_by M (record { now = 0; keeping = takes_all }) r)
 
 by_lines : (all : List (List ℕ)) (M : Machine) → replies_to (map plainly all) M ≡ written_from (map line_of all) M
 by_lines [] M = refl

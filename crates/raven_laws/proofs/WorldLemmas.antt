@@ -6,7 +6,7 @@ use Rattle.spec_store.specs.Store.{Store, last, IsStore}
 use Rattle.spec_store.specs.Later.{Later}
 use Rattle.index_tree.specs.Definitions.{Definition, same_definition}
 use Rattle.spec_store.specs.Commit.{Command, Put, Delete, AnyVector, after_commands}
-use Rattle.spec_index.specs.World.{Slot, Note, World, fresh, serving, SlotChange, SlotRefusal, NameServes, TooManyIndexes, added, added_if_room, define, define_at, define_named, index_id, is_named, name_refusal, remove, removed, unless_refused}
+use Rattle.spec_index.specs.World.{Slot, Note, World, new_version, serving, SlotChange, SlotRefusal, NameServes, TooManyIndexes, added, added_if_room, define, define_at, define_named, index_id, is_named, name_refusal, remove, removed, unless_refused}
 use Rattle.spec_server.specs.Sound.{Has, Fits, NumbersRise, NamesApart, AreListed, Sound, IsOldOrNew, HasItsName, LaterW}
 use Rattle.spec_store.proofs.LaterLemmas.{Later-itself, Later-then}
 use Rattle.raven_laws.proofs.ListedLemmas.{put-AreListed, delete-AreListed}
@@ -114,7 +114,7 @@ added-Settles W S name d o free room t = record {
 }
   where
     new : Slot
-    new = record { number = last W.store + 1; name = name; version = fresh d; row = last W.store + 1 }
+    new = record { number = last W.store + 1; name = name; version = new_version d; row = last W.store + 1 }
 
 pub same_change : (a c : SlotChange) → (let r : Result SlotChange SlotRefusal = Ok a in r) ≡ Ok c → a ≡ c
 same_change a c h = cc

@@ -7,13 +7,13 @@ use Rattle.raven_data.specs.Folding.{folded, same_key}
 use Rattle.raven_data.specs.Rows.{Row, key}
 use Rattle.spec_store.specs.Store.{Store, row_at, last, put}
 use Rattle.index_tree.specs.Definitions.{Definition, same_definition}
-use Rattle.spec_store.specs.Commit.{Command, Expect, Client, Server, Setting, Refused, Written, after_command, after_commands, commit, document_at, id_of, is_index_id, kept_spelling, refusal_of, row_of, tombstone, unless, vector_of, with_option, with_written, etags_taken}
+use Rattle.spec_store.specs.Commit.{Command, Expect, Client, Server, Setting, Refused, Written, after_command, after_commands, commit, document_at, id_of, is_index_id, row_spelling, refusal_of, row_of, tombstone, or_refused, vector_of, with_option, with_written, etags_taken}
 use Rattle.spec_server.specs.Replies.{Reply, Result as Done}
-use Rattle.spec_server.specs.Replies as told
+use Rattle.spec_server.specs.Replies as replies
 use Rattle.spec_index.specs.World.{Slot, World, SlotChange, SlotRefusal, added, added_if_room, define, define_at, define_named, name_refusal, remove, removed, serving, unless_refused}
 use Rattle.spec_index.specs.Optimiser.{Choice, Use, Make, Merge, name_of, pick}
-use Rattle.spec_server.specs.Machine.{Machine, Change, Event, Keeping, Replied, Request, Put, Delete, Bulk, Get, Define, Remove, Auto, Find, Pump, Stale, Indexes, Stats, after, change_of, commands_in, is_first_taken, is_taken, one_field, pump_at, reslotted, rewrote, run, same_machine, settled, single_reply, start, step, use_or_make, write, wrote, results_of}
-use Rattle.raven_laws.specs.Writes.{row_given, AreWritten, BulkIsAnswered, DeleteIsAnswered, IsCommanded, IsDeleted, IsNotThere, IsPutKept, IsRefused, IsUnkept, IsWritten, OnlyReads, PutIsAnswered}
+use Rattle.spec_server.specs.Machine.{Machine, Change, Event, Keeping, Replied, Request, Put, Delete, Bulk, Get, Define, Remove, Auto, Find, Pump, Stale, Indexes, Stats, after, change_of, commands_in, is_first_taken, is_taken, one_field, pump_at, change_of_slots, rewrote, run, same_machine, settled, single_reply, start, step, use_or_make, write, wrote, results_of}
+use Rattle.raven_laws.specs.Writes.{row_given, AreWritten, BulkIsAnswered, DeleteIsAnswered, IsCommanded, IsDeleted, IsNotThere, IsPut, IsRefused, IsKeeperFault, IsWritten, OnlyReads, PutIsAnswered}
 use Rattle.spec_store.proofs.StoreLemmas.{found_key, row_at-put, same_itself, same_row}
 use Rattle.spec_store.proofs.CommitLemmas.{document_found, put_key}
 use Rattle.raven_laws.proofs.ListedLemmas.{commit_from-applied}
@@ -43,17 +43,17 @@ first_or_not (true ∷ more) = inl refl
 first_or_not (false ∷ more) = inr (more, refl)
 
 pub unkept : (M : Machine) (k : Keeping) (kept : Replied) (later : List Bool) → k.takes ≡ false ∷ later
-    → IsUnkept M k (cond (is_first_taken k.takes) kept (same_machine M (Reply.KeeperFault k.before k.after)))
-unkept M k kept later e = subst (λ b. IsUnkept M k (cond b kept (same_machine M (Reply.KeeperFault k.before k.after)))) (sym (ap is_first_taken e)) (record {
+    → IsKeeperFault M k (cond (is_first_taken k.takes) kept (same_machine M (Reply.KeeperFault k.before k.after)))
+unkept M k kept later e = subst (λ b. IsKeeperFault M k (cond b kept (same_machine M (Reply.KeeperFault k.before k.after)))) (sym (ap is_first_taken e)) (record {
   later = later;
   failed = e;
-  told = refl;
+  reply = refl;
 })
 
 -- PUTS
 
 abbrev pub new_row : Machine → ℕ → List ℕ → Data → Row
-new_row M now id body = row_given M.world.store now (kept_spelling id (row_at (folded id) M.world.store.rows)) body
+new_row M now id body = row_given M.world.store now (row_spelling id (row_at (folded id) M.world.store.rows)) body
 
 pub put-answered : (M : Machine) (k : Keeping) (now : ℕ) (id : List ℕ) (expected : Expect) (body : Data) → PutIsAnswered M k now id expected body
 put-answered M k now id expected body =
@@ -64,23 +64,23 @@ put-answered M k now id expected body =
     let done : Written = record { store = N; rows = r ∷ [] } in
     let under = put_key id rows in
     let kept : Replied = record {
-      reply = Reply.Put (vector_of M.world.setting.base (last M.world.store + 1)) (kept_spelling id (row_at (folded id) N.rows));
+      reply = Reply.Put (vector_of M.world.setting.base (last M.world.store + 1)) (row_spelling id (row_at (folded id) N.rows));
       machine = record { world = record { setting = M.world.setting; store = N; slots = M.world.slots; notes = M.world.notes } };
     } in
     elim (refusal_of M.world.setting Client M.world.store c) as (λ o.
     refusal_of M.world.setting Client M.world.store c ≡ o
-    → let replied = settled M k (wrote M single_reply now (c ∷ []) (unless o 0 (Ok done))) in
-    IsRefused M now (c ∷ []) replied ⊎ (IsUnkept M k replied ⊎ IsPutKept M k now id expected body replied)) [
-      | None ↦ λ e. inr (elim (first_or_not k.takes) as (λ _. let replied = settled M k (wrote M single_reply now (c ∷ []) (Ok done)) in IsUnkept M k replied ⊎ IsPutKept M k now id expected body replied) [
-        | inl taken ↦ inr (subst (λ b. IsPutKept M k now id expected body (cond b kept (same_machine M (Reply.KeeperFault k.before k.after)))) (sym taken) (record {
+    → let replied = settled M k (wrote M single_reply now (c ∷ []) (or_refused o 0 (Ok done))) in
+    IsRefused M now (c ∷ []) replied ⊎ (IsKeeperFault M k replied ⊎ IsPut M k now id expected body replied)) [
+      | None ↦ λ e. inr (elim (first_or_not k.takes) as (λ _. let replied = settled M k (wrote M single_reply now (c ∷ []) (Ok done)) in IsKeeperFault M k replied ⊎ IsPut M k now id expected body replied) [
+        | inl taken ↦ inr (subst (λ b. IsPut M k now id expected body (cond b kept (same_machine M (Reply.KeeperFault k.before k.after)))) (sym taken) (record {
           allowed = record { unrefused = e; taken = taken };
-          told = ap (λ o. Reply.Put (vector_of M.world.setting.base (last M.world.store + 1)) (kept_spelling id o)) (found_again (folded id) r rows under);
+          reply = ap (λ o. Reply.Put (vector_of M.world.setting.base (last M.world.store + 1)) (row_spelling id o)) (found_again (folded id) r rows under);
           kept = found_again (folded id) r rows under;
           others = record { rows = others_stay M id r under; indexes = refl };
         }))
         | inr failed ↦ inl (unkept M k kept failed.0 failed.1)
       ])
-      | Some kind ↦ λ e. inl (record { refused = record { at = 0; kind = kind }; cause = ap (λ o. unless o 0 (Ok done)) e; told = refl })
+      | Some kind ↦ λ e. inl (record { refused = record { at = 0; kind = kind }; cause = ap (λ o. or_refused o 0 (Ok done)) e; reply = refl })
     ] refl
 
 -- DELETIONS
@@ -98,22 +98,22 @@ deletion M now id expected d =
 
 taken-deletion : (M : Machine) (k : Keeping) (now : ℕ) (id : List ℕ) (expected : Expect) (d : Option Row)
     → refusal_of M.world.setting Client M.world.store (Command.Delete id expected) ≡ None → document_at M.world.store (folded id) ≡ d
-    → let replied = settled M k (deletion M now id expected d) in IsUnkept M k replied ⊎ (IsNotThere M id expected replied ⊎ IsDeleted M k now id expected replied)
-taken-deletion M k now id expected None allowed e = inr (inl (record { unrefused = allowed; none = e; told = refl }))
+    → let replied = settled M k (deletion M now id expected d) in IsKeeperFault M k replied ⊎ (IsNotThere M id expected replied ⊎ IsDeleted M k now id expected replied)
+taken-deletion M k now id expected None allowed e = inr (inl (record { unrefused = allowed; none = e; reply = refl }))
 taken-deletion M k now id expected (Some d) allowed e =
     let r = tombstone (last M.world.store + 1) now d in
     let rows = M.world.store.rows in
     let under : key r ≡ folded id = sym (found_key (folded id) rows d (document_found M.world.store (folded id) d e)) in
     let kept : Replied = record {
-      reply = Reply.Deleted true (kept_spelling id (row_at (folded id) (put r rows)));
+      reply = Reply.Deleted true (row_spelling id (row_at (folded id) (put r rows)));
       machine = record { world = record { setting = M.world.setting; store = record { rows = put r rows }; slots = M.world.slots; notes = M.world.notes } };
     } in
-    elim (first_or_not k.takes) as (λ _. let replied = settled M k (deletion M now id expected (Some d)) in IsUnkept M k replied ⊎ (IsNotThere M id expected replied ⊎ IsDeleted M k now id expected replied)) [
+    elim (first_or_not k.takes) as (λ _. let replied = settled M k (deletion M now id expected (Some d)) in IsKeeperFault M k replied ⊎ (IsNotThere M id expected replied ⊎ IsDeleted M k now id expected replied)) [
       | inl taken ↦ inr (inr (subst (λ b. IsDeleted M k now id expected (cond b kept (same_machine M (Reply.KeeperFault k.before k.after)))) (sym taken) (record {
         allowed = record { unrefused = allowed; taken = taken };
         row = d;
         there = e;
-        told = ap (λ o. Reply.Deleted true (kept_spelling id o)) (found_again (folded id) r rows under);
+        reply = ap (λ o. Reply.Deleted true (row_spelling id o)) (found_again (folded id) r rows under);
         kept = found_again (folded id) r rows under;
         others = record { rows = others_stay M id r under; indexes = refl };
       })))
@@ -126,10 +126,10 @@ delete-answered M k now id expected =
     let done = with_written (row_of now M.world.store c) (record { store = M.world.store; rows = [] }) in
     elim (refusal_of M.world.setting Client M.world.store c) as (λ o.
     refusal_of M.world.setting Client M.world.store c ≡ o
-    → let replied = settled M k (wrote M single_reply now (c ∷ []) (unless o 0 (Ok done))) in
-    IsRefused M now (c ∷ []) replied ⊎ (IsUnkept M k replied ⊎ (IsNotThere M id expected replied ⊎ IsDeleted M k now id expected replied))) [
+    → let replied = settled M k (wrote M single_reply now (c ∷ []) (or_refused o 0 (Ok done))) in
+    IsRefused M now (c ∷ []) replied ⊎ (IsKeeperFault M k replied ⊎ (IsNotThere M id expected replied ⊎ IsDeleted M k now id expected replied))) [
       | None ↦ λ e. inr (taken-deletion M k now id expected (document_at M.world.store (folded id)) e refl)
-      | Some kind ↦ λ e. inl (record { refused = record { at = 0; kind = kind }; cause = ap (λ o. unless o 0 (Ok done)) e; told = refl })
+      | Some kind ↦ λ e. inl (record { refused = record { at = 0; kind = kind }; cause = ap (λ o. or_refused o 0 (Ok done)) e; reply = refl })
     ] refl
 
 -- TRANSACTIONS
@@ -146,21 +146,21 @@ bulk-kept M k now commands w e taken = record {
   wrote = w;
   unrefused = e;
   taken = taken;
-  told = refl;
+  reply = refl;
   written = commit_from-applied 0 M.world.setting Client now commands (record { store = M.world.store; rows = [] }) w e;
   indexes = refl;
 }
 
 bulk-answered-of : (M : Machine) (k : Keeping) (now : ℕ) (commands : List Command) (o : Result Written Refused) → commit M.world.setting Client now commands M.world.store ≡ o
-    → let replied = settled M k (wrote M Reply.Bulk now commands o) in IsRefused M now commands replied ⊎ (IsUnkept M k replied ⊎ AreWritten M k now commands replied)
-bulk-answered-of M k now commands (Err refused) e = inl (record { refused = refused; cause = e; told = refl })
+    → let replied = settled M k (wrote M Reply.Bulk now commands o) in IsRefused M now commands replied ⊎ (IsKeeperFault M k replied ⊎ AreWritten M k now commands replied)
+bulk-answered-of M k now commands (Err refused) e = inl (record { refused = refused; cause = e; reply = refl })
 bulk-answered-of M k now commands (Ok w) e =
     inr (elim w.rows as (λ rows. w.rows ≡ rows
     → let replied = settled M k (record { reply = (written M Reply.Bulk now commands w).reply; machine = (written M Reply.Bulk now commands w).machine; rows = rows }) in
-    IsUnkept M k replied ⊎ AreWritten M k now commands replied) [
+    IsKeeperFault M k replied ⊎ AreWritten M k now commands replied) [
       | [] ↦ λ g. inr (bulk-kept M k now commands w e (ap (is_taken k) g))
       | r ∷ rows ↦ λ g. elim (first_or_not k.takes) as (λ _. let replied = cond (is_first_taken k.takes) (written M Reply.Bulk now commands w) (same_machine M (Reply.KeeperFault k.before k.after)) in
-          IsUnkept M k replied ⊎ AreWritten M k now commands replied) [
+          IsKeeperFault M k replied ⊎ AreWritten M k now commands replied) [
             | inl taken ↦ inr (subst (λ b. AreWritten M k now commands (cond b (written M Reply.Bulk now commands w) (same_machine M (Reply.KeeperFault k.before k.after)))) (sym taken) (bulk-kept M k now commands w e (ap (is_taken k) g ∙ taken)))
             | inr failed ↦ inl (unkept M k (written M Reply.Bulk now commands w) failed.0 failed.1)
           ]
@@ -261,7 +261,7 @@ rewrote-Stays now M reply slots cs (Ok w) h e = λ q x at not_index.
     ]
 
 reslotted-Stays : (now : ℕ) (M : Machine) (reply : List ℕ → Reply) (name : List ℕ) (r : Result SlotChange SlotRefusal) → ((c : SlotChange) → r ≡ Ok c → AreIndexed c.commands)
-    → Stays M (reslotted M now reply name r).machine
+    → Stays M (change_of_slots M now reply name r).machine
 reslotted-Stays now M reply name (Err refusal) h = λ q x at not_index. at
 reslotted-Stays now M reply name (Ok c) h = rewrote-Stays now M (reply c.name) c.slots c.commands (commit M.world.setting Server now c.commands M.world.store) (h c refl) refl
 
@@ -301,7 +301,7 @@ auto-Stays now M (Use s) = λ q x h not_index. h
 auto-Stays now M (Make shape) =
     let name = name_of M.world.slots (last M.world.store + 1) shape in
     let d = Definition.Auto shape.collection shape.fields in
-    reslotted-Stays now M told.Index name (define M.world name d) (define-indexed M.world name d)
+    reslotted-Stays now M replies.Index name (define M.world name d) (define-indexed M.world name d)
 auto-Stays now M Merge = λ q x h not_index. h
 
 -- a row of the store that a request leaves was there, or the request wrote it
@@ -353,9 +353,9 @@ step-given M k now (Bulk commands) more q x h not_index =
     step-written M (record { request = Bulk commands; now = now; keeping = k }) more q x (write-Comes M k Reply.Bulk now commands) h
 step-given M k now (Get id) more q x h not_index = inl h
 step-given M k now (Define name d) more q x h not_index =
-    inl (settled-Stays M k (change_of M now (Define name d)) (reslotted-Stays now M told.Index name (define_named M.world name d) (define_named-indexed M.world name d)) q x h not_index)
+    inl (settled-Stays M k (change_of M now (Define name d)) (reslotted-Stays now M replies.Index name (define_named M.world name d) (define_named-indexed M.world name d)) q x h not_index)
 step-given M k now (Remove name) more q x h not_index =
-    inl (settled-Stays M k (change_of M now (Remove name)) (reslotted-Stays now M told.Removed name (remove M.world name) (remove-indexed M.world name)) q x h not_index)
+    inl (settled-Stays M k (change_of M now (Remove name)) (reslotted-Stays now M replies.Removed name (remove M.world name) (remove-indexed M.world name)) q x h not_index)
 step-given M k now (Auto collection field) more q x h not_index =
     inl (settled-Stays M k (change_of M now (Auto collection field)) (auto-Stays now M (pick (one_field collection field) M.world.store M.world.slots)) q x h not_index)
 step-given M k now (Find index field ws) more q x h not_index = inl h

@@ -10,7 +10,7 @@ use Rattle.spec_server.specs.Machine.{Auto, Keeping, Machine, Replied, one_field
 use Rattle.spec_server.specs.Replies.{Reply}
 use Rattle.spec_server.specs.Sound.{Has}
 use Rattle.raven_laws.specs.Definitions.{IsNewIndex, IsRowRefused}
-use Rattle.raven_laws.specs.Writes.{IsUnkept}
+use Rattle.raven_laws.specs.Writes.{IsKeeperFault}
 
 -- fresh before stale, then fewer fields before more, then the smaller number
 abbrev pub Before : Bool → Bool → ℕ → ℕ → ℕ → ℕ → Type 0
@@ -39,13 +39,13 @@ IsChosen S slots shape Merge =
 -- there are as many indexes as there may be: the reply is TooManyIndexes, and nothing changes
 pub record IsFull (M : Machine) (replied : Replied) : Type 0 where
   pub full : M.world.setting.max_slots ≤ length M.world.slots
-  pub told : replied ≡ same_machine M Reply.TooManyIndexes
+  pub reply : replied ≡ same_machine M Reply.TooManyIndexes
 
 abbrev pub IsMakeAnswer : Machine → Keeping → ℕ → List ℕ → Definition → Replied → Type 0
 IsMakeAnswer M k now name d replied =
     IsFull M replied
     ⊎ (IsRowRefused M now (Put (index_id name) AnyVector (row_body d) ∷ []) replied
-    ⊎ (IsUnkept M k replied ⊎ IsNewIndex M k name d replied))
+    ⊎ (IsKeeperFault M k replied ⊎ IsNewIndex M k name d replied))
 
 -- the reply names the index that is used, and nothing changes; or a new one is made; to merge is not built yet
 abbrev pub FollowsChoice : Machine → Keeping → ℕ → Replied → Choice → Type 0

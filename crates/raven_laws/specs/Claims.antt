@@ -9,14 +9,14 @@ use Rattle.index_tree.specs.Meaning.{Fields, Entry}
 use Rattle.index_tree.specs.Mapper.{mapper_of, scope_of, is_mapped}
 use Rattle.spec_index.specs.World.{Slot, reads, serving}
 use Rattle.spec_server.specs.Replies.{Reply, Listing, Found}
-use Rattle.spec_server.specs.Replies as told
-use Rattle.spec_server.specs.Machine.{Machine, Request, Find, Stale, Indexes, Keeping, step, untroubled, is_stale}
-use Rattle.spec_index.specs.Find.{has_words, found_in}
+use Rattle.spec_server.specs.Replies as replies
+use Rattle.spec_server.specs.Machine.{Machine, Request, Find, Stale, Indexes, Keeping, step, takes_all, is_stale}
+use Rattle.spec_index.specs.Find.{field_is_text, found_in}
 use Rattle.spec_server.specs.Sound.{Has}
 use Rattle.spec_store.specs.Stale.{Unseen}
 
 -- the id is spelled as the store spells it
-pub record IsAsKept (S : Store) (id : List ℕ) : Type 0 where
+pub record IsSpelledAsStored (S : Store) (id : List ℕ) : Type 0 where
   pub row : Row
   pub found : row_at (folded id) S.rows ≡ Some row
   pub spelled : row.id ≡ id
@@ -30,7 +30,7 @@ pub record IsMatch (S : Store) (d : Definition) (field words id : List ℕ) : Ty
   pub mapped : IsTrue (is_mapped (mapper_of d) row)
   pub fields : Fields
   pub gives : ((mapper_of d).meaning row (documents (scope_of (mapper_of d)) S)).outcome ≡ Entry fields
-  pub matches : IsTrue (has_words field words fields)
+  pub matches : IsTrue (field_is_text field words fields)
 
 -- the ids of an answer
 abbrev pub ids_in : Reply → List (List ℕ)
@@ -38,7 +38,7 @@ ids_in (Found ids etag is_stale) = ids
 ids_in other = []
 
 abbrev pub find_reply : Machine → List ℕ → List ℕ → List ℕ → Reply
-find_reply M index field words = (step M untroubled 0 (Find index field words)).reply
+find_reply M index field words = (step M takes_all 0 (Find index field words)).reply
 
 -- an index that is not stale answers what its map gives for all documents of the store
 abbrev pub FreshIsFromScratch : Machine → Type 0
@@ -67,8 +67,8 @@ listed_flag l = flag l.name None l.is_stale
 -- all flags that the reply to a request shows: every request that reads an index is here
 abbrev pub flags_in : Request → Reply → List Flag
 flags_in (Find index field words) (Found ids etag is_stale) = flag index None is_stale ∷ []
-flags_in (Stale name cutoff) (told.Stale etag is_stale newest) = flag name cutoff is_stale ∷ []
-flags_in Indexes (told.Indexes listings) = map listed_flag listings
+flags_in (Stale name cutoff) (replies.Stale etag is_stale newest) = flag name cutoff is_stale ∷ []
+flags_in Indexes (replies.Indexes listings) = map listed_flag listings
 flags_in other reply = []
 
 -- An index serves the name, and the flag is true exactly if the store has a row that the index reads and has not seen, no newer than the cutoff.
@@ -80,7 +80,7 @@ pub record FlagIsExact (M : Machine) (f : Flag) : Type 0 where
 
 -- the reply to the request shows a flag of this index, up to this cutoff
 abbrev pub ShowsFlag : Machine → Request → List ℕ → Option ℕ → Type 0
-ShowsFlag M request index cutoff = (is_stale : Bool) × Has (flags_in request (step M untroubled 0 request).reply) (flag index cutoff is_stale)
+ShowsFlag M request index cutoff = (is_stale : Bool) × Has (flags_in request (step M takes_all 0 request).reply) (flag index cutoff is_stale)
 
 -- each flag that a reply shows is exact, and each question about an index shows one
 pub record FlagsAreExact (M : Machine) : Type 0 where
@@ -92,5 +92,5 @@ pub record FlagsAreExact (M : Machine) : Type 0 where
 -- IDS
 
 -- each id of an answer is spelled as the store spells it
-abbrev pub IdsAreAsKept : Machine → Type 0
-IdsAreAsKept M = (index field words id : List ℕ) → Has (ids_in (find_reply M index field words)) id → IsAsKept M.world.store id
+abbrev pub IdsAreSpelledAsStored : Machine → Type 0
+IdsAreSpelledAsStored M = (index field words id : List ℕ) → Has (ids_in (find_reply M index field words)) id → IsSpelledAsStored M.world.store id

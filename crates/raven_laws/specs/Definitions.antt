@@ -12,8 +12,8 @@ use Rattle.spec_store.specs.Commit.{Command, AnyVector, Server, Refused, commit,
 use Rattle.spec_index.specs.World.{Slot, index_id, is_named, is_reserved_name, max_index_name, row_body, serving}
 use Rattle.spec_server.specs.Sound.{Has, IsListed}
 use Rattle.spec_server.specs.Replies.{Reply}
-use Rattle.spec_server.specs.Machine.{Machine, Keeping, Replied, Define, Remove, Pump, brought_on, is_first_taken, pumping, same_machine, step, write_refused}
-use Rattle.raven_laws.specs.Writes.{IsUnkept}
+use Rattle.spec_server.specs.Machine.{Machine, Keeping, Replied, Define, Remove, Pump, after_batch, is_first_taken, pumping, same_machine, step, write_refused}
+use Rattle.raven_laws.specs.Writes.{IsKeeperFault}
 
 -- WHEN TWO DEFINITIONS SAY THE SAME
 
@@ -47,13 +47,13 @@ SaysTheSame d e = ⊥
 -- no index serves the name: the reply says so, and nothing changes
 pub record IsNoIndex (M : Machine) (name : List ℕ) (replied : Replied) : Type 0 where
   pub none : serving M.world.slots name ≡ None
-  pub told : replied ≡ same_machine M (Reply.NoIndex name)
+  pub reply : replied ≡ same_machine M (Reply.NoIndex name)
 
 -- the row of the definition is refused: the reply has the cause, and nothing changes
 pub record IsRowRefused (M : Machine) (now : ℕ) (commands : List Command) (replied : Replied) : Type 0 where
   pub refused : Refused
   pub cause : commit M.world.setting Server now commands M.world.store ≡ Err refused
-  pub told : replied ≡ same_machine M (write_refused refused)
+  pub reply : replied ≡ same_machine M (write_refused refused)
 
 -- the slots of all other names stay as they were, and there are no more of them
 pub record OtherSlotsStay (M : Machine) (name : List ℕ) (N : Machine) : Type 0 where
@@ -73,12 +73,12 @@ pub record MayBeGiven (name : List ℕ) : Type 0 where
 
 pub record IsReserved (M : Machine) (name : List ℕ) (replied : Replied) : Type 0 where
   pub reserved : is_reserved_name name ≡ true
-  pub told : replied ≡ same_machine M Reply.ReservedName
+  pub reply : replied ≡ same_machine M Reply.ReservedName
 
 pub record IsTooLong (M : Machine) (name : List ℕ) (replied : Replied) : Type 0 where
   pub unreserved : is_reserved_name name ≡ false
   pub long : max_index_name < length name
-  pub told : replied ≡ same_machine M (Reply.NameTooLong (length name))
+  pub reply : replied ≡ same_machine M (Reply.NameTooLong (length name))
 
 -- the name serves another definition: the reply is UnknownLine, and nothing changes
 pub record ServesAnother (M : Machine) (name : List ℕ) (d : Definition) (replied : Replied) : Type 0 where
@@ -86,7 +86,7 @@ pub record ServesAnother (M : Machine) (name : List ℕ) (d : Definition) (repli
   pub slot : Slot
   pub serves : serving M.world.slots name ≡ Some slot
   pub other : SaysTheSame d slot.version.definition → ⊥
-  pub told : replied ≡ same_machine M Reply.UnknownLine
+  pub reply : replied ≡ same_machine M Reply.UnknownLine
 
 -- the name serves the same definition: the reply has its name, and nothing changes
 pub record ServesTheSame (M : Machine) (name : List ℕ) (d : Definition) (replied : Replied) : Type 0 where
@@ -94,13 +94,13 @@ pub record ServesTheSame (M : Machine) (name : List ℕ) (d : Definition) (repli
   pub slot : Slot
   pub serves : serving M.world.slots name ≡ Some slot
   pub same : SaysTheSame d slot.version.definition
-  pub told : replied ≡ same_machine M (Reply.Index slot.name)
+  pub reply : replied ≡ same_machine M (Reply.Index slot.name)
 
 pub record IsOneTooMany (M : Machine) (name : List ℕ) (replied : Replied) : Type 0 where
   pub given : MayBeGiven name
   pub free : serving M.world.slots name ≡ None
   pub full : M.world.setting.max_slots ≤ length M.world.slots
-  pub told : replied ≡ same_machine M Reply.TooManyIndexes
+  pub reply : replied ≡ same_machine M Reply.TooManyIndexes
 
 pub record DefinitionIsRefused (M : Machine) (now : ℕ) (name : List ℕ) (d : Definition) (replied : Replied) : Type 0 where
   pub given : MayBeGiven name
@@ -126,7 +126,7 @@ pub record IsNewIndex (M : Machine) (k : Keeping) (name : List ℕ) (d : Definit
   pub allowed : IsRowAllowed M k (Command.Put (index_id name) AnyVector (row_body d))
   pub free : serving M.world.slots name ≡ None
   pub room : length M.world.slots < M.world.setting.max_slots
-  pub told : replied.reply ≡ Reply.Index name
+  pub reply : replied.reply ≡ Reply.Index name
   pub slots : replied.machine.world.slots ≡ M.world.slots ++ new_slot M name d ∷ []
   pub serves : serving replied.machine.world.slots name ≡ Some (new_slot M name d)
   pub listed : IsListed replied.machine.world.store (new_slot M name d)
@@ -143,7 +143,7 @@ IsDefineAnswer M k now name d replied =
     ⊎ (ServesAnother M name d replied
     ⊎ (ServesTheSame M name d replied
     ⊎ (IsOneTooMany M name replied
-    ⊎ (DefinitionIsRefused M now name d replied ⊎ (IsUnkept M k replied ⊎ IsDefined M k name d replied))))))
+    ⊎ (DefinitionIsRefused M now name d replied ⊎ (IsKeeperFault M k replied ⊎ IsDefined M k name d replied))))))
 
 abbrev pub DefineIsAnswered : Machine → Keeping → ℕ → List ℕ → Definition → Type 0
 DefineIsAnswered M k now name d = IsDefineAnswer M k now name d (step M k now (Define name d))
@@ -160,7 +160,7 @@ pub record IsRemoved (M : Machine) (k : Keeping) (now : ℕ) (name : List ℕ) (
   pub slot : Slot
   pub serves : serving M.world.slots name ≡ Some slot
   pub allowed : IsRowAllowed M k (Command.Delete (index_id slot.name) AnyVector)
-  pub told : replied.reply ≡ Reply.Removed slot.name
+  pub reply : replied.reply ≡ Reply.Removed slot.name
   pub gone : serving replied.machine.world.slots name ≡ None
   pub others : OtherSlotsStay M name replied.machine
   pub row : Row
@@ -170,7 +170,7 @@ pub record IsRemoved (M : Machine) (k : Keeping) (now : ℕ) (name : List ℕ) (
 
 abbrev pub IsRemoveAnswer : Machine → Keeping → ℕ → List ℕ → Replied → Type 0
 IsRemoveAnswer M k now name replied =
-    IsNoIndex M name replied ⊎ (RemovalIsRefused M now name replied ⊎ (IsUnkept M k replied ⊎ IsRemoved M k now name replied))
+    IsNoIndex M name replied ⊎ (RemovalIsRefused M now name replied ⊎ (IsKeeperFault M k replied ⊎ IsRemoved M k now name replied))
 
 abbrev pub RemoveIsAnswered : Machine → Keeping → ℕ → List ℕ → Type 0
 RemoveIsAnswered M k now name = IsRemoveAnswer M k now name (step M k now (Remove name))
@@ -178,13 +178,13 @@ RemoveIsAnswered M k now name = IsRemoveAnswer M k now name (step M k now (Remov
 -- A BATCH FOR ONE INDEX
 
 -- the index that serves the name is advanced by a batch; the other slots and the store stay as they were
-pub record IsBroughtOn (M : Machine) (max : ℕ) (name : List ℕ) (replied : Replied) : Type 0 where
+pub record IsAdvanced (M : Machine) (max : ℕ) (name : List ℕ) (replied : Replied) : Type 0 where
   pub slot : Slot
   pub serves : serving M.world.slots name ≡ Some slot
-  pub told : replied.reply ≡ Reply.Pumped (pumping M.world.store max slot ∷ [])
-  pub brought : Has replied.machine.world.slots (brought_on M.world.store max slot)
+  pub reply : replied.reply ≡ Reply.Pumped (pumping M.world.store max slot ∷ [])
+  pub brought : Has replied.machine.world.slots (after_batch M.world.store max slot)
   pub others : OtherSlotsStay M name replied.machine
   pub store : replied.machine.world.store ≡ M.world.store
 
 abbrev pub BatchIsAnswered : Machine → Keeping → ℕ → ℕ → List ℕ → Type 0
-BatchIsAnswered M k now max name = let replied = step M k now (Pump max (Some name)) in IsNoIndex M name replied ⊎ IsBroughtOn M max name replied
+BatchIsAnswered M k now max name = let replied = step M k now (Pump max (Some name)) in IsNoIndex M name replied ⊎ IsAdvanced M max name replied

@@ -9,10 +9,10 @@ abbrev pub rows_taken : Keeping → List Row → List Row
 rows_taken k rows = if is_taken k rows then rows else []
 
 -- the rows that an event stores
-abbrev pub rows_given : Machine → Event → List Row
-rows_given M e = rows_taken e.keeping (change_of M e.now e.request).rows
+abbrev pub rows_stored : Machine → Event → List Row
+rows_stored M e = rows_taken e.keeping (change_of M e.now e.request).rows
 
 -- what the keeper stores after the events, if it stored `held` before
-abbrev pub held_after : List Event → Machine → List KeptRow → List KeptRow
-held_after [] M held = held
-held_after (e ∷ es) M held = held_after es (after M e) (keep_all held (all_kept (rows_given M e)))
+abbrev pub stored_after : List Event → Machine → List KeptRow → List KeptRow
+stored_after [] M held = held
+stored_after (e ∷ es) M held = stored_after es (after M e) (keep_all held (all_kept (rows_stored M e)))

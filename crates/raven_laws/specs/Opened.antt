@@ -9,24 +9,24 @@ use Rattle.index_tree.specs.Definitions.{Definition, Static}
 use Rattle.index_tree.specs.declared.map_query.MapQuery.{MapQuery}
 
 -- the definition agrees with what the body says; of a text it need only be some definition by that text
-abbrev pub IsTold : BodyForm → Definition → Type 0
-IsTold NoForm d = ⊥
-IsTold (AutoForm told) d = d ≡ told
-IsTold (StaticForm map) d = (query : MapQuery) × (d ≡ Static query None map None)
+abbrev pub AgreesWithForm : BodyForm → Definition → Type 0
+AgreesWithForm NoForm d = ⊥
+AgreesWithForm (AutoForm told) d = d ≡ told
+AgreesWithForm (StaticForm map) d = (query : MapQuery) × (d ≡ Static query None map None)
 
-abbrev pub IsToldIn : Body → Definition → Type 0
-IsToldIn (doc body) d = IsTold (body_form body) d
-IsToldIn gone d = ⊥
+abbrev pub AgreesWithBody : Body → Definition → Type 0
+AgreesWithBody (doc body) d = AgreesWithForm (body_form body) d
+AgreesWithBody gone d = ⊥
 
 -- the definition that was read of a definition's row agrees with the row's body
-abbrev pub IsToldBy : ReadRow → Type 0
-IsToldBy x = (d : Definition) → IsTrue (is_defining x.row) → x.definition ≡ Some d → IsToldIn x.row.body d
+abbrev pub HasOwnDefinition : ReadRow → Type 0
+HasOwnDefinition x = (d : Definition) → IsTrue (is_defining x.row) → x.definition ≡ Some d → AgreesWithBody x.row.body d
 
-abbrev pub AreTold : List ReadRow → Type 0
-AreTold [] = Unit {0}
-AreTold (x ∷ xs) = IsToldBy x × AreTold xs
+abbrev pub HaveOwnDefinitions : List ReadRow → Type 0
+HaveOwnDefinitions [] = Unit {0}
+HaveOwnDefinitions (x ∷ xs) = HasOwnDefinition x × HaveOwnDefinitions xs
 
 -- the stored rows open this machine, with definitions that agree with the bodies of their rows
-pub record OpenedAsTold (s : Setting) (held : List KeptRow) (M : Machine) : Type 0 where
+pub record OpenedFaithfully (s : Setting) (held : List KeptRow) (M : Machine) : Type 0 where
   pub opened : OpenedFrom s held M
-  pub told : AreTold opened.read
+  pub told : HaveOwnDefinitions opened.read

@@ -9,20 +9,20 @@ ghost use Rattle.raven_laws.specs.Definitions.{BatchIsAnswered, DefineIsAnswered
 
 /// Two definitions are found to be the same exactly if their maps and reduces are equal, except for the name of a group, or their
 /// collections and fields are. Their texts do not matter.
-pub fn definitions_are_told_apart()
+pub fn same_definition_is_exact()
     ensures { (d e : Definition) → (same_definition d e ≡ true) ↔ SaysTheSame d e }
 {}
 
 /// A Define is refused and changes nothing: for its name, because the name serves another definition, for one index too many, or for its row.
 /// Or the keeper failed and nothing changes; or the name serves that definition already and nothing changes; or there is a new index of that
 /// definition after the others, and all other slots and rows stay as they were.
-pub fn definitions_are_kept()
+pub fn definitions_are_answered()
     ensures { (M : Machine) (k : Keeping) (now : ℕ) (name : List ℕ) (d : Definition) → DefineIsAnswered M k now name d }
 {}
 
 /// A Remove is refused and changes nothing, if no index serves the name, or for its row. Or the keeper failed and nothing changes; or the
 /// index is gone, the row of its definition is deleted, and all other slots and rows stay as they were.
-pub fn removals_are_kept()
+pub fn removals_are_answered()
     ensures { (M : Machine) (k : Keeping) (now : ℕ) (name : List ℕ) → Sound M.world → RemoveIsAnswered M k now name }
 {}
 

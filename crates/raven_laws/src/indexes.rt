@@ -10,7 +10,7 @@ ghost use Rattle.spec_store.specs.Store.{Store, IsStore, last, row_at};
 ghost use Rattle.spec_store.specs.Later.{Later};
 ghost use Rattle.raven_data.specs.Tables.{Scope, Table, note_rows};
 ghost use Rattle.spec_index.specs.Index.{Agrees, etag_of_batch, record_of, documents};
-ghost use Rattle.spec_store.specs.Stale.{taken, stale, newest, up_to, Unseen};
+ghost use Rattle.spec_store.specs.Stale.{batch_rows, stale, newest, up_to, Unseen};
 ghost use Rattle.index_tree.specs.Mapper.{Mapper, scope_of};
 ghost use Rattle.spec_index.specs.Mapping.{Results, AreResults, remapped, touched};
 
@@ -22,7 +22,7 @@ pub fn agreement_survives()
 /// After a batch an index agrees with the store that the batch read, up to the batch's etag.
 pub fn batch_agrees()
     ensures { (scope : Scope) (T : Table) (S : Store) (e max : ℕ) → IsStore S → Agrees scope T S e → e ≤ last S →
-        Agrees scope (note_rows T (taken scope e S max)) S (etag_of_batch scope e S max) }
+        Agrees scope (note_rows T (batch_rows scope e S max)) S (etag_of_batch scope e S max) }
 {}
 
 /// The documents of a store in scope: under each id the store's row, if it is a document in scope.
@@ -56,7 +56,7 @@ pub fn stale_by_newest()
 pub fn touched_is_enough()
     ensures { (m : Mapper) (T : Table) (S : Store) (e max : ℕ) (K : Results) →
         IsStore S → Agrees (scope_of m) T S e → e ≤ last S → AreResults m T K →
-        let rows = taken (scope_of m) e S max in
+        let rows = batch_rows (scope_of m) e S max in
         AreResults m (note_rows T rows) (remapped m (note_rows T rows) (touched m T rows) K) }
 {}
 

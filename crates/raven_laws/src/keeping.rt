@@ -7,7 +7,7 @@ ghost use Rattle.spec_store.specs.Commit.{AreNext};
 ghost use Rattle.spec_server.specs.Machine.{Event, Machine, Request, change_of, run};
 ghost use Rattle.spec_server.specs.Script.{Given, after_lines, events_of};
 ghost use Rattle.spec_store.specs.Store.{IsStore, Store, last, with_rows};
-ghost use Rattle.raven_laws.specs.Keeping.{held_after};
+ghost use Rattle.raven_laws.specs.Keeping.{stored_after};
 
 /// A keeper that stores the rows of a store and is given further rows stores those of the store with them. If the etags of the further rows
 /// go on from the store's last, they are in order after what it stores.
@@ -28,8 +28,8 @@ pub fn changes_are_their_rows()
 
 /// A keeper that stores the rows of a machine's store, and is given those of each change that it takes, stores those of the last store: after
 /// requests, and after the lines of a script.
-pub fn keepers_keep_on()
-    ensures requests { (M : Machine) (events : List Event) → held_after events M (all_kept M.world.store.rows) ≡ all_kept (run events M).world.store.rows }
+pub fn keepers_store_every_run()
+    ensures requests { (M : Machine) (events : List Event) → stored_after events M (all_kept M.world.store.rows) ≡ all_kept (run events M).world.store.rows }
     ensures lines { (M : Machine) (lines : List Given) →
-        held_after (events_of lines) M (all_kept M.world.store.rows) ≡ all_kept (after_lines lines M).world.store.rows }
+        stored_after (events_of lines) M (all_kept M.world.store.rows) ≡ all_kept (after_lines lines M).world.store.rows }
 {}

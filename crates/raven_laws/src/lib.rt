@@ -12,21 +12,21 @@ mod stores;
 mod writes;
 
 pub use definitions::{
-    autos_are_answered, batches_for_one_leave_the_others, definitions_are_kept, definitions_are_told_apart,
-    removals_are_kept,
+    autos_are_answered, batches_for_one_leave_the_others, definitions_are_answered, same_definition_is_exact,
+    removals_are_answered,
 };
 pub use indexes::{
     agreement_survives, batch_agrees, documents_are_all, fresh_is_whole, orders_are_total,
     stale_by_newest, stale_is_unseen, touched_is_enough,
 };
-pub use keeping::{changes_are_their_rows, keepers_follow_stores, keepers_keep_on};
+pub use keeping::{changes_are_their_rows, keepers_follow_stores, keepers_store_every_run};
 pub use opening::{
-    every_run_from_kept_rows_is_sound, every_script_from_kept_rows_is_sound, opened_is_sound,
+    every_run_from_stored_rows_is_sound, every_script_from_stored_rows_is_sound, opened_is_sound,
     rows_were_there_or_written, sound_states_answer_truly, sound_states_go_on,
 };
 pub use runs::{
     batches_move_what_is_stale, every_index_serves_its_name, every_run_goes_on, every_run_is_sound,
-    flags_are_exact, fresh_answers_are_exact, fresh_answers_are_from_scratch, ids_are_as_kept,
+    flags_are_exact, fresh_answers_are_exact, fresh_answers_are_from_scratch, ids_are_spelled_as_stored,
     large_batches_are_enough, later_worlds_order, new_names_are_free,
     new_names_have_the_least_number, picks_are_best, served_names_stay,
 };
@@ -35,5 +35,5 @@ pub use scripts::{
 };
 pub use stores::{commit_grows, later_orders};
 pub use writes::{
-    deletes_are_kept, only_writes_write, puts_are_kept, rows_were_written, transactions_are_whole,
+    deletes_are_answered, only_writes_write, puts_are_answered, rows_were_written, transactions_are_whole,
 };

@@ -9,20 +9,20 @@ ghost use Rattle.spec_server.specs.Machine.{Event, Machine, run};
 ghost use Rattle.spec_server.specs.Script.{Given, after_lines};
 ghost use Rattle.spec_server.specs.Sound.{Has, LaterW, Sound};
 ghost use Rattle.spec_store.specs.Store.{row_at};
-ghost use Rattle.spec_index.specs.World.{Slot, fresh};
-ghost use Rattle.raven_laws.specs.Claims.{FlagsAreExact, FreshIsExact, FreshIsFromScratch, IdsAreAsKept};
-ghost use Rattle.raven_laws.specs.Opened.{OpenedAsTold};
+ghost use Rattle.spec_index.specs.World.{Slot, new_version};
+ghost use Rattle.raven_laws.specs.Claims.{FlagsAreExact, FreshIsExact, FreshIsFromScratch, IdsAreSpelledAsStored};
+ghost use Rattle.raven_laws.specs.Opened.{OpenedFaithfully};
 ghost use Rattle.raven_laws.specs.Writes.{IsWritten};
 
 /// The database that stored rows open is sound, if each definition that was read of a row agrees with the row's body. Whatever was read,
 /// its rows are stored as those rows, it has the setting under which it was opened, and its indexes have recorded nothing yet.
 pub fn opened_is_sound()
-    ensures sound { (setting : Setting) (held : List KeptRow) (M : Machine) → OpenedAsTold setting held M → Sound M.world }
+    ensures sound { (setting : Setting) (held : List KeptRow) (M : Machine) → OpenedFaithfully setting held M → Sound M.world }
     ensures kept { (setting : Setting) (held : List KeptRow) (M : Machine) → OpenedFrom setting held M → all_kept M.world.store.rows ≡ held }
     ensures setting { (setting : Setting) (held : List KeptRow) (M : Machine) → OpenedFrom setting held M → M.world.setting ≡ setting }
     ensures notes { (setting : Setting) (held : List KeptRow) (M : Machine) → OpenedFrom setting held M → M.world.notes ≡ [] }
     ensures fresh { (setting : Setting) (held : List KeptRow) (M : Machine) → OpenedFrom setting held M →
-        (s : Slot) → Has M.world.slots s → s.version ≡ fresh s.version.definition }
+        (s : Slot) → Has M.world.slots s → s.version ≡ new_version s.version.definition }
 {}
 
 /// From a sound state each run leads to a sound one, which is later.
@@ -36,29 +36,29 @@ pub fn sound_states_answer_truly()
     ensures fresh { (M : Machine) → Sound M.world → FreshIsFromScratch M }
     ensures exact { (M : Machine) → Sound M.world → FreshIsExact M }
     ensures flags { (M : Machine) → Sound M.world → FlagsAreExact M }
-    ensures ids { (M : Machine) → Sound M.world → IdsAreAsKept M }
+    ensures ids { (M : Machine) → Sound M.world → IdsAreSpelledAsStored M }
 {}
 
 /// Whatever is asked of a database that stored rows opened, each state is sound, is later than those before, and its answers are true.
-pub fn every_run_from_kept_rows_is_sound()
-    ensures sound { (setting : Setting) (held : List KeptRow) (M : Machine) (events : List Event) → OpenedAsTold setting held M → Sound (run events M).world }
-    ensures goes_on { (setting : Setting) (held : List KeptRow) (M : Machine) (events more : List Event) → OpenedAsTold setting held M →
+pub fn every_run_from_stored_rows_is_sound()
+    ensures sound { (setting : Setting) (held : List KeptRow) (M : Machine) (events : List Event) → OpenedFaithfully setting held M → Sound (run events M).world }
+    ensures goes_on { (setting : Setting) (held : List KeptRow) (M : Machine) (events more : List Event) → OpenedFaithfully setting held M →
         LaterW (run events M).world (run (events ++ more) M).world }
-    ensures fresh { (setting : Setting) (held : List KeptRow) (M : Machine) (events : List Event) → OpenedAsTold setting held M → FreshIsFromScratch (run events M) }
-    ensures exact { (setting : Setting) (held : List KeptRow) (M : Machine) (events : List Event) → OpenedAsTold setting held M → FreshIsExact (run events M) }
-    ensures flags { (setting : Setting) (held : List KeptRow) (M : Machine) (events : List Event) → OpenedAsTold setting held M → FlagsAreExact (run events M) }
-    ensures ids { (setting : Setting) (held : List KeptRow) (M : Machine) (events : List Event) → OpenedAsTold setting held M → IdsAreAsKept (run events M) }
+    ensures fresh { (setting : Setting) (held : List KeptRow) (M : Machine) (events : List Event) → OpenedFaithfully setting held M → FreshIsFromScratch (run events M) }
+    ensures exact { (setting : Setting) (held : List KeptRow) (M : Machine) (events : List Event) → OpenedFaithfully setting held M → FreshIsExact (run events M) }
+    ensures flags { (setting : Setting) (held : List KeptRow) (M : Machine) (events : List Event) → OpenedFaithfully setting held M → FlagsAreExact (run events M) }
+    ensures ids { (setting : Setting) (held : List KeptRow) (M : Machine) (events : List Event) → OpenedFaithfully setting held M → IdsAreSpelledAsStored (run events M) }
 {}
 
 /// The same for the lines of a script.
-pub fn every_script_from_kept_rows_is_sound()
-    ensures sound { (setting : Setting) (held : List KeptRow) (M : Machine) (lines : List Given) → OpenedAsTold setting held M → Sound (after_lines lines M).world }
-    ensures goes_on { (setting : Setting) (held : List KeptRow) (M : Machine) (lines more : List Given) → OpenedAsTold setting held M →
+pub fn every_script_from_stored_rows_is_sound()
+    ensures sound { (setting : Setting) (held : List KeptRow) (M : Machine) (lines : List Given) → OpenedFaithfully setting held M → Sound (after_lines lines M).world }
+    ensures goes_on { (setting : Setting) (held : List KeptRow) (M : Machine) (lines more : List Given) → OpenedFaithfully setting held M →
         LaterW (after_lines lines M).world (after_lines (lines ++ more) M).world }
-    ensures fresh { (setting : Setting) (held : List KeptRow) (M : Machine) (lines : List Given) → OpenedAsTold setting held M → FreshIsFromScratch (after_lines lines M) }
-    ensures exact { (setting : Setting) (held : List KeptRow) (M : Machine) (lines : List Given) → OpenedAsTold setting held M → FreshIsExact (after_lines lines M) }
-    ensures flags { (setting : Setting) (held : List KeptRow) (M : Machine) (lines : List Given) → OpenedAsTold setting held M → FlagsAreExact (after_lines lines M) }
-    ensures ids { (setting : Setting) (held : List KeptRow) (M : Machine) (lines : List Given) → OpenedAsTold setting held M → IdsAreAsKept (after_lines lines M) }
+    ensures fresh { (setting : Setting) (held : List KeptRow) (M : Machine) (lines : List Given) → OpenedFaithfully setting held M → FreshIsFromScratch (after_lines lines M) }
+    ensures exact { (setting : Setting) (held : List KeptRow) (M : Machine) (lines : List Given) → OpenedFaithfully setting held M → FreshIsExact (after_lines lines M) }
+    ensures flags { (setting : Setting) (held : List KeptRow) (M : Machine) (lines : List Given) → OpenedFaithfully setting held M → FlagsAreExact (after_lines lines M) }
+    ensures ids { (setting : Setting) (held : List KeptRow) (M : Machine) (lines : List Given) → OpenedFaithfully setting held M → IdsAreSpelledAsStored (after_lines lines M) }
 {}
 
 /// No row is invented: each, except those of definitions, was there before the run, or was written by a command of one of the requests,

@@ -12,7 +12,7 @@ ghost use Rattle.spec_server.specs.Machine.{Event, Keeping, Machine, Request, is
 ghost use Rattle.spec_server.specs.Sound.{Has, LaterW, NumbersRise, Sound};
 ghost use Rattle.raven_laws.specs.Choices.{IsChosen, IsFirstFree};
 ghost use Rattle.raven_laws.specs.Served.{ServedStays};
-ghost use Rattle.raven_laws.specs.Claims.{FlagsAreExact, FreshIsExact, FreshIsFromScratch, IdsAreAsKept, IsAsKept};
+ghost use Rattle.raven_laws.specs.Claims.{FlagsAreExact, FreshIsExact, FreshIsFromScratch, IdsAreSpelledAsStored, IsSpelledAsStored};
 
 /// Each index has recorded what the store has up to its etag, has its row among the indexes' rows, and shares its number and its name
 /// with no other. No limit is passed.
@@ -54,11 +54,11 @@ pub fn flags_are_exact()
 {}
 
 /// Ids are spelled as the store spells them: in the entries of each index, and in each answer.
-pub fn ids_are_as_kept()
+pub fn ids_are_spelled_as_stored()
     ensures entries { (setting : Setting) (events : List Event) (s : Slot) (e : List ℕ × Fields) →
         let W = (run events (start setting)).world in
-        Has W.slots s → Has (scratch (mapper_of s.version.definition) s.version.table) e → IsAsKept W.store e.0 }
-    ensures answers { (setting : Setting) (events : List Event) → IdsAreAsKept (run events (start setting)) }
+        Has W.slots s → Has (scratch (mapper_of s.version.definition) s.version.table) e → IsSpelledAsStored W.store e.0 }
+    ensures answers { (setting : Setting) (events : List Event) → IdsAreSpelledAsStored (run events (start setting)) }
 {}
 
 /// The index that serves a name goes on to serve it, with its number and its definition, in every step but its own removal.

@@ -3,10 +3,10 @@
 ghost use Rattle.std.specs.Prelude.{◌≡◌, ◌↔◌, ◌++◌, ℕ, List, Some};
 ghost use Rattle.spec_store.specs.Commit.{Setting};
 ghost use Rattle.spec_server.specs.Machine.{Machine, run, start};
-ghost use Rattle.spec_server.specs.Script.{Given, after_lines, events_of, number_of, word_and_rest};
+ghost use Rattle.spec_server.specs.Script.{Given, after_lines, events_of, number_of, argument_and_rest};
 ghost use Rattle.spec_server.specs.Sound.{LaterW, Sound};
 ghost use Rattle.raven_laws.specs.Words.{IsNumber, IsSplit};
-ghost use Rattle.raven_laws.specs.Claims.{FlagsAreExact, FreshIsExact, FreshIsFromScratch, IdsAreAsKept};
+ghost use Rattle.raven_laws.specs.Claims.{FlagsAreExact, FreshIsExact, FreshIsFromScratch, IdsAreSpelledAsStored};
 
 /// The state after lines is that of the run of the events that they make.
 pub fn scripts_are_runs()
@@ -22,12 +22,12 @@ pub fn every_script_is_sound()
     ensures fresh { (setting : Setting) (lines : List Given) → FreshIsFromScratch (after_lines lines (start setting)) }
     ensures exact { (setting : Setting) (lines : List Given) → FreshIsExact (after_lines lines (start setting)) }
     ensures flags { (setting : Setting) (lines : List Given) → FlagsAreExact (after_lines lines (start setting)) }
-    ensures ids { (setting : Setting) (lines : List Given) → IdsAreAsKept (after_lines lines (start setting)) }
+    ensures ids { (setting : Setting) (lines : List Given) → IdsAreSpelledAsStored (after_lines lines (start setting)) }
 {}
 
 /// A line is split at its first space: an argument without a space before it and the rest after it, each with a byte.
 pub fn arguments_are_split_at_spaces()
-    ensures { (text word rest : List ℕ) → (word_and_rest text ≡ Some (word, rest)) ↔ IsSplit text word rest }
+    ensures { (text word rest : List ℕ) → (argument_and_rest text ≡ Some (word, rest)) ↔ IsSplit text word rest }
 {}
 
 /// A number is read exactly from its decimal digits, perhaps with zeros before them, in at most 16 bytes.

@@ -11,13 +11,13 @@ ghost use Rattle.raven_laws.specs.Writes.{BulkIsAnswered, DeleteIsAnswered, IsWr
 /// A Put is refused for a stated cause and changes nothing; or the keeper failed and nothing changes; or the store has the given document,
 /// without the members that the server writes itself, under the change vector of the reply, and all other rows and the indexes stay as they
 /// were.
-pub fn puts_are_kept()
+pub fn puts_are_answered()
     ensures { (M : Machine) (k : Keeping) (now : ℕ) (id : List ℕ) (expected : Expect) (body : Data) → PutIsAnswered M k now id expected body }
 {}
 
 /// A Delete is refused for a stated cause and changes nothing; or the keeper failed and nothing changes; or there was no document and
 /// nothing changes; or the id has the tombstone of the document, and all other rows and the indexes stay as they were.
-pub fn deletes_are_kept()
+pub fn deletes_are_answered()
     ensures { (M : Machine) (k : Keeping) (now : ℕ) (id : List ℕ) (expected : Expect) → DeleteIsAnswered M k now id expected }
 {}
 

@@ -16,7 +16,7 @@ use Rattle.index_definition.specs.declared.definition.Definition as program
 use Rattle.index_lang.specs.declared.reading.ReadReduce.{ReadReduce}
 use Rattle.index_lang.specs.declared.reading.Trees.{Trees}
 use Rattle.index_definition.specs.declared.refusal.LangRefusal.{LangRefusal}
-use Rattle.raven_laws.specs.Opened.{IsTold, IsToldIn, IsToldBy, AreTold, OpenedAsTold}
+use Rattle.raven_laws.specs.Opened.{AgreesWithForm, AgreesWithBody, HasOwnDefinition, HaveOwnDefinitions, OpenedFaithfully}
 use Rattle.index_lang.specs.Openings.{AreReadRows, IsInBody, IsOfForm, IsOpened, IsOpenedBy, IsReadIf, IsReadRow, without_refusal}
 use Rattle.index_lang.specs.Says.{Says}
 
@@ -63,27 +63,27 @@ pub said-of : (map : List ℕ) (d : Definition) (answer : Result Definition is.L
 said-of map d (Ok e) says h = subst (λ x. Says map (Ok x)) (sym (same_definition d e h)) says
 said-of map d (Err refusal) says h = absurd cc
 
-form-told : (form : BodyForm) (d : Definition) → IsOfForm form (Some d) → IsTold form d
+form-told : (form : BodyForm) (d : Definition) → IsOfForm form (Some d) → AgreesWithForm form d
 form-told NoForm d h = absurd cc
 form-told (AutoForm e) d h = same_definition d e h
 form-told (StaticForm map) d h = said-by map d (said-of map d h.answer h.says h.told)
 
-pub body-told : (b : Body) (d : Definition) → IsInBody b (Some d) → IsToldIn b d
+pub body-told : (b : Body) (d : Definition) → IsInBody b (Some d) → AgreesWithBody b d
 body-told (doc v) d h = form-told (body_form v) d h
 body-told gone d h = absurd cc
 
-row-told : (x : ReadRow) → IsReadRow x → IsToldBy x
+row-told : (x : ReadRow) → IsReadRow x → HasOwnDefinition x
 row-told x right d is e =
     let defining : is_defining x.row ≡ true = is in
     body-told x.row.body d (subst (IsInBody x.row.body) e (subst (λ b. IsReadIf b x.row x.definition) defining right))
 
-pub rows-told : (xs : List ReadRow) → AreReadRows xs → AreTold xs
+pub rows-told : (xs : List ReadRow) → AreReadRows xs → HaveOwnDefinitions xs
 rows-told [] h = tt
 rows-told (x ∷ xs) h = (row-told x h.0, rows-told xs h.1)
 
-told-by : (s : Setting) (held : List KeptRow) (M : Machine) (r : Result (List _) ℕ) → rows_in s.max_rows held ≡ r → IsOpenedBy s r (Ok M) → OpenedAsTold s held M
+told-by : (s : Setting) (held : List KeptRow) (M : Machine) (r : Result (List _) ℕ) → rows_in s.max_rows held ≡ r → IsOpenedBy s r (Ok M) → OpenedFaithfully s held M
 told-by s held M (Err etag) e x = absurd cc
 told-by s held M (Ok rows) e x = record { opened = record { read = x.read; rows = e ∙ ap Ok (sym x.rows); opens = x.opened }; told = rows-told x.read x.right }
 
-pub opened-told : (s : Setting) (held : List KeptRow) (M : Machine) → IsOpened s held (Ok M) → OpenedAsTold s held M
+pub opened-told : (s : Setting) (held : List KeptRow) (M : Machine) → IsOpened s held (Ok M) → OpenedFaithfully s held M
 opened-told s held M x = told-by s held M (rows_in s.max_rows held) refl x

@@ -14,12 +14,12 @@ ghost use Rattle.index_lang.specs.Openings.{IsOpened, Opens};
 ghost use Rattle.index_lang.specs.Says.{Says};
 
 /// A text says one definition, or is refused for one cause, and not both.
-pub fn texts_say_one_thing()
+pub fn texts_are_read_one_way()
     ensures { (map : List ℕ) (a b : Result Definition LangRefusal) → Says map a → Says map b → a ≡ b }
 {}
 
 /// A line is read as one thing.
-pub fn lines_come_to_one_thing()
+pub fn lines_are_read_one_way()
     ensures { (line : List ℕ) (a b : LineRead) → IsLine line a → IsLine line b → a ≡ b }
 {}
 

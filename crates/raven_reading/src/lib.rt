@@ -3,4 +3,4 @@
 
 mod laws;
 
-pub use laws::{lines_come_to_one_thing, rows_open_one_way, texts_say_one_thing};
+pub use laws::{lines_are_read_one_way, rows_open_one_way, texts_are_read_one_way};

@@ -8,13 +8,13 @@ use Rattle.std.specs.Str.{bytes_eq}
 use Rattle.raven_data.specs.Folding.{folded, same_key}
 use Rattle.raven_data.specs.Kept.{KeptRow, all_kept}
 use Rattle.raven_data.specs.Rows.{Row, Body, doc, gone, key, is_document}
-use Rattle.spec_store.specs.Commit.{Setting, stored}
+use Rattle.spec_store.specs.Commit.{Setting, stored_body}
 use Rattle.spec_server.specs.Machine.{Event, Machine, run}
 use Rattle.index_tree.specs.Definitions.{Definition}
 use Rattle.spec_server.specs.Opening.{ReadRow, is_defining, name_in, may_be_named, is_filed, is_too_many, slot_of, with_slot, slots_with, slots_after, or_bad, and_then, slots_from, opened_with, rows_of}
 use Rattle.spec_server.specs.Sound.{Has, Sound}
 use Rattle.spec_store.specs.Store.{row_at}
-use Rattle.spec_index.specs.World.{Slot, fresh, index_id, row_body}
+use Rattle.spec_index.specs.World.{Slot, new_version, index_id, row_body}
 use Rattle.spec_store.proofs.StoreLemmas.{both_true, found_key, same_row}
 use Rattle.raven_laws.proofs.MatchLemmas.{into-filter_map}
 use Rattle.raven_laws.proofs.AnswerLemmas.{Has-filter_map}
@@ -53,7 +53,7 @@ record IsIndexed (M : Machine) (r : Row) : Type 0 where
   pub there : Has M.world.slots slot
   pub named : folded (name_in r) ≡ folded slot.name
   pub etag : r.etag ≡ slot.row
-  pub body : r.body ≡ doc (stored (row_body slot.version.definition))
+  pub body : r.body ≡ doc (stored_body (row_body slot.version.definition))
 
 indexed-row : (M : Machine) (r : Row) → Sound M.world → Has M.world.store.rows r → is_defining r ≡ true → IsIndexed M r
 indexed-row M r o at e =
@@ -206,7 +206,7 @@ same_definition : (a b : Definition) → Some a ≡ Some b → a ≡ b
 same_definition a b h = cc
 
 -- what is read of the row of an index is its definition
-own-definition : (M : Machine) (x : ReadRow) (s : Slot) (d : Definition) → Again M → Has M.world.slots s → x.row.body ≡ doc (stored (row_body s.version.definition)) → IsReadRow x → is_defining x.row ≡ true → x.definition ≡ Some d
+own-definition : (M : Machine) (x : ReadRow) (s : Slot) (d : Definition) → Again M → Has M.world.slots s → x.row.body ≡ doc (stored_body (row_body s.version.definition)) → IsReadRow x → is_defining x.row ≡ true → x.definition ≡ Some d
     → d ≡ s.version.definition
 own-definition M x s d a h body right is read =
     let mine : IsInBody x.row.body (Some d) = subst (IsInBody x.row.body) read (subst (λ b. IsReadIf b x.row x.definition) is right) in
@@ -240,7 +240,7 @@ there-again M s all o a h =
           there = into-filter_map slot_in all.read x (slot_of x.row m.definition) at slot;
           named = name-under x.row s.name (ap key same ∙ sym (found_key (folded (index_id s.name)) M.world.store.rows i.row i.found));
           numbered = ap (λ (y : Row). y.etag) same ∙ i.etag;
-          anew = ap fresh own;
+          anew = ap new_version own;
         }
 
 same_slot : (a b : Slot) → Some a ≡ Some b → a ≡ b
@@ -264,7 +264,7 @@ came-from M s all o a h = let x = Has-filter_map slot_in all.read s h in by x.0 
             there = i.there;
             named = ap (λ (y : Slot). folded y.name) (sym made) ∙ i.named;
             numbered = ap (λ (y : Slot). y.number) (sym made) ∙ i.etag;
-            anew = ap (λ (y : Slot). y.version) (sym made) ∙ ap fresh own;
+            anew = ap (λ (y : Slot). y.version) (sym made) ∙ ap new_version own;
           }
     ] refl e
 

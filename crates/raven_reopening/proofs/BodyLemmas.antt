@@ -11,7 +11,7 @@ use Rattle.raven_data.specs.Members.{member}
 use Rattle.raven_data.specs.Rising.{Pairs, IsBelowAll, IsRising, put}
 use Rattle.raven_data.specs.Sound.{IsSound, HasSound}
 use Rattle.raven_data.specs.Written.{text_of}
-use Rattle.spec_store.specs.Commit.{clean_metadata, is_own, stored}
+use Rattle.spec_store.specs.Commit.{clean_metadata, is_server_member, stored_body}
 use Rattle.spec_store.specs.Kept.{is_clean, max_body}
 use Rattle.index_tree.specs.declared.map_query.MapQuery.{MapQuery}
 use Rattle.index_tree.specs.Definitions.{Auto, Static}
@@ -19,7 +19,7 @@ use Rattle.spec_server.specs.Opening.{AutoForm, StaticForm, body_form, form_of, 
 use Rattle.spec_index.specs.World.{row_body}
 use Rattle.spec_store.proofs.KeyedLemmas.{differ_greater}
 use Rattle.raven_data.proofs.MemberLemmas.{IsRising-put, pairs_of-entries_of}
-use Rattle.raven_reopening.specs.Form.{IsBody, IsDocument}
+use Rattle.raven_reopening.specs.Form.{IsRequestBody, IsStorable}
 use Rattle.raven_reopening.proofs.ReadLemmas.{IsReadBack, document-back}
 
 entries-pairs : (ms : Entries) → entries_of (pairs_of ms) ≡ ms
@@ -106,7 +106,7 @@ member-depth k (entry l e ms) d is = elim (bytes_eq k l) as (λ b. cond b (Some 
 -- CLEAN METADATA
 
 abbrev is_others : List ℕ × Data → Bool
-is_others m = not (is_own m.0)
+is_others m = not (is_server_member m.0)
 
 clean-sound : (o : Option Data) → ((d : Data) → o ≡ Some d → IsSound d) → IsSound (clean_metadata o)
 clean-sound None h = (tt, tt)
@@ -131,11 +131,11 @@ clean-depth (Some (object ms)) n some h =
     let same = ap entries_depth (entries-pairs ms) in
     let less = filter-depth is_others (pairs_of ms) in omega arith
 
-none_own : (ps : Pairs) → list_any (λ m. is_own m.0) (filter is_others ps) ≡ false
+none_own : (ps : Pairs) → list_any (λ m. is_server_member m.0) (filter is_others ps) ≡ false
 none_own [] = refl
-none_own (m ∷ ps) = elim (is_own m.0) as (λ b. is_own m.0 ≡ b → list_any (λ x. is_own x.0) (cond (not b) (m ∷ filter is_others ps) (filter is_others ps)) ≡ false) [
+none_own (m ∷ ps) = elim (is_server_member m.0) as (λ b. is_server_member m.0 ≡ b → list_any (λ x. is_server_member x.0) (cond (not b) (m ∷ filter is_others ps) (filter is_others ps)) ≡ false) [
   | true ↦ λ e. none_own ps
-  | false ↦ λ e. ap (λ b. b || list_any (λ x. is_own x.0) (filter is_others ps)) e ∙ none_own ps
+  | false ↦ λ e. ap (λ b. b || list_any (λ x. is_server_member x.0) (filter is_others ps)) e ∙ none_own ps
 ] refl
 
 clean-clean : (o : Option Data) → is_clean (Some (clean_metadata o)) ≡ true
@@ -146,7 +146,7 @@ clean-clean (Some (num n)) = refl
 clean-clean (Some (text s)) = refl
 clean-clean (Some (array ds)) = refl
 clean-clean (Some (object ms)) =
-    ap (λ ps. not (list_any (λ m. is_own m.0) ps)) (pairs_of-entries_of (filter is_others (pairs_of ms))) ∙ ap not (none_own (pairs_of ms))
+    ap (λ ps. not (list_any (λ m. is_server_member m.0) ps)) (pairs_of-entries_of (filter is_others (pairs_of ms))) ∙ ap not (none_own (pairs_of ms))
 
 -- what was put is found
 member-put : (k : List ℕ) (d : Data) (ps : Pairs) → member k (entries_of (put k d ps)) ≡ Some d
@@ -159,7 +159,7 @@ member-put k d (p ∷ ps) = elim (key_cmp k p.0) as (λ o. key_cmp k p.0 ≡ o �
 
 -- STORED BODIES
 
-stored-document : (ms : Entries) → IsSound (object ms) → depth (object ms) ≤ 100 → length (text_of (stored (object ms))) ≤ max_body → IsDocument (stored (object ms))
+stored-document : (ms : Entries) → IsSound (object ms) → depth (object ms) ≤ 100 → length (text_of (stored_body (object ms))) ≤ max_body → IsStorable (stored_body (object ms))
 stored-document ms s few small =
     let name = codes "@metadata" in
     let clean = clean_metadata (member name ms) in
@@ -175,15 +175,15 @@ stored-document ms s few small =
     }
 
 -- a stored body is read back
-pub stored-back : (d : Data) → IsBody d → length (text_of (stored d)) ≤ max_body → IsReadBack (stored d)
+pub stored-back : (d : Data) → IsRequestBody d → length (text_of (stored_body d)) ≤ max_body → IsReadBack (stored_body d)
 stored-back d b small =
     let same = b.an_object in
-    subst (λ x. IsReadBack (stored x)) (sym same)
-    (document-back (stored (object b.members))
-    (stored-document b.members (subst IsSound same b.sound) (subst (λ x. depth x ≤ 100) same b.shallow) (subst (λ x. length (text_of (stored x)) ≤ max_body) same small)))
+    subst (λ x. IsReadBack (stored_body x)) (sym same)
+    (document-back (stored_body (object b.members))
+    (stored-document b.members (subst IsSound same b.sound) (subst (λ x. depth x ≤ 100) same b.shallow) (subst (λ x. length (text_of (stored_body x)) ≤ max_body) same small)))
 
 -- the body of an automatic index's definition is a valid one
-pub definition-body : (c f : List ℕ) → IsUtf8 c → IsUtf8 f → IsBody (row_body (Auto c ((f ∷ []) ∷ [])))
+pub definition-body : (c f : List ℕ) → IsUtf8 c → IsUtf8 f → IsRequestBody (row_body (Auto c ((f ∷ []) ∷ [])))
 definition-body c f u v = record {
   sound = (
     ((refl, (refl, (refl, tt))), ((refl, (refl, tt)), ((refl, tt), (tt, tt)))),
@@ -212,7 +212,7 @@ definition-body c f u v = record {
   an_object = refl;
 }
 
-pub static-body : (query : MapQuery) (words : List ℕ) → IsUtf8 words → IsBody (row_body (Static query None words None))
+pub static-body : (query : MapQuery) (words : List ℕ) → IsUtf8 words → IsRequestBody (row_body (Static query None words None))
 static-body query words u = record {
   sound = (
     ((refl, (refl, (refl, tt))), ((refl, (refl, tt)), ((refl, tt), (tt, tt)))),
@@ -240,8 +240,8 @@ static-body query words u = record {
 
 -- WHAT IS READ OF A DEFINITION'S BODY
 
-pub auto-back : (c f : List ℕ) → is_part f ≡ true → body_form (stored (row_body (Auto c ((f ∷ []) ∷ [])))) ≡ AutoForm (Auto c ((f ∷ []) ∷ []))
+pub auto-back : (c f : List ℕ) → is_part f ≡ true → body_form (stored_body (row_body (Auto c ((f ∷ []) ∷ [])))) ≡ AutoForm (Auto c ((f ∷ []) ∷ []))
 auto-back c f h = ap (λ b. form_of (cond b (Some (Auto c ((f ∷ []) ∷ []))) None) None) h
 
-pub static-back : (query : MapQuery) (words : List ℕ) → body_form (stored (row_body (Static query None words None))) ≡ StaticForm words
+pub static-back : (query : MapQuery) (words : List ℕ) → body_form (stored_body (row_body (Static query None words None))) ≡ StaticForm words
 static-back query words = refl

@@ -14,7 +14,7 @@ use Rattle.spec_store.specs.Store.{row_at, put, Store, last, with_row}
 use Rattle.spec_store.specs.Kept.{max_body, is_etag}
 use Rattle.index_tree.specs.Definitions.{Definition}
 use Rattle.spec_server.specs.Opening.{name_in, is_filed}
-use Rattle.spec_store.specs.Commit.{Command, Expect, Put, Delete, AnyVector, Writer, Client, Server, Setting, Refusal, Written, Refused, collection_of, named_collection, is_index_id, stored, kept_spelling, document_at, refusal_of, reserved, too_large, collection_changed, conflict, store_full, etags_spent, row_of, tombstone, with_written, unless, commit_from, commit}
+use Rattle.spec_store.specs.Commit.{Command, Expect, Put, Delete, AnyVector, Writer, Client, Server, Setting, Refusal, Written, Refused, collection_of, named_collection, is_index_id, stored_body, row_spelling, document_at, refusal_of, reserved, too_large, collection_changed, conflict, store_full, etags_spent, row_of, tombstone, with_written, or_refused, commit_from, commit}
 use Rattle.spec_index.specs.World.{index_id, row_body}
 use Rattle.spec_server.specs.Sound.{Has}
 use Rattle.spec_store.proofs.StoreLemmas.{same_row, either_false, both_true}
@@ -25,7 +25,7 @@ use Rattle.raven_laws.proofs.LimitLemmas.{all_none, takes, unspent}
 use Rattle.raven_laws.proofs.ListedLemmas.{unreserved}
 use Rattle.raven_laws.proofs.OpenLemmas.{folded-drop}
 use Rattle.raven_laws.proofs.SlotLemmas.{Has-append, Has-filter, find-Has}
-use Rattle.raven_reopening.specs.Form.{IsBody, IsCommand, AreCommands}
+use Rattle.raven_reopening.specs.Form.{IsRequestBody, IsCommand, AreCommands}
 use Rattle.raven_reopening.proofs.ReadLemmas.{IsBack}
 use Rattle.raven_reopening.proofs.BodyLemmas.{stored-back}
 use Rattle.raven_reopening.proofs.FitLemmas.{index_id-fit}
@@ -53,13 +53,13 @@ new_etag s w now S c r h is le =
     let next = next_etag now S c r is in
     ap (λ b. b && nat_le r.etag 9007199254740991) (lt-ltb 0 r.etag (omega arith)) ∙ le-leb r.etag 9007199254740991 (omega arith)
 
-not_large : (s : Setting) (w : Writer) (S : Store) (id : List ℕ) (expected : _) (body : Data) → refusal_of s w S (Put id expected body) ≡ None → length (text_of (stored body)) ≤ max_body
+not_large : (s : Setting) (w : Writer) (S : Store) (id : List ℕ) (expected : _) (body : Data) → refusal_of s w S (Put id expected body) ≡ None → length (text_of (stored_body body)) ≤ max_body
 not_large s w S id expected body h =
     let c = Put id expected body in
     let none = all_none (reserved w c ∷ too_large c ∷ collection_changed S c ∷ conflict s S c ∷ store_full s S c ∷ etags_spent S c ∷ []) (too_large c) h (inr (inl refl)) in
-    elim (nat_lt 1048576 (length (text_of (stored body)))) as (λ b. nat_lt 1048576 (length (text_of (stored body))) ≡ b → cond b (Some (Refusal.TooLarge (length (text_of (stored body))))) None ≡ None → length (text_of (stored body)) ≤ max_body) [
+    elim (nat_lt 1048576 (length (text_of (stored_body body)))) as (λ b. nat_lt 1048576 (length (text_of (stored_body body))) ≡ b → cond b (Some (Refusal.TooLarge (length (text_of (stored_body body))))) None ≡ None → length (text_of (stored_body body)) ≤ max_body) [
       | true ↦ λ e g. absurd cc
-      | false ↦ λ e g. ltb-false 1048576 (length (text_of (stored body))) e
+      | false ↦ λ e g. ltb-false 1048576 (length (text_of (stored_body body))) e
     ] refl none
 
 -- the name of a collection has a byte
@@ -74,13 +74,13 @@ named-some (Some (text [])) = omega arith
 named-some (Some (text (b ∷ bs))) = omega arith
 
 -- the spelling that a row keeps is a valid id
-spelled-fit : (id : List ℕ) (rows : List Row) → AllLast rows → is_fit max_id id ≡ true → is_fit max_id (kept_spelling id (row_at (folded id) rows)) ≡ true
-spelled-fit id rows all fits = elim (row_at (folded id) rows) as (λ o. row_at (folded id) rows ≡ o → is_fit max_id (kept_spelling id o) ≡ true) [
+spelled-fit : (id : List ℕ) (rows : List Row) → AllLast rows → is_fit max_id id ≡ true → is_fit max_id (row_spelling id (row_at (folded id) rows)) ≡ true
+spelled-fit id rows all fits = elim (row_at (folded id) rows) as (λ o. row_at (folded id) rows ≡ o → is_fit max_id (row_spelling id o) ≡ true) [
   | None ↦ λ e. fits
   | Some x ↦ λ e. (all x (find-Has (λ y. same_key (folded id) (key y)) rows x e).0).back.id
 ] refl
 
-spelled-index : (id : List ℕ) (rows : List Row) → is_index_id (kept_spelling id (row_at (folded id) rows)) ≡ is_index_id id
+spelled-index : (id : List ℕ) (rows : List Row) → is_index_id (row_spelling id (row_at (folded id) rows)) ≡ is_index_id id
 spelled-index id rows = ap (λ k. starts_with nat_eq k (codes "@index/")) (put_key id rows)
 
 abbrev other_row : Body → ℕ → List ℕ → List ℕ → ℕ → Row
@@ -110,7 +110,7 @@ client-row : (s : Setting) (now : ℕ) (S : Store) (c : Command) (r : Row) → r
 client-row s now S (Put id expected body) r h is fits soon all le =
     let free = either_false (is_index_id id) (bytes_eq (collection_of body) (codes "@indexes")) (unreserved s S (Put id expected body) h) in
     let etag = new_etag s Client now S (Put id expected body) r h is le in
-    let new : Row = record { etag = last S + 1; id = kept_spelling id (row_at (folded id) S.rows); collection = collection_of body; body = doc (stored body); changed = now } in
+    let new : Row = record { etag = last S + 1; id = row_spelling id (row_at (folded id) S.rows); collection = collection_of body; body = doc (stored_body body); changed = now } in
     let same : new ≡ r = same_row new r is in
     subst Lasts same (record {
       back = record {
@@ -143,7 +143,7 @@ same_written a b h = cc
 pub clients-Stay : (at : ℕ) (s : Setting) (now : ℕ) (cs : List Command) (done new : Written) → commit_from at s Client now cs done ≡ Ok new → AreCommands cs → now < moments_end → Stays done.store → Stays new.store
 clients-Stay at s now [] done new h fits soon k = subst (λ (x : Written). Stays x.store) (same_written done new h) k
 clients-Stay at s now (c ∷ cs) done new h fits soon k =
-    elim (refusal_of s Client done.store c) as (λ o. refusal_of s Client done.store c ≡ o → unless o at (commit_from (at + 1) s Client now cs (with_written (row_of now done.store c) done)) ≡ Ok new → Stays new.store) [
+    elim (refusal_of s Client done.store c) as (λ o. refusal_of s Client done.store c ≡ o → or_refused o at (commit_from (at + 1) s Client now cs (with_written (row_of now done.store c) done)) ≡ Ok new → Stays new.store) [
       | None ↦ λ e g. elim (row_of now done.store c) as (λ o. row_of now done.store c ≡ o → commit_from (at + 1) s Client now cs (with_written o done) ≡ Ok new → Stays new.store) [
         | None ↦ λ f j. clients-Stay (at + 1) s now cs done new j fits.1 soon k
         | Some r ↦ λ f j. clients-Stay (at + 1) s now cs (with_written (Some r) done) new j fits.1 soon
@@ -159,10 +159,10 @@ pub name-under : (r : Row) (name : List ℕ) → folded r.id ≡ folded (index_i
 name-under r name h = folded-drop 7 r.id ∙ ap (drop 7) h
 
 server-row : (s : Setting) (now : ℕ) (S : Store) (name : List ℕ) (d : Definition) (r : Row) → refusal_of s Server S (Put (index_id name) AnyVector (row_body d)) ≡ None
-    → row_of now S (Put (index_id name) AnyVector (row_body d)) ≡ Some r → IsBody (row_body d) → is_fit 200 name ≡ true → now < moments_end → AllLast S.rows → last S ≤ 9007199254740991 → Lasts r
+    → row_of now S (Put (index_id name) AnyVector (row_body d)) ≡ Some r → IsRequestBody (row_body d) → is_fit 200 name ≡ true → now < moments_end → AllLast S.rows → last S ≤ 9007199254740991 → Lasts r
 server-row s now S name d r h is body fit soon all le =
     let etag = new_etag s Server now S (Put (index_id name) AnyVector (row_body d)) r h is le in
-    let new : Row = record { etag = last S + 1; id = kept_spelling (index_id name) (row_at (folded (index_id name)) S.rows); collection = codes "@indexes"; body = doc (stored (row_body d)); changed = now } in
+    let new : Row = record { etag = last S + 1; id = row_spelling (index_id name) (row_at (folded (index_id name)) S.rows); collection = codes "@indexes"; body = doc (stored_body (row_body d)); changed = now } in
     let same : new ≡ r = same_row new r is in
     subst Lasts same (record {
       back = record {
@@ -177,12 +177,12 @@ server-row s now S name d r h is body fit soon all le =
 
 -- the transaction that writes a definition
 pub server-Stays : (s : Setting) (now : ℕ) (S : Store) (name : List ℕ) (d : Definition) (new : Written) → commit s Server now (Put (index_id name) AnyVector (row_body d) ∷ []) S ≡ Ok new
-    → IsBody (row_body d) → is_fit 200 name ≡ true → now < moments_end → Stays S → Stays new.store
+    → IsRequestBody (row_body d) → is_fit 200 name ≡ true → now < moments_end → Stays S → Stays new.store
 server-Stays s now S name d new h body fit soon k =
     let put_one = Put (index_id name) AnyVector (row_body d) in
-    let r : Row = record { etag = last S + 1; id = kept_spelling (index_id name) (row_at (folded (index_id name)) S.rows); collection = codes "@indexes"; body = doc (stored (row_body d)); changed = now } in
+    let r : Row = record { etag = last S + 1; id = row_spelling (index_id name) (row_at (folded (index_id name)) S.rows); collection = codes "@indexes"; body = doc (stored_body (row_body d)); changed = now } in
     let done : Written = record { store = with_row S r; rows = r ∷ [] } in
-    elim (refusal_of s Server S put_one) as (λ o. refusal_of s Server S put_one ≡ o → unless o 0 (Ok done) ≡ Ok new → Stays new.store) [
+    elim (refusal_of s Server S put_one) as (λ o. refusal_of s Server S put_one ≡ o → or_refused o 0 (Ok done) ≡ Ok new → Stays new.store) [
       | None ↦ λ e g.
           let l = server-row s now S name d r e refl body fit soon k.all k.etags in
           subst (λ (x : Written). Stays x.store) (same_written done new g) (Stays-with S r k l)
@@ -194,7 +194,7 @@ pub removal-Stays : (s : Setting) (now : ℕ) (S : Store) (id : List ℕ) (new :
 removal-Stays s now S id new h soon k =
     let c = Delete id AnyVector in
     let none : Written = record { store = S; rows = [] } in
-    elim (refusal_of s Server S c) as (λ o. refusal_of s Server S c ≡ o → unless o 0 (Ok (with_written (row_of now S c) none)) ≡ Ok new → Stays new.store) [
+    elim (refusal_of s Server S c) as (λ o. refusal_of s Server S c ≡ o → or_refused o 0 (Ok (with_written (row_of now S c) none)) ≡ Ok new → Stays new.store) [
       | None ↦ λ e g. elim (row_of now S c) as (λ o. row_of now S c ≡ o → (let x : Result Written Refused = Ok (with_written o none) in x) ≡ Ok new → Stays new.store) [
         | None ↦ λ f j. subst (λ (x : Written). Stays x.store) (same_written none new j) k
         | Some r ↦ λ f j. subst (λ (x : Written). Stays x.store) (same_written (with_written (Some r) none) new j)

@@ -17,10 +17,10 @@ use Rattle.index_tree.specs.Language.{LangRefusal}
 use Rattle.index_tree.specs.Definitions.{Definition}
 use Rattle.spec_server.specs.Machine.{Event, Machine, Request, Put, Delete, Bulk, Get, Remove, Auto, Find, Pump, Stale, Indexes, Stats, commands_in}
 use Rattle.spec_server.specs.Opening.{is_part}
-use Rattle.spec_server.specs.Script.{Do, LineRead, ReadRefusal, Plain, asked_by, asked_to_define, defined_by, index_of, map_member, name_member, reduce_member, texts_in, texts_of_body, unless_name_fault, UnknownLine, BadMember, Circumstance, Given, then_read, before_space, after_space, both_parts, word_and_rest, has_byte, unless_fault, id_read, json_read, object_read, put_read, delete_read, id_member, vector_member, put_command, delete_command, typed_command, command_read, commands_read, list_member, commands_of, bulk_read, or_unknown, parts_read, put_of, put_if_of, delete_if_of, get_of, is_collection, is_field, auto_of, drop_of, max_read, pump_of, pump_read, name_read, find_of, stale_of, by_word, request_of, line_of, event_of, events_of, after_lines}
+use Rattle.spec_server.specs.Script.{Do, LineRead, ReadRefusal, Plain, asked_by, asked_to_define, defined_by, index_of, map_member, name_member, reduce_member, texts_in, texts_of_body, unless_name_fault, UnknownLine, BadMember, Circumstance, Given, then_read, before_space, after_space, both_parts, argument_and_rest, has_byte, unless_fault, id_read, json_read, object_read, put_read, delete_read, id_member, vector_member, put_command, delete_command, typed_command, command_read, commands_read, list_member, commands_of, bulk_read, or_unknown, parts_read, put_of, put_if_of, delete_if_of, get_of, is_collection, is_field, auto_of, drop_of, max_read, pump_of, pump_read, name_read, find_of, stale_of, by_command, request_of, line_of, event_of, events_of, after_lines}
 use Rattle.raven_laws.proofs.ScriptLemmas.{lines-run}
 use Rattle.spec_store.proofs.StoreLemmas.{both_true, either_false}
-use Rattle.raven_reopening.specs.Form.{IsBody, IsCommand, AreCommands, IsIndexing, AreEvents, AreTimely}
+use Rattle.raven_reopening.specs.Form.{IsRequestBody, IsCommand, AreCommands, IsIndexing, AreEvents, AreTimely}
 use Rattle.index_lang.specs.Lines.{AreLines, Comes}
 use Rattle.index_lang.specs.Openings.{IsOpened}
 use Rattle.index_lang.specs.Says.{Says}
@@ -107,7 +107,7 @@ both-parts (b ∷ bs) (Some []) p u f h = absurd cc
 both-parts (b ∷ bs) (Some (c ∷ cs)) p u f h = subst AreParts (same_parts (b ∷ bs, c ∷ cs) p h) (record { first = u; second = f (c ∷ cs) refl })
 
 parts-utf8 : (words : List ℕ) (p : List ℕ × List ℕ) → IsUtf8 words → parts_read words ≡ Ok p → AreParts p
-parts-utf8 words p u h = let w = words-of words u in both-parts (before_space words) (after_space words) p w.front w.rest (known (word_and_rest words) p h)
+parts-utf8 words p u h = let w = words-of words u in both-parts (before_space words) (after_space words) p w.front w.rest (known (argument_and_rest words) p h)
 
 -- REQUESTS
 
@@ -130,7 +130,7 @@ json-ok (Err refusal) d h = absurd cc
 json-ok (Ok v) d h = ap Ok (same_ok v d h)
 
 -- an object that is fine is a body
-object-body : (name : List ℕ) (o : Option Data) (d : Data) → object_read name o ≡ Ok d → ((v : Data) → o ≡ Some v → IsFine 100 v) → IsBody d
+object-body : (name : List ℕ) (o : Option Data) (d : Data) → object_read name o ≡ Ok d → ((v : Data) → o ≡ Some v → IsFine 100 v) → IsRequestBody d
 object-body name None d h f = absurd cc
 object-body name (Some null) d h f = absurd cc
 object-body name (Some (flag b)) d h f = absurd cc
@@ -139,7 +139,7 @@ object-body name (Some (text s)) d h f = absurd cc
 object-body name (Some (array ds)) d h f = absurd cc
 object-body name (Some (object ms)) d h f =
     let fine = f (object ms) refl in
-    subst IsBody (same_ok (object ms) d h) (record { sound = fine.0; shallow = fine.1; members = ms; an_object = refl })
+    subst IsRequestBody (same_ok (object ms) d h) (record { sound = fine.0; shallow = fine.1; members = ms; an_object = refl })
 
 same_value : (a b : Data) → Some a ≡ Some b → a ≡ b
 same_value a b h = cc
@@ -301,7 +301,7 @@ get-asked : (words : List ℕ) (request : Request) → get_of words ≡ Ok reque
 get-asked words request h = let i = then-ok (id_read words) (λ id. Ok (Get id)) request h in asked (Get i.0) request i.2 (record { commands = tt; indexing = tt })
 
 pump-asked : (words : List ℕ) (request : Request) → pump_of words ≡ Ok request → IsAsked request
-pump-asked words request h = by (word_and_rest words) h
+pump-asked words request h = by (argument_and_rest words) h
   where
     by : (parts : Option (List ℕ × List ℕ)) → pump_read words parts ≡ Ok request → IsAsked request
     by None g = let m = then-ok (max_read words) (λ max. Ok (Pump max None)) request g in asked (Pump m.0 None) request m.2 (record { commands = tt; indexing = tt })
@@ -327,7 +327,7 @@ either : (b : Bool) (x y : Result Request ReadRefusal) (request : Request) → c
 either true x y request h f g = f h
 either false x y request h f g = g h
 
-word-asked : (word more : List ℕ) (request : Request) → IsUtf8 more → by_word word more ≡ Ok request → IsAsked request
+word-asked : (word more : List ℕ) (request : Request) → IsUtf8 more → by_command word more ≡ Ok request → IsAsked request
 word-asked word more request u h =
     either (bytes_eq word (codes "PUT")) (put_of more) _ request h (λ e. put_of-asked more request e) (λ h.
     either (bytes_eq word (codes "PUTIF")) (put_if_of more) _ request h (λ e. put_if_of-asked more request e) (λ h.
@@ -344,8 +344,8 @@ word-asked word more request u h =
 request-asked : (line : List ℕ) (request : Request) → IsUtf8 line → request_of line ≡ Ok request → IsAsked request
 request-asked line request u h =
     either (bytes_eq line (codes "STATS")) (Ok Stats) _ request h (λ e. asked Stats request e (record { commands = tt; indexing = tt })) (λ h.
-    either (bytes_eq line (codes "INDEXES")) (Ok Indexes) (then_read (parts_read line) (λ parts. by_word parts.0 parts.1)) request h (λ e. asked Indexes request e (record { commands = tt; indexing = tt }))
-    (λ e. let p = then-ok (parts_read line) (λ parts. by_word parts.0 parts.1) request e in let w = parts-utf8 line p.0 u p.1 in word-asked p.0.0 p.0.1 request w.second p.2))
+    either (bytes_eq line (codes "INDEXES")) (Ok Indexes) (then_read (parts_read line) (λ parts. by_command parts.0 parts.1)) request h (λ e. asked Indexes request e (record { commands = tt; indexing = tt }))
+    (λ e. let p = then-ok (parts_read line) (λ parts. by_command parts.0 parts.1) request e in let w = parts-utf8 line p.0 u p.1 in word-asked p.0.0 p.0.1 request w.second p.2))
 
 -- LINES WITHOUT A DEFINITION
 
@@ -478,7 +478,7 @@ event-asked c (Ok (Some (Do request))) es l soon f = (record { moment = soon; co
 
 lines-asked : (lines : List Given) → AreLines lines → AreTimely lines → AreEvents (events_of lines)
 lines-asked [] read t = tt
-lines-asked (g ∷ more) read t = event-asked g.circumstance g.read (events_of more) (asked-by g.line (word_and_rest g.line) g.read read.0) t.0 (lines-asked more read.1 t.1)
+lines-asked (g ∷ more) read t = event-asked g.circumstance g.read (events_of more) (asked-by g.line (argument_and_rest g.line) g.read read.0) t.0 (lines-asked more read.1 t.1)
 
 -- AFTER A SCRIPT
 

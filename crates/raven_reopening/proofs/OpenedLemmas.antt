@@ -11,7 +11,7 @@ use Rattle.raven_data.specs.Moments.{moments_end}
 use Rattle.raven_data.specs.Rows.{Row, Body, doc, gone}
 use Rattle.raven_data.specs.Written.{text_of}
 use Rattle.spec_store.specs.Commit.{Setting}
-use Rattle.spec_store.specs.Kept.{max_body, is_stored, document_of, body_in, is_etag, row_in, row_behind, or_bad_row, rows_behind, rows_in}
+use Rattle.spec_store.specs.Kept.{max_body, is_stored, document_of, body_in, is_etag, row_in, row_if_it_follows, or_bad_row, rows_after, rows_in}
 use Rattle.spec_server.specs.Machine.{Machine}
 use Rattle.spec_server.specs.Opening.{ReadRow, is_defining, is_filed, may_be_named, slot_of, with_slot, slots_after, or_bad, and_then, slots_from, opened_with, rows_of}
 use Rattle.spec_server.specs.Sound.{Has}
@@ -85,10 +85,10 @@ AllBack rows = (r : Row) → Has rows r → IsBack r
 same_rows : (a b : List Row) → (let r : Result (List Row) ℕ = Ok a in r) ≡ Ok b → a ≡ b
 same_rows a b h = cc
 
-rows-read : (max : ℕ) (earlier : List Row) (ks : List KeptRow) (rows : List Row) → AllBack earlier → rows_behind max earlier ks ≡ Ok rows → AllBack rows
+rows-read : (max : ℕ) (earlier : List Row) (ks : List KeptRow) (rows : List Row) → AllBack earlier → rows_after max earlier ks ≡ Ok rows → AllBack rows
 rows-read max earlier [] rows all h = subst AllBack (same_rows earlier rows h) all
 rows-read max earlier (k ∷ ks) rows all h =
-    elim (row_behind max earlier (row_in k)) as (λ o. row_behind max earlier (row_in k) ≡ o → or_bad_row k.etag o (λ r. rows_behind max (earlier ++ r ∷ []) ks) ≡ Ok rows → AllBack rows) [
+    elim (row_if_it_follows max earlier (row_in k)) as (λ o. row_if_it_follows max earlier (row_in k) ≡ o → or_bad_row k.etag o (λ r. rows_after max (earlier ++ r ∷ []) ks) ≡ Ok rows → AllBack rows) [
       | None ↦ λ e g. absurd cc
       | Some r ↦ λ e g.
           let one = row-read k r (may_behind max earlier (row_in k) r e).0 in

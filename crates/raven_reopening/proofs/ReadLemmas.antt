@@ -13,12 +13,12 @@ use Rattle.raven_data.specs.Kept.{all_kept, body_text, kept}
 use Rattle.raven_data.specs.Moments.{moments_end}
 use Rattle.raven_data.specs.Rows.{Row, Body, doc, gone, key}
 use Rattle.raven_data.specs.Written.{text_of}
-use Rattle.spec_store.specs.Kept.{max_body, is_stored, document_of, document_in, body_in, is_etag, row_in, may_stand_behind, row_behind, or_bad_row, rows_behind, rows_in}
+use Rattle.spec_store.specs.Kept.{max_body, is_stored, document_of, document_in, body_in, is_etag, row_in, can_follow, row_if_it_follows, or_bad_row, rows_after, rows_in}
 use Rattle.spec_store.specs.Store.{row_at, last_of, AreRising, AreApart, Store, IsStore}
 use Rattle.spec_store.proofs.StoreLemmas.{AreRising-back}
 use Rattle.raven_laws.proofs.OpenLemmas.{none_then}
 use Rattle.raven_json.proofs.RoundTrip.{reading-text_of}
-use Rattle.raven_reopening.specs.Form.{IsDocument, IsBodyInForm, IsInForm, AreInForm}
+use Rattle.raven_reopening.specs.Form.{IsStorable, IsValidBody, IsValidRow, AreValidRows}
 
 -- ONE ROW
 
@@ -40,14 +40,14 @@ pub record IsBack (r : Row) : Type 0 where
   pub changed : r.changed < moments_end
   pub body : IsBodyBack r.body
 
-pub document-back : (d : Data) → IsDocument d → IsReadBack d
+pub document-back : (d : Data) → IsStorable d → IsReadBack d
 document-back d f = record { read = reading-text_of d f.sound f.shallow; clean = f.clean; small = f.small }
 
-body-back : (b : Body) → IsBodyInForm b → IsBodyBack b
+body-back : (b : Body) → IsValidBody b → IsBodyBack b
 body-back (doc d) f = document-back d f
 body-back gone f = tt
 
-pub form-back : (r : Row) → IsInForm r → IsBack r
+pub form-back : (r : Row) → IsValidRow r → IsBack r
 form-back r f = record { etag = f.etag; id = f.id; collection = f.collection; changed = f.changed; body = body-back r.body f.body }
 
 document_in-text_of : (d : Data) → IsReadBack d → document_in (text_of d) ≡ Some d
@@ -70,7 +70,7 @@ row_in-kept r f =
     let tests = all_four (is_etag r.etag) (is_fit max_id r.id) (nat_lt 0 (length r.collection)) (nat_lt r.changed moments_end) f.etag f.id (lt-ltb 0 (length r.collection) f.collection) (lt-ltb r.changed moments_end f.changed) in
     ap (λ b. cond b (option_map row (body_in (body_text r.body))) None) tests ∙ ap (option_map row) (body_in-text r.body f.body)
 
-pub form-read : (r : Row) → IsInForm r → row_in (kept r) ≡ Some r
+pub form-read : (r : Row) → IsValidRow r → row_in (kept r) ≡ Some r
 form-read r f = row_in-kept r (form-back r f)
 
 -- ALL ROWS
@@ -89,7 +89,7 @@ abbrev pub AreBack : List Row → Type 0
 AreBack [] = Unit {0}
 AreBack (r ∷ rows) = IsBack r × AreBack rows
 
-forms-back : (rows : List Row) → AreInForm rows → AreBack rows
+forms-back : (rows : List Row) → AreValidRows rows → AreBack rows
 forms-back [] f = tt
 forms-back (r ∷ rows) f = (form-back r f.0, forms-back rows f.1)
 
@@ -97,22 +97,22 @@ both : (a b c : Bool) → a ≡ true → b ≡ true → c ≡ true → a && b &&
 both a b c e f g = λ i. e i && f i && g i
 
 rows_behind-kept : (max : ℕ) (earlier rows : List Row) → AreRising 0 (earlier ++ rows) → AreApart (earlier ++ rows) → AreBack rows → length (earlier ++ rows) ≤ max
-    → rows_behind max earlier (all_kept rows) ≡ Ok (earlier ++ rows)
+    → rows_after max earlier (all_kept rows) ≡ Ok (earlier ++ rows)
 rows_behind-kept max earlier [] up apart f few = ap Ok (sym (append-nil earlier))
 rows_behind-kept max earlier (r ∷ rows) up apart f few =
     let past = (AreRising-back 0 earlier (r ∷ rows) up).0 in
     let none = ap is_none (new_id earlier r rows apart) in
     let room : length earlier < max = let l = length-append earlier (r ∷ rows) in omega arith in
-    let may : may_stand_behind max earlier r ≡ true =
+    let may : can_follow max earlier r ≡ true =
     both (nat_lt (last_of 0 earlier) r.etag) (is_none (row_at (key r) earlier)) (nat_lt (length earlier) max) (lt-ltb (last_of 0 earlier) r.etag past) none (lt-ltb (length earlier) max room) in
     let next = append_assoc earlier (r ∷ []) rows in
-    ap (λ o. or_bad_row r.etag (row_behind max earlier o) (λ x. rows_behind max (earlier ++ x ∷ []) (all_kept rows))) (row_in-kept r f.0)
-    ∙ ap (λ b. or_bad_row r.etag (cond b (Some r) None) (λ x. rows_behind max (earlier ++ x ∷ []) (all_kept rows))) may
+    ap (λ o. or_bad_row r.etag (row_if_it_follows max earlier o) (λ x. rows_after max (earlier ++ x ∷ []) (all_kept rows))) (row_in-kept r f.0)
+    ∙ ap (λ b. or_bad_row r.etag (cond b (Some r) None) (λ x. rows_after max (earlier ++ x ∷ []) (all_kept rows))) may
     ∙ rows_behind-kept max (earlier ++ r ∷ []) rows (subst (AreRising 0) (sym next) up) (subst AreApart (sym next) apart) f.1 (subst (λ xs. length xs ≤ max) (sym next) few)
     ∙ ap Ok next
 
 pub rows_in-kept : (S : Store) (max : ℕ) → IsStore S → AreBack S.rows → length S.rows ≤ max → rows_in max (all_kept S.rows) ≡ Ok S.rows
 rows_in-kept S max o f few = rows_behind-kept max [] S.rows o.rising o.apart f few
 
-pub forms-read : (S : Store) (max : ℕ) → IsStore S → AreInForm S.rows → length S.rows ≤ max → rows_in max (all_kept S.rows) ≡ Ok S.rows
+pub forms-read : (S : Store) (max : ℕ) → IsStore S → AreValidRows S.rows → length S.rows ≤ max → rows_in max (all_kept S.rows) ≡ Ok S.rows
 forms-read S max o f few = rows_in-kept S max o (forms-back S.rows f) few

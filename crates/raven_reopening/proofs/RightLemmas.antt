@@ -2,10 +2,10 @@
 use Rattle.std.proofs.Common.{◌≡◌, ℕ, ◌≤◌, List, [], ◌∷◌, Bool, true, false, if◌then◌else◌, length, filter, map, Some, None, Ok, refl, sym, ◌∙◌, subst, inl, inr}
 use Rattle.raven_data.specs.Faults.{max_name}
 use Rattle.raven_data.specs.Rows.{doc}
-use Rattle.spec_store.specs.Commit.{stored}
+use Rattle.spec_store.specs.Commit.{stored_body}
 use Rattle.index_tree.specs.Definitions.{Definition, Static, Auto}
 use Rattle.spec_server.specs.Opening.{is_auto_name, may_be_named}
-use Rattle.spec_server.specs.Machine.{Auto as AutoOne, brought_on, brought_on_if}
+use Rattle.spec_server.specs.Machine.{Auto as AutoOne, after_batch, after_batch_if_named}
 use Rattle.spec_server.specs.Sound.{Has}
 use Rattle.spec_store.specs.Store.{Store}
 use Rattle.spec_index.specs.World.{Slot, World, added, is_named, is_reserved_name, row_body}
@@ -13,13 +13,13 @@ use Rattle.raven_laws.proofs.MachineLemmas.{Keeps, brought-Keeps}
 use Rattle.raven_laws.proofs.SlotLemmas.{Has-append, Has-filter, Has-map}
 use Rattle.index_lang.specs.Openings.{IsInBody, IsOfForm}
 use Rattle.index_lang.specs.Says.{Says}
-use Rattle.raven_reopening.specs.Form.{IsBody, IsByText, IsIndexing}
+use Rattle.raven_reopening.specs.Form.{IsRequestBody, IsByText, IsIndexing}
 use Rattle.raven_reopening.proofs.BodyLemmas.{auto-back, definition-body, static-body}
 use Rattle.raven_reopening.proofs.FitLemmas.{static_name-fit}
 
 -- what is read of the body that the server stores for a definition is that definition
 abbrev pub IsReadOf : Definition → Type 0
-IsReadOf d = IsInBody (doc (stored (row_body d))) (Some d)
+IsReadOf d = IsInBody (doc (stored_body (row_body d))) (Some d)
 
 pub record IsRight (s : Slot) : Type 0 where
   pub read : IsReadOf s.version.definition
@@ -32,7 +32,7 @@ AllRight slots = (s : Slot) → Has slots s → IsRight s
 
 -- a definition that can be stored under the name
 pub record IsNew (name : List ℕ) (d : Definition) : Type 0 where
-  pub body : IsBody (row_body d)
+  pub body : IsRequestBody (row_body d)
   pub read : IsReadOf d
   pub named : may_be_named d name ≡ true
 
@@ -71,11 +71,11 @@ kept-right x y k r = record {
 map-right : (f : Slot → Slot) (slots : List Slot) → ((x : Slot) → Keeps x (f x)) → AllRight slots → AllRight (map f slots)
 map-right f slots keeps all s h = let x = Has-map f slots s h in subst IsRight x.2 (kept-right x.0 (f x.0) (keeps x.0) (all x.0 x.1))
 
-pub pumped-right : (S : Store) (max : ℕ) (slots : List Slot) → AllRight slots → AllRight (map (brought_on S max) slots)
-pumped-right S max slots = map-right (brought_on S max) slots (brought-Keeps S max)
+pub pumped-right : (S : Store) (max : ℕ) (slots : List Slot) → AllRight slots → AllRight (map (after_batch S max) slots)
+pumped-right S max slots = map-right (after_batch S max) slots (brought-Keeps S max)
 
-pub pumped_at-right : (S : Store) (max : ℕ) (name : List ℕ) (slots : List Slot) → AllRight slots → AllRight (map (brought_on_if S max name) slots)
-pumped_at-right S max name slots = map-right (brought_on_if S max name) slots (λ x. elim (is_named name x) as (λ b. Keeps x (if b then brought_on S max x else x)) [
+pub pumped_at-right : (S : Store) (max : ℕ) (name : List ℕ) (slots : List Slot) → AllRight slots → AllRight (map (after_batch_if_named S max name) slots)
+pumped_at-right S max name slots = map-right (after_batch_if_named S max name) slots (λ x. elim (is_named name x) as (λ b. Keeps x (if b then after_batch S max x else x)) [
   | true ↦ brought-Keeps S max x
   | false ↦ record { number = refl; name = refl; row = refl; definition = refl }
 ])

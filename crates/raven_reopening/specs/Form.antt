@@ -18,38 +18,38 @@ use Rattle.index_lang.specs.Says.{Says}
 -- ROWS
 
 -- the document can be stored and read again
-pub record IsDocument (d : Data) : Type 0 where
+pub record IsStorable (d : Data) : Type 0 where
   pub sound : IsSound d
   pub shallow : depth d ≤ 100
   pub clean : IsTrue (is_stored d)
   pub small : length (text_of d) ≤ max_body
 
-abbrev pub IsBodyInForm : Body → Type 0
-IsBodyInForm (doc d) = IsDocument d
-IsBodyInForm gone = Unit {0}
+abbrev pub IsValidBody : Body → Type 0
+IsValidBody (doc d) = IsStorable d
+IsValidBody gone = Unit {0}
 
-pub record IsInForm (r : Row) : Type 0 where
+pub record IsValidRow (r : Row) : Type 0 where
   pub etag : IsTrue (is_etag r.etag)
   pub id : IsTrue (is_fit max_id r.id)
   pub collection : 0 < length r.collection
   pub changed : r.changed < moments_end
-  pub body : IsBodyInForm r.body
+  pub body : IsValidBody r.body
 
-abbrev pub AreInForm : List Row → Type 0
-AreInForm [] = Unit {0}
-AreInForm (r ∷ rows) = IsInForm r × AreInForm rows
+abbrev pub AreValidRows : List Row → Type 0
+AreValidRows [] = Unit {0}
+AreValidRows (r ∷ rows) = IsValidRow r × AreValidRows rows
 
 -- REQUESTS
 
 -- a body that the program can hold: a sound object at most a hundred deep
-pub record IsBody (d : Data) : Type 0 where
+pub record IsRequestBody (d : Data) : Type 0 where
   pub sound : IsSound d
   pub shallow : depth d ≤ 100
   pub members : Entries
   pub an_object : d ≡ object members
 
 abbrev pub IsCommand : Command → Type 0
-IsCommand (Put id expected body) = IsTrue (is_fit max_id id) × IsBody body
+IsCommand (Put id expected body) = IsTrue (is_fit max_id id) × IsRequestBody body
 IsCommand (Delete id expected) = Unit {0}
 
 abbrev pub AreCommands : List Command → Type 0

@@ -5,7 +5,7 @@ use Rattle.raven_data.specs.Kept.{all_kept}
 use Rattle.spec_store.specs.Commit.{Setting}
 use Rattle.spec_server.specs.Machine.{Machine}
 use Rattle.spec_server.specs.Sound.{Has}
-use Rattle.spec_index.specs.World.{Slot, World, fresh}
+use Rattle.spec_index.specs.World.{Slot, World, new_version}
 use Rattle.index_lang.specs.Openings.{IsOpened}
 
 -- the slots have one with the name and the definition of s, whose number is the etag of s's row, and which has recorded nothing yet
@@ -14,7 +14,7 @@ pub record IsThereAgain (slots : List Slot) (s : Slot) : Type 0 where
   pub there : Has slots slot
   pub named : folded slot.name ≡ folded s.name
   pub numbered : slot.number ≡ s.row
-  pub anew : slot.version ≡ fresh s.version.definition
+  pub anew : slot.version ≡ new_version s.version.definition
 
 -- the opened slot s belongs to one that was there: the same name and definition, its row's etag, and nothing recorded yet
 pub record WasThere (slots : List Slot) (s : Slot) : Type 0 where
@@ -22,7 +22,7 @@ pub record WasThere (slots : List Slot) (s : Slot) : Type 0 where
   pub there : Has slots slot
   pub named : folded s.name ≡ folded slot.name
   pub numbered : s.number ≡ slot.row
-  pub anew : s.version ≡ fresh slot.version.definition
+  pub anew : s.version ≡ new_version slot.version.definition
 
 -- the stored rows of the world open a machine with the same store, with an index for each that there was, and with no other
 pub record OpensAgain (s : Setting) (W : World) : Type 0 where

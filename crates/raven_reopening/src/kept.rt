@@ -7,30 +7,30 @@ ghost use Rattle.raven_data.specs.Json.{reading};
 ghost use Rattle.raven_data.specs.Kept.{all_kept, kept};
 ghost use Rattle.raven_data.specs.Rows.{Row};
 ghost use Rattle.raven_data.specs.Sound.{IsSound};
-ghost use Rattle.spec_store.specs.Commit.{stored};
+ghost use Rattle.spec_store.specs.Commit.{stored_body};
 ghost use Rattle.spec_store.specs.Kept.{row_in, rows_in};
 ghost use Rattle.index_tree.specs.Definitions.{Auto, Static};
 ghost use Rattle.spec_server.specs.Opening.{AutoForm, StaticForm, body_form, is_part};
 ghost use Rattle.spec_store.specs.Store.{IsStore, Store};
 ghost use Rattle.spec_index.specs.World.{row_body};
-ghost use Rattle.raven_reopening.specs.Form.{AreInForm, IsInForm};
+ghost use Rattle.raven_reopening.specs.Form.{AreValidRows, IsValidRow};
 
 /// A valid row is read back as it was stored.
-pub fn kept_rows_are_read()
-    ensures { (r : Row) → IsInForm r → row_in (kept r) ≡ Some r }
+pub fn stored_rows_are_read_back()
+    ensures { (r : Row) → IsValidRow r → row_in (kept r) ≡ Some r }
 {}
 
 /// The rows of a store, if all are valid and they are no more than `max`, are read back as they were stored.
 pub fn stores_open_again()
-    ensures { (S : Store) (max : ℕ) → IsStore S → AreInForm S.rows → length S.rows ≤ max → rows_in max (all_kept S.rows) ≡ Ok S.rows }
+    ensures { (S : Store) (max : ℕ) → IsStore S → AreValidRows S.rows → length S.rows ≤ max → rows_in max (all_kept S.rows) ≡ Ok S.rows }
 {}
 
 /// The definition of an automatic index of one field is read back from the body that the server stores for it, and so is the text of a
 /// definition by a text without a reduce.
 pub fn definitions_are_read_back()
     ensures automatic { (collection field : List ℕ) → IsTrue (is_part field) →
-        body_form (stored (row_body (Auto collection ((field ∷ []) ∷ [])))) ≡ AutoForm (Auto collection ((field ∷ []) ∷ [])) }
-    ensures by_text { (query : MapQuery) (text : List ℕ) → body_form (stored (row_body (Static query None text None))) ≡ StaticForm text }
+        body_form (stored_body (row_body (Auto collection ((field ∷ []) ∷ [])))) ≡ AutoForm (Auto collection ((field ∷ []) ∷ [])) }
+    ensures by_text { (query : MapQuery) (text : List ℕ) → body_form (stored_body (row_body (Static query None text None))) ≡ StaticForm text }
 {}
 
 /// What JSON bytes are read as is sound: its numbers have 64 bits, its texts are UTF-8, its members rise. It is at most a hundred deep.

@@ -5,6 +5,6 @@ mod kept;
 mod runs;
 
 pub use kept::{
-    definitions_are_read_back, kept_rows_are_read, stores_open_again, what_is_read_is_sound,
+    definitions_are_read_back, stored_rows_are_read_back, stores_open_again, what_is_read_is_sound,
 };
-pub use runs::{a_run_opens_again, a_script_opens_again, what_opens_is_told};
+pub use runs::{a_run_opens_again, a_script_opens_again, definitions_agree_with_bodies};

@@ -5,7 +5,7 @@ ghost use Rattle.raven_data.specs.Kept.{KeptRow};
 ghost use Rattle.spec_store.specs.Commit.{Setting};
 ghost use Rattle.spec_server.specs.Machine.{Event, Machine, run};
 ghost use Rattle.spec_server.specs.Script.{Given, after_lines};
-ghost use Rattle.raven_laws.specs.Opened.{OpenedAsTold};
+ghost use Rattle.raven_laws.specs.Opened.{OpenedFaithfully};
 ghost use Rattle.index_lang.specs.Lines.{AreLines};
 ghost use Rattle.index_lang.specs.Openings.{IsOpened};
 ghost use Rattle.raven_reopening.specs.Form.{AreEvents, AreTimely};
@@ -13,8 +13,8 @@ ghost use Rattle.raven_reopening.specs.Reopened.{OpensAgain};
 
 /// The laws of what stored rows open hold of what they open as they are read: each definition that is read of a row agrees with its
 /// body.
-pub fn what_opens_is_told()
-    ensures { (setting : Setting) (held : List KeptRow) (M : Machine) → IsOpened setting held (Ok M) → OpenedAsTold setting held M }
+pub fn definitions_agree_with_bodies()
+    ensures { (setting : Setting) (held : List KeptRow) (M : Machine) → IsOpened setting held (Ok M) → OpenedFaithfully setting held M }
 {}
 
 /// After every run from stored rows, if the program can hold its requests, the rows of the database open again: with the same store, with an

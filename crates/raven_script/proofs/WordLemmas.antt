@@ -2,7 +2,7 @@
 use Rattle.std.proofs.Common.{◌≡◌, ◌<◌, ◌+◌, ℕ, List, [], ◌∷◌, length, Option, Some, None, take, drop, Bool, cond, not, arith, true, false, refl, ap, suc, ◌∙◌}
 use Rattle.std.specs.Prelude.{◌==◌, if◌then◌else◌}
 use Rattle.std.specs.List.{position_or_len, before_first, after_first}
-use Rattle.spec_server.specs.Script.{before_space, after_space, both_parts, word_and_rest}
+use Rattle.spec_server.specs.Script.{before_space, after_space, both_parts, argument_and_rest}
 
 abbrev first_space : List ℕ → ℕ
 first_space s = position_or_len (λ b. b == 32) s
@@ -36,24 +36,24 @@ pub ruleset splits = (before_space-first, after_space-none, after_space-some)
 
 -- BOTH PARTS
 
-pub no-rest : (text : List ℕ) → after_space text ≡ None → word_and_rest text ≡ None
+pub no-rest : (text : List ℕ) → after_space text ≡ None → argument_and_rest text ≡ None
 no-rest text h = ap (both_parts (before_space text)) h ∙ none (before_space text)
   where
     none : (word : List ℕ) → both_parts word None ≡ None
     none [] = refl
     none (b ∷ bs) = refl
 
-pub empty-word : (text word rest : List ℕ) → before_space text ≡ word → after_space text ≡ Some rest → word ≡ [] → word_and_rest text ≡ None
+pub empty-word : (text word rest : List ℕ) → before_space text ≡ word → after_space text ≡ Some rest → word ≡ [] → argument_and_rest text ≡ None
 empty-word text word rest w r h = ap (λ x. both_parts x (after_space text)) (w ∙ h)
 
-pub empty-rest : (text word rest : List ℕ) → before_space text ≡ word → after_space text ≡ Some rest → rest ≡ [] → word_and_rest text ≡ None
+pub empty-rest : (text word rest : List ℕ) → before_space text ≡ word → after_space text ≡ Some rest → rest ≡ [] → argument_and_rest text ≡ None
 empty-rest text word rest w r h = ap (both_parts (before_space text)) (r ∙ ap Some h) ∙ none (before_space text)
   where
     none : (word : List ℕ) → both_parts word (Some []) ≡ None
     none [] = refl
     none (b ∷ bs) = refl
 
-pub both-parts : (text word rest : List ℕ) → before_space text ≡ word → after_space text ≡ Some rest → (word ≡ [] → ⊥) → (rest ≡ [] → ⊥) → word_and_rest text ≡ Some (word, rest)
+pub both-parts : (text word rest : List ℕ) → before_space text ≡ word → after_space text ≡ Some rest → (word ≡ [] → ⊥) → (rest ≡ [] → ⊥) → argument_and_rest text ≡ Some (word, rest)
 both-parts text word rest w r f g = ap (λ x. both_parts x (after_space text)) w ∙ ap (both_parts word) r ∙ some word rest f g
   where
     some : (word rest : List ℕ) → (word ≡ [] → ⊥) → (rest ≡ [] → ⊥) → both_parts word (Some rest) ≡ Some (word, rest)

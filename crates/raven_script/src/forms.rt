@@ -1,6 +1,6 @@
 //! What a line asks.
 ghost use Rattle.std.specs.Prelude.{◌≡◌, None, Some, [], option_map};
-ghost use Rattle.spec_server.specs.Script.{asked_of, auto_of as spec_auto_of, by_word as spec_by_word, delete_if_of as spec_delete_if_of, drop_of as spec_drop_of, find_of as spec_find_of, get_of as spec_get_of, line_of, max_read, pump_of as spec_pump_of, pump_read, put_if_of as spec_put_if_of, put_of as spec_put_of, request_of as spec_request_of, stale_of as spec_stale_of};
+ghost use Rattle.spec_server.specs.Script.{asked_of, auto_of as spec_auto_of, by_command as spec_by_word, delete_if_of as spec_delete_if_of, drop_of as spec_drop_of, find_of as spec_find_of, get_of as spec_get_of, line_of, max_read, pump_of as spec_pump_of, pump_read, put_if_of as spec_put_if_of, put_of as spec_put_of, request_of as spec_request_of, stale_of as spec_stale_of};
 ghost use Rattle.raven_script.specs.LineView.{Answers, asked_behind};
 ghost use Rattle.raven_script.specs.RequestView.{Reads, line_view, request_view};
 

@@ -16,14 +16,14 @@ use Rattle.spec_server.specs.Machine.{Machine}
 use Rattle.index_tree.specs.Definitions.{Definition, Static, Auto}
 use Rattle.spec_server.specs.Opening.{ReadRow, and_then, is_defining, is_filed, is_too_many, may_be_named, name_in, opened_with, or_bad, rows_of, slot_of, slots_after, slots_from, slots_with, with_slot}
 use Rattle.spec_store.specs.Store.{Store}
-use Rattle.spec_index.specs.World.{Slot, fresh}
+use Rattle.spec_index.specs.World.{Slot, new_version}
 use Rattle.index_lang.specs.Openings.{AreReadRows, EndsAt, IsReadRow, OpensAs}
 use Rattle.doc_store.specs.Opening.{Tells, first_bad}
 use Rattle.doc_store.specs.declared.opening.OpenFault.{OpenFault}
 use Rattle.doc_store.specs.declared.opening.OpenFault.TheVariants.{KeptBad, NoMemory}
 use Rattle.raven_world.specs.Kinds.{begins_as}
 use Rattle.raven_world.specs.Opened.{HasRead, TellsBadRow}
-use Rattle.raven_world.specs.Told.{machine_of}
+use Rattle.raven_world.specs.WorldView.{machine_of}
 
 -- NAMES
 
@@ -101,11 +101,11 @@ slot-none slots r d name own h = by (may_be_named d (name_in r)) (h ∙ ap (name
     by false g = refl
 
 pub slot-some : (slots : List Slot) (r : Row) (d : Definition) (name got : List ℕ) (slot : Slot) → name ≡ name_in r → Some got ≡ named d name
-    → slot ≡ record { number = r.etag; name = got; version = fresh d; row = r.etag } → Some (slots ++ slot ∷ []) ≡ with_slot slots r (Some d)
+    → slot ≡ record { number = r.etag; name = got; version = new_version d; row = r.etag } → Some (slots ++ slot ∷ []) ≡ with_slot slots r (Some d)
 slot-some slots r d name got slot own h made = by (may_be_named d (name_in r)) (h ∙ ap (named d) own)
   where
     by : (fits : Bool) → Some got ≡ (if fits then Some (name_in r) else None) → Some (slots ++ slot ∷ []) ≡ (if fits then Some (slots ++ slot_of r d ∷ []) else None)
-    by true g = let same : got ≡ name_in r = cc in ap (λ x. Some (slots ++ x ∷ [])) (made ∙ ap (λ n. let s : Slot = record { number = r.etag; name = n; version = fresh d; row = r.etag } in s) same)
+    by true g = let same : got ≡ name_in r = cc in ap (λ x. Some (slots ++ x ∷ [])) (made ∙ ap (λ n. let s : Slot = record { number = r.etag; name = n; version = new_version d; row = r.etag } in s) same)
     by false g = absurd cc
 
 -- ONE ROW

@@ -6,12 +6,12 @@ use Rattle.spec_store.specs.Store.{Store, last}
 use Rattle.raven_data.specs.Rows.{Row}
 use Rattle.spec_store.specs.Commit.{Client, Server, Command, Delete, AnyVector, Refused, Written, commit, etags_taken}
 use Rattle.spec_server.specs.Replies.{Reply, Index, Removed, NoIndex, UnknownLine, Result as Done, TooManyIndexes as TooMany}
-use Rattle.spec_server.specs.Replies as told
+use Rattle.spec_server.specs.Replies as replies
 use Rattle.index_tree.specs.Definitions.{Definition, same_definition}
 use Rattle.spec_index.specs.Optimiser.{Make, pick, name_of}
 use Rattle.spec_index.specs.World.{World, Slot, NameServes, NameTooLong, ReservedName, TooManyIndexes, added, added_if_room, define_at, index_id, is_named, is_reserved_name, removed, serving, unless_refused}
-use Rattle.spec_server.specs.Machine.{Change, Define, Remove, Auto as AutoOne, in_world, no_change, one_field, refused_at, reslotted, results_of, rewrote, use_or_make, wrote, write, change_of}
-use Rattle.raven_world.specs.Told.{machine_of}
+use Rattle.spec_server.specs.Machine.{Change, Define, Remove, Auto as AutoOne, in_world, no_change, one_field, refused_at, change_of_slots, results_of, rewrote, use_or_make, wrote, write, change_of}
+use Rattle.raven_world.specs.WorldView.{machine_of}
 
 -- WRITES
 
@@ -53,7 +53,7 @@ module _ (W : World) (now : ℕ) (collection field : List ℕ) where
 
   -- what is answered where there are as many indexes as may be, or not, and where the name serves, or not
   abbrev made : Bool → Bool → Change
-  made many serves = reslotted (machine_of W) now Index name (cond many (Err TooManyIndexes) (cond serves (Err NameServes) (Ok (added W name own))))
+  made many serves = change_of_slots (machine_of W) now Index name (cond many (Err TooManyIndexes) (cond serves (Err NameServes) (Ok (added W name own))))
 
   picked : pick (one_field collection field) W.store W.slots ≡ Make (one_field collection field)
       → made (nat_le W.setting.max_slots (length W.slots)) (is_some (serving W.slots name)) ≡ change_of (machine_of W) now (AutoOne collection field)
@@ -68,15 +68,15 @@ module _ (W : World) (now : ℕ) (collection field : List ℕ) where
   make-serves p few serves = (λ i. made ((sym few) i) ((sym serves) i)) ∙ picked p
 
   pub make-added : pick (one_field collection field) W.store W.slots ≡ Make (one_field collection field) → nat_le W.setting.max_slots (length W.slots) ≡ false
-      → is_some (serving W.slots name) ≡ false → reslotted (machine_of W) now Index name (Ok (added W name own)) ≡ change_of (machine_of W) now (AutoOne collection field)
+      → is_some (serving W.slots name) ≡ false → change_of_slots (machine_of W) now Index name (Ok (added W name own)) ≡ change_of (machine_of W) now (AutoOne collection field)
   make-added p few free = (λ i. made ((sym few) i) ((sym free) i)) ∙ picked p
 
 -- an index that is told the name and the definition
 pub make-told : (W : World) (now : ℕ) (collection field told : List ℕ) (d : Definition) → pick (one_field collection field) W.store W.slots ≡ Make (one_field collection field)
     → nat_le W.setting.max_slots (length W.slots) ≡ false → told ≡ name_of W.slots (last W.store + 1) (one_field collection field) → is_some (serving W.slots told) ≡ false
-    → d ≡ Definition.Auto collection ((field ∷ []) ∷ []) → reslotted (machine_of W) now Index told (Ok (added W told d)) ≡ change_of (machine_of W) now (AutoOne collection field)
+    → d ≡ Definition.Auto collection ((field ∷ []) ∷ []) → change_of_slots (machine_of W) now Index told (Ok (added W told d)) ≡ change_of (machine_of W) now (AutoOne collection field)
 make-told W now collection field told d p few is free own =
-    (λ i. reslotted (machine_of W) now Index (is i) (Ok (added W (is i) (own i))))
+    (λ i. change_of_slots (machine_of W) now Index (is i) (Ok (added W (is i) (own i))))
     ∙ make-added W now collection field p few (ap (λ n. is_some (serving W.slots n)) (sym is) ∙ free)
 
 -- AN INDEX THAT A CLIENT DEFINES
@@ -84,42 +84,42 @@ make-told W now collection field told d p few is free own =
 module _ (W : World) (now : ℕ) (name : List ℕ) (d : Definition) where
   abbrev asked : Bool → Bool → Option Slot → Change
   asked reserved long found =
-      reslotted (machine_of W) now Index name (unless_refused (cond reserved (Some ReservedName) (cond long (Some (NameTooLong (length name))) None)) (define_at W name d found))
+      change_of_slots (machine_of W) now Index name (unless_refused (cond reserved (Some ReservedName) (cond long (Some (NameTooLong (length name))) None)) (define_at W name d found))
 
-  pub define-reserved : is_reserved_name name ≡ true → no_change (machine_of W) told.ReservedName ≡ change_of (machine_of W) now (Define name d)
+  pub define-reserved : is_reserved_name name ≡ true → no_change (machine_of W) replies.ReservedName ≡ change_of (machine_of W) now (Define name d)
   define-reserved h = λ i. asked ((sym h) i) (nat_lt 200 (length name)) (serving W.slots name)
 
-  pub define-long : is_reserved_name name ≡ false → nat_lt 200 (length name) ≡ true → no_change (machine_of W) (told.NameTooLong (length name)) ≡ change_of (machine_of W) now (Define name d)
+  pub define-long : is_reserved_name name ≡ false → nat_lt 200 (length name) ≡ true → no_change (machine_of W) (replies.NameTooLong (length name)) ≡ change_of (machine_of W) now (Define name d)
   define-long h long = λ i. asked ((sym h) i) ((sym long) i) (serving W.slots name)
 
   pub define-new : is_reserved_name name ≡ false → nat_lt 200 (length name) ≡ false → serving W.slots name ≡ None
-      → reslotted (machine_of W) now Index name (added_if_room W name d) ≡ change_of (machine_of W) now (Define name d)
+      → change_of_slots (machine_of W) now Index name (added_if_room W name d) ≡ change_of (machine_of W) now (Define name d)
   define-new h short none = λ i. asked ((sym h) i) ((sym short) i) ((sym none) i)
 
   served : (s : Slot) → is_reserved_name name ≡ false → nat_lt 200 (length name) ≡ false → serving W.slots name ≡ Some s
-      → reslotted (machine_of W) now Index name (define_at W name d (Some s)) ≡ change_of (machine_of W) now (Define name d)
+      → change_of_slots (machine_of W) now Index name (define_at W name d (Some s)) ≡ change_of (machine_of W) now (Define name d)
   served s h short found = λ i. asked ((sym h) i) ((sym short) i) ((sym found) i)
 
   pub define-again : (s : Slot) → is_reserved_name name ≡ false → nat_lt 200 (length name) ≡ false → serving W.slots name ≡ Some s → same_definition d s.version.definition ≡ true
       → no_change (machine_of W) (Index s.name) ≡ change_of (machine_of W) now (Define name d)
   define-again s h short found same =
-      ap (λ b. reslotted (machine_of W) now Index name (cond b (Ok (record { slots = W.slots; commands = []; name = s.name })) (Err NameServes))) (sym same)
+      ap (λ b. change_of_slots (machine_of W) now Index name (cond b (Ok (record { slots = W.slots; commands = []; name = s.name })) (Err NameServes))) (sym same)
       ∙ served s h short found
 
   pub define-other : (s : Slot) → is_reserved_name name ≡ false → nat_lt 200 (length name) ≡ false → serving W.slots name ≡ Some s → same_definition d s.version.definition ≡ false
       → no_change (machine_of W) UnknownLine ≡ change_of (machine_of W) now (Define name d)
   define-other s h short found other =
-      ap (λ b. reslotted (machine_of W) now Index name (cond b (Ok (record { slots = W.slots; commands = []; name = s.name })) (Err NameServes))) (sym other)
+      ap (λ b. change_of_slots (machine_of W) now Index name (cond b (Ok (record { slots = W.slots; commands = []; name = s.name })) (Err NameServes))) (sym other)
       ∙ served s h short found
 
 -- AN INDEX THAT IS REMOVED
 
 pub remove-none : (W : World) (now : ℕ) (name : List ℕ) → serving W.slots name ≡ None → no_change (machine_of W) (NoIndex name) ≡ change_of (machine_of W) now (Remove name)
-remove-none W now name none = ap (λ o. reslotted (machine_of W) now Removed name (removed W name o)) (sym none)
+remove-none W now name none = ap (λ o. change_of_slots (machine_of W) now Removed name (removed W name o)) (sym none)
 
 pub remove-some : (W : World) (now : ℕ) (name : List ℕ) (s : Slot) → serving W.slots name ≡ Some s
     → rewrote (machine_of W) (Removed s.name) (filter (λ t. not (is_named name t)) W.slots) (commit W.setting Server now (Delete (index_id s.name) AnyVector ∷ []) W.store) ≡ change_of (machine_of W) now (Remove name)
-remove-some W now name s found = ap (λ o. reslotted (machine_of W) now Removed name (removed W name o)) (sym found)
+remove-some W now name s found = ap (λ o. change_of_slots (machine_of W) now Removed name (removed W name o)) (sym found)
 
 -- THE NAME OF A NEW INDEX
 

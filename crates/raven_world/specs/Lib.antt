@@ -1,5 +1,5 @@
 pub mod ChoiceView
-pub mod Told
+pub mod WorldView
 pub mod Roomy
 pub mod Transacts
 pub mod Kinds

@@ -1,6 +1,6 @@
 //! Live indexes.
 ghost use Rattle.std.specs.Prelude.{◌≡◌, IfOk, filter, not, option_copied};
-ghost use Rattle.spec_index.specs.World.{fresh, is_named as spec_is_named, serving as spec_serving};
+ghost use Rattle.spec_index.specs.World.{new_version, is_named as spec_is_named, serving as spec_serving};
 ghost use Rattle.index_definition.specs.DefinitionView.{definition_view};
 
 use index_definition::Definition;
@@ -58,7 +58,7 @@ pub fn fresh_slot(
     name: Name,
     definition: Arc<Definition>,
 ) -> Result<Slot, NoMemory>
-    ensures { IfOk result (λ slot. slot ≡ record { number = row; name = name; version = fresh (definition_view definition.value.body); row = row }) }
+    ensures { IfOk result (λ slot. slot ≡ record { number = row; name = name; version = new_version (definition_view definition.value.body); row = row }) }
 {
     let version = Arc::new(alloc, IndexVersion::fresh(alloc, definition)?)?;
     Ok(Slot {

@@ -2,7 +2,7 @@
 ghost use Rattle.std.specs.Prelude.{◌≡◌, IfOk};
 ghost use Rattle.spec_server.specs.Machine.{in_world, no_change};
 ghost use Rattle.raven_reply.specs.ReplyView.{reply_view};
-ghost use Rattle.raven_world.specs.Told.{change_view, machine_of};
+ghost use Rattle.raven_world.specs.WorldView.{change_view, machine_of};
 ghost use Rattle.raven_world.specs.declared.world.WorldFault.TheVariants.{NoMemory as OutOfMemory};
 
 use crate::slot::{Slot, copies};

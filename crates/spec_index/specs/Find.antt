@@ -12,17 +12,17 @@ field_named name [] = None
 field_named name (f ∷ fields) = if bytes_eq name f.0 then Some f.1 else field_named name fields
 
 -- the value is this text, without regard to case; a field that an entry lacks meets no test
-abbrev pub is_words : List ℕ → Option Scalar → Bool
-is_words ws None = false
-is_words ws (Some v) = holds (Is (words ws)) false v
+abbrev pub is_text : List ℕ → Option Scalar → Bool
+is_text ws None = false
+is_text ws (Some v) = holds (Is (words ws)) false v
 
 -- the field of this name is this text, without regard to case
-abbrev pub has_words : List ℕ → List ℕ → Fields → Bool
-has_words name ws fields = is_words ws (field_named name fields)
+abbrev pub field_is_text : List ℕ → List ℕ → Fields → Bool
+field_is_text name ws fields = is_text ws (field_named name fields)
 
 -- the ids of the entries that a query finds, in the order of the entries
 abbrev pub found : List (List ℕ × Fields) → List ℕ → List ℕ → List (List ℕ)
-found entries name ws = map (λ e. e.0) (filter (λ e. has_words name ws e.1) entries)
+found entries name ws = map (λ e. e.0) (filter (λ e. field_is_text name ws e.1) entries)
 
 -- what a query finds if the documents of the table are mapped from scratch
 abbrev pub found_in : Mapper → Table → List ℕ → List ℕ → List (List ℕ)

@@ -5,7 +5,7 @@ use Rattle.raven_data.specs.Rows.{Row, key, is_document}
 use Rattle.spec_store.specs.Store.{row_at, Store, last, last_of}
 use Rattle.spec_store.specs.Later.{StillHas}
 use Rattle.raven_data.specs.Tables.{Table, Scope, in_scope, note_rows}
-use Rattle.spec_store.specs.Stale.{taken, left_over}
+use Rattle.spec_store.specs.Stale.{batch_rows, left_over}
 
 -- what an index that has seen the row records of it: the document, if it is in scope; nothing of a tombstone
 abbrev pub record_of : Scope → Row → Option Row
@@ -25,7 +25,7 @@ etag_after e rows [] last = last
 etag_after e rows (r ∷ rest) last = last_of e rows
 
 abbrev pub etag_of_batch : Scope → ℕ → Store → ℕ → ℕ
-etag_of_batch scope e S max = etag_after e (taken scope e S max) (left_over scope e S max) (last S)
+etag_of_batch scope e S max = etag_after e (batch_rows scope e S max) (left_over scope e S max) (last S)
 
 -- the documents of the store in scope, as a table
 abbrev pub documents : Scope → Store → Table

@@ -36,16 +36,16 @@ failures m T = count_by (λ d. has_failed (m.meaning d T).outcome) (mapped_docum
 
 -- WHAT A BATCH TOUCHES: the mapped documents that it takes, and those that look up a taken id
 
-abbrev pub is_taken : List Row → List ℕ → Bool
-is_taken rows q = is_some (row_at q rows)
+abbrev pub is_in_batch : List Row → List ℕ → Bool
+is_in_batch rows q = is_some (row_at q rows)
 
 abbrev pub loads_taken : Mapper → Table → List Row → Row → Bool
-loads_taken m T rows d = list_any (is_taken rows) (m.meaning d T).loads
+loads_taken m T rows d = list_any (is_in_batch rows) (m.meaning d T).loads
 
 abbrev pub touched : Mapper → Table → List Row → List (List ℕ)
 touched m T rows =
     map key (filter (is_mapped m) rows)
-    ++ map key (filter (λ d. is_mapped m d && loads_taken m T rows d && not (is_taken rows (key d))) (values T))
+    ++ map key (filter (λ d. is_mapped m d && loads_taken m T rows d && not (is_in_batch rows (key d))) (values T))
 
 -- what the map gave for each document, by folded id
 abbrev pub Results : Type 0

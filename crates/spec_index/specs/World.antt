@@ -9,7 +9,7 @@ use Rattle.raven_data.specs.Members.{Path}
 use Rattle.raven_data.specs.Rows.{Row}
 use Rattle.spec_store.specs.Store.{Store, last}
 use Rattle.raven_data.specs.Tables.{Table, Scope, note_rows}
-use Rattle.spec_store.specs.Stale.{taken}
+use Rattle.spec_store.specs.Stale.{batch_rows}
 use Rattle.spec_index.specs.Index.{etag_of_batch}
 use Rattle.index_tree.specs.Definitions.{Definition, Static, Auto, same_definition}
 use Rattle.index_tree.specs.Mapper.{mapper_of, scope_of}
@@ -46,8 +46,8 @@ pub record World : Type 0 where
 abbrev pub reads : Version → Scope
 reads v = scope_of (mapper_of v.definition)
 
-abbrev pub fresh : Definition → Version
-fresh d = record { definition = d; etag = 0; table = empty }
+abbrev pub new_version : Definition → Version
+new_version d = record { definition = d; etag = 0; table = empty }
 
 -- BATCHES
 
@@ -58,7 +58,7 @@ advanced v (r ∷ rows) etag = Some (record { definition = v.definition; etag = 
 
 -- the version after a batch of the first `max` rows that it has not seen; nothing if it has seen all
 abbrev pub batch : Version → Store → ℕ → Option Version
-batch v S max = advanced v (taken (reads v) v.etag S max) (etag_of_batch (reads v) v.etag S max)
+batch v S max = advanced v (batch_rows (reads v) v.etag S max) (etag_of_batch (reads v) v.etag S max)
 
 -- SLOTS
 
@@ -120,7 +120,7 @@ pub data SlotRefusal : Type 0 where
 -- the slots with a new one at the end, whose number is the next etag
 abbrev pub added : World → List ℕ → Definition → SlotChange
 added W name d = record {
-  slots = W.slots ++ record { number = last W.store + 1; name = name; version = fresh d; row = last W.store + 1 } ∷ [];
+  slots = W.slots ++ record { number = last W.store + 1; name = name; version = new_version d; row = last W.store + 1 } ∷ [];
   commands = Put (index_id name) AnyVector (row_body d) ∷ [];
   name = name;
 }

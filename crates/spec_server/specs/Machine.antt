@@ -13,10 +13,10 @@ use Rattle.spec_store.specs.Stale.{stale, newest}
 use Rattle.index_tree.specs.Definitions.{Definition}
 use Rattle.spec_index.specs.Mapping.{failures, scratch}
 use Rattle.index_tree.specs.Mapper.{mapper_of}
-use Rattle.spec_store.specs.Commit.{Command, Expect, Client, Server, Setting, Refusal, Written, Refused, commit, vector_of, kept_spelling, etags_taken}
+use Rattle.spec_store.specs.Commit.{Command, Expect, Client, Server, Setting, Refusal, Written, Refused, commit, vector_of, row_spelling, etags_taken}
 use Rattle.spec_index.specs.Optimiser.{Shape, Choice, Use, Make, Merge, pick, name_of}
 use Rattle.spec_server.specs.Replies.{Reply, Index, Removed, Pumped, Pumping, Listing, Found, NoIndex, UnknownLine}
-use Rattle.spec_server.specs.Replies as told
+use Rattle.spec_server.specs.Replies as replies
 use Rattle.spec_index.specs.World.{Version, Slot, World, reads, batch, serving, SlotChange, SlotRefusal, define, define_named, remove, is_named, definition_data}
 use Rattle.spec_index.specs.Find.{found, found_in}
 
@@ -52,8 +52,8 @@ pub record Keeping : Type 0 where
   pub after : ℕ
 
 -- a keeper that takes all
-abbrev pub untroubled : Keeping
-untroubled = record { takes = []; before = 0; after = 0 }
+abbrev pub takes_all : Keeping
+takes_all = record { takes = []; before = 0; after = 0 }
 
 -- a request, the moment at which it comes, and what the keeper does
 pub record Event : Type 0 where
@@ -88,7 +88,7 @@ is_taken k (r ∷ rows) = is_first_taken k.takes
 
 -- if the keeper does not take the rows, nothing changes and the reply is KeeperFault
 abbrev pub settled : Machine → Keeping → Change → Replied
-settled M k c = if is_taken k c.rows then record { reply = c.reply; machine = c.machine } else same_machine M (told.KeeperFault k.before k.after)
+settled M k c = if is_taken k c.rows then record { reply = c.reply; machine = c.machine } else same_machine M (replies.KeeperFault k.before k.after)
 
 abbrev pub in_world : World → Store → List Slot → World
 in_world W store slots = record { setting = W.setting; store = store; slots = slots; notes = W.notes }
@@ -98,12 +98,12 @@ with_slots W slots = in_world W W.store slots
 
 -- the reply to a transaction whose command at this place is refused
 abbrev pub refused_at : ℕ → Refusal → Reply
-refused_at at Refusal.ReservedId = told.ReservedId at
-refused_at at (Refusal.TooLarge len) = told.TooLarge at len
-refused_at at (Refusal.CollectionChanged from) = told.CollectionChanged at from
-refused_at at (Refusal.Conflict expected found) = told.Conflict at expected found
-refused_at at (Refusal.StoreFull rows) = told.StoreFull at rows
-refused_at at (Refusal.EtagsSpent etag) = told.EtagsSpent at etag
+refused_at at Refusal.ReservedId = replies.ReservedId at
+refused_at at (Refusal.TooLarge len) = replies.TooLarge at len
+refused_at at (Refusal.CollectionChanged from) = replies.CollectionChanged at from
+refused_at at (Refusal.Conflict expected found) = replies.Conflict at expected found
+refused_at at (Refusal.StoreFull rows) = replies.StoreFull at rows
+refused_at at (Refusal.EtagsSpent etag) = replies.EtagsSpent at etag
 
 abbrev pub write_refused : Refused → Reply
 write_refused refused = refused_at refused.at refused.kind
@@ -112,35 +112,35 @@ write_refused refused = refused_at refused.at refused.kind
 abbrev pub slot_refused : List ℕ → SlotRefusal → Reply
 slot_refused name SlotRefusal.NameServes = UnknownLine
 slot_refused name SlotRefusal.NoIndex = NoIndex name
-slot_refused name SlotRefusal.ReservedName = told.ReservedName
-slot_refused name SlotRefusal.TooManyIndexes = told.TooManyIndexes
-slot_refused name (SlotRefusal.NameTooLong len) = told.NameTooLong len
+slot_refused name SlotRefusal.ReservedName = replies.ReservedName
+slot_refused name SlotRefusal.TooManyIndexes = replies.TooManyIndexes
+slot_refused name (SlotRefusal.NameTooLong len) = replies.NameTooLong len
 
 -- WRITES
 
 -- the id as its row spells it, or as it was given if it has no row
 abbrev pub spelling : Store → List ℕ → List ℕ
-spelling S id = kept_spelling id (row_at (folded id) S.rows)
+spelling S id = row_spelling id (row_at (folded id) S.rows)
 
 -- what a command did that took this etag, with the id as the store N after the transaction spells it
-abbrev pub result_of : List ℕ → Store → Command → Option ℕ → told.Result
-result_of base N (Command.Put id expected body) (Some etag) = told.Result.Put (vector_of base etag) (spelling N id)
-result_of base N (Command.Put id expected body) None = told.Result.Put [] (spelling N id)
-result_of base N (Command.Delete id expected) taken = told.Result.Deleted (is_some taken) (spelling N id)
+abbrev pub result_of : List ℕ → Store → Command → Option ℕ → replies.Result
+result_of base N (Command.Put id expected body) (Some etag) = replies.Result.Put (vector_of base etag) (spelling N id)
+result_of base N (Command.Put id expected body) None = replies.Result.Put [] (spelling N id)
+result_of base N (Command.Delete id expected) taken = replies.Result.Deleted (is_some taken) (spelling N id)
 
-abbrev pub results_of : List ℕ → Store → List Command → List (Option ℕ) → List told.Result
+abbrev pub results_of : List ℕ → Store → List Command → List (Option ℕ) → List replies.Result
 results_of base N [] etags = []
 results_of base N (c ∷ cs) [] = []
 results_of base N (c ∷ cs) (etag ∷ etags) = result_of base N c etag ∷ results_of base N cs etags
 
 -- the reply to a single command, from its result
-abbrev pub single_reply : List told.Result → Reply
+abbrev pub single_reply : List replies.Result → Reply
 single_reply [] = UnknownLine
-single_reply (told.Result.Put vector id ∷ more) = told.Put vector id
-single_reply (told.Result.Deleted deleted id ∷ more) = told.Deleted deleted id
+single_reply (replies.Result.Put vector id ∷ more) = replies.Put vector id
+single_reply (replies.Result.Deleted deleted id ∷ more) = replies.Deleted deleted id
 
 -- the change that the commands of a client make: all of them, or none
-abbrev pub wrote : Machine → (List told.Result → Reply) → ℕ → List Command → Result Written Refused → Change
+abbrev pub wrote : Machine → (List replies.Result → Reply) → ℕ → List Command → Result Written Refused → Change
 wrote M reply now commands (Err refused) = no_change M (write_refused refused)
 wrote M reply now commands (Ok w) = record {
   reply = reply (results_of M.world.setting.base w.store commands (etags_taken now commands M.world.store));
@@ -148,7 +148,7 @@ wrote M reply now commands (Ok w) = record {
   rows = w.rows;
 }
 
-abbrev pub write : Machine → (List told.Result → Reply) → ℕ → List Command → Change
+abbrev pub write : Machine → (List replies.Result → Reply) → ℕ → List Command → Change
 write M reply now commands = wrote M reply now commands (commit M.world.setting Client now commands M.world.store)
 
 -- INDEXES, whose rows are written by the server
@@ -158,16 +158,16 @@ rewrote M reply slots (Err refused) = no_change M (write_refused refused)
 rewrote M reply slots (Ok w) = record { reply = reply; machine = record { world = in_world M.world w.store slots }; rows = w.rows }
 
 -- the reply has the name as the slot spells it, which may differ from the request
-abbrev pub reslotted : Machine → ℕ → (List ℕ → Reply) → List ℕ → Result SlotChange SlotRefusal → Change
-reslotted M now reply name (Err refusal) = no_change M (slot_refused name refusal)
-reslotted M now reply name (Ok c) = rewrote M (reply c.name) c.slots (commit M.world.setting Server now c.commands M.world.store)
+abbrev pub change_of_slots : Machine → ℕ → (List ℕ → Reply) → List ℕ → Result SlotChange SlotRefusal → Change
+change_of_slots M now reply name (Err refusal) = no_change M (slot_refused name refusal)
+change_of_slots M now reply name (Ok c) = rewrote M (reply c.name) c.slots (commit M.world.setting Server now c.commands M.world.store)
 
 -- the index that was picked, or a new one of the shape
 abbrev pub use_or_make : Machine → ℕ → Choice → Change
 use_or_make M now (Use s) = no_change M (Index s.name)
 use_or_make M now (Make shape) =
     let name = name_of M.world.slots (last M.world.store + 1) shape in
-    reslotted M now Index name (define M.world name (Definition.Auto shape.collection shape.fields))
+    change_of_slots M now Index name (define M.world name (Definition.Auto shape.collection shape.fields))
 use_or_make M now Merge = no_change M UnknownLine
 
 -- the shape of a query for one field
@@ -181,29 +181,29 @@ or_as_before v None = v
 or_as_before v (Some new) = new
 
 -- the slot after one batch; as it was if there is nothing to take
-abbrev pub brought_on : Store → ℕ → Slot → Slot
-brought_on S max s = record { number = s.number; name = s.name; version = or_as_before s.version (batch s.version S max); row = s.row }
+abbrev pub after_batch : Store → ℕ → Slot → Slot
+after_batch S max s = record { number = s.number; name = s.name; version = or_as_before s.version (batch s.version S max); row = s.row }
 
 abbrev pub pumping : Store → ℕ → Slot → Pumping
-pumping S max s = record { from = s.version.etag; index = s.name; to = (brought_on S max s).version.etag }
+pumping S max s = record { from = s.version.etag; index = s.name; to = (after_batch S max s).version.etag }
 
 -- one batch for each slot, in order of number
 abbrev pub pump : Machine → ℕ → Change
 pump M max = record {
   reply = Pumped (map (pumping M.world.store max) M.world.slots);
-  machine = record { world = with_slots M.world (map (brought_on M.world.store max) M.world.slots) };
+  machine = record { world = with_slots M.world (map (after_batch M.world.store max) M.world.slots) };
   rows = [];
 }
 
-abbrev pub brought_on_if : Store → ℕ → List ℕ → Slot → Slot
-brought_on_if S max name s = if is_named name s then brought_on S max s else s
+abbrev pub after_batch_if_named : Store → ℕ → List ℕ → Slot → Slot
+after_batch_if_named S max name s = if is_named name s then after_batch S max s else s
 
 -- one batch for the slot that serves the name
 abbrev pub pump_at : Machine → ℕ → List ℕ → Option Slot → Change
 pump_at M max name None = no_change M (NoIndex name)
 pump_at M max name (Some s) = record {
   reply = Pumped (pumping M.world.store max s ∷ []);
-  machine = record { world = with_slots M.world (map (brought_on_if M.world.store max name) M.world.slots) };
+  machine = record { world = with_slots M.world (map (after_batch_if_named M.world.store max name) M.world.slots) };
   rows = [];
 }
 
@@ -223,7 +223,7 @@ answer_find W index name ws (Some s) = Found (found_in (mapper_of s.version.defi
 abbrev pub answer_stale : World → List ℕ → Option ℕ → Option Slot → Reply
 answer_stale W name cutoff None = NoIndex name
 answer_stale W name cutoff (Some s) =
-    told.Stale s.version.etag (stale W.store (reads s.version) s.version.etag cutoff) (newest W.store (reads s.version) cutoff)
+    replies.Stale s.version.etag (stale W.store (reads s.version) s.version.etag cutoff) (newest W.store (reads s.version) cutoff)
 
 -- what is reported of a slot: its entries and failed documents are counted over what it has recorded
 abbrev pub listing : Store → Slot → Listing
@@ -238,7 +238,7 @@ listing S s = record {
 
 -- the slots in order of number
 abbrev pub answer_indexes : World → Reply
-answer_indexes W = told.Indexes (map (listing W.store) W.slots)
+answer_indexes W = replies.Indexes (map (listing W.store) W.slots)
 
 -- the members of an object, and none of any other value
 abbrev pub members_of : Option Data → Pairs
@@ -256,24 +256,24 @@ shown base r (object ms) = object (entries_of (put (codes "@metadata") (object (
 shown base r other = other
 
 abbrev pub shown_row : Store → List ℕ → List ℕ → Option Row → Reply
-shown_row S base id None = told.NoDocument (spelling S id)
-shown_row S base id (Some r) = elim r.body [ doc d ↦ told.Document (shown base r d) | gone ↦ told.NoDocument (spelling S id) ]
+shown_row S base id None = replies.NoDocument (spelling S id)
+shown_row S base id (Some r) = elim r.body [ doc d ↦ replies.Document (shown base r d) | gone ↦ replies.NoDocument (spelling S id) ]
 
 abbrev pub answer_get : World → List ℕ → Reply
 answer_get W id = shown_row W.store W.setting.base id (row_at (folded id) W.store.rows)
 
 -- the row is no definition: its collection is not `@indexes`
-abbrev pub is_own_row : Row → Bool
-is_own_row r = not (bytes_eq r.collection (codes "@indexes"))
+abbrev pub is_client_row : Row → Bool
+is_client_row r = not (bytes_eq r.collection (codes "@indexes"))
 
 abbrev pub count_documents : Store → ℕ
-count_documents S = length (filter (λ r. is_own_row r && is_document r) S.rows)
+count_documents S = length (filter (λ r. is_client_row r && is_document r) S.rows)
 
 abbrev pub count_tombstones : Store → ℕ
-count_tombstones S = length (filter (λ r. is_own_row r && not (is_document r)) S.rows)
+count_tombstones S = length (filter (λ r. is_client_row r && not (is_document r)) S.rows)
 
 abbrev pub answer_stats : World → Reply
-answer_stats W = told.Stats (count_documents W.store) (length W.slots) (count_tombstones W.store) (last W.store)
+answer_stats W = replies.Stats (count_documents W.store) (length W.slots) (count_tombstones W.store) (last W.store)
 
 -- THE STEP
 
@@ -281,10 +281,10 @@ answer_stats W = told.Stats (count_documents W.store) (length W.slots) (count_to
 abbrev pub change_of : Machine → ℕ → Request → Change
 change_of M now (Put id expected body) = write M single_reply now (Command.Put id expected body ∷ [])
 change_of M now (Delete id expected) = write M single_reply now (Command.Delete id expected ∷ [])
-change_of M now (Bulk commands) = write M told.Bulk now commands
+change_of M now (Bulk commands) = write M replies.Bulk now commands
 change_of M now (Get id) = no_change M (answer_get M.world id)
-change_of M now (Define name definition) = reslotted M now Index name (define_named M.world name definition)
-change_of M now (Remove name) = reslotted M now Removed name (remove M.world name)
+change_of M now (Define name definition) = change_of_slots M now Index name (define_named M.world name definition)
+change_of M now (Remove name) = change_of_slots M now Removed name (remove M.world name)
 change_of M now (Auto collection field) = use_or_make M now (pick (one_field collection field) M.world.store M.world.slots)
 change_of M now (Find index field ws) = no_change M (answer_find M.world index field ws (serving M.world.slots index))
 change_of M now (Pump max index) = pump_for M max index

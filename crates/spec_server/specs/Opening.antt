@@ -9,7 +9,7 @@ use Rattle.raven_data.specs.Members.{member}
 use Rattle.raven_data.specs.Rows.{Row, is_document}
 use Rattle.spec_store.specs.Commit.{Setting, is_index_id}
 use Rattle.index_tree.specs.Definitions.{Definition, Static, Auto}
-use Rattle.spec_index.specs.World.{Slot, fresh, is_reserved_name, max_index_name}
+use Rattle.spec_index.specs.World.{Slot, new_version, is_reserved_name, max_index_name}
 use Rattle.spec_server.specs.Machine.{Machine}
 use Rattle.raven_data.specs.Kept.{KeptRow}
 use Rattle.spec_store.specs.Kept.{rows_in}
@@ -87,7 +87,7 @@ is_too_many s rows slots r = nat_le s.max_rows rows || (is_defining r && nat_le 
 
 -- the slot of a definition's row: its index has recorded nothing yet
 abbrev pub slot_of : Row → Definition → Slot
-slot_of r d = record { number = r.etag; name = name_in r; version = fresh d; row = r.etag }
+slot_of r d = record { number = r.etag; name = name_in r; version = new_version d; row = r.etag }
 
 -- the slots with that of the row; nothing if the row has no definition, or if the definition may not have the row's name
 abbrev pub with_slot : List Slot → Row → Option Definition → Option (List Slot)

@@ -11,7 +11,7 @@ use Rattle.spec_store.specs.Commit.{Command, Expect, AnyVector, Vector}
 use Rattle.index_tree.specs.Language.{LangRefusal}
 use Rattle.index_tree.specs.Definitions.{Definition}
 use Rattle.spec_server.specs.Replies.{Reply, printed}
-use Rattle.spec_server.specs.Replies as told
+use Rattle.spec_server.specs.Replies as replies
 use Rattle.spec_server.specs.Machine.{Machine, Request, Put, Delete, Bulk, Get, Define, Remove, Auto, Find, Pump, Stale, Indexes, Stats, Keeping, Event, step}
 use Rattle.spec_server.specs.Lines.{begins_with}
 
@@ -55,8 +55,8 @@ both_parts (b ∷ bs) (Some []) = None
 both_parts (b ∷ bs) (Some (c ∷ cs)) = Some (b ∷ bs, c ∷ cs)
 
 -- the text before the first space and the text after it, if both have a byte
-abbrev pub word_and_rest : List ℕ → Option (List ℕ × List ℕ)
-word_and_rest text = both_parts (before_space text) (after_space text)
+abbrev pub argument_and_rest : List ℕ → Option (List ℕ × List ℕ)
+argument_and_rest text = both_parts (before_space text) (after_space text)
 
 abbrev pub has_byte : ℕ → List ℕ → Bool
 has_byte b text = list_any (λ c. c == b) text
@@ -158,7 +158,7 @@ or_unknown None = Err UnknownLine
 or_unknown (Some a) = Ok a
 
 abbrev pub parts_read : List ℕ → Result (List ℕ × List ℕ) ReadRefusal
-parts_read text = or_unknown (word_and_rest text)
+parts_read text = or_unknown (argument_and_rest text)
 
 -- PUT <id> <body>
 abbrev pub put_of : List ℕ → Result Request ReadRefusal
@@ -206,7 +206,7 @@ pump_read more (Some parts) = then_read (max_read parts.0) (λ max. then_read (n
 
 -- PUMP <max>, PUMP <max> <index>
 abbrev pub pump_of : List ℕ → Result Request ReadRefusal
-pump_of more = pump_read more (word_and_rest more)
+pump_of more = pump_read more (argument_and_rest more)
 
 -- FIND <index> <field> <text>
 abbrev pub find_of : List ℕ → Result Request ReadRefusal
@@ -221,8 +221,8 @@ drop_of more = then_read (name_read more) (λ name. Ok (Remove name))
 abbrev pub stale_of : List ℕ → Result Request ReadRefusal
 stale_of more = then_read (name_read more) (λ name. Ok (Stale name None))
 
-abbrev pub by_word : List ℕ → List ℕ → Result Request ReadRefusal
-by_word word more =
+abbrev pub by_command : List ℕ → List ℕ → Result Request ReadRefusal
+by_command word more =
     if bytes_eq word (codes "PUT") then put_of more else (
     if bytes_eq word (codes "PUTIF") then put_if_of more else (
     if bytes_eq word (codes "DEL") then delete_read AnyVector more else (
@@ -238,7 +238,7 @@ by_word word more =
 -- a line is STATS or INDEXES alone, or the name of another command and its arguments
 abbrev pub request_of : List ℕ → Result Request ReadRefusal
 request_of line =
-    if bytes_eq line (codes "STATS") then Ok Stats else if bytes_eq line (codes "INDEXES") then Ok Indexes else then_read (parts_read line) (λ parts. by_word parts.0 parts.1)
+    if bytes_eq line (codes "STATS") then Ok Stats else if bytes_eq line (codes "INDEXES") then Ok Indexes else then_read (parts_read line) (λ parts. by_command parts.0 parts.1)
 
 -- a line without bytes asks nothing
 abbrev pub line_of : List ℕ → LineRead
@@ -296,7 +296,7 @@ asked_by line None = Plain (line_of line)
 asked_by line (Some parts) = if bytes_eq parts.0 (codes "INDEX") && is_utf8 line then asked_to_define (index_of parts.1) else Plain (line_of line)
 
 abbrev pub asked_of : List ℕ → Asked
-asked_of line = asked_by line (word_and_rest line)
+asked_of line = asked_by line (argument_and_rest line)
 
 -- what the line is read as, once the text of its map is read or refused
 abbrev pub defined_by : (name : List ℕ) → Result Definition LangRefusal → LineRead
@@ -306,22 +306,22 @@ defined_by name (Err refusal) = Err (BadDefinition refusal)
 -- WHAT IS WRITTEN
 
 abbrev pub json_reply : JsonRefusal → Reply
-json_reply not_json = told.NotJson
-json_reply number_not_whole = told.NumberNotWhole
-json_reply too_deep = told.TooDeep
+json_reply not_json = replies.NotJson
+json_reply number_not_whole = replies.NumberNotWhole
+json_reply too_deep = replies.TooDeep
 
 abbrev pub fault_reply : Fault → Reply
-fault_reply empty = told.Empty
-fault_reply (too_long len) = told.TooLong len
-fault_reply (control at) = told.Control at
+fault_reply empty = replies.Empty
+fault_reply (too_long len) = replies.TooLong len
+fault_reply (control at) = replies.Control at
 
 abbrev pub refusal_reply : ReadRefusal → Reply
-refusal_reply UnknownLine = told.UnknownLine
+refusal_reply UnknownLine = replies.UnknownLine
 refusal_reply (BadJson refusal) = json_reply refusal
 refusal_reply (BadId fault) = fault_reply fault
 refusal_reply (BadName fault) = fault_reply fault
-refusal_reply (BadMember name) = told.BadMember name
-refusal_reply (BadDefinition refusal) = told.Lang refusal
+refusal_reply (BadMember name) = replies.BadMember name
+refusal_reply (BadDefinition refusal) = replies.Lang refusal
 
 -- what comes with a line from outside: the moment, and what the keeper does
 pub record Circumstance : Type 0 where

@@ -7,7 +7,7 @@ use Rattle.spec_store.specs.Store.{row_at, Store, last, IsStore}
 use Rattle.spec_store.specs.Later.{Later}
 use Rattle.spec_index.specs.Index.{Agrees}
 use Rattle.spec_index.specs.World.{Version, Slot, Note, World, reads, index_id, row_body}
-use Rattle.spec_store.specs.Commit.{stored}
+use Rattle.spec_store.specs.Commit.{stored_body}
 
 -- the list has the element
 abbrev pub Has : {X : Type 0} → List X → X → Type 0
@@ -34,7 +34,7 @@ pub record IsListed (S : Store) (s : Slot) : Type 0 where
   pub found : row_at (folded (index_id s.name)) S.rows ≡ Some row
   pub etag : row.etag ≡ s.row
   pub collection : row.collection ≡ codes "@indexes"
-  pub body : row.body ≡ doc (stored (row_body s.version.definition))
+  pub body : row.body ≡ doc (stored_body (row_body s.version.definition))
 
 -- each slot has its row, and each live row of `@indexes` is that of a slot
 pub record AreListed (S : Store) (slots : List Slot) : Type 0 where

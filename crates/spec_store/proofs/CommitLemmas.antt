@@ -7,7 +7,7 @@ use Rattle.raven_data.specs.Folding.{folded}
 use Rattle.raven_data.specs.Rows.{Row, is_document}
 use Rattle.spec_store.specs.Store.{row_at, last_of, Store, last, IsStore, with_row, with_rows}
 use Rattle.spec_store.specs.Later.{MayFollow}
-use Rattle.spec_store.specs.Commit.{Command, Put, Delete, Writer, Setting, Refusal, Refused, Written, first_of, refusal_of, reserved, too_large, collection_changed, collection_of, other_collection, conflict, store_full, etags_spent, kept_spelling, document_at, row_of, tombstone, with_written, unless, commit_from, commit, AreNext, Commits}
+use Rattle.spec_store.specs.Commit.{Command, Put, Delete, Writer, Setting, Refusal, Refused, Written, first_of, refusal_of, reserved, too_large, collection_changed, collection_of, other_collection, conflict, store_full, etags_spent, row_spelling, document_at, row_of, tombstone, with_written, or_refused, commit_from, commit, AreNext, Commits}
 use Rattle.spec_store.proofs.StoreLemmas.{same_row, found_key}
 use Rattle.spec_store.proofs.LaterLemmas.{IsStore-with, last-with, Later-with, Later-itself, Later-then}
 
@@ -31,13 +31,13 @@ same_collection c x h =
       | false ↦ λ e is. absurd cc
     ] refl h
 
-pub put_key : (id : List ℕ) (rows : List Row) → folded (kept_spelling id (row_at (folded id) rows)) ≡ folded id
-put_key id rows = elim (row_at (folded id) rows) as (λ o. row_at (folded id) rows ≡ o → folded (kept_spelling id o) ≡ folded id) [
+pub put_key : (id : List ℕ) (rows : List Row) → folded (row_spelling id (row_at (folded id) rows)) ≡ folded id
+put_key id rows = elim (row_at (folded id) rows) as (λ o. row_at (folded id) rows ≡ o → folded (row_spelling id o) ≡ folded id) [
   | None ↦ λ is. refl
   | Some r ↦ λ is. sym (found_key (folded id) rows r is)
 ] refl
 
-at_id : (id : List ℕ) (S : Store) (x : Row) → row_at (folded (kept_spelling id (row_at (folded id) S.rows))) S.rows ≡ Some x → row_at (folded id) S.rows ≡ Some x
+at_id : (id : List ℕ) (S : Store) (x : Row) → row_at (folded (row_spelling id (row_at (folded id) S.rows))) S.rows ≡ Some x → row_at (folded id) S.rows ≡ Some x
 at_id id S x g = subst (λ k. row_at k S.rows ≡ Some x) (put_key id S.rows) g
 
 pub document_found : (S : Store) (q : List ℕ) (r : Row) → document_at S q ≡ Some r → row_at q S.rows ≡ Some r
@@ -52,7 +52,7 @@ row_of-follows s w now S (Put id expected body) r h is =
       next = refl;
       same = λ x g. same_collection (collection_of body) x
           (ap (other_collection (collection_of body)) (sym (at_id id S x g)) ∙ not_changed s w S (Put id expected body) h);
-      spelled = λ x g. ap (kept_spelling id) (at_id id S x g);
+      spelled = λ x g. ap (row_spelling id) (at_id id S x g);
     })
 row_of-follows s w now S (Delete id expected) r h is =
     elim (document_at S (folded id)) as (λ o. document_at S (folded id) ≡ o → option_map (tombstone (last S + 1) now) o ≡ Some r → MayFollow S r) [
@@ -98,7 +98,7 @@ pub commit_from-Commits : (S : Store) (at : ℕ) (s : Setting) (w : Writer) (now
     → Commits S done → commit_from at s w now cs done ≡ Ok new → Commits S new
 commit_from-Commits S at s w now [] done new c h = subst (Commits S) (same_ok done new h) c
 commit_from-Commits S at s w now (x ∷ cs) done new c h =
-    elim (refusal_of s w done.store x) as (λ o. refusal_of s w done.store x ≡ o → unless o at (commit_from (at + 1) s w now cs (with_written (row_of now done.store x) done)) ≡ Ok new → Commits S new) [
+    elim (refusal_of s w done.store x) as (λ o. refusal_of s w done.store x ≡ o → or_refused o at (commit_from (at + 1) s w now cs (with_written (row_of now done.store x) done)) ≡ Ok new → Commits S new) [
       | None ↦ λ e g. commit_from-Commits S (at + 1) s w now cs (with_written (row_of now done.store x) done) new
           (Commits-option S done (row_of now done.store x) c (λ r is. row_of-follows s w now done.store x r e is)) g
       | Some kind ↦ λ e g. absurd cc

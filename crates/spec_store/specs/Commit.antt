@@ -61,21 +61,21 @@ abbrev pub collection_of : Data → List ℕ
 collection_of body = named_collection (value_at (codes "@metadata" ∷ codes "@collection" ∷ []) body)
 
 -- the members of the metadata that the server writes itself
-abbrev pub own_members : List (List ℕ)
-own_members = codes "@id" ∷ codes "@change-vector" ∷ codes "@last-modified" ∷ codes "@index-score" ∷ codes "@collection" ∷ []
+abbrev pub server_members : List (List ℕ)
+server_members = codes "@id" ∷ codes "@change-vector" ∷ codes "@last-modified" ∷ codes "@index-score" ∷ codes "@collection" ∷ []
 
-abbrev pub is_own : List ℕ → Bool
-is_own name = list_any (bytes_eq name) own_members
+abbrev pub is_server_member : List ℕ → Bool
+is_server_member name = list_any (bytes_eq name) server_members
 
 -- the object without these members; an object without members for any other value
 abbrev pub clean_metadata : Option Data → Data
-clean_metadata (Some (object ms)) = object (entries_of (filter (λ m. not (is_own m.0)) (pairs_of ms)))
+clean_metadata (Some (object ms)) = object (entries_of (filter (λ m. not (is_server_member m.0)) (pairs_of ms)))
 clean_metadata other = object no_entries
 
 -- the document that is stored for a body, with clean metadata
-abbrev pub stored : Data → Data
-stored (object ms) = object (entries_of (put (codes "@metadata") (clean_metadata (member (codes "@metadata") ms)) (pairs_of ms)))
-stored other = other
+abbrev pub stored_body : Data → Data
+stored_body (object ms) = object (entries_of (put (codes "@metadata") (clean_metadata (member (codes "@metadata") ms)) (pairs_of ms)))
+stored_body other = other
 
 abbrev pub document_at : Store → List ℕ → Option Row
 document_at S q = option_and_then (λ r. if is_document r then Some r else None) (row_at q S.rows)
@@ -97,7 +97,7 @@ reserved Client c = refuse_if (is_reserved c) ReservedId
 reserved Server c = None
 
 abbrev pub too_large : Command → Option Refusal
-too_large (Put id expected body) = let len = length (text_of (stored body)) in refuse_if (nat_lt max_body len) (TooLarge len)
+too_large (Put id expected body) = let len = length (text_of (stored_body body)) in refuse_if (nat_lt max_body len) (TooLarge len)
 too_large (Delete id expected) = None
 
 abbrev pub other_collection : List ℕ → Option Row → Option Refusal
@@ -143,9 +143,9 @@ refusal_of s w S c =
 
 -- WHAT A COMMAND WRITES
 
-abbrev pub kept_spelling : List ℕ → Option Row → List ℕ
-kept_spelling id None = id
-kept_spelling id (Some r) = r.id
+abbrev pub row_spelling : List ℕ → Option Row → List ℕ
+row_spelling id None = id
+row_spelling id (Some r) = r.id
 
 abbrev pub tombstone : ℕ → ℕ → Row → Row
 tombstone etag now r = record { etag = etag; id = r.id; collection = r.collection; body = gone; changed = now }
@@ -155,9 +155,9 @@ abbrev pub row_of : ℕ → Store → Command → Option Row
 row_of now S (Put id expected body) =
     Some (record {
       etag = last S + 1;
-      id = kept_spelling id (row_at (folded id) S.rows);
+      id = row_spelling id (row_at (folded id) S.rows);
       collection = collection_of body;
-      body = doc (stored body);
+      body = doc (stored_body body);
       changed = now;
     })
 row_of now S (Delete id expected) = option_map (tombstone (last S + 1) now) (document_at S (folded id))
@@ -176,14 +176,14 @@ with_written None done = done
 with_written (Some r) done = record { store = with_row done.store r; rows = done.rows ++ r ∷ [] }
 
 -- if the command at this place is refused, the whole transaction is
-abbrev pub unless : Option Refusal → ℕ → Result Written Refused → Result Written Refused
-unless None at rest = rest
-unless (Some kind) at rest = Err (record { at = at; kind = kind })
+abbrev pub or_refused : Option Refusal → ℕ → Result Written Refused → Result Written Refused
+or_refused None at rest = rest
+or_refused (Some kind) at rest = Err (record { at = at; kind = kind })
 
 abbrev pub commit_from : ℕ → Setting → Writer → ℕ → List Command → Written → Result Written Refused
 commit_from at s w now [] done = Ok done
 commit_from at s w now (c ∷ cs) done =
-    unless (refusal_of s w done.store c) at (commit_from (at + 1) s w now cs (with_written (row_of now done.store c) done))
+    or_refused (refusal_of s w done.store c) at (commit_from (at + 1) s w now cs (with_written (row_of now done.store c) done))
 
 -- the commands in order, each on the store that those before it leave; the first refusal refuses the transaction
 abbrev pub commit : Setting → Writer → ℕ → List Command → Store → Result Written Refused

@@ -13,13 +13,13 @@ use Rattle.raven_data.specs.Moments.{moments_end}
 use Rattle.raven_data.specs.Rows.{Row, Body, doc, gone, key}
 use Rattle.raven_data.specs.Written.{text_of}
 use Rattle.spec_store.specs.Store.{row_at, last_of}
-use Rattle.spec_store.specs.Commit.{is_own}
+use Rattle.spec_store.specs.Commit.{is_server_member}
 
 -- ONE ROW
 
 -- the metadata is an object without the members that the server writes itself
 abbrev pub is_clean : Option Data → Bool
-is_clean (Some (object ms)) = not (list_any (λ m. is_own m.0) (pairs_of ms))
+is_clean (Some (object ms)) = not (list_any (λ m. is_server_member m.0) (pairs_of ms))
 is_clean other = false
 
 -- the value can be the document of a row: an object with clean metadata
@@ -52,21 +52,21 @@ row_in k =
 -- ALL ROWS
 
 -- the row may follow these: its etag is past theirs, its id is new, and they are fewer than `max`
-abbrev pub may_stand_behind : ℕ → List Row → Row → Bool
-may_stand_behind max earlier r = nat_lt (last_of 0 earlier) r.etag && is_none (row_at (key r) earlier) && nat_lt (length earlier) max
+abbrev pub can_follow : ℕ → List Row → Row → Bool
+can_follow max earlier r = nat_lt (last_of 0 earlier) r.etag && is_none (row_at (key r) earlier) && nat_lt (length earlier) max
 
-abbrev pub row_behind : ℕ → List Row → Option Row → Option Row
-row_behind max earlier None = None
-row_behind max earlier (Some r) = if may_stand_behind max earlier r then Some r else None
+abbrev pub row_if_it_follows : ℕ → List Row → Option Row → Option Row
+row_if_it_follows max earlier None = None
+row_if_it_follows max earlier (Some r) = if can_follow max earlier r then Some r else None
 
 abbrev pub or_bad_row : ℕ → Option Row → (Row → Result (List Row) ℕ) → Result (List Row) ℕ
 or_bad_row etag None more = Err etag
 or_bad_row etag (Some r) more = more r
 
-abbrev pub rows_behind : ℕ → List Row → List KeptRow → Result (List Row) ℕ
-rows_behind max earlier [] = Ok earlier
-rows_behind max earlier (k ∷ ks) = or_bad_row k.etag (row_behind max earlier (row_in k)) (λ r. rows_behind max (earlier ++ r ∷ []) ks)
+abbrev pub rows_after : ℕ → List Row → List KeptRow → Result (List Row) ℕ
+rows_after max earlier [] = Ok earlier
+rows_after max earlier (k ∷ ks) = or_bad_row k.etag (row_if_it_follows max earlier (row_in k)) (λ r. rows_after max (earlier ++ r ∷ []) ks)
 
 -- the rows that the stored rows are read as, or the etag of the first that is not valid
 abbrev pub rows_in : ℕ → List KeptRow → Result (List Row) ℕ
-rows_in max held = rows_behind max [] held
+rows_in max held = rows_after max [] held

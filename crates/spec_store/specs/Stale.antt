@@ -9,8 +9,8 @@ use Rattle.raven_data.specs.Tables.{Scope, in_scope}
 abbrev pub past : Scope → ℕ → Store → List Row
 past scope e S = filter (λ r. in_scope scope r && nat_lt e r.etag) S.rows
 
-abbrev pub taken : Scope → ℕ → Store → ℕ → List Row
-taken scope e S max = take max (past scope e S)
+abbrev pub batch_rows : Scope → ℕ → Store → ℕ → List Row
+batch_rows scope e S max = take max (past scope e S)
 
 abbrev pub left_over : Scope → ℕ → Store → ℕ → List Row
 left_over scope e S max = drop max (past scope e S)

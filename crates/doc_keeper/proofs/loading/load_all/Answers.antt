@@ -1,6 +1,6 @@
 use Rattle.std.proofs.Common.{List, Option, refl, ap, sym, subst, ◌∙◌, length, arith}
 use Rattle.raven_data.specs.Kept.{KeptRow, last_kept}
-use Rattle.spec_store.specs.Kept.{rows_behind}
+use Rattle.spec_store.specs.Kept.{rows_after}
 use Rattle.doc_keeper.specs.Loading.{IsCause, IsPage, IsPageFault}
 use Rattle.doc_keeper.specs.declared.loading.LoadFault.TheVariants.{Failed}
 use Rattle.doc_keeper.proofs.LoadLemmas.{start, go_on, stop, finish, few, smaller, rose_since, other_error, has_none, first_call, one_more_call}
@@ -18,7 +18,7 @@ pub loop-alloc-preserved : goal.loop-alloc-preserved
 loop-alloc-preserved g c = record {
   so_far =
       go_on c.args.limits.now.rows (g.K.Keeper.state c.args.keeper.now).held c.loop-alloc.loaded c.in-Ok-with_page.more c.loop-alloc.after c.last_etag-after.result c.loop-alloc.page c.in-Ok-load_page.next
-      c.loop-alloc.invariant.so_far (ap (rows_behind c.args.limits.now.rows c.loop-alloc.loaded) (sym c.as_slice.ensures) ∙ c.in-Ok-with_page.ensures.ok)
+      c.loop-alloc.invariant.so_far (ap (rows_after c.args.limits.now.rows c.loop-alloc.loaded) (sym c.as_slice.ensures) ∙ c.in-Ok-with_page.ensures.ok)
       (c.last_etag-after.ensures ∙ ap (last_kept c.loop-alloc.after) c.as_slice-in-loop-alloc.ensures)
       (subst (λ (held : Option (List KeptRow)). IsPage held c.last_etag-after.result c.in-Ok-load_page.next) c.loop-alloc.invariant.same c.in-Ok-load_page.ensures.page);
   called = one_more_call _ _ _ c.loop-alloc.invariant.called c.load_page-in-loop-alloc.ensures.called;
@@ -30,7 +30,7 @@ pub loop-alloc-smaller : goal.loop-alloc-smaller
 loop-alloc-smaller g c =
     let preserved = loop-alloc-preserved g c in
     smaller c.args.limits.now.rows c.loop-alloc.loaded c.in-Ok-with_page.more c.loop-alloc.page c.is_empty.result
-    (few c.args.limits.now.rows _ _ _ _ preserved.so_far) (ap (rows_behind c.args.limits.now.rows c.loop-alloc.loaded) (sym c.as_slice.ensures) ∙ c.in-Ok-with_page.ensures.ok) c.is_empty.ensures c.loop-alloc-test.true
+    (few c.args.limits.now.rows _ _ _ _ preserved.so_far) (ap (rows_after c.args.limits.now.rows c.loop-alloc.loaded) (sym c.as_slice.ensures) ∙ c.in-Ok-with_page.ensures.ok) c.is_empty.ensures c.loop-alloc-test.true
 
 pub returns-in-Err-clause-fault : goal.returns-in-Err-clause-fault
 returns-in-Err-clause-fault g c = c.in-Err.ensures.fault c.args.limits.now.rows
@@ -38,7 +38,7 @@ returns-in-Err-clause-fault g c = c.in-Err.ensures.fault c.args.limits.now.rows
 pub returns-in-Err-with_page-clause-fault : goal.returns-in-Err-with_page-clause-fault
 returns-in-Err-with_page-clause-fault g c =
     stop c.args.limits.now.rows (g.K.Keeper.state c.args.keeper.now).held c.loop-alloc.loaded c.loop-alloc.after c.loop-alloc.page c.in-Err-with_page.fault c.loop-alloc.invariant.so_far
-    (subst (λ (page : List KeptRow). IsPageFault c.in-Err-with_page.fault (rows_behind c.args.limits.now.rows c.loop-alloc.loaded page)) c.as_slice.ensures c.in-Err-with_page.ensures.fault)
+    (subst (λ (page : List KeptRow). IsPageFault c.in-Err-with_page.fault (rows_after c.args.limits.now.rows c.loop-alloc.loaded page)) c.as_slice.ensures c.in-Err-with_page.ensures.fault)
 
 pub returns-in-Err-load_page-clause-fault : goal.returns-in-Err-load_page-clause-fault
 returns-in-Err-load_page-clause-fault g c =

@@ -1,5 +1,5 @@
 use Rattle.std.proofs.Common.{cond, length, ◌∙◌, ap, subst, Some}
-use Rattle.spec_store.specs.Stale.{taken}
+use Rattle.spec_store.specs.Stale.{batch_rows}
 use Rattle.raven_data.specs.Tables.{note_rows}
 use Rattle.index_tree.specs.Mapper.{mapper_of}
 use Rattle.spec_index.specs.Mapping.{touched}
@@ -12,7 +12,7 @@ pub returns-then-is_empty-clause-next : goal.returns-then-is_empty-clause-next
 returns-then-is_empty-clause-next g c =
     let v = c.args.version.now in
     let S = c.args.store.now in
-    batch-none v S c.args.max c.in_ok-taken.taken (c.in_ok-taken.ensures.rows ∙ λ i. taken (c.in_ok-scope.ensures i) (c.etag.ensures i) S c.args.max) (c.is_empty.ensures.0 c.if-is_empty.true)
+    batch-none v S c.args.max c.in_ok-taken.taken (c.in_ok-taken.ensures.rows ∙ λ i. batch_rows (c.in_ok-scope.ensures i) (c.etag.ensures i) S c.args.max) (c.is_empty.ensures.0 c.if-is_empty.true)
 
 pub returns-clause-next : goal.returns-clause-next
 returns-clause-next g c =
@@ -20,7 +20,7 @@ returns-clause-next g c =
     let S = c.args.store.now in
     ap Some (c.in_ok-next.ensures.version ∙ λ i. record v { etag = c.etag_after-etag.result; table = note_rows v.table (c.as_slice-2.ensures i) })
     ∙ batch-some v S c.args.max c.in_ok-taken.taken c.in_ok-taken.more c.etag_after-etag.result
-    (c.in_ok-taken.ensures.rows ∙ λ i. taken (c.in_ok-scope.ensures i) (c.etag.ensures i) S c.args.max)
+    (c.in_ok-taken.ensures.rows ∙ λ i. batch_rows (c.in_ok-scope.ensures i) (c.etag.ensures i) S c.args.max)
     (λ e. let t = c.is_empty.ensures.1 e in cc)
     (rw (c.in_ok-scope.ensures, c.etag.ensures) at c.in_ok-taken.ensures.more)
     (c.etag_after-etag.ensures ∙ ap (λ rows. cond c.in_ok-taken.more (last_of 0 rows) (last S)) c.as_slice.ensures)
@@ -29,5 +29,5 @@ pub returns-clause-maps : goal.returns-clause-maps
 returns-clause-maps g c =
     let v = c.args.version.now in
     subst (λ rows. MapsAtMost (length (documents_among (note_rows v.table rows) (touched (mapper_of v.definition) v.table rows))) c.args.steps.now c.after.new.steps)
-    (c.as_slice-2.ensures ∙ c.in_ok-taken.ensures.rows ∙ λ i. taken (c.in_ok-scope.ensures i) (c.etag.ensures i) c.args.store.now c.args.max)
+    (c.as_slice-2.ensures ∙ c.in_ok-taken.ensures.rows ∙ λ i. batch_rows (c.in_ok-scope.ensures i) (c.etag.ensures i) c.args.store.now c.args.max)
     c.in_ok-next.ensures.maps

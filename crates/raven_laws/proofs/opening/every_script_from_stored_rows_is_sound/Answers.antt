@@ -1,5 +1,5 @@
 use Rattle.raven_laws.proofs.OpenedRuns.{lines-Sound, lines-LaterW, lines-fresh, lines-exact, lines-flags, lines-ids}
-use Rattle.raven_laws.proofs.opening.every_script_from_kept_rows_is_sound.Goals as goal
+use Rattle.raven_laws.proofs.opening.every_script_from_stored_rows_is_sound.Goals as goal
 
 pub returns-clause-sound : goal.returns-clause-sound
 returns-clause-sound c = lines-Sound

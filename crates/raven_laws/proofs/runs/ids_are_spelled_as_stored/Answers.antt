@@ -1,5 +1,5 @@
 use Rattle.raven_laws.proofs.AnswerLemmas.{run-entries, run-ids}
-use Rattle.raven_laws.proofs.runs.ids_are_as_kept.Goals as goal
+use Rattle.raven_laws.proofs.runs.ids_are_spelled_as_stored.Goals as goal
 
 pub returns-clause-entries : goal.returns-clause-entries
 returns-clause-entries c = run-entries

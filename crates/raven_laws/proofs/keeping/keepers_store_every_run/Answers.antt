@@ -1,5 +1,5 @@
 use Rattle.raven_laws.proofs.KeepLemmas.{held-run, held-lines}
-use Rattle.raven_laws.proofs.keeping.keepers_keep_on.Goals as goal
+use Rattle.raven_laws.proofs.keeping.keepers_store_every_run.Goals as goal
 
 pub returns-clause-requests : goal.returns-clause-requests
 returns-clause-requests c = held-run

@@ -1,5 +1,5 @@
 use Rattle.raven_laws.proofs.OpenedRuns.{kept-Sound, kept-LaterW, kept-fresh, kept-exact, kept-flags, kept-ids}
-use Rattle.raven_laws.proofs.opening.every_run_from_kept_rows_is_sound.Goals as goal
+use Rattle.raven_laws.proofs.opening.every_run_from_stored_rows_is_sound.Goals as goal
 
 pub returns-clause-sound : goal.returns-clause-sound
 returns-clause-sound c = kept-Sound
