@@ -2,8 +2,8 @@
 use Rattle.std.proofs.Common.{◌≡◌, ℕ, zero, suc, ◌<◌, ◌≤◌, ◌+◌, ◌-◌, ◌^◌, List, [], ◌∷◌, ◌++◌, Bool, true, false, cond, is_none, Option, Some, None, option_map, IfSome, Result, Ok, Err, IsTrue, ◌↔◌, filter, length, take, drop, min, refl, sym, ap, ◌∙◌, subst, arith}
 use Rattle.std.proofs.lemmas.Bool.{ltb-true, lt-ltb, le-ltb}
 use Rattle.std.proofs.lemmas.List.{append_assoc, append-nil, length-append, length-take, take-append-drop}
-use Rattle.raven_data.specs.Kept.{KeptRow, EtagsRise, is_past, last_kept}
-use Rattle.raven_data.specs.Rows.{Row, key}
+use Rattle.spec_data.specs.Kept.{KeptRow, EtagsRise, is_past, last_kept}
+use Rattle.spec_data.specs.Rows.{Row, key}
 use Rattle.spec_store.specs.Kept.{can_follow, row_if_it_follows, row_in, or_bad_row, rows_after, rows_in, max_etag}
 use Rattle.spec_store.specs.Store.{Store, row_at, put, last_of, with_row}
 use Rattle.spec_store.proofs.StoreLemmas.{both_true, last_of-put}

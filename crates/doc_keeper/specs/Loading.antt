@@ -1,7 +1,7 @@
 -- What is loaded from a keeper.
 use Rattle.std.specs.Prelude.{◌≡◌, ℕ, List, Option, None, IfSome, Result, Err}
-use Rattle.raven_data.specs.Kept.{KeptRow, EtagsRise, kept_after}
-use Rattle.raven_data.specs.Rows.{Row}
+use Rattle.spec_data.specs.Kept.{KeptRow, EtagsRise, kept_after}
+use Rattle.spec_data.specs.Rows.{Row}
 use Rattle.spec_store.specs.Kept.{rows_in}
 use Rattle.raven_ports.specs.Plan.{Plan, calls_later}
 use Rattle.doc_keeper.specs.declared.loading.LoadFault.{LoadFault}

@@ -2,9 +2,9 @@
 ghost use Rattle.std.specs.Prelude.{◌≡◌, ◌&&◌, IfErr, IfOk, None, Some, if◌then◌else◌, length, map, nat_lt, option_map};
 ghost use Rattle.std.specs.List.{list_any};
 ghost use Rattle.std.specs.Str.{bytes_eq};
-ghost use Rattle.raven_data.specs.Faults.{is_fit, max_id};
-ghost use Rattle.raven_data.specs.Moments.{moments_end};
-ghost use Rattle.raven_data.specs.Written.{text_of};
+ghost use Rattle.spec_data.specs.Faults.{is_fit, max_id};
+ghost use Rattle.spec_data.specs.Moments.{moments_end};
+ghost use Rattle.spec_data.specs.Written.{text_of};
 ghost use Rattle.raven_value.specs.RowView.{body_of};
 ghost use Rattle.raven_value.specs.View.{data_of, pair_of};
 ghost use Rattle.spec_store.specs.Commit.{is_server_member as spec_is_own};

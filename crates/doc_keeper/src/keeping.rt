@@ -1,7 +1,7 @@
 //! How a row is stored.
 ghost use Rattle.std.specs.Prelude.{◌≡◌, IfOk};
-ghost use Rattle.raven_data.specs.Kept.{all_kept as spec_all_kept, body_text as spec_body_text, kept as spec_kept};
-ghost use Rattle.raven_data.specs.Written.{text_of};
+ghost use Rattle.spec_data.specs.Kept.{all_kept as spec_all_kept, body_text as spec_body_text, kept as spec_kept};
+ghost use Rattle.spec_data.specs.Written.{text_of};
 ghost use Rattle.raven_value.specs.RowView.{body_of};
 
 use raven_base::{NoMemory, Sequence};

@@ -2,7 +2,7 @@
 ghost use Rattle.std.specs.Prelude.{◌≡◌, ◌≤◌, ◌++◌, ℕ, [], ◌∷◌, true, option_map, IfErr, IfOk, IsErrOf, Ok, length};
 ghost use Rattle.doc_keeper.specs.Loading.{AreCalls, IsCause, IsLoaded, IsPage, IsPageFault};
 ghost use Rattle.doc_keeper.specs.declared.loading.LoadFault.TheVariants.{NoMemory as OutOfMemory};
-ghost use Rattle.raven_data.specs.Kept.{last_kept};
+ghost use Rattle.spec_data.specs.Kept.{last_kept};
 ghost use Rattle.spec_store.specs.Kept.{max_etag, can_follow, rows_after};
 ghost use Rattle.raven_ports.specs.Faults.{Rose};
 ghost use Rattle.raven_ports.specs.Plan.{one_later};
@@ -57,8 +57,8 @@ struct Loaded {
 impl Model for Loaded {
     ghost use Rattle.std.specs.Prelude.{◌≡◌, List};
     ghost use Rattle.std.specs.Coded.{coded_list};
-    ghost use Rattle.raven_data.specs.Codes.{row_code};
-    ghost use Rattle.raven_data.specs.Rows as rowdata;
+    ghost use Rattle.spec_data.specs.Codes.{row_code};
+    ghost use Rattle.spec_data.specs.Rows as rowdata;
     ghost use Rattle.spec_store.specs.Store as stores;
 
     ghost Value = { List rowdata.Row };

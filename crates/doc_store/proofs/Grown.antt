@@ -1,8 +1,8 @@
 -- A store with further rows is a store, and none of the steps to it is larger.
 use Rattle.std.proofs.Common.{◌≡◌, ℕ, ◌<◌, ◌≤◌, ◌+◌, List, [], ◌∷◌, true, false, not, cond, None, filter, length, drop, get_or, refl, sym, ap, ◌∙◌, subst, arith}
 use Rattle.std.proofs.lemmas.List.{drop_more, length-append}
-use Rattle.raven_data.specs.Folding.{same_key}
-use Rattle.raven_data.specs.Rows.{Row, key}
+use Rattle.spec_data.specs.Folding.{same_key}
+use Rattle.spec_data.specs.Rows.{Row, key}
 use Rattle.spec_store.specs.Store.{row_at, put, Store, IsStore, AreApart, with_row, with_rows}
 use Rattle.spec_store.specs.Later.{MayFollowAll}
 use Rattle.spec_store.proofs.StoreLemmas.{same_means}

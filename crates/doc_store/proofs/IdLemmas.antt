@@ -7,10 +7,10 @@ use Rattle.std.specs.Map.{lookup}
 use Rattle.std.specs.BTreeMap.{is_at}
 use Rattle.std.proofs.lemmas.Bool.Decides.{nat_tests}
 use Rattle.std.proofs.lemmas.Map.Text.{is_eq-slice_cmp}
-use Rattle.raven_data.specs.Folding.{folded, key_cmp, same_key}
-use Rattle.raven_data.specs.Rows.{Row, key}
+use Rattle.spec_data.specs.Folding.{folded, key_cmp, same_key}
+use Rattle.spec_data.specs.Rows.{Row, key}
 use Rattle.spec_store.specs.Store.{row_at}
-use Rattle.raven_data.specs.Tables.{table_of}
+use Rattle.spec_data.specs.Tables.{table_of}
 use Rattle.spec_store.specs.Keyed.{AreKeyed}
 use Rattle.spec_store.proofs.StoreLemmas.{same_itself, same_means}
 use Rattle.spec_store.proofs.KeyedLemmas.{get-table_of, same_table, values-table_of}

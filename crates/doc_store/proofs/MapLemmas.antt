@@ -9,8 +9,8 @@ use Rattle.std.specs.Map.{lookup, remove_entry}
 use Rattle.std.specs.BTreeMap.{is_at, insert_entry}
 use Rattle.std.proofs.lemmas.List.{map-append}
 use Rattle.std.proofs.lemmas.Map.Text.{is_eq-slice_cmp}
-use Rattle.raven_data.specs.Folding.{folded, key_cmp, same_key}
-use Rattle.raven_data.specs.Rows.{Row, key}
+use Rattle.spec_data.specs.Folding.{folded, key_cmp, same_key}
+use Rattle.spec_data.specs.Rows.{Row, key}
 use Rattle.spec_store.specs.Store.{row_at, put, last_of, AreRising, AreApart, Store, IsStore, with_row}
 use Rattle.spec_store.proofs.StoreLemmas.{row_at-put, found_etag, same_means, same_row, last_of-put, AreRising-put, AreApart-put, AreRising-filter, last_of-filter}
 use Rattle.spec_store.proofs.KeyedLemmas.{key_ties}

@@ -2,12 +2,12 @@
 use Rattle.std.proofs.Common.{◌≡◌, ℕ, ◌<◌, ◌≤◌, ◌+◌, ◌^◌, List, [], ◌∷◌, ◌++◌, true, cond, not, is_some, Option, Some, None, length, take, drop, get_or, refl, sym, ap, ◌∙◌, arith}
 use Rattle.std.proofs.lemmas.Bool.{leb-true}
 use Rattle.std.proofs.lemmas.List.{drop_more, take_more, length-append, length-take}
-use Rattle.raven_data.specs.Rows.{Row, key}
+use Rattle.spec_data.specs.Rows.{Row, key}
 use Rattle.spec_store.specs.Store.{row_at, put, Store, with_row}
 use Rattle.spec_store.proofs.StoreLemmas.{both_true}
 use Rattle.spec_store.proofs.LaterLemmas.{last-with}
 use Rattle.doc_store.specs.Bounds.{IsWithin}
-use Rattle.raven_data.specs.Limits.{max_etag}
+use Rattle.spec_data.specs.Limits.{max_etag}
 use Rattle.doc_store.specs.Opening.{is_sound_after, first_bad}
 use Rattle.doc_store.proofs.MapLemmas.{none_out}
 

@@ -5,9 +5,9 @@ use Rattle.std.specs.Ordering.{nat_cmp, is_le}
 use Rattle.std.specs.Cmp.{ranked}
 use Rattle.std.proofs.lemmas.Bool.{le-leb, leb-true}
 use Rattle.std.proofs.lemmas.Bool.Decides.{nat_tests}
-use Rattle.raven_data.specs.Rows.{Row}
+use Rattle.spec_data.specs.Rows.{Row}
 use Rattle.spec_store.specs.Store.{last_of, AreRising, Store, IsStore}
-use Rattle.raven_data.specs.Tables.{Scope, in_scope}
+use Rattle.spec_data.specs.Tables.{Scope, in_scope}
 use Rattle.spec_store.specs.Stale.{up_to, newest}
 use Rattle.spec_store.proofs.StoreLemmas.{AreRising-lower, AreRising-filter, last_of-rising}
 use Rattle.paged_map.specs.Range.{between}

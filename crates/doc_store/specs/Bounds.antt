@@ -1,6 +1,6 @@
 -- How large a store may grow.
 use Rattle.std.specs.Prelude.{◌≤◌, ◌<◌, ◌^◌, length}
-use Rattle.raven_data.specs.Limits.{max_etag}
+use Rattle.spec_data.specs.Limits.{max_etag}
 use Rattle.spec_store.specs.Store.{Store, last, IsStore}
 
 pub record IsWithin (S : Store) : Type 0 where

@@ -1,7 +1,7 @@
 -- Which rows a store is opened with.
 use Rattle.std.specs.Prelude.{◌≡◌, ℕ, ◌++◌, List, [], ◌∷◌, Bool, ◌&&◌, not, nat_lt, nat_le, is_some, length, Option, Some, None, if◌then◌else◌}
-use Rattle.raven_data.specs.Limits.{max_etag, moments_end}
-use Rattle.raven_data.specs.Rows.{Row, key}
+use Rattle.spec_data.specs.Limits.{max_etag, moments_end}
+use Rattle.spec_data.specs.Rows.{Row, key}
 use Rattle.spec_store.specs.Store.{row_at, last_of}
 use Rattle.doc_store.specs.declared.opening.OpenFault.{OpenFault}
 use Rattle.doc_store.specs.declared.opening.OpenFault.TheVariants.{KeptBad, NoMemory}

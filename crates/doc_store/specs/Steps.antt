@@ -1,6 +1,6 @@
 -- A row that goes into a store.
 use Rattle.std.specs.Prelude.{◌≡◌, ◌<◌, Some}
-use Rattle.raven_data.specs.Rows.{Row, key}
+use Rattle.spec_data.specs.Rows.{Row, key}
 use Rattle.spec_store.specs.Store.{Store, last, row_at}
 
 -- the row is the newest, and of the collection of an earlier row of its id

@@ -1,9 +1,9 @@
 //! Walks over the rows of a store's maps.
 ghost use Rattle.std.specs.Prelude.{◌≡◌, ◌↔◌, ◌<◌, ◌^◌, ◌&&◌, IfOk, IsTrue, filter, length, nat_lt, not, take};
 ghost use Rattle.std.specs.Str.{bytes_eq};
-ghost use Rattle.raven_data.specs.Rows.{is_document};
+ghost use Rattle.spec_data.specs.Rows.{is_document};
 ghost use Rattle.spec_store.specs.Store.{last_of};
-ghost use Rattle.raven_data.specs.Tables.{in_scope};
+ghost use Rattle.spec_data.specs.Tables.{in_scope};
 ghost use Rattle.doc_store.specs.Maps.{newest_among, newest_at, rows_in};
 
 use paged_map::{PagedMap, Pairs};

@@ -1,13 +1,13 @@
 //! The store.
 ghost use Rattle.std.specs.Str.{bytes_eq};
 ghost use Rattle.std.specs.Prelude.{◌≡◌, ◌≤◌, ◌<◌, ◌&&◌, ◌↔◌, ℕ, IfOk, IsTrue, filter, length, nat_lt, not, option_copied};
-ghost use Rattle.raven_data.specs.Folding.{folded, same_key};
-ghost use Rattle.raven_data.specs.Limits.{max_etag};
-ghost use Rattle.raven_data.specs.Rows.{is_document, key};
+ghost use Rattle.spec_data.specs.Folding.{folded, same_key};
+ghost use Rattle.spec_data.specs.Limits.{max_etag};
+ghost use Rattle.spec_data.specs.Rows.{is_document, key};
 ghost use Rattle.spec_store.specs.Store.{IsStore, empty_store, last, row_at, with_row, with_rows};
 ghost use Rattle.spec_store.specs.Later.{MayFollowAll};
 ghost use Rattle.spec_store.specs.Stale.{newest, past, stale, batch_rows};
-ghost use Rattle.raven_data.specs.Tables.{table_of};
+ghost use Rattle.spec_data.specs.Tables.{table_of};
 ghost use Rattle.std.specs.FinMap.{values};
 ghost use Rattle.doc_store.specs.Bounds.{IsWithin};
 ghost use Rattle.doc_store.specs.Maps.{by_etag};

@@ -4,15 +4,15 @@ use Rattle.std.proofs.lemmas.Bool.{eq-eqb}
 use Rattle.std.proofs.lemmas.Grind.{common_steps}
 use Rattle.std.specs.Prelude.{◌==◌}
 use Rattle.std.specs.Option.{option_map}
-use Rattle.raven_data.specs.Folding.{folded, same_key}
-use Rattle.raven_data.specs.Rows.{Row, key}
+use Rattle.spec_data.specs.Folding.{folded, same_key}
+use Rattle.spec_data.specs.Rows.{Row, key}
 use Rattle.spec_store.specs.Store.{Store, last, row_at, put, with_row}
 use Rattle.spec_store.specs.Commit.{Command, Put, Delete, Setting, Refusal, id_of, document_at, refuse_if, row_of, tombstone, with_option}
 use Rattle.spec_store.proofs.CommitLemmas.{put_key, document_found}
 use Rattle.spec_store.proofs.LaterLemmas.{last-with}
 use Rattle.spec_store.proofs.StoreLemmas.{found_key}
 use Rattle.doc_store.specs.Bounds.{IsWithin}
-use Rattle.raven_data.specs.Limits.{max_etag}
+use Rattle.spec_data.specs.Limits.{max_etag}
 use Rattle.doc_txn.specs.Tests.{full_for, spent_for}
 
 not_refused : (b : Bool) (r : Refusal) → refuse_if b r ≡ None → b ≡ false

@@ -1,8 +1,8 @@
 -- Members that are kept stay in order.
 use Rattle.std.proofs.Common.{ℕ, List, [], ◌∷◌, Bool, true, false, cond, filter}
-use Rattle.raven_data.proofs.MemberLemmas.{pairs_of-entries_of}
-use Rattle.raven_data.specs.Data.{Data}
-use Rattle.raven_data.specs.Rising.{Pairs, IsBelowAll, IsRising}
+use Rattle.spec_data.proofs.MemberLemmas.{pairs_of-entries_of}
+use Rattle.spec_data.specs.Data.{Data}
+use Rattle.spec_data.specs.Rising.{Pairs, IsBelowAll, IsRising}
 
 IsBelowAll-filter : (k : List ℕ) (keep : List ℕ × Data → Bool) (ms : Pairs) → IsBelowAll k ms → IsBelowAll k (filter keep ms)
 IsBelowAll-filter k keep [] h = tt

@@ -2,9 +2,9 @@
 use Rattle.std.proofs.Common.{◌≡◌, ◌+◌, ℕ, List, [], ◌∷◌, length, Bool, true, false, cond, not, ◌||◌, ◌&&◌, Option, Some, None, is_some, is_none, nat_le, ◌==◌, refl, ap, ◌∙◌}
 use Rattle.std.specs.Option.{option_and_then, option_map, option_or}
 use Rattle.std.proofs.lemmas.Slice.Eq.{bytes_eq-Decides}
-use Rattle.raven_data.specs.Folding.{folded}
-use Rattle.raven_data.specs.Limits.{max_etag}
-use Rattle.raven_data.specs.Rows.{Row, is_document}
+use Rattle.spec_data.specs.Folding.{folded}
+use Rattle.spec_data.specs.Limits.{max_etag}
+use Rattle.spec_data.specs.Rows.{Row, is_document}
 use Rattle.spec_store.specs.Store.{Store, last, row_at}
 use Rattle.spec_store.specs.Commit.{Command, Put, Delete, Writer, Client, Server, Setting, Expect, Refusal, id_of, expected_of, document_at, differs, live_vector, first_of, refuse_if, is_index_id, reserved, too_large, collection_changed, conflict, store_full, etags_spent, refusal_of, row_of, tombstone}
 use Rattle.doc_txn.specs.FaultView.{kind_view}

@@ -1,7 +1,7 @@
 -- A further command is taken.
 use Rattle.std.proofs.Common.{◌≡◌, ℕ, ◌+◌, List, [], ◌∷◌, ◌++◌, Option, Some, None, Result, Ok, Err, refl, sym, ap, ◌∙◌, append_assoc}
 use Rattle.std.specs.Option.{option_map}
-use Rattle.raven_data.specs.Rows.{Row}
+use Rattle.spec_data.specs.Rows.{Row}
 use Rattle.spec_store.specs.Store.{Store}
 use Rattle.spec_store.specs.Commit.{Command, Writer, Setting, Refused, Written, after_command, commit_from, etags_taken, refusal_of, row_of, or_refused, with_option, with_written}
 

@@ -1,9 +1,9 @@
 -- The tests of a command, on the row that it would write and on the row that its id has.
 use Rattle.std.specs.Prelude.{ℕ, List, Bool, false, ◌||◌, ◌&&◌, ◌==◌, nat_lt, nat_le, Option, Some, None, is_some, is_none, length, codes}
 use Rattle.std.specs.Str.{bytes_eq}
-use Rattle.raven_data.specs.Limits.{max_body, max_etag}
-use Rattle.raven_data.specs.Rows.{Row, Body, doc, gone, is_document}
-use Rattle.raven_data.specs.Written.{text_of}
+use Rattle.spec_data.specs.Limits.{max_body, max_etag}
+use Rattle.spec_data.specs.Rows.{Row, Body, doc, gone, is_document}
+use Rattle.spec_data.specs.Written.{text_of}
 use Rattle.spec_store.specs.Store.{Store, last}
 use Rattle.spec_store.specs.Commit.{Setting, Writer, Client, Server, Refusal, ReservedId, TooLarge, StoreFull, EtagsSpent, is_index_id, other_collection, refuse_if}
 

@@ -1,6 +1,6 @@
 //! What is stored of a body.
 ghost use Rattle.std.specs.Prelude.{◌≡◌, ◌∷◌, [], IfOk, codes, filter, map, not, option_map};
-ghost use Rattle.raven_data.specs.Data.{entries_of, object};
+ghost use Rattle.spec_data.specs.Data.{entries_of, object};
 ghost use Rattle.raven_value.specs.View.{data_of, pair_of};
 ghost use Rattle.spec_store.specs.Commit.{clean_metadata as spec_clean_metadata, collection_of as spec_collection_of, is_server_member as spec_is_own, named_collection as spec_named_collection, stored_body as spec_stored};
 

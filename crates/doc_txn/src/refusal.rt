@@ -1,7 +1,7 @@
 //! The tests of a command.
 ghost use Rattle.std.specs.Prelude.{◌≡◌, ◌<◌, ◌≤◌, ◌^◌, ℕ, List, length, IfOk, None, option_copied, option_map};
-ghost use Rattle.raven_data.specs.Limits.{max_etag};
-ghost use Rattle.raven_data.specs.Rows.{doc};
+ghost use Rattle.spec_data.specs.Limits.{max_etag};
+ghost use Rattle.spec_data.specs.Rows.{doc};
 ghost use Rattle.raven_value.specs.View.{data_of};
 ghost use Rattle.spec_store.specs.Store.{last as spec_last};
 ghost use Rattle.spec_store.specs.Commit.{differs, is_index_id as spec_is_index_id, live_vector as spec_live_vector, refusal_of as spec_refusal_of, row_of as spec_row_of, with_option};

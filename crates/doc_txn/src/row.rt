@@ -1,6 +1,6 @@
 //! What a command writes.
 ghost use Rattle.std.specs.Prelude.{◌≡◌, IfOk, Some, None, if◌then◌else◌, option_and_then, option_copied};
-ghost use Rattle.raven_data.specs.Rows.{doc, is_document};
+ghost use Rattle.spec_data.specs.Rows.{doc, is_document};
 ghost use Rattle.raven_value.specs.View.{data_of};
 ghost use Rattle.spec_store.specs.Commit.{collection_of as spec_collection_of, row_spelling, row_of as spec_row_of, stored_body as spec_stored, tombstone as spec_tombstone};
 ghost use Rattle.doc_txn.specs.CommandView.{command_view};

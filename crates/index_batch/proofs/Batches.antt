@@ -1,10 +1,10 @@
 -- What a batch makes of the rows that it takes.
 use Rattle.std.proofs.Common.{◌≡◌, ◌<◌, ◌↔◌, ℕ, List, [], ◌∷◌, length, drop, Bool, true, false, cond, IsTrue, Some, None, Option, refl, sym, ap, ◌∙◌, arith}
 use Rattle.std.proofs.lemmas.Grind.{common_steps}
-use Rattle.raven_data.specs.Rows.{Row}
+use Rattle.spec_data.specs.Rows.{Row}
 use Rattle.spec_store.specs.Store.{Store, last, last_of}
 use Rattle.spec_store.specs.Stale.{past, batch_rows}
-use Rattle.raven_data.specs.Tables.{note_rows}
+use Rattle.spec_data.specs.Tables.{note_rows}
 use Rattle.spec_index.specs.Index.{etag_after, etag_of_batch}
 use Rattle.spec_index.specs.World.{Version, reads, advanced, batch}
 

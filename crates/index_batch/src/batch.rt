@@ -1,6 +1,6 @@
 //! Batches: how an index catches up.
 ghost use Rattle.std.specs.Prelude.{◌≡◌, IfOk, cond, length};
-ghost use Rattle.raven_data.specs.Tables.{note_rows};
+ghost use Rattle.spec_data.specs.Tables.{note_rows};
 ghost use Rattle.spec_store.specs.Stale.{batch_rows};
 ghost use Rattle.index_tree.specs.Mapper.{mapper_of};
 ghost use Rattle.spec_index.specs.Mapping.{touched};

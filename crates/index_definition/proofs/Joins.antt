@@ -1,7 +1,7 @@
 -- The joined form of a path, from its first part on.
 use Rattle.std.proofs.Common.{◌≡◌, ◌<◌, ◌-◌, ℕ, List, [], ◌∷◌, ◌++◌, length, get_or, take, drop, refl, ap, ◌∙◌, arith, codes}
 use Rattle.std.proofs.lemmas.Grind.{common_steps}
-use Rattle.raven_data.specs.Members.{Path}
+use Rattle.spec_data.specs.Members.{Path}
 use Rattle.index_tree.specs.Mapper.{joined}
 
 -- each part after a dot

@@ -5,7 +5,7 @@ use Rattle.std.proofs.lemmas.Bool.Decides.{Decides-eqb, Decides-and, Decides-lik
 use Rattle.std.specs.Coded.{Coded, coded_list}
 use base.Stored.{Gv, gnil, gnum, gcons}
 use Rattle.index_tree.specs.declared.reduce_query.ReduceQuery.{ReduceQuery}
-use Rattle.raven_data.specs.Codes.{text_code}
+use Rattle.spec_data.specs.Codes.{text_code}
 use Rattle.index_tree.specs.Definitions.{same_codes, is_same, map_code, said_code, reduce_said, same_reduce, path_code, same_definition}
 use Rattle.index_definition.specs.declared.definition.DefBody.{DefBody}
 use Rattle.index_definition.specs.declared.definition.DefBody.TheVariants.{Static, Auto}

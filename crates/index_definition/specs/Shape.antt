@@ -1,7 +1,7 @@
 -- What is known of a definition.
 use Rattle.std.specs.Prelude.{◌≡◌, ℕ, List, [], ◌∷◌, map, Option, Some, None}
-use Rattle.raven_data.specs.Data.{null}
-use Rattle.raven_data.specs.Rising.{Pairs, put}
+use Rattle.spec_data.specs.Data.{null}
+use Rattle.spec_data.specs.Rising.{Pairs, put}
 use Rattle.index_tree.specs.declared.reduce_query.ReduceQuery.{ReduceQuery}
 use Rattle.index_tree.specs.Scope as meaning
 use Rattle.index_tree.specs.Mapper.{joined}

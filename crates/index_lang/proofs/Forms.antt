@@ -2,8 +2,8 @@
 use Rattle.std.proofs.Common.{◌≡◌, ◌<◌, ℕ, suc, List, [], ◌∷◌, length, Bool, true, false, cond, Option, Some, None, Result, Ok, Err, map, refl, sym, ap, ◌∙◌, subst, arith, codes}
 use Rattle.std.proofs.lemmas.Grind.{common_steps}
 use Rattle.std.specs.Prelude.{◌==◌, if◌then◌else◌}
-use Rattle.raven_data.specs.Data.{Data, Entries, array, object, pairs_of, entries_of, items_of}
-use Rattle.raven_data.specs.Rising.{Pairs}
+use Rattle.spec_data.specs.Data.{Data, Entries, array, object, pairs_of, entries_of, items_of}
+use Rattle.spec_data.specs.Rising.{Pairs}
 use Rattle.raven_value.specs.View.{data_of, pair_of}
 use Rattle.raven_value.specs.declared.text.Text.{Text}
 use Rattle.raven_value.specs.declared.value.Value.{Value}

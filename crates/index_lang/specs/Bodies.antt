@@ -1,8 +1,8 @@
 -- The members of a body that reads as a definition.
 use Rattle.std.specs.Prelude.{ℕ, List, Bool, true, false, Option, Some, None, codes}
-use Rattle.raven_data.specs.Members.{member}
+use Rattle.spec_data.specs.Members.{member}
 use Rattle.spec_server.specs.Opening.{BodyForm, auto_read, form_of, map_read}
-use Rattle.raven_data.specs.Data.{Data, Entries, text, array, object, no_items, item, no_entries}
+use Rattle.spec_data.specs.Data.{Data, Entries, text, array, object, no_items, item, no_entries}
 
 -- an object without members
 abbrev pub is_bare : Option Data → Bool

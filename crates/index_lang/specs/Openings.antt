@@ -1,7 +1,7 @@
 -- What opens from the rows that a keeper holds.
 use Rattle.std.specs.Prelude.{◌≡◌, ℕ, List, [], ◌∷◌, ◌++◌, Bool, true, false, Option, Some, None, Result, Ok, Err}
-use Rattle.raven_data.specs.Kept.{KeptRow}
-use Rattle.raven_data.specs.Rows.{Row, Body, doc, gone}
+use Rattle.spec_data.specs.Kept.{KeptRow}
+use Rattle.spec_data.specs.Rows.{Row, Body, doc, gone}
 use Rattle.spec_store.specs.Commit.{Setting}
 use Rattle.spec_store.specs.Kept.{rows_in}
 use Rattle.index_tree.specs.Language.{LangRefusal}

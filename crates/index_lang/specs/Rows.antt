@@ -1,7 +1,7 @@
 -- Members that are put into others.
 use Rattle.std.specs.Prelude.{ℕ, List, [], ◌∷◌}
-use Rattle.raven_data.specs.Data.{Data}
-use Rattle.raven_data.specs.Rising.{Pairs, put}
+use Rattle.spec_data.specs.Data.{Data}
+use Rattle.spec_data.specs.Rising.{Pairs, put}
 
 -- one after another
 abbrev pub put_members : List (List ℕ × Data) → Pairs → Pairs

@@ -1,7 +1,7 @@
 //! The definition in the body of its row.
 ghost use Rattle.std.specs.Prelude.{◌≡◌, ◌==◌, ◌||◌, IfOk, option_map};
 ghost use Rattle.std.specs.List.{list_any};
-ghost use Rattle.raven_data.specs.Data.{entries_of};
+ghost use Rattle.spec_data.specs.Data.{entries_of};
 ghost use Rattle.raven_value.specs.View.{data_of};
 ghost use Rattle.spec_server.specs.Opening.{auto_read, body_form, is_part as spec_is_part, map_read};
 ghost use Rattle.index_lang.specs.Openings.{IsOfForm, IsSaid};

@@ -1,7 +1,7 @@
 //! What is kept of a definition, and shown of it.
 ghost use Rattle.std.specs.Prelude.{◌≡◌, ◌∷◌, [], IfOk, OnOk, codes};
-ghost use Rattle.raven_data.specs.Data.{array, entry, items_of, no_entries, object, text as spec_text};
-ghost use Rattle.raven_data.specs.Rising.{put};
+ghost use Rattle.spec_data.specs.Data.{array, entry, items_of, no_entries, object, text as spec_text};
+ghost use Rattle.spec_data.specs.Rising.{put};
 ghost use Rattle.raven_value.specs.View.{data_of};
 ghost use Rattle.spec_index.specs.Mapping as is;
 ghost use Rattle.spec_index.specs.World as world;

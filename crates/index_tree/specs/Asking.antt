@@ -1,6 +1,6 @@
 -- Computations that look documents up and may fail.
 use Rattle.std.specs.Prelude.{◌≡◌, ℕ, List, [], ◌∷◌, ◌++◌, Option, Some, None}
-use Rattle.raven_data.specs.Rows.{Row}
+use Rattle.spec_data.specs.Rows.{Row}
 
 -- the row of a folded id, if there is one
 abbrev pub Lookup : Type 0

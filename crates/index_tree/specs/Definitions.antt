@@ -3,8 +3,8 @@ use Rattle.std.specs.Prelude.{◌≡◌, ℕ, zero, suc, List, Bool, true, false
 use Rattle.std.specs.Coded.{Coded, coded_ℕ, coded_list, coded×, coded⊎, coded_option, code_by}
 use Rattle.std.proofs.Common.{inl, inr}
 use base.Stored.{Gv, gnil, gnum, gcons}
-use Rattle.raven_data.specs.Codes.{text_code}
-use Rattle.raven_data.specs.Members.{Path}
+use Rattle.spec_data.specs.Codes.{text_code}
+use Rattle.spec_data.specs.Members.{Path}
 use Rattle.index_tree.specs.Trees.{Tree}
 use Rattle.index_tree.specs.TreeCode.{tree_code}
 use Rattle.index_tree.specs.declared.map_query.Clause.{Clause}

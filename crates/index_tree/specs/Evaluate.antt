@@ -1,10 +1,10 @@
 -- The value of an expression.
 use Rattle.std.specs.Prelude.{ℕ, List, [], ◌∷◌, true, false, Option, Some, None, if◌then◌else◌}
 use Rattle.std.specs.Str.{bytes_eq}
-use Rattle.raven_data.specs.Data.{Data, null, flag, num, text}
-use Rattle.raven_data.specs.Faults.{is_fit, max_id}
-use Rattle.raven_data.specs.Folding.{folded}
-use Rattle.raven_data.specs.Rows.{Row, Body, doc, gone}
+use Rattle.spec_data.specs.Data.{Data, null, flag, num, text}
+use Rattle.spec_data.specs.Faults.{is_fit, max_id}
+use Rattle.spec_data.specs.Folding.{folded}
+use Rattle.spec_data.specs.Rows.{Row, Body, doc, gone}
 use Rattle.index_tree.specs.declared.expression.BinaryOp.{BinaryOp}
 use Rattle.index_tree.specs.declared.expression.BinaryOp.TheVariants as op
 use Rattle.index_tree.specs.Trees.{Tree, If, Binary, Unary, Dot, Load, Num, Quoted, Flag, Null, Var}

@@ -1,11 +1,11 @@
 -- A map depends on the document and on what its loads give, and on nothing else.
 use Rattle.std.specs.Prelude.{◌≡◌, ℕ, List, [], ◌∷◌, ◌++◌, Bool, true, false, Option, Some, None, if◌then◌else◌, refl}
 use Rattle.std.proofs.Common.{ap, sym, ◌∙◌}
-use Rattle.raven_data.specs.Data.{Data, null, flag, num, text, array, object}
-use Rattle.raven_data.specs.Scalars.{scalar_of}
-use Rattle.raven_data.specs.Faults.{is_fit, max_id}
-use Rattle.raven_data.specs.Folding.{folded}
-use Rattle.raven_data.specs.Rows.{Row}
+use Rattle.spec_data.specs.Data.{Data, null, flag, num, text, array, object}
+use Rattle.spec_data.specs.Scalars.{scalar_of}
+use Rattle.spec_data.specs.Faults.{is_fit, max_id}
+use Rattle.spec_data.specs.Folding.{folded}
+use Rattle.spec_data.specs.Rows.{Row}
 use Rattle.index_tree.specs.declared.expression.BinaryOp.{BinaryOp}
 use Rattle.index_tree.specs.declared.expression.BinaryOp.TheVariants as op
 use Rattle.index_tree.specs.declared.map_query.Clause.{Clause}

@@ -2,16 +2,16 @@
 use Rattle.std.specs.Prelude.{◌≡◌, ℕ, List, [], ◌∷◌, ◌++◌, Bool, Option, Some, None, map, codes, refl}
 use Rattle.std.specs.Str.{bytes_eq}
 use Rattle.std.specs.FinMap.{get}
-use Rattle.raven_data.specs.Data.{Data}
-use Rattle.raven_data.specs.Members.{Path, value_at}
-use Rattle.raven_data.specs.Scalars.{Scalar, nothing, scalar_of}
-use Rattle.raven_data.specs.Rows.{Row, Body, doc, gone}
+use Rattle.spec_data.specs.Data.{Data}
+use Rattle.spec_data.specs.Members.{Path, value_at}
+use Rattle.spec_data.specs.Scalars.{Scalar, nothing, scalar_of}
+use Rattle.spec_data.specs.Rows.{Row, Body, doc, gone}
 use Rattle.index_tree.specs.declared.map_query.MapQuery.{MapQuery}
 use Rattle.index_tree.specs.Asking.{AgreeAt}
 use Rattle.index_tree.specs.Local.{meaning_local}
 use Rattle.index_tree.specs.Meaning as query
 use Rattle.index_tree.specs.Scope.{loaded_of}
-use Rattle.raven_data.specs.Tables.{Table, Scope}
+use Rattle.spec_data.specs.Tables.{Table, Scope}
 pub use Rattle.index_tree.specs.Meaning.{Entry, Mapped}
 use Rattle.index_tree.specs.Definitions.{Definition, Static, Auto}
 

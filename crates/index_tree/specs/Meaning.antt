@@ -1,8 +1,8 @@
 -- What a map gives for a document: its entry, no entry, or a failure, and what it asked for.
 use Rattle.std.specs.Prelude.{ℕ, List, [], ◌∷◌, ◌++◌, Option, Some, None, if◌then◌else◌}
-use Rattle.raven_data.specs.Data.{Data}
-use Rattle.raven_data.specs.Rows.{Row}
-use Rattle.raven_data.specs.Scalars.{Scalar, scalar_of}
+use Rattle.spec_data.specs.Data.{Data}
+use Rattle.spec_data.specs.Rows.{Row}
+use Rattle.spec_data.specs.Scalars.{Scalar, scalar_of}
 use Rattle.index_tree.specs.declared.map_query.Clause.{Clause}
 use Rattle.index_tree.specs.declared.map_query.Clause.TheVariants as clause
 use Rattle.index_tree.specs.declared.map_query.MapMember.{MapMember}

@@ -3,9 +3,9 @@ use Rattle.std.specs.Prelude.{ℕ, ℤ, List, ◌++◌, Bool, false, not, ◌&&�
 use Rattle.std.specs.declared.cmp.Ordering.{Ordering}
 use Rattle.std.specs.Ordering.{int_cmp, is_lt, is_le, is_gt, is_ge}
 use Rattle.std.specs.Option.{option_map_or}
-use Rattle.raven_data.specs.Data.{Data, null, flag, num, text, object}
-use Rattle.raven_data.specs.Folding.{key_cmp}
-use Rattle.raven_data.specs.Members.{member}
+use Rattle.spec_data.specs.Data.{Data, null, flag, num, text, object}
+use Rattle.spec_data.specs.Folding.{key_cmp}
+use Rattle.spec_data.specs.Members.{member}
 use Rattle.raven_value.specs.DataEq.{data_eq}
 use Rattle.index_tree.specs.declared.expression.BinaryOp.{BinaryOp}
 use Rattle.index_tree.specs.declared.expression.BinaryOp.TheVariants as op

@@ -2,7 +2,7 @@
 use Rattle.std.specs.Prelude.{◌≡◌, ℕ, refl}
 use Rattle.std.proofs.Common.{ap}
 use base.Stored.{Gv, gnil, gnum, gcons, Coded, coded_bool, coded_ℤ}
-use Rattle.raven_data.specs.Coding.{first, rest, tag, text_code}
+use Rattle.spec_data.specs.Coding.{first, rest, tag, text_code}
 use Rattle.index_tree.specs.declared.expression.BinaryOp.{BinaryOp}
 use Rattle.index_tree.specs.declared.expression.BinaryOp.TheVariants as b
 use Rattle.index_tree.specs.declared.expression.UnaryOp.{UnaryOp}

@@ -7,7 +7,7 @@ use Rattle.std.specs.Cmp.Lexicographic.{nat_list_cmp_total}
 use Rattle.std.specs.FinMap.{FinMap, get, entries, values, insert, remove, from_entries, find as entry_at, put as put_entry, get-from_entries, get-insert, get-remove, entries-insert, len-entries, len-empty, same_map, nat_cmp-IsAntisymmetric, slice_cmp-IsAntisymmetric}
 use Rattle.std.specs.Map.{lookup, remove_entry, values_of}
 use Rattle.std.specs.BTreeMap.{is_at, insert_entry}
-use Rattle.raven_data.specs.Folding.{folded, key_cmp}
+use Rattle.spec_data.specs.Folding.{folded, key_cmp}
 use Rattle.paged_map.specs.Pairs.{AllAnswer, IsRising}
 use Rattle.paged_map.proofs.Laws.{lookup-insert_entry, lookup-remove_entry}
 use Rattle.reference_track.specs.Sets.{id_cmp}

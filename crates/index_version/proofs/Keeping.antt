@@ -5,9 +5,9 @@ use Rattle.std.specs.List.{cons_option, count_by, filter_map, list_any}
 use Rattle.std.specs.Option.{option_and_then}
 use Rattle.std.proofs.lemmas.List.{drop_more, map-append, take_more}
 use Rattle.std.proofs.lemmas.List.Sums.{sum_by-cons}
-use Rattle.raven_data.specs.Folding.{folded, key_cmp, same_key}
-use Rattle.raven_data.specs.Rows.{Row, key, is_document}
-use Rattle.raven_data.specs.Tables.{Table, note_row, note_rows}
+use Rattle.spec_data.specs.Folding.{folded, key_cmp, same_key}
+use Rattle.spec_data.specs.Rows.{Row, key, is_document}
+use Rattle.spec_data.specs.Tables.{Table, note_row, note_rows}
 use Rattle.index_tree.specs.Mapper.{Mapper, is_mapped}
 use Rattle.spec_index.specs.Mapping.{entry_of, failures, has_failed, scratch}
 use Rattle.spec_store.proofs.TableLemmas.{get-note_row}

@@ -8,7 +8,7 @@ use Rattle.std.specs.FinMap.Entries.{below_all}
 use Rattle.std.specs.List.{cons_option, filter_map}
 use Rattle.std.specs.Map.{values_of}
 use Rattle.std.specs.Option.{option_and_then}
-use Rattle.raven_data.specs.Folding.{key_cmp}
+use Rattle.spec_data.specs.Folding.{key_cmp}
 use Rattle.spec_store.proofs.KeyedLemmas.{key_ties}
 use Rattle.paged_map.specs.Pairs.{AllAnswer, IsRising}
 use Rattle.paged_map.proofs.Rising.{lookup_none}

@@ -4,9 +4,9 @@ use Rattle.std.specs.FinMap.{get, insert, remove, get-insert, get-remove}
 use Rattle.std.specs.Map.{remove_entry}
 use Rattle.std.specs.BTreeMap.{is_at, insert_entry}
 use Rattle.std.specs.List.{list_any}
-use Rattle.raven_data.specs.Folding.{folded, same_key}
-use Rattle.raven_data.specs.Rows.{Row, is_document, key}
-use Rattle.raven_data.specs.Tables.{note_row}
+use Rattle.spec_data.specs.Folding.{folded, same_key}
+use Rattle.spec_data.specs.Rows.{Row, is_document, key}
+use Rattle.spec_data.specs.Tables.{note_row}
 use Rattle.spec_store.proofs.TableLemmas.{tied}
 use Rattle.paged_map.specs.Pairs.{IsRising}
 use Rattle.reference_track.specs.Sets.{id_cmp, is_one_of}

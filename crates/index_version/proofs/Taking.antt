@@ -2,9 +2,9 @@
 use Rattle.std.proofs.Common.{◌≡◌, ℕ, List, false, map, length, sym, ap, ◌∙◌, subst, arith}
 use Rattle.std.specs.FinMap.{FinMap}
 use Rattle.std.specs.List.{list_any}
-use Rattle.raven_data.specs.Folding.{folded, key_cmp, same_key}
-use Rattle.raven_data.specs.Rows.{Row}
-use Rattle.raven_data.specs.Tables.{Table, note_rows}
+use Rattle.spec_data.specs.Folding.{folded, key_cmp, same_key}
+use Rattle.spec_data.specs.Rows.{Row}
+use Rattle.spec_data.specs.Tables.{Table, note_rows}
 use Rattle.index_tree.specs.Definitions.{Definition}
 use Rattle.index_tree.specs.Mapper.{mapper_of}
 use Rattle.spec_index.specs.Mapping.{touched}

@@ -9,9 +9,9 @@ use Rattle.std.specs.List.{list_any}
 use Rattle.std.specs.Option.{option_and_then}
 use Rattle.std.specs.Map.{values_of}
 use Rattle.std.proofs.lemmas.List.Folds.{list_any-append}
-use Rattle.raven_data.specs.Folding.{folded, key_cmp, same_key}
-use Rattle.raven_data.specs.Rows.{Row, key}
-use Rattle.raven_data.specs.Tables.{Table, note_rows}
+use Rattle.spec_data.specs.Folding.{folded, key_cmp, same_key}
+use Rattle.spec_data.specs.Rows.{Row, key}
+use Rattle.spec_data.specs.Tables.{Table, note_rows}
 use Rattle.index_tree.specs.Mapper.{Mapper, is_mapped}
 use Rattle.spec_index.specs.Mapping.{is_in_batch, loads_taken, touched}
 use Rattle.spec_store.proofs.TableLemmas.{tied}

@@ -3,10 +3,10 @@ use Rattle.std.proofs.Common.{◌≡◌, ℕ, List, [], ◌∷◌, Bool, true, f
 use Rattle.std.specs.FinMap.{get}
 use Rattle.std.specs.List.{list_any}
 use Rattle.std.specs.Option.{option_and_then}
-use Rattle.raven_data.specs.Folding.{same_key}
-use Rattle.raven_data.specs.Rows.{Row, key, is_document}
+use Rattle.spec_data.specs.Folding.{same_key}
+use Rattle.spec_data.specs.Rows.{Row, key, is_document}
 use Rattle.spec_store.specs.Store.{row_at}
-use Rattle.raven_data.specs.Tables.{Table, note_row, note_rows}
+use Rattle.spec_data.specs.Tables.{Table, note_row, note_rows}
 use Rattle.index_tree.specs.Mapper.{AlikeAt, Mapper, is_mapped}
 use Rattle.spec_index.specs.Mapping.{is_in_batch}
 use Rattle.spec_store.proofs.TableLemmas.{get-note_row}

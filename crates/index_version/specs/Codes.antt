@@ -1,7 +1,7 @@
 -- Codes of what a map gives, by which it can be the value of a Rust type.
 use Rattle.std.specs.Prelude.{◌≡◌, ℕ, List, Option, Some, None, refl}
 use Rattle.std.specs.Coded.{Coded, coded_list, coded×, coded_option, code_by}
-use Rattle.raven_data.specs.Codes.{text_code, scalar_code}
+use Rattle.spec_data.specs.Codes.{text_code, scalar_code}
 use Rattle.index_tree.specs.Meaning.{Fields, Outcome, Entry, NoEntry, Failed, Mapped}
 
 abbrev outcome_parts : Outcome → Option (Option Fields)

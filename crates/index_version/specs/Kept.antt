@@ -4,10 +4,10 @@ use Rattle.std.specs.Coded.{Coded, coded×, code_by}
 use Rattle.std.specs.FinMap.{FinMap, get}
 use Rattle.std.specs.List.{list_any}
 use Rattle.std.specs.Option.{option_and_then}
-use Rattle.raven_data.specs.Codes.{text_code}
-use Rattle.raven_data.specs.Folding.{folded, key_cmp, same_key}
-use Rattle.raven_data.specs.Rows.{Row, key}
-use Rattle.raven_data.specs.Tables.{Table}
+use Rattle.spec_data.specs.Codes.{text_code}
+use Rattle.spec_data.specs.Folding.{folded, key_cmp, same_key}
+use Rattle.spec_data.specs.Rows.{Row, key}
+use Rattle.spec_data.specs.Tables.{Table}
 use Rattle.spec_index.specs.Find.{field_is_text}
 use Rattle.index_tree.specs.Meaning.{Fields, Outcome, Entry, NoEntry, Failed, Mapped}
 use Rattle.index_tree.specs.Mapper.{Mapper, is_mapped}

@@ -1,11 +1,11 @@
 -- What a definition means to a map that looks documents up.
 use Rattle.std.specs.Prelude.{◌≡◌, refl}
 use Rattle.std.specs.FinMap.{get, empty}
-use Rattle.raven_data.specs.Rows.{Row}
+use Rattle.spec_data.specs.Rows.{Row}
 use Rattle.index_tree.specs.Asking.{Lookup, AgreeAt}
 use Rattle.index_tree.specs.Local.{meaning_local}
 use Rattle.index_tree.specs.Meaning as query
-use Rattle.raven_data.specs.Tables.{Table}
+use Rattle.spec_data.specs.Tables.{Table}
 use Rattle.index_tree.specs.Definitions.{Definition, Static, Auto}
 use Rattle.index_tree.specs.Meaning.{Mapped}
 use Rattle.index_tree.specs.Mapper.{auto_meaning, mapper_of}

@@ -1,7 +1,7 @@
 //! What the map of an index has given for a document.
 ghost use Rattle.std.specs.Prelude.{◌≡◌, false, map};
-ghost use Rattle.raven_data.specs.Folding.{folded};
-ghost use Rattle.raven_data.specs.Scalars.{holds, Is, words as spec_words};
+ghost use Rattle.spec_data.specs.Folding.{folded};
+ghost use Rattle.spec_data.specs.Scalars.{holds, Is, words as spec_words};
 ghost use Rattle.spec_index.specs.Find.{field_is_text};
 ghost use Rattle.spec_index.specs.Mapping.{has_failed};
 ghost use Rattle.raven_value.specs.ScalarView.{scalar_view};
@@ -22,7 +22,7 @@ pub struct Given {
 impl Model for Given {
     ghost use Rattle.std.specs.Prelude.{refl};
     ghost use Rattle.std.specs.Coded.{coded×, code_by};
-    ghost use Rattle.raven_data.specs.Codes.{text_code};
+    ghost use Rattle.spec_data.specs.Codes.{text_code};
     ghost use Rattle.index_version.specs.Codes.{mapped_code};
     ghost use Rattle.index_version.specs.Kept as kept;
 

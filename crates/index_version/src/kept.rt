@@ -2,7 +2,7 @@
 ghost use Rattle.std.specs.Prelude.{◌≡◌, ℕ, List, None, Some, IfOk, false, length, cond, map};
 ghost use Rattle.std.specs.FinMap.{empty, get};
 ghost use Rattle.std.specs.List.{count_by, filter_map};
-ghost use Rattle.raven_data.specs.Folding.{folded, same_key};
+ghost use Rattle.spec_data.specs.Folding.{folded, same_key};
 ghost use Rattle.spec_index.specs.Find.{found};
 ghost use Rattle.spec_index.specs.Mapping.{has_failed};
 ghost use Rattle.std.specs.Map.{values_of};

@@ -1,6 +1,6 @@
 //! What is mapped again.
 ghost use Rattle.std.specs.Prelude.{◌≡◌, IfOk, cond, is_some, length, map};
-ghost use Rattle.raven_data.specs.Folding.{folded};
+ghost use Rattle.spec_data.specs.Folding.{folded};
 ghost use Rattle.index_tree.specs.Mapper.{mapper_of};
 ghost use Rattle.index_definition.specs.DefinitionView.{definition_view};
 ghost use Rattle.index_version.specs.Folded.{by_folded};

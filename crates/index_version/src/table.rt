@@ -1,8 +1,8 @@
 //! What an index has recorded.
 ghost use Rattle.std.specs.Prelude.{◌≡◌, IfOk};
 ghost use Rattle.std.specs.FinMap.{empty, get};
-ghost use Rattle.raven_data.specs.Rows as model;
-ghost use Rattle.raven_data.specs.Tables.{note_row, note_rows};
+ghost use Rattle.spec_data.specs.Rows as model;
+ghost use Rattle.spec_data.specs.Tables.{note_row, note_rows};
 ghost use Rattle.index_version.specs.Folded.{by_folded};
 
 use map_stage::Lookup;
@@ -22,8 +22,8 @@ pub struct Table {
 }
 
 impl Model for Table {
-    ghost use Rattle.raven_data.specs.Tables as index;
-    ghost use Rattle.raven_data.specs.Codes.{table_code};
+    ghost use Rattle.spec_data.specs.Tables as index;
+    ghost use Rattle.spec_data.specs.Codes.{table_code};
     ghost use Rattle.index_version.specs.Folded.{by_folded};
 
     ghost Value = { index.Table };

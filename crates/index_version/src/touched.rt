@@ -1,7 +1,7 @@
 //! Which ids a batch touches.
 ghost use Rattle.std.specs.Prelude.{◌≡◌, ◌||◌, ℕ, List, IfOk};
 ghost use Rattle.std.specs.List.{list_any};
-ghost use Rattle.raven_data.specs.Folding.{folded};
+ghost use Rattle.spec_data.specs.Folding.{folded};
 ghost use Rattle.spec_index.specs.Mapping.{is_in_batch};
 ghost use Rattle.reference_track.specs.Sets.{AreInOrder, is_one_of};
 ghost use Rattle.reference_track.specs.Tracks.{is_pair};

@@ -1,6 +1,6 @@
 //! How far an index has come.
 ghost use Rattle.std.specs.Prelude.{◌≡◌, IfOk, length};
-ghost use Rattle.raven_data.specs.Tables.{note_rows};
+ghost use Rattle.spec_data.specs.Tables.{note_rows};
 ghost use Rattle.spec_index.specs.Find.{found_in};
 ghost use Rattle.spec_index.specs.Mapping.{failures, scratch};
 ghost use Rattle.index_tree.specs.Mapper.{mapper_of};

@@ -3,9 +3,9 @@ use Rattle.std.proofs.Common.{◌≡◌, ℕ, ℤ, pos, negsuc, List, [], ◌∷
 use Rattle.std.specs.Prelude.{if◌then◌else◌}
 use Rattle.std.specs.Str.{bytes_eq}
 use Rattle.jiff_fmt.proofs.OnLiterals.{jiff_fmt_on_literals}
-use Rattle.raven_data.specs.Data.{Data, null, flag, num, text, object, no_entries, entry}
-use Rattle.raven_data.specs.Rows.{Row, doc}
-use Rattle.raven_data.specs.Scalars.{nothing, number, words}
+use Rattle.spec_data.specs.Data.{Data, null, flag, num, text, object, no_entries, entry}
+use Rattle.spec_data.specs.Rows.{Row, doc}
+use Rattle.spec_data.specs.Scalars.{nothing, number, words}
 use Rattle.index_tree.specs.declared.expression.BinaryOp.{BinaryOp}
 use Rattle.index_tree.specs.declared.expression.BinaryOp.TheVariants as op
 use Rattle.index_tree.specs.declared.expression.UnaryOp.TheVariants as sign

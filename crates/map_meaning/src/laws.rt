@@ -4,7 +4,7 @@ ghost use Rattle.std.specs.Prelude.{◌≡◌, ◌↔◌, ℕ, ℤ, List, FitsSi
 ghost use Rattle.std.specs.Int.{w64};
 ghost use Rattle.std.specs.Result.{result_map_both};
 ghost use Rattle.jiff_fmt.specs.Temporal.{parse_date, parse_datetime};
-ghost use Rattle.raven_data.specs.Rows.{Row};
+ghost use Rattle.spec_data.specs.Rows.{Row};
 ghost use Rattle.index_tree.specs.declared.map_query.MapQuery.{MapQuery};
 ghost use Rattle.index_tree.specs.Asking.{AgreeAt, Lookup};
 ghost use Rattle.index_tree.specs.Meaning.{meaning};

@@ -1,6 +1,6 @@
 -- Values of the program while a document is mapped, and what they are.
 use Rattle.std.specs.Cow.{cow_value}
-use Rattle.raven_data.specs.Data.{Data, null, flag, num, text, array, object, items_of, entries_of}
+use Rattle.spec_data.specs.Data.{Data, null, flag, num, text, array, object, items_of, entries_of}
 use Rattle.map_stage.specs.declared.held.Held.{Held}
 use Rattle.map_stage.specs.declared.held.Held.TheVariants as h
 

@@ -1,7 +1,7 @@
 -- What a map of the program gives.
 use Rattle.std.specs.Prelude.{ℕ, List, map}
-use Rattle.raven_data.specs.Folding.{folded}
-use Rattle.raven_data.specs.Scalars as is
+use Rattle.spec_data.specs.Folding.{folded}
+use Rattle.spec_data.specs.Scalars as is
 use Rattle.raven_value.specs.declared.scalar.Scalar.{Scalar}
 use Rattle.raven_value.specs.declared.text.Text.{Text}
 use Rattle.raven_value.specs.ScalarView.{scalar_view}

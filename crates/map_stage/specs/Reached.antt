@@ -1,7 +1,7 @@
 -- What an evaluation in the program has come to.
 use Rattle.std.specs.Prelude.{◌≡◌, ℕ, List, map, reverse, Bool, if◌then◌else◌, Option, Some, None, option_map}
-use Rattle.raven_data.specs.Data.{Data}
-use Rattle.raven_data.specs.Folding.{folded}
+use Rattle.spec_data.specs.Data.{Data}
+use Rattle.spec_data.specs.Folding.{folded}
 use Rattle.raven_value.specs.declared.id.Id.{Id}
 use Rattle.index_tree.specs.Asking.{Lookup, Asking, after}
 use Rattle.index_tree.specs.Evaluate.{Bindings, evaluate}

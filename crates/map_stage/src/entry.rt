@@ -1,6 +1,6 @@
 //! The entries of documents.
 ghost use Rattle.std.specs.Prelude.{◌≡◌, IfOk, [], map, option_map};
-ghost use Rattle.raven_data.specs.Folding.{folded};
+ghost use Rattle.spec_data.specs.Folding.{folded};
 ghost use Rattle.raven_value.specs.RowView.{body_of};
 ghost use Rattle.index_tree.specs.Evaluate.{document_of};
 ghost use Rattle.index_tree.specs.Meaning.{bound_after, bound_by, entry_of, fields_with, mapped};

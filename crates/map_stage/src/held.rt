@@ -1,6 +1,6 @@
 //! Values while a document is mapped.
 ghost use Rattle.std.specs.Prelude.{◌≡◌, IfOk};
-ghost use Rattle.raven_data.specs.Scalars.{scalar_of};
+ghost use Rattle.spec_data.specs.Scalars.{scalar_of};
 ghost use Rattle.raven_value.specs.ScalarView.{scalar_view};
 ghost use Rattle.raven_value.specs.View.{data_of};
 ghost use Rattle.index_tree.specs.Operators.{is_true};

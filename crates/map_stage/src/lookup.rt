@@ -1,7 +1,7 @@
 //! Where documents are looked up.
 ghost use Rattle.std.specs.Prelude.{◌≡◌, ℕ, List, Option, option_map};
-ghost use Rattle.raven_data.specs.Folding.{folded};
-ghost use Rattle.raven_data.specs.Rows as is;
+ghost use Rattle.spec_data.specs.Folding.{folded};
+ghost use Rattle.spec_data.specs.Rows as is;
 
 use raven_value::{Id, Row};
 

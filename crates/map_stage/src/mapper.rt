@@ -1,6 +1,6 @@
 //! What maps give.
 ghost use Rattle.std.specs.Prelude.{◌≡◌, List, ℕ, IfOk};
-ghost use Rattle.raven_data.specs.Rows as is;
+ghost use Rattle.spec_data.specs.Rows as is;
 ghost use Rattle.index_tree.specs.Asking as asking;
 ghost use Rattle.index_tree.specs.Meaning as meaning;
 ghost use Rattle.raven_base.specs.Counts.{one_map_more};

@@ -2,7 +2,7 @@
 ghost use Rattle.std.specs.Prelude.{◌≡◌, ◌++◌, IfOk, false, option_map};
 ghost use Rattle.std.specs.Option.{option_map_or};
 ghost use Rattle.std.specs.Ordering.{is_ge, is_gt, is_le, is_lt};
-ghost use Rattle.raven_data.specs.Data.{entries_of, items_of, num};
+ghost use Rattle.spec_data.specs.Data.{entries_of, items_of, num};
 ghost use Rattle.raven_value.specs.DataEq.{data_eq, entries_eq, items_eq};
 ghost use Rattle.index_tree.specs.Numbers.{difference, product, quotient, remainder, sum};
 ghost use Rattle.index_tree.specs.Operators.{arithmetic, binary, part_of, plus, standing, unary};

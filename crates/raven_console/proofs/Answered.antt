@@ -1,8 +1,8 @@
 -- What is written for a line, and what it leaves, by what it means.
 use Rattle.std.proofs.Common.{◌≡◌, ℕ, List, [], Bool, true, Option, Some, None, Result, Ok, Err, IfOk, refl, sym, ap, ◌∙◌, subst}
 use Rattle.std.specs.Prelude.{option_map}
-use Rattle.raven_data.specs.Faults.{Fault}
-use Rattle.raven_data.specs.Rows.{Row}
+use Rattle.spec_data.specs.Faults.{Fault}
+use Rattle.spec_data.specs.Rows.{Row}
 use Rattle.spec_server.specs.Machine.{Machine, Request, change_of, step}
 use Rattle.spec_server.specs.Replies.{Reply, printed}
 use Rattle.spec_server.specs.Script.{BadId, BadName, Circumstance, Do, LineRead, ReadRefusal, asked_of, after_line, fault_reply, left_by, refusal_reply, reply_to, written_for}

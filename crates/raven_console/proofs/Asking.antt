@@ -1,6 +1,6 @@
 -- What asking a keeper does.
 use Rattle.std.proofs.Common.{◌≡◌, ◌≢◌, List, [], ◌∷◌, Bool, true, refl}
-use Rattle.raven_data.specs.Rows.{Row}
+use Rattle.spec_data.specs.Rows.{Row}
 use Rattle.raven_ports.specs.States.{KeeperState}
 use Rattle.raven_console.specs.Devices.{Asked, AskedOnce}
 

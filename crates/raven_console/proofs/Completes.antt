@@ -1,7 +1,7 @@
 -- If no count of faults rises, a valid input is answered to its end.
 use Rattle.std.proofs.Common.{◌≡◌, ℕ, ◌+◌, ◌≤◌, List, ◌++◌, Option, Some, None, Ok, Err, length, sym, ap, ◌∙◌, subst, arith}
 use Rattle.std.proofs.lemmas.List.{length-append}
-use Rattle.raven_data.specs.Kept.{KeptRow}
+use Rattle.spec_data.specs.Kept.{KeptRow}
 use Rattle.raven_ports.specs.Reported.{preceded}
 use Rattle.raven_reading.proofs.Once.{held_once}
 use Rattle.index_lang.specs.Openings.{IsOpened}

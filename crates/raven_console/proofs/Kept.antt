@@ -1,7 +1,7 @@
 -- The keeper holds the rows of the machine while lines are answered.
 use Rattle.std.proofs.Common.{◌≡◌, ℕ, List, [], ◌∷◌, Bool, true, false, Option, Some, None, option_map, IfSome, Result, Ok, Err, refl, sym, ap, ◌∙◌, subst}
-use Rattle.raven_data.specs.Kept.{KeptRow, EtagsRise, all_kept, keep_all, last_kept}
-use Rattle.raven_data.specs.Rows.{Row}
+use Rattle.spec_data.specs.Kept.{KeptRow, EtagsRise, all_kept, keep_all, last_kept}
+use Rattle.spec_data.specs.Rows.{Row}
 use Rattle.spec_server.specs.Machine.{Machine, Change, Request, change_of, settled}
 use Rattle.spec_server.specs.Script.{Do, LineRead, after_line, left_by}
 use Rattle.spec_store.specs.Store.{Store, with_rows}

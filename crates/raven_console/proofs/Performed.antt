@@ -1,6 +1,6 @@
 -- What a request leaves once the keeper was asked.
 use Rattle.std.proofs.Common.{◌≡◌, ℕ, List, [], ◌∷◌, Bool, true, false, refl, sym, ap, ◌∙◌, subst}
-use Rattle.raven_data.specs.Rows.{Row}
+use Rattle.spec_data.specs.Rows.{Row}
 use Rattle.spec_server.specs.Machine.{Machine, Change, Replied, Request, change_of, settled, same_machine, step}
 use Rattle.spec_server.specs.Replies.{KeeperFault, printed}
 use Rattle.raven_ports.specs.States.{KeeperState}

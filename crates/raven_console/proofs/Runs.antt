@@ -1,7 +1,7 @@
 -- Lines that are answered one after another.
 use Rattle.std.proofs.Common.{◌≡◌, ℕ, ◌<◌, List, [], ◌∷◌, ◌++◌, Bool, Option, IfSome, refl, ap, sym, ◌∙◌, append_assoc, subst}
 use Rattle.std.proofs.lemmas.List.{append-nil}
-use Rattle.raven_data.specs.Moments.{moments_end}
+use Rattle.spec_data.specs.Moments.{moments_end}
 use Rattle.raven_ports.specs.Reported.{appended}
 use Rattle.raven_ports.specs.States.{KeeperState, SinkState}
 use Rattle.spec_server.specs.Lines.{lines}

@@ -1,8 +1,8 @@
 -- What a keeper and a clock do while lines are answered, as far as they report it.
 use Rattle.std.specs.Prelude.{◌≡◌, ℕ, ◌<◌, ◌≤◌, List, [], ◌∷◌, Bool, true, false, not, Option, Some, None, option_map, IfSome, Ok, Err}
-use Rattle.raven_data.specs.Kept.{KeptRow, all_kept, keep_all}
-use Rattle.raven_data.specs.Moments.{moments_end}
-use Rattle.raven_data.specs.Rows.{Row}
+use Rattle.spec_data.specs.Kept.{KeptRow, all_kept, keep_all}
+use Rattle.spec_data.specs.Moments.{moments_end}
+use Rattle.spec_data.specs.Rows.{Row}
 use Rattle.raven_ports.specs.Faults.{Rose}
 use Rattle.raven_ports.specs.Plan.{is_failing, one_later}
 use Rattle.raven_ports.specs.States.{KeeperState}

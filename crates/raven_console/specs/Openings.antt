@@ -1,6 +1,6 @@
 -- Opening a database from what its keeper holds.
 use Rattle.std.specs.Prelude.{◌≡◌, ℕ, ◌≤◌, List, Option, IfSome, Ok, Err}
-use Rattle.raven_data.specs.Kept.{KeptRow}
+use Rattle.spec_data.specs.Kept.{KeptRow}
 use Rattle.raven_ports.specs.States.{KeeperState}
 use Rattle.spec_store.specs.Commit.{Setting}
 use Rattle.spec_server.specs.Machine.{Machine}

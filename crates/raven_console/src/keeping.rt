@@ -1,6 +1,6 @@
 //! Asking a keeper to store the rows of a change.
 ghost use Rattle.std.specs.Prelude.{◌≡◌, ◌≤◌, [], None, IfOk, IfSome, OnErr};
-ghost use Rattle.raven_data.specs.Kept.{EtagsRise, all_kept as spec_all_kept, last_kept};
+ghost use Rattle.spec_data.specs.Kept.{EtagsRise, all_kept as spec_all_kept, last_kept};
 ghost use Rattle.raven_console.specs.Devices.{Asked};
 
 use doc_keeper::all_kept;

@@ -1,6 +1,6 @@
 //! The machine that answers lines.
 ghost use Rattle.std.specs.Prelude.{◌≡◌, ◌<◌, ◌≤◌, true, false, IfOk, OnErr};
-ghost use Rattle.raven_data.specs.Moments.{moments_end};
+ghost use Rattle.spec_data.specs.Moments.{moments_end};
 ghost use Rattle.spec_server.specs.Machine.{change_of, step};
 ghost use Rattle.spec_server.specs.Replies.{KeeperFault, printed as spec_printed};
 ghost use Rattle.raven_reply.specs.ReplyView.{reply_view};

@@ -1,6 +1,6 @@
 //! The replies to lines that are not read.
 ghost use Rattle.std.specs.Prelude.{◌≡◌, ℕ, List, IfOk, Err, Some};
-ghost use Rattle.raven_data.specs.Faults.{Fault};
+ghost use Rattle.spec_data.specs.Faults.{Fault};
 ghost use Rattle.spec_server.specs.Script.{asked_of, fault_reply};
 ghost use Rattle.raven_reply.specs.ReplyView.{reply_view};
 ghost use Rattle.raven_console.specs.Answering.{IsRefusedLine};

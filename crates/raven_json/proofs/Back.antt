@@ -15,11 +15,11 @@ use Rattle.serde_json.specs.Read.{of_json, of_items, of_members, number_of, read
 use Rattle.serde_json.specs.Written.{outline, items_outline, members_outline, compact_text, number_text}
 use Rattle.serde_json.proofs.Numbers.{number_of-decimal, number_of-negative}
 use Rattle.serde_json.proofs.Texts.{print-outline}
-use Rattle.raven_data.specs.Data.{Data, null, flag, num, text, array, object, Items, no_items, item, Entries, no_entries, entry, depth, items_depth, entries_depth, items_of, list_of, entries_of, pairs_of}
-use Rattle.raven_data.specs.Folding.{key_cmp}
-use Rattle.raven_data.specs.Json as is
-use Rattle.raven_data.specs.Rising.{IsBelowAll, IsRising, put}
-use Rattle.raven_data.specs.Sound.{IsSound, AreSound, HasSound}
+use Rattle.spec_data.specs.Data.{Data, null, flag, num, text, array, object, Items, no_items, item, Entries, no_entries, entry, depth, items_depth, entries_depth, items_of, list_of, entries_of, pairs_of}
+use Rattle.spec_data.specs.Folding.{key_cmp}
+use Rattle.spec_data.specs.Json as is
+use Rattle.spec_data.specs.Rising.{IsBelowAll, IsRising, put}
+use Rattle.spec_data.specs.Sound.{IsSound, AreSound, HasSound}
 use Rattle.raven_json.proofs.Compact.{json_of, items_json, members_json}
 
 -- ---- numbers

@@ -5,8 +5,8 @@ use Rattle.json.specs.Print.{escape_byte, quoted as json_quoted}
 use Rattle.serde_json.specs.Data as json
 use Rattle.serde_json.specs.Find.{of_integer}
 use Rattle.serde_json.specs.Written.{compact_text, items_text as json_items_text, members_text as json_members_text}
-use Rattle.raven_data.specs.Data.{Data, null, flag, num, text, array, object, Items, no_items, item, Entries, no_entries, entry}
-use Rattle.raven_data.specs.Written.{escaped, quoted, comma_if, text_of, items_text, entries_text}
+use Rattle.spec_data.specs.Data.{Data, null, flag, num, text, array, object, Items, no_items, item, Entries, no_entries, entry}
+use Rattle.spec_data.specs.Written.{escaped, quoted, comma_if, text_of, items_text, entries_text}
 
 -- the same value
 abbrev mutual

@@ -7,10 +7,10 @@ use Rattle.std.proofs.lemmas.Str.Parse.{digit_from_value}
 use Rattle.std.specs.Prelude.{codes, if◌then◌else◌}
 use Rattle.std.specs.Char.{digit_char, digit_value}
 use Rattle.std.specs.Str.Parse.{AllDigits}
-use Rattle.raven_data.specs.Data.{Data, null, flag, num, text, array, object, Items, no_items, item, Entries, no_entries, entry, depth, items_depth, entries_depth}
-use Rattle.raven_data.specs.Scan.{is_too_deep, outside, in_text, max_depth}
-use Rattle.raven_data.specs.Sound.{IsSound, AreSound, HasSound}
-use Rattle.raven_data.specs.Written.{escaped, quoted, comma_if, text_of, items_text, entries_text}
+use Rattle.spec_data.specs.Data.{Data, null, flag, num, text, array, object, Items, no_items, item, Entries, no_entries, entry, depth, items_depth, entries_depth}
+use Rattle.spec_data.specs.Scan.{is_too_deep, outside, in_text, max_depth}
+use Rattle.spec_data.specs.Sound.{IsSound, AreSound, HasSound}
+use Rattle.spec_data.specs.Written.{escaped, quoted, comma_if, text_of, items_text, entries_text}
 
 ge-ltb : (a b : ℕ) → b ≤ a → nat_lt a b ≡ false
 ge-ltb a b h = grind (arith, common_steps)

@@ -1,6 +1,6 @@
 -- What is inside is no deeper than the whole.
 use Rattle.std.proofs.Common.{◌≡◌, ◌<◌, ◌≤◌, ℕ, zero, suc, List, [], ◌∷◌, length, get_or, map, arith, ap}
-use Rattle.raven_data.specs.Data.{depth, items_of, items_depth, entries_of, entries_depth}
+use Rattle.spec_data.specs.Data.{depth, items_of, items_depth, entries_of, entries_depth}
 use Rattle.raven_value.specs.View.{data_of, pair_of}
 use Rattle.raven_value.specs.declared.text.Text.{Text}
 use Rattle.raven_value.specs.declared.value.Value.{Value}

@@ -6,13 +6,13 @@ use Rattle.std.proofs.lemmas.Str.{is_utf8-from_IsUtf8, IsUtf8-from_is_utf8}
 use Rattle.std.proofs.lemmas.Result.{IfOk-weaker, IfErr-weaker}
 use Rattle.serde_json.specs.Data.{Data}
 use Rattle.serde_json.specs.Read as json
-use Rattle.raven_data.specs.Data as own
+use Rattle.spec_data.specs.Data as own
 use Rattle.raven_value.specs.View.{data_of}
 use Rattle.raven_value.specs.declared.value.Value.{Value}
-use Rattle.raven_data.specs.Json as is
-use Rattle.raven_data.specs.Json.{value_of, whole, or_refusal, reading, not_json, number_not_whole}
+use Rattle.spec_data.specs.Json as is
+use Rattle.spec_data.specs.Json.{value_of, whole, or_refusal, reading, not_json, number_not_whole}
 use Rattle.raven_json.specs.Refusal.{Refuses, Fails}
-use Rattle.raven_data.specs.Scan.{is_too_deep, outside}
+use Rattle.spec_data.specs.Scan.{is_too_deep, outside}
 use Rattle.raven_json.specs.declared.decode.JsonRefusal.{JsonRefusal}
 use Rattle.raven_json.specs.declared.decode.JsonRefusal.TheVariants.{NotJson, NumberNotWhole, TooDeep, NoMemory}
 

@@ -1,9 +1,9 @@
 -- What is written of a sound value is read as that value.
 use Rattle.std.proofs.Common.{◌≡◌, ◌≤◌, ℕ, List, Ok, IsUtf8, sym, ap, ◌∙◌, subst, arith}
-use Rattle.raven_data.specs.Data.{Data, depth}
-use Rattle.raven_data.specs.Json.{reading, or_refusal, number_not_whole}
-use Rattle.raven_data.specs.Sound.{IsSound}
-use Rattle.raven_data.specs.Written.{text_of}
+use Rattle.spec_data.specs.Data.{Data, depth}
+use Rattle.spec_data.specs.Json.{reading, or_refusal, number_not_whole}
+use Rattle.spec_data.specs.Sound.{IsSound}
+use Rattle.spec_data.specs.Written.{text_of}
 use Rattle.serde_json.specs.Read as json
 use Rattle.raven_json.proofs.Back.{converted, read_text}
 use Rattle.raven_json.proofs.Compact.{json_of, text_same}

@@ -1,9 +1,9 @@
 -- Soundness, from the members of the program's values.
 use Rattle.std.proofs.Common.{◌≡◌, ℕ, zero, suc, ◌+◌, ◌<◌, List, [], ◌∷◌, length, get_or, drop, map, IsUtf8, refl, sym, ap, subst, arith, add-one}
-use Rattle.raven_data.proofs.MemberLemmas.{pairs_of-entries_of}
-use Rattle.raven_data.specs.Data.{entries_of, pairs_of}
-use Rattle.raven_data.specs.Rising.{Pairs, IsRising}
-use Rattle.raven_data.specs.Sound.{IsSound, HasSound}
+use Rattle.spec_data.proofs.MemberLemmas.{pairs_of-entries_of}
+use Rattle.spec_data.specs.Data.{entries_of, pairs_of}
+use Rattle.spec_data.specs.Rising.{Pairs, IsRising}
+use Rattle.spec_data.specs.Sound.{IsSound, HasSound}
 use Rattle.raven_value.specs.View.{data_of, pair_of}
 use Rattle.raven_value.specs.declared.text.Text.{Text}
 use Rattle.raven_value.specs.declared.value.Value.{Value}

@@ -3,9 +3,9 @@ use Rattle.std.proofs.Common.{ℕ, List, [], ◌∷◌, Bool, true, false, IsUtf
 use Rattle.std.proofs.lemmas.Fmt.{IsAscii-signed}
 use Rattle.std.proofs.lemmas.Str.{IsUtf8-append, IsUtf8-nil, IsUtf8-from_ascii}
 use Rattle.json.proofs.Printed.Utf8.{IsUtf8-are_ascii, IsUtf8-quoted}
-use Rattle.raven_data.specs.Data.{Data, null, flag, num, text, array, object, Items, no_items, item, Entries, no_entries, entry}
-use Rattle.raven_data.specs.Sound.{IsSound, AreSound, HasSound}
-use Rattle.raven_data.specs.Written.{quoted, comma_if, text_of, items_text, entries_text}
+use Rattle.spec_data.specs.Data.{Data, null, flag, num, text, array, object, Items, no_items, item, Entries, no_entries, entry}
+use Rattle.spec_data.specs.Sound.{IsSound, AreSound, HasSound}
+use Rattle.spec_data.specs.Written.{quoted, comma_if, text_of, items_text, entries_text}
 use Rattle.raven_json.proofs.Compact.{quoted_same}
 
 utf8_flag : (b : Bool) → IsUtf8 (text_of (flag b))

@@ -1,5 +1,5 @@
 -- A `Place` of the program as one of the specification.
-use Rattle.raven_data.specs.Scan as is
+use Rattle.spec_data.specs.Scan as is
 use Rattle.raven_json.specs.declared.scan.Place.{Place}
 use Rattle.raven_json.specs.declared.scan.Place.TheVariants as p
 

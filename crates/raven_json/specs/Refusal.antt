@@ -1,6 +1,6 @@
 -- When a reading is refused.
 use Rattle.std.specs.Prelude.{◌≡◌, Option, None, Result, Err}
-use Rattle.raven_data.specs.Json as is
+use Rattle.spec_data.specs.Json as is
 use Rattle.raven_json.specs.declared.decode.JsonRefusal.{JsonRefusal}
 use Rattle.raven_json.specs.declared.decode.JsonRefusal.TheVariants.{NotJson, NumberNotWhole, TooDeep, NoMemory}
 

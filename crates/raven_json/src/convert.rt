@@ -2,7 +2,7 @@
 ghost use Rattle.std.specs.Prelude.{◌≡◌, Some, [], IfOk, IfErr};
 ghost use Rattle.serde_json.specs.View.{view, items_view, members_view};
 ghost use Rattle.raven_value.specs.View.{data_of};
-ghost use Rattle.raven_data.specs.Json.{value_of as spec_value_of, items_of as spec_items_of, members_of as spec_members_of};
+ghost use Rattle.spec_data.specs.Json.{value_of as spec_value_of, items_of as spec_items_of, members_of as spec_members_of};
 ghost use Rattle.raven_json.specs.Refusal.{Fails};
 
 use crate::decode::JsonRefusal;

@@ -1,6 +1,6 @@
 //! From bytes to a value.
 ghost use Rattle.std.specs.Prelude.{◌≡◌, Ok, IfOk, IfErr};
-ghost use Rattle.raven_data.specs.Json.{reading};
+ghost use Rattle.spec_data.specs.Json.{reading};
 ghost use Rattle.raven_json.specs.Refusal.{Refuses};
 ghost use Rattle.raven_value.specs.View.{data_of};
 

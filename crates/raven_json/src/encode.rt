@@ -4,12 +4,12 @@ ghost use Rattle.std.specs.Char.{digit_char};
 ghost use Rattle.std.specs.Fmt.{signed_decimal};
 ghost use Rattle.std.specs.Int.{w64};
 ghost use Rattle.raven_value.specs.View.{data_of};
-ghost use Rattle.raven_data.specs.Data.{depth, items_of, entries_of};
-ghost use Rattle.raven_data.specs.Json.{reading};
-ghost use Rattle.raven_data.specs.Limits.{max_depth};
-ghost use Rattle.raven_data.specs.Rising.{IsRising};
-ghost use Rattle.raven_data.specs.Sound.{IsSound, AreSound, HasSound};
-ghost use Rattle.raven_data.specs.Written.{escaped, quoted, text_of, items_text, entries_text};
+ghost use Rattle.spec_data.specs.Data.{depth, items_of, entries_of};
+ghost use Rattle.spec_data.specs.Json.{reading};
+ghost use Rattle.spec_data.specs.Limits.{max_depth};
+ghost use Rattle.spec_data.specs.Rising.{IsRising};
+ghost use Rattle.spec_data.specs.Sound.{IsSound, AreSound, HasSound};
+ghost use Rattle.spec_data.specs.Written.{escaped, quoted, text_of, items_text, entries_text};
 
 use raven_base::NoMemory;
 use raven_value::{Members, Value, Values};

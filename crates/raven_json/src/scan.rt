@@ -1,7 +1,7 @@
 //! How many brackets are open at once.
 ghost use Rattle.std.specs.Prelude.{◌≡◌, ◌≤◌};
-ghost use Rattle.raven_data.specs.Limits.{max_depth};
-ghost use Rattle.raven_data.specs.Scan.{outside, is_too_deep as spec_is_too_deep, place_after as spec_place_after, open_after as spec_open_after};
+ghost use Rattle.spec_data.specs.Limits.{max_depth};
+ghost use Rattle.spec_data.specs.Scan.{outside, is_too_deep as spec_is_too_deep, place_after as spec_place_after, open_after as spec_open_after};
 ghost use Rattle.raven_json.specs.PlaceView.{place_view};
 
 use raven_value::MAX_DEPTH;

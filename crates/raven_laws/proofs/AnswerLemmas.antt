@@ -7,11 +7,11 @@ use Rattle.std.specs.List.{filter_map, cons_option}
 use Rattle.std.specs.Cmp.Lexicographic.{nat_list_eq_equiv}
 use Rattle.std.specs.FinMap.{get, values, entries, find as entry_at, is_sorted, get-entries, entries_sorted}
 use Rattle.std.specs.FinMap.Entries.{below_all}
-use Rattle.raven_data.specs.Folding.{key_cmp}
-use Rattle.raven_data.specs.Rows.{Row}
+use Rattle.spec_data.specs.Folding.{key_cmp}
+use Rattle.spec_data.specs.Rows.{Row}
 use Rattle.spec_store.specs.Stale.{stale}
 use Rattle.spec_store.specs.Store.{row_at}
-use Rattle.raven_data.specs.Tables.{Table}
+use Rattle.spec_data.specs.Tables.{Table}
 use Rattle.spec_index.specs.Index.{documents}
 use Rattle.index_tree.specs.Meaning.{Fields, Outcome, Entry, NoEntry, Failed}
 use Rattle.index_tree.specs.Mapper.{mapper_of, is_mapped}

@@ -8,11 +8,11 @@ use Rattle.std.specs.Str.{bytes_eq}
 use Rattle.std.specs.Option.{option_or, option_and_then}
 use Rattle.std.specs.Cmp.Lexicographic.{nat_list_cmp_total}
 use Rattle.std.specs.FinMap.{get, empty, get-empty, same_map, nat_cmp-IsAntisymmetric, slice_cmp-IsAntisymmetric}
-use Rattle.raven_data.specs.Folding.{key_cmp, same_key}
-use Rattle.raven_data.specs.Rows.{Row, key, is_document}
+use Rattle.spec_data.specs.Folding.{key_cmp, same_key}
+use Rattle.spec_data.specs.Rows.{Row, key, is_document}
 use Rattle.spec_store.specs.Store.{row_at, last_of, AreRising, AreApart, Store, last, IsStore}
 use Rattle.spec_store.specs.Later.{StillHas, Later}
-use Rattle.raven_data.specs.Tables.{Table, Scope, in_scope, note_row, note_rows}
+use Rattle.spec_data.specs.Tables.{Table, Scope, in_scope, note_row, note_rows}
 use Rattle.spec_index.specs.Index.{record_of, Agrees, etag_after, etag_of_batch, documents}
 use Rattle.spec_store.specs.Stale.{past, batch_rows, left_over, up_to, stale}
 use Rattle.spec_store.proofs.StoreLemmas.{same_row, both_true, found_etag, found_key, same_means, row_at-append, found_passing, passing_found, AreApart-filter, AreApart-front, AreRising-filter, AreRising-front, AreRising-back, last_of-rising, last_of-append, last_of-filter, row_at-filter, only_if, any_false}

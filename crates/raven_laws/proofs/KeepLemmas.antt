@@ -1,9 +1,9 @@
 -- What a keeper stores is the rows of the store.
 use Rattle.std.proofs.Common.{◌≡◌, ℕ, ◌+◌, List, [], ◌∷◌, true, false, cond, Option, Some, None, Result, Ok, Err, refl, sym, ap, ◌∙◌, subst}
 use Rattle.std.specs.Option.{option_map}
-use Rattle.raven_data.specs.Folding.{folded}
-use Rattle.raven_data.specs.Rows.{Row}
-use Rattle.raven_data.specs.Kept.{all_kept, keep_all}
+use Rattle.spec_data.specs.Folding.{folded}
+use Rattle.spec_data.specs.Rows.{Row}
+use Rattle.spec_data.specs.Kept.{all_kept, keep_all}
 use Rattle.spec_store.specs.Store.{Store, last, with_row, with_rows}
 use Rattle.spec_store.specs.Commit.{AreNext, Client, Command, Put, Delete, Refused, Server, Setting, Writer, Written, commit, commit_from, document_at, refusal_of, row_of, tombstone, or_refused, with_written}
 use Rattle.index_tree.specs.Definitions.{Definition}

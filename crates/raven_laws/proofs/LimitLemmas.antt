@@ -2,8 +2,8 @@
 use Rattle.std.proofs.Common.{◌≡◌, ℕ, suc, ◌+◌, ◌<◌, ◌≤◌, List, [], ◌∷◌, length, Bool, true, false, not, cond, ◌&&◌, ◌==◌, nat_lt, nat_le, is_none, is_some, Option, Some, None, Ok, filter, map, refl, sym, ap, ◌∙◌, subst, arith, inl, inr, length-append}
 use Rattle.std.proofs.lemmas.Bool.{leb-false, ltb-true, ltb-false, eq-eqb}
 use Rattle.std.specs.Option.{option_map}
-use Rattle.raven_data.specs.Folding.{folded, same_key}
-use Rattle.raven_data.specs.Rows.{Row, key}
+use Rattle.spec_data.specs.Folding.{folded, same_key}
+use Rattle.spec_data.specs.Rows.{Row, key}
 use Rattle.spec_store.specs.Store.{row_at, put, Store, last}
 use Rattle.spec_store.specs.Commit.{Command, Put, Delete, Writer, Setting, Refusal, StoreFull, Written, first_of, refusal_of, reserved, too_large, collection_changed, conflict, store_full, takes_etag, refuse_if, EtagsSpent, etags_spent, document_at, tombstone, row_of, with_written, or_refused, commit_from}
 use Rattle.spec_server.specs.Sound.{Has}

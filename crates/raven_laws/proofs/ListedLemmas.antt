@@ -4,8 +4,8 @@ use Rattle.std.specs.List.{starts_with}
 use Rattle.std.specs.Str.{bytes_eq}
 use Rattle.std.proofs.lemmas.Slice.Eq.{bytes_eq-Decides}
 use Rattle.std.specs.Option.{option_and_then, option_map}
-use Rattle.raven_data.specs.Folding.{folded, same_key}
-use Rattle.raven_data.specs.Rows.{Row, Body, doc, gone, key, is_document}
+use Rattle.spec_data.specs.Folding.{folded, same_key}
+use Rattle.spec_data.specs.Rows.{Row, Body, doc, gone, key, is_document}
 use Rattle.spec_store.specs.Store.{row_at, put, Store, last, with_row}
 use Rattle.index_tree.specs.Definitions.{Definition, Static, Auto}
 use Rattle.spec_store.specs.Commit.{Command, Put, Delete, AnyVector, Writer, Client, Setting, Refusal, Written, first_of, refusal_of, reserved, is_reserved, is_index_id, too_large, collection_changed, conflict, store_full, etags_spent, collection_of, stored_body, row_spelling, document_at, tombstone, row_of, with_written, with_option, after_commands, or_refused, commit_from}

@@ -1,6 +1,6 @@
 -- Each step of the machine leaves a sound and later world.
 use Rattle.std.proofs.Common.{◌≡◌, ℕ, ◌+◌, ◌<◌, ◌≤◌, List, [], ◌∷◌, ◌++◌, length, Option, Some, None, Result, Ok, Err, map, refl, sym, ap, subst, arith, inl, true, false, cond}
-use Rattle.raven_data.specs.Rows.{Row}
+use Rattle.spec_data.specs.Rows.{Row}
 use Rattle.spec_store.specs.Store.{Store, last, IsStore}
 use Rattle.spec_store.specs.Later.{Later}
 use Rattle.spec_store.specs.Stale.{batch_rows}

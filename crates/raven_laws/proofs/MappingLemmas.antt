@@ -6,10 +6,10 @@ use Rattle.std.specs.Option.{option_and_then}
 use Rattle.std.specs.Ordering.{eq_by_cmp}
 use Rattle.std.specs.Cmp.Lexicographic.{nat_list_cmp_total}
 use Rattle.std.specs.FinMap.{get, values, entries, find as entry_at, get-entries, get-insert, get-remove}
-use Rattle.raven_data.specs.Folding.{key_cmp, same_key}
-use Rattle.raven_data.specs.Rows.{Row, key, is_document}
+use Rattle.spec_data.specs.Folding.{key_cmp, same_key}
+use Rattle.spec_data.specs.Rows.{Row, key, is_document}
 use Rattle.spec_store.specs.Store.{row_at, AreApart, Store, last, IsStore}
-use Rattle.raven_data.specs.Tables.{Table, note_rows}
+use Rattle.spec_data.specs.Tables.{Table, note_rows}
 use Rattle.spec_index.specs.Index.{Agrees, etag_of_batch}
 use Rattle.spec_store.specs.Stale.{batch_rows}
 use Rattle.index_tree.specs.Meaning.{Mapped}

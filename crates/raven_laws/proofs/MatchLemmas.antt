@@ -5,10 +5,10 @@ use Rattle.std.specs.Option.{option_and_then}
 use Rattle.std.specs.Ordering.{eq_by_cmp}
 use Rattle.std.specs.Str.{bytes_eq}
 use Rattle.std.specs.FinMap.{get, values, entries, find as entry_at, get-entries}
-use Rattle.raven_data.specs.Folding.{folded, key_cmp}
-use Rattle.raven_data.specs.Rows.{Row, key, is_document}
+use Rattle.spec_data.specs.Folding.{folded, key_cmp}
+use Rattle.spec_data.specs.Rows.{Row, key, is_document}
 use Rattle.spec_store.specs.Store.{row_at, Store, IsStore}
-use Rattle.raven_data.specs.Tables.{Table, Scope, in_scope}
+use Rattle.spec_data.specs.Tables.{Table, Scope, in_scope}
 use Rattle.spec_index.specs.Index.{record_of, documents}
 use Rattle.index_tree.specs.Definitions.{Definition}
 use Rattle.index_tree.specs.Meaning.{Fields, Outcome, Entry, NoEntry, Failed}

@@ -6,14 +6,14 @@ use Rattle.std.specs.Str.{bytes_eq, is_utf8}
 use Rattle.serde_json.specs.Data as json
 use Rattle.serde_json.specs.Find.{as_i64}
 use Rattle.serde_json.specs.Read.{read}
-use Rattle.raven_data.proofs.MemberLemmas.{IsRising-put, below_by, pairs_of-entries_of}
-use Rattle.raven_data.specs.Data.{Data, num, array, object, Entries, no_entries, entry, entries_of, items_of, pairs_of}
-use Rattle.raven_data.specs.Folding.{key_cmp}
-use Rattle.raven_data.specs.Json as is
-use Rattle.raven_data.specs.Json.{JsonRefusal, reading, whole, or_refusal, number_not_whole, too_deep, value_of, members_of}
-use Rattle.raven_data.specs.Members.{member}
-use Rattle.raven_data.specs.Rising.{Pairs, IsBelowAll, IsRising, put}
-use Rattle.raven_data.specs.Scan.{is_too_deep, outside}
+use Rattle.spec_data.proofs.MemberLemmas.{IsRising-put, below_by, pairs_of-entries_of}
+use Rattle.spec_data.specs.Data.{Data, num, array, object, Entries, no_entries, entry, entries_of, items_of, pairs_of}
+use Rattle.spec_data.specs.Folding.{key_cmp}
+use Rattle.spec_data.specs.Json as is
+use Rattle.spec_data.specs.Json.{JsonRefusal, reading, whole, or_refusal, number_not_whole, too_deep, value_of, members_of}
+use Rattle.spec_data.specs.Members.{member}
+use Rattle.spec_data.specs.Rising.{Pairs, IsBelowAll, IsRising, put}
+use Rattle.spec_data.specs.Scan.{is_too_deep, outside}
 use Rattle.spec_store.proofs.KeyedLemmas.{differ_less}
 
 -- WHAT IS READ

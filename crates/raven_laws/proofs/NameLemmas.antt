@@ -7,11 +7,11 @@ use Rattle.std.proofs.lemmas.Fmt.{decimal_is_IsNumeral, decimal_injective}
 use Rattle.std.specs.Char.{to_ascii_lowercase, digit_value}
 use Rattle.std.specs.Fmt.{decimal}
 use Rattle.std.specs.Str.Parse.{AllDigits}
-use Rattle.raven_data.specs.Folding.{folded, same_key}
+use Rattle.spec_data.specs.Folding.{folded, same_key}
 use Rattle.spec_store.specs.Commit.{Setting}
 use Rattle.spec_server.specs.Machine.{Event, start, run}
 use Rattle.spec_store.specs.Store.{last}
-use Rattle.raven_data.specs.Faults.{is_fit}
+use Rattle.spec_data.specs.Faults.{is_fit}
 use Rattle.spec_index.specs.World.{Slot, serving}
 use Rattle.spec_index.specs.Optimiser.{Shape, plain_name, free_name, first_free, name_of}
 use Rattle.spec_server.specs.Sound.{Has}

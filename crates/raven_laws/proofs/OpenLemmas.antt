@@ -6,16 +6,16 @@ use Rattle.std.proofs.lemmas.Slice.Eq.{bytes_eq-Decides}
 use Rattle.std.specs.Cmp.Lexicographic.{nat_list_eq_equiv}
 use Rattle.std.specs.Option.{option_or}
 use Rattle.std.specs.Str.{bytes_eq}
-use Rattle.raven_data.specs.Data.{Data, null, flag, num, text, array, object, Items, Entries, no_items, item, no_entries, entry, pairs_of}
-use Rattle.raven_data.specs.Faults.{is_fit, max_id}
-use Rattle.raven_data.specs.Folding.{folded, same_key}
-use Rattle.raven_data.specs.Json.{JsonRefusal, reading}
-use Rattle.raven_data.specs.Kept.{KeptRow, all_kept, body_text, kept}
-use Rattle.raven_data.specs.Members.{member}
-use Rattle.raven_data.specs.Moments.{moments_end}
-use Rattle.raven_data.specs.Rising.{Pairs, IsRising}
-use Rattle.raven_data.specs.Rows.{Row, Body, doc, gone, key, is_document}
-use Rattle.raven_data.specs.Written.{text_of}
+use Rattle.spec_data.specs.Data.{Data, null, flag, num, text, array, object, Items, Entries, no_items, item, no_entries, entry, pairs_of}
+use Rattle.spec_data.specs.Faults.{is_fit, max_id}
+use Rattle.spec_data.specs.Folding.{folded, same_key}
+use Rattle.spec_data.specs.Json.{JsonRefusal, reading}
+use Rattle.spec_data.specs.Kept.{KeptRow, all_kept, body_text, kept}
+use Rattle.spec_data.specs.Members.{member}
+use Rattle.spec_data.specs.Moments.{moments_end}
+use Rattle.spec_data.specs.Rising.{Pairs, IsRising}
+use Rattle.spec_data.specs.Rows.{Row, Body, doc, gone, key, is_document}
+use Rattle.spec_data.specs.Written.{text_of}
 use Rattle.spec_store.specs.Store.{row_at, last_of, AreRising, AreApart, IsStore}
 use Rattle.index_tree.specs.Definitions.{Definition, Auto}
 use Rattle.spec_store.specs.Commit.{Setting, is_index_id, stored_body}

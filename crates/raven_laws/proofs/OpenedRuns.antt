@@ -1,6 +1,6 @@
 -- Runs and scripts from a state that stored rows open.
 use Rattle.std.proofs.Common.{List, ◌++◌, sym, ◌∙◌, subst}
-use Rattle.raven_data.specs.Kept.{KeptRow}
+use Rattle.spec_data.specs.Kept.{KeptRow}
 use Rattle.spec_store.specs.Commit.{Setting}
 use Rattle.spec_server.specs.Machine.{Machine, Event, run}
 use Rattle.spec_server.specs.Script.{Given, after_lines, events_of}

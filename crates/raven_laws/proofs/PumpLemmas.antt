@@ -3,9 +3,9 @@ use Rattle.std.proofs.Common.{◌≡◌, ℕ, zero, suc, ◌≤◌, List, [], �
 use Rattle.std.specs.List.{list_any}
 use Rattle.std.proofs.lemmas.Bool.{ltb-true}
 use Rattle.std.proofs.lemmas.List.{drop_all}
-use Rattle.raven_data.specs.Rows.{Row, key}
+use Rattle.spec_data.specs.Rows.{Row, key}
 use Rattle.spec_store.specs.Store.{row_at, Store, last, IsStore}
-use Rattle.raven_data.specs.Tables.{Scope, in_scope}
+use Rattle.spec_data.specs.Tables.{Scope, in_scope}
 use Rattle.spec_store.specs.Stale.{past, batch_rows, left_over, stale}
 use Rattle.spec_index.specs.Index.{etag_after, etag_of_batch}
 use Rattle.spec_index.specs.World.{Version, Slot, reads, advanced}

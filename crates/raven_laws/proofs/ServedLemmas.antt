@@ -1,7 +1,7 @@
 -- The index that serves a name goes on to serve it.
 use Rattle.std.proofs.Common.{◌≡◌, ℕ, ◌+◌, List, [], ◌∷◌, ◌++◌, Bool, true, false, not, cond, is_some, nat_le, length, Option, Some, None, Result, Ok, Err, filter, find, map, refl, sym, ap, ◌∙◌, subst, arith, inl, inr}
 use Rattle.std.specs.Option.{option_map}
-use Rattle.raven_data.specs.Folding.{folded, same_key}
+use Rattle.spec_data.specs.Folding.{folded, same_key}
 use Rattle.index_tree.specs.Definitions.{Definition, same_definition}
 use Rattle.spec_store.specs.Store.{Store, last}
 use Rattle.spec_store.specs.Commit.{Client, Command, Refused, Server, Written, commit}

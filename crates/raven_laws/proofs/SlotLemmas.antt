@@ -1,13 +1,13 @@
 -- Lists of slots, and versions that a batch advances.
 use Rattle.std.proofs.Common.{◌≡◌, ℕ, ◌<◌, ◌≤◌, List, [], ◌∷◌, ◌++◌, Bool, true, false, cond, Some, None, filter, find, map, refl, sym, ap, ◌∙◌, subst, arith, ◌⊎◌, inl, inr}
 use Rattle.std.specs.FinMap.{get, get-empty}
-use Rattle.raven_data.specs.Folding.{folded, key_cmp, same_key}
-use Rattle.raven_data.specs.Rows.{Row}
+use Rattle.spec_data.specs.Folding.{folded, key_cmp, same_key}
+use Rattle.spec_data.specs.Rows.{Row}
 use Rattle.spec_store.specs.Store.{Store, IsStore}
 use Rattle.spec_store.specs.Later.{Later}
 use Rattle.spec_index.specs.Index.{Agrees, etag_of_batch}
 use Rattle.spec_store.specs.Stale.{batch_rows}
-use Rattle.raven_data.specs.Tables.{note_rows}
+use Rattle.spec_data.specs.Tables.{note_rows}
 use Rattle.index_tree.specs.Definitions.{Definition}
 use Rattle.spec_index.specs.World.{Version, Slot, reads, new_version, advanced, batch, serving}
 use Rattle.spec_server.specs.Sound.{Has, Fits, NumbersRise, NamesApart}

@@ -3,9 +3,9 @@ use Rattle.std.proofs.Common.{◌≡◌, ℕ, List, [], ◌∷◌, ◌++◌, rep
 use Rattle.std.specs.List.{filter_map}
 use Rattle.std.specs.Fmt.{digits}
 use Rattle.std.specs.FinMap.{empty}
-use Rattle.raven_data.specs.Data.{object, text, entry, no_entries}
-use Rattle.raven_data.specs.Moments.{moment_text, day_from, day_in, day_text}
-use Rattle.raven_data.specs.Rows.{Row, doc}
+use Rattle.spec_data.specs.Data.{object, text, entry, no_entries}
+use Rattle.spec_data.specs.Moments.{moment_text, day_from, day_in, day_text}
+use Rattle.spec_data.specs.Rows.{Row, doc}
 use Rattle.index_tree.specs.Definitions.{Definition}
 use Rattle.index_tree.specs.Mapper.{Mapper, mapper_of, is_mapped}
 use Rattle.spec_index.specs.Mapping.{entry_of}

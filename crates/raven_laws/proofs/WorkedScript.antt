@@ -9,10 +9,10 @@ use Rattle.json.specs.Json.{value}
 use Rattle.json.specs.Lex.{punctuate, lex}
 use Rattle.json.specs.Text.{content}
 use Rattle.serde_json.specs.Read as json
-use Rattle.raven_data.specs.Data.{Data}
-use Rattle.raven_data.specs.Faults.{control}
-use Rattle.raven_data.specs.Json.{JsonRefusal, not_json, too_deep, reading, whole}
-use Rattle.raven_data.specs.Scan.{is_too_deep, outside}
+use Rattle.spec_data.specs.Data.{Data}
+use Rattle.spec_data.specs.Faults.{control}
+use Rattle.spec_data.specs.Json.{JsonRefusal, not_json, too_deep, reading, whole}
+use Rattle.spec_data.specs.Scan.{is_too_deep, outside}
 use Rattle.spec_store.specs.Commit.{AnyVector, Vector}
 use Rattle.spec_server.specs.Replies.{Found, printed}
 use Rattle.spec_server.specs.Machine.{Machine, Request, Delete, Get, Remove, Auto, Find, Pump, Stale, Indexes, Stats, start, takes_all}

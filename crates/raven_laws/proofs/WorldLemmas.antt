@@ -1,7 +1,7 @@
 -- Later worlds, and the change of a world in which an index is added.
 use Rattle.std.proofs.Common.{◌≡◌, ℕ, ◌+◌, ◌<◌, ◌≤◌, List, [], ◌∷◌, ◌++◌, Bool, true, false, not, cond, filter, nat_le, length, is_some, Option, Some, None, Result, Ok, Err, refl, sym, ap, ◌∙◌, subst, arith, ◌⊎◌, inl, inr, append_assoc, length-append}
 use Rattle.std.proofs.lemmas.Bool.{leb-false}
-use Rattle.raven_data.specs.Folding.{folded, same_key}
+use Rattle.spec_data.specs.Folding.{folded, same_key}
 use Rattle.spec_store.specs.Store.{Store, last, IsStore}
 use Rattle.spec_store.specs.Later.{Later}
 use Rattle.index_tree.specs.Definitions.{Definition, same_definition}

@@ -2,9 +2,9 @@
 use Rattle.std.proofs.Common.{◌≡◌, ℕ, ◌+◌, List, [], ◌∷◌, ◌++◌, Bool, true, false, cond, length, nat_le, nat_eq, codes, is_some, Option, Some, None, Result, Ok, Err, refl, sym, ap, ◌∙◌, subst, ◌⊎◌, inl, inr}
 use Rattle.std.specs.List.{starts_with}
 use Rattle.std.specs.Option.{option_map}
-use Rattle.raven_data.specs.Data.{Data}
-use Rattle.raven_data.specs.Folding.{folded, same_key}
-use Rattle.raven_data.specs.Rows.{Row, key}
+use Rattle.spec_data.specs.Data.{Data}
+use Rattle.spec_data.specs.Folding.{folded, same_key}
+use Rattle.spec_data.specs.Rows.{Row, key}
 use Rattle.spec_store.specs.Store.{Store, row_at, last, put}
 use Rattle.index_tree.specs.Definitions.{Definition, same_definition}
 use Rattle.spec_store.specs.Commit.{Command, Expect, Client, Server, Setting, Refused, Written, after_command, after_commands, commit, document_at, id_of, is_index_id, row_spelling, refusal_of, row_of, tombstone, or_refused, vector_of, with_option, with_written, etags_taken}

@@ -1,7 +1,7 @@
 -- What the laws claim of the answers of a machine.
 use Rattle.std.specs.Prelude.{◌≡◌, ℕ, List, [], ◌∷◌, Bool, true, false, Option, Some, None, IsTrue, ◌↔◌, map}
-use Rattle.raven_data.specs.Folding.{folded}
-use Rattle.raven_data.specs.Rows.{Row, is_document}
+use Rattle.spec_data.specs.Folding.{folded}
+use Rattle.spec_data.specs.Rows.{Row, is_document}
 use Rattle.spec_store.specs.Store.{row_at, Store}
 use Rattle.spec_index.specs.Index.{documents}
 use Rattle.index_tree.specs.Definitions.{Definition}

@@ -1,9 +1,9 @@
 -- What the laws claim of defining an index, of removing one, and of a batch for one.
 use Rattle.std.specs.Prelude.{◌≡◌, ℕ, ◌+◌, ◌<◌, ◌≤◌, List, [], ◌∷◌, ◌++◌, true, false, Option, Some, None, Err, length, ◌⊎◌}
 use Rattle.std.specs.FinMap.{empty}
-use Rattle.raven_data.specs.Folding.{folded, same_key}
-use Rattle.raven_data.specs.Members.{Path}
-use Rattle.raven_data.specs.Rows.{Row}
+use Rattle.spec_data.specs.Folding.{folded, same_key}
+use Rattle.spec_data.specs.Members.{Path}
+use Rattle.spec_data.specs.Rows.{Row}
 use Rattle.index_tree.specs.declared.map_query.MapQuery.{MapQuery}
 use Rattle.index_tree.specs.declared.reduce_query.ReduceQuery.{ReduceQuery}
 use Rattle.spec_store.specs.Store.{row_at, last}

@@ -1,7 +1,7 @@
 -- What a keeper stores after events.
 use Rattle.std.specs.Prelude.{List, [], ◌∷◌, if◌then◌else◌}
-use Rattle.raven_data.specs.Rows.{Row}
-use Rattle.raven_data.specs.Kept.{KeptRow, all_kept, keep_all}
+use Rattle.spec_data.specs.Rows.{Row}
+use Rattle.spec_data.specs.Kept.{KeptRow, all_kept, keep_all}
 use Rattle.spec_server.specs.Machine.{Machine, Event, Keeping, after, change_of, is_taken}
 
 -- the rows, if the keeper takes them

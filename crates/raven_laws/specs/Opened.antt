@@ -1,7 +1,7 @@
 -- What stored rows open, if each definition that was read of a row agrees with the row's body.
 use Rattle.std.specs.Prelude.{◌≡◌, List, [], ◌∷◌, Some, None, IsTrue}
-use Rattle.raven_data.specs.Kept.{KeptRow}
-use Rattle.raven_data.specs.Rows.{Body, doc, gone}
+use Rattle.spec_data.specs.Kept.{KeptRow}
+use Rattle.spec_data.specs.Rows.{Body, doc, gone}
 use Rattle.spec_store.specs.Commit.{Setting}
 use Rattle.spec_server.specs.Opening.{OpenedFrom, BodyForm, NoForm, AutoForm, StaticForm, ReadRow, body_form, is_defining}
 use Rattle.spec_server.specs.Machine.{Machine}

@@ -1,6 +1,6 @@
 -- What a step does to the index that serves a name.
 use Rattle.std.specs.Prelude.{◌≡◌, ℕ, List, Some, ◌⊎◌}
-use Rattle.raven_data.specs.Folding.{folded}
+use Rattle.spec_data.specs.Folding.{folded}
 use Rattle.spec_index.specs.World.{Slot, serving}
 use Rattle.spec_server.specs.Machine.{Keeping, Machine, Replied, Request, Remove, step}
 use Rattle.spec_server.specs.Replies.{Reply}

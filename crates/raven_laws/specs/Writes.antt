@@ -1,8 +1,8 @@
 -- What the laws claim of a machine's writes.
 use Rattle.std.specs.Prelude.{◌≡◌, ℕ, ◌+◌, List, [], ◌∷◌, ◌++◌, Bool, true, false, Some, None, Ok, Err, ◌⊎◌}
-use Rattle.raven_data.specs.Data.{Data}
-use Rattle.raven_data.specs.Folding.{folded, same_key}
-use Rattle.raven_data.specs.Rows.{Row, doc}
+use Rattle.spec_data.specs.Data.{Data}
+use Rattle.spec_data.specs.Folding.{folded, same_key}
+use Rattle.spec_data.specs.Rows.{Row, doc}
 use Rattle.spec_store.specs.Store.{Store, row_at, last}
 use Rattle.spec_store.specs.Commit.{Command, Expect, Client, Refused, Written, after_commands, collection_of, commit, document_at, etags_taken, refusal_of, row_of, stored_body, tombstone, vector_of}
 use Rattle.spec_server.specs.Replies.{Reply}

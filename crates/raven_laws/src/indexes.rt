@@ -4,11 +4,11 @@ ghost use Rattle.std.specs.Prelude.{◌≡◌, ◌≤◌, ◌↔◌, ℕ, nat_lt
 ghost use Rattle.std.specs.Cmp.{IsTotalOrder};
 ghost use Rattle.std.specs.FinMap.{get};
 ghost use Rattle.std.specs.Option.{option_and_then};
-ghost use Rattle.raven_data.specs.Rows.{Row};
-ghost use Rattle.raven_data.specs.Scalars.{order};
+ghost use Rattle.spec_data.specs.Rows.{Row};
+ghost use Rattle.spec_data.specs.Scalars.{order};
 ghost use Rattle.spec_store.specs.Store.{Store, IsStore, last, row_at};
 ghost use Rattle.spec_store.specs.Later.{Later};
-ghost use Rattle.raven_data.specs.Tables.{Scope, Table, note_rows};
+ghost use Rattle.spec_data.specs.Tables.{Scope, Table, note_rows};
 ghost use Rattle.spec_index.specs.Index.{Agrees, etag_of_batch, record_of, documents};
 ghost use Rattle.spec_store.specs.Stale.{batch_rows, stale, newest, up_to, Unseen};
 ghost use Rattle.index_tree.specs.Mapper.{Mapper, scope_of};

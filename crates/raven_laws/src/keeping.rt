@@ -1,8 +1,8 @@
 //! What a keeper stores for a store, and for a machine.
 
 ghost use Rattle.std.specs.Prelude.{◌≡◌, ℕ, List, None};
-ghost use Rattle.raven_data.specs.Rows.{Row};
-ghost use Rattle.raven_data.specs.Kept.{EtagsRise, all_kept, keep_all, last_kept};
+ghost use Rattle.spec_data.specs.Rows.{Row};
+ghost use Rattle.spec_data.specs.Kept.{EtagsRise, all_kept, keep_all, last_kept};
 ghost use Rattle.spec_store.specs.Commit.{AreNext};
 ghost use Rattle.spec_server.specs.Machine.{Event, Machine, Request, change_of, run};
 ghost use Rattle.spec_server.specs.Script.{Given, after_lines, events_of};

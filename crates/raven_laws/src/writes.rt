@@ -1,8 +1,8 @@
 //! What a request writes, and what it leaves alone.
 
 ghost use Rattle.std.specs.Prelude.{◌≡◌, ℕ, List, [], Option, Some, false};
-ghost use Rattle.raven_data.specs.Data.{Data};
-ghost use Rattle.raven_data.specs.Rows.{Row};
+ghost use Rattle.spec_data.specs.Data.{Data};
+ghost use Rattle.spec_data.specs.Rows.{Row};
 ghost use Rattle.spec_store.specs.Store.{row_at};
 ghost use Rattle.spec_store.specs.Commit.{Command, Expect, Setting, is_index_id};
 ghost use Rattle.spec_server.specs.Machine.{Auto, Event, Keeping, Machine, Request, Pump, commands_in, run, start, step};

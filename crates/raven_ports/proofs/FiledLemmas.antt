@@ -12,8 +12,8 @@ use Rattle.std.proofs.lemmas.Bool.Decides.{nat_tests}
 use Rattle.std.proofs.lemmas.List.{map-append, append-nil, append_assoc, take_all}
 use Rattle.std.proofs.lemmas.Map.Text.{is_eq-slice_cmp}
 use Rattle.std.proofs.lemmas.Slice.Eq.{bytes_eq-Decides}
-use Rattle.raven_data.specs.Folding.{key_cmp, same_key}
-use Rattle.raven_data.specs.Kept.{KeptRow, EtagsRise, is_past, last_kept, keep, kept_key}
+use Rattle.spec_data.specs.Folding.{key_cmp, same_key}
+use Rattle.spec_data.specs.Kept.{KeptRow, EtagsRise, is_past, last_kept, keep, kept_key}
 use Rattle.paged_map.specs.Pairs.{AllAnswer}
 use Rattle.paged_map.proofs.Laws.{lookup-insert_entry, insert_last}
 use Rattle.raven_ports.specs.Filed.{rows_in, by_etag, etag_at, AreApart, Shows}

@@ -3,8 +3,8 @@ use Rattle.std.proofs.Common.{◌≡◌, ℕ, zero, suc, ◌<◌, List, [], ◌�
 use Rattle.std.proofs.lemmas.Bool.{ltb-true}
 use Rattle.std.proofs.lemmas.List.{append_assoc, drop_more}
 use Rattle.std.proofs.lemmas.List.Elements.{filter-append}
-use Rattle.raven_data.specs.Folding.{same_key}
-use Rattle.raven_data.specs.Kept.{KeptRow, EtagsRise, is_past, kept_after, last_kept, keep, keep_all, kept_key}
+use Rattle.spec_data.specs.Folding.{same_key}
+use Rattle.spec_data.specs.Kept.{KeptRow, EtagsRise, is_past, kept_after, last_kept, keep, keep_all, kept_key}
 use Rattle.raven_ports.specs.Filed.{is_among}
 use Rattle.raven_ports.proofs.RisingLemmas.{IsPast, past_on}
 

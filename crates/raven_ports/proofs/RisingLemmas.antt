@@ -1,7 +1,7 @@
 -- Rows whose etags rise, one after another.
 use Rattle.std.proofs.Common.{◌≡◌, ℕ, ◌<◌, List, [], ◌∷◌, ◌++◌, true, Option, Some, None, IfSome, refl, sym, ap, ◌∙◌, subst, arith}
 use Rattle.std.proofs.lemmas.Bool.{ltb-true}
-use Rattle.raven_data.specs.Kept.{KeptRow, EtagsRise, is_past, last_kept}
+use Rattle.spec_data.specs.Kept.{KeptRow, EtagsRise, is_past, last_kept}
 
 -- past the etag, if there is one
 abbrev pub IsPast : Option ℕ → ℕ → Type 0

@@ -3,8 +3,8 @@ use Rattle.std.specs.Prelude.{◌≡◌, ℕ, List, [], ◌∷◌, Option, Some,
 use Rattle.std.specs.List.{list_any}
 use Rattle.std.specs.Map.{lookup}
 use Rattle.std.specs.BTreeMap.{is_at}
-use Rattle.raven_data.specs.Folding.{key_cmp, same_key}
-use Rattle.raven_data.specs.Kept.{KeptRow, EtagsRise, kept_key}
+use Rattle.spec_data.specs.Folding.{key_cmp, same_key}
+use Rattle.spec_data.specs.Kept.{KeptRow, EtagsRise, kept_key}
 
 -- the rows of a map
 abbrev pub rows_in : List (ℕ × KeptRow) → List KeptRow

@@ -1,6 +1,6 @@
 -- What a keeper in memory is seen as.
 use Rattle.std.specs.Prelude.{ℕ, List, ◌==◌, length, if◌then◌else◌, Some}
-use Rattle.raven_data.specs.Kept.{KeptRow}
+use Rattle.spec_data.specs.Kept.{KeptRow}
 use Rattle.raven_ports.specs.Plan.{Plan}
 use Rattle.raven_ports.specs.States.{KeeperState}
 

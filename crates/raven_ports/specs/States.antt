@@ -1,7 +1,7 @@
 -- What contracts see of a device at one moment.
 -- A device in memory reports its contents; of a real one contracts see only how often it has failed.
 use Rattle.std.specs.Prelude.{ℕ, List, Option}
-use Rattle.raven_data.specs.Kept.{KeptRow}
+use Rattle.spec_data.specs.Kept.{KeptRow}
 use Rattle.raven_ports.specs.Plan.{Plan}
 
 -- a source: the bytes that are left, if it reports them, and how often it has failed

@@ -2,8 +2,8 @@
 ghost use Rattle.std.specs.Prelude.{◌≡◌, ◌≤◌, ◌<◌, ◌++◌, [], None, filter, length, not, option_map, take, IfOk, IfSome, OnOk};
 ghost use Rattle.std.specs.Option.{option_copied};
 ghost use Rattle.std.specs.List.{find};
-ghost use Rattle.raven_data.specs.Folding.{same_key};
-ghost use Rattle.raven_data.specs.Kept.{EtagsRise, is_past, keep, keep_all, kept_key, last_kept};
+ghost use Rattle.spec_data.specs.Folding.{same_key};
+ghost use Rattle.spec_data.specs.Kept.{EtagsRise, is_past, keep, keep_all, kept_key, last_kept};
 ghost use Rattle.raven_ports.specs.Filed.{by_etag};
 
 use crate::keeper::{KeptRow, KeptRows};
@@ -27,8 +27,8 @@ pub(crate) struct Committed {
 impl Model for Committed {
     ghost use Rattle.std.specs.Prelude.{List};
     ghost use Rattle.std.specs.Coded.{coded_list};
-    ghost use Rattle.raven_data.specs.Kept as kept;
-    ghost use Rattle.raven_data.specs.Kept.{kept_code};
+    ghost use Rattle.spec_data.specs.Kept as kept;
+    ghost use Rattle.spec_data.specs.Kept.{kept_code};
     ghost use Rattle.raven_ports.specs.Filed.{Shows, rows_in};
 
     ghost Value = { List kept.KeptRow };

@@ -1,7 +1,7 @@
 //! What stores the rows of a database, and what gives the time.
 ghost use Rattle.std.specs.Prelude.{◌≡◌, ◌<◌, ◌≤◌, ◌↔◌, ℕ, length, true, Option, None, option_map, IfOk, IfSome, OnErr, OnOk, IsErrOf};
-ghost use Rattle.raven_data.specs.Kept.{EtagsRise, keep_all, kept_after, last_kept};
-ghost use Rattle.raven_data.specs.Limits.{moments_end};
+ghost use Rattle.spec_data.specs.Kept.{EtagsRise, keep_all, kept_after, last_kept};
+ghost use Rattle.spec_data.specs.Limits.{moments_end};
 ghost use Rattle.raven_ports.specs.Faults.{Rose};
 ghost use Rattle.raven_ports.specs.Plan.{is_failing, one_later};
 ghost use Rattle.raven_ports.specs.States.{KeeperState};
@@ -30,8 +30,8 @@ pub struct KeptRow {
 }
 
 impl Model for KeptRow {
-    ghost use Rattle.raven_data.specs.Kept as kept;
-    ghost use Rattle.raven_data.specs.Kept.{kept_code};
+    ghost use Rattle.spec_data.specs.Kept as kept;
+    ghost use Rattle.spec_data.specs.Kept.{kept_code};
 
     ghost Value = { kept.KeptRow };
 

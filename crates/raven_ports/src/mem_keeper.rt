@@ -1,8 +1,8 @@
 //! A keeper in memory, whose calls fail by a list.
 ghost use Rattle.std.specs.Prelude.{◌≡◌, ◌≤◌, ◌↔◌, ◌++◌, [], Some, None, filter, length, not, true, option_map, unwrap_or, IfOk, IfSome, OnErr, OnOk, IsErrOf};
 ghost use Rattle.std.specs.Option.{option_copied};
-ghost use Rattle.raven_data.specs.Kept.{EtagsRise, is_past as spec_is_past, keep_all, kept_after, kept_key, last_kept};
-ghost use Rattle.raven_data.specs.Folding.{same_key};
+ghost use Rattle.spec_data.specs.Kept.{EtagsRise, is_past as spec_is_past, keep_all, kept_after, kept_key, last_kept};
+ghost use Rattle.spec_data.specs.Folding.{same_key};
 ghost use Rattle.raven_ports.specs.Faults.{Rose};
 ghost use Rattle.raven_ports.specs.Filed.{is_among};
 ghost use Rattle.raven_ports.specs.KeptMemory.{keeper_state};
@@ -30,7 +30,7 @@ pub struct MemKeeper {
 
 impl Model for MemKeeper {
     ghost use Rattle.std.specs.Prelude.{◌++◌, [], None, unwrap_or};
-    ghost use Rattle.raven_data.specs.Kept.{EtagsRise};
+    ghost use Rattle.spec_data.specs.Kept.{EtagsRise};
     ghost use Rattle.raven_ports.specs.KeptMemory.{KeptMemory};
 
     ghost Value = { KeptMemory };

@@ -1,6 +1,6 @@
 //! Whether etags rise.
 ghost use Rattle.std.specs.Prelude.{◌↔◌, IsTrue, None};
-ghost use Rattle.raven_data.specs.Kept.{EtagsRise};
+ghost use Rattle.spec_data.specs.Kept.{EtagsRise};
 
 use crate::keeper::KeptRow;
 

@@ -1,6 +1,6 @@
 //! A clock that stands still.
 ghost use Rattle.std.specs.Prelude.{◌≡◌, ◌<◌, Some};
-ghost use Rattle.raven_data.specs.Limits.{moments_end};
+ghost use Rattle.spec_data.specs.Limits.{moments_end};
 
 use crate::keeper::Clock;
 use std::marker::Model;
@@ -13,7 +13,7 @@ pub struct StillClock {
 
 impl Model for StillClock {
     ghost use Rattle.std.specs.Prelude.{ℕ, ◌<◌};
-    ghost use Rattle.raven_data.specs.Limits.{moments_end};
+    ghost use Rattle.spec_data.specs.Limits.{moments_end};
 
     ghost Value = { ℕ };
 

@@ -1,7 +1,7 @@
 -- What a text says is a definition by that text, so what is read of a row agrees with its body.
 use Rattle.std.proofs.Common.{◌≡◌, ℕ, List, [], ◌∷◌, true, Option, Some, None, option_map, Result, Ok, Err, refl, sym, ap, ◌∙◌, subst}
-use Rattle.raven_data.specs.Kept.{KeptRow}
-use Rattle.raven_data.specs.Rows.{Body, doc, gone}
+use Rattle.spec_data.specs.Kept.{KeptRow}
+use Rattle.spec_data.specs.Rows.{Body, doc, gone}
 use Rattle.spec_store.specs.Commit.{Setting}
 use Rattle.spec_store.specs.Kept.{rows_in}
 use Rattle.index_tree.specs.Language as is

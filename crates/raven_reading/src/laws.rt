@@ -1,8 +1,8 @@
 //! The laws of what is read, each the contract of a function without a body.
 
 ghost use Rattle.std.specs.Prelude.{◌≡◌, ℕ, List, Ok, Result};
-ghost use Rattle.raven_data.specs.Kept.{KeptRow};
-ghost use Rattle.raven_data.specs.Rows.{Row};
+ghost use Rattle.spec_data.specs.Kept.{KeptRow};
+ghost use Rattle.spec_data.specs.Rows.{Row};
 ghost use Rattle.spec_store.specs.Commit.{Setting};
 ghost use Rattle.spec_server.specs.Opening.{OpenedFrom};
 ghost use Rattle.index_tree.specs.Language.{LangRefusal};

@@ -2,7 +2,7 @@
 use Rattle.std.proofs.Common.{◌≡◌, ℕ, ◌+◌, ◌<◌, List, [], ◌∷◌, true, false, not, cond, nat_lt, nat_le, is_some, length, filter, Option, Some, None, Result, Ok, Err, refl, arith}
 use Rattle.std.proofs.lemmas.Bool.{ltb-false}
 use Rattle.std.specs.List.{list_any}
-use Rattle.raven_data.specs.Moments.{moments_end}
+use Rattle.spec_data.specs.Moments.{moments_end}
 use Rattle.spec_store.specs.Store.{last}
 use Rattle.index_tree.specs.Definitions.{Definition, Auto, same_definition}
 use Rattle.spec_server.specs.Opening.{is_auto_name}

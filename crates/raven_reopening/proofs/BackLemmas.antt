@@ -5,9 +5,9 @@ use Rattle.std.proofs.lemmas.List.{length-append}
 use Rattle.std.proofs.lemmas.Slice.Eq.{bytes_eq-Decides}
 use Rattle.std.specs.List.{cons_option, filter_map}
 use Rattle.std.specs.Str.{bytes_eq}
-use Rattle.raven_data.specs.Folding.{folded, same_key}
-use Rattle.raven_data.specs.Kept.{KeptRow, all_kept}
-use Rattle.raven_data.specs.Rows.{Row, Body, doc, gone, key, is_document}
+use Rattle.spec_data.specs.Folding.{folded, same_key}
+use Rattle.spec_data.specs.Kept.{KeptRow, all_kept}
+use Rattle.spec_data.specs.Rows.{Row, Body, doc, gone, key, is_document}
 use Rattle.spec_store.specs.Commit.{Setting, stored_body}
 use Rattle.spec_server.specs.Machine.{Event, Machine, run}
 use Rattle.index_tree.specs.Definitions.{Definition}

@@ -5,12 +5,12 @@ use Rattle.std.specs.List.{list_any}
 use Rattle.std.specs.Ordering.{match_ordering}
 use Rattle.std.specs.Str.{bytes_eq}
 use Rattle.json.proofs.Printed.Utf8.{IsUtf8-are_ascii}
-use Rattle.raven_data.specs.Data.{Data, null, flag, num, text, array, object, Entries, no_entries, entry, depth, entries_depth, entries_of, pairs_of}
-use Rattle.raven_data.specs.Folding.{key_cmp}
-use Rattle.raven_data.specs.Members.{member}
-use Rattle.raven_data.specs.Rising.{Pairs, IsBelowAll, IsRising, put}
-use Rattle.raven_data.specs.Sound.{IsSound, HasSound}
-use Rattle.raven_data.specs.Written.{text_of}
+use Rattle.spec_data.specs.Data.{Data, null, flag, num, text, array, object, Entries, no_entries, entry, depth, entries_depth, entries_of, pairs_of}
+use Rattle.spec_data.specs.Folding.{key_cmp}
+use Rattle.spec_data.specs.Members.{member}
+use Rattle.spec_data.specs.Rising.{Pairs, IsBelowAll, IsRising, put}
+use Rattle.spec_data.specs.Sound.{IsSound, HasSound}
+use Rattle.spec_data.specs.Written.{text_of}
 use Rattle.spec_store.specs.Commit.{clean_metadata, is_server_member, stored_body}
 use Rattle.spec_store.specs.Kept.{is_clean, max_body}
 use Rattle.index_tree.specs.declared.map_query.MapQuery.{MapQuery}
@@ -18,7 +18,7 @@ use Rattle.index_tree.specs.Definitions.{Auto, Static}
 use Rattle.spec_server.specs.Opening.{AutoForm, StaticForm, body_form, form_of, is_part}
 use Rattle.spec_index.specs.World.{row_body}
 use Rattle.spec_store.proofs.KeyedLemmas.{differ_greater}
-use Rattle.raven_data.proofs.MemberLemmas.{IsRising-put, pairs_of-entries_of}
+use Rattle.spec_data.proofs.MemberLemmas.{IsRising-put, pairs_of-entries_of}
 use Rattle.raven_reopening.specs.Form.{IsRequestBody, IsStorable}
 use Rattle.raven_reopening.proofs.ReadLemmas.{IsReadBack, document-back}
 

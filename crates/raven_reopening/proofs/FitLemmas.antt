@@ -8,8 +8,8 @@ use Rattle.std.specs.Char.{to_ascii_lowercase, digit_value}
 use Rattle.std.specs.Fmt.{decimal}
 use Rattle.std.specs.List.{position_from, starts_with}
 use Rattle.std.specs.Str.Parse.{AllDigits}
-use Rattle.raven_data.specs.Faults.{empty, too_long, control, is_control, is_fit}
-use Rattle.raven_data.specs.Folding.{folded}
+use Rattle.spec_data.specs.Faults.{empty, too_long, control, is_control, is_fit}
+use Rattle.spec_data.specs.Folding.{folded}
 use Rattle.index_tree.specs.Definitions.{Definition, Static, Auto}
 use Rattle.spec_server.specs.Opening.{is_auto_name, is_static_name, may_be_named}
 use Rattle.spec_index.specs.Optimiser.{Shape, plain_name, free_name, first_free, name_of}

@@ -3,13 +3,13 @@ use Rattle.std.proofs.Common.{◌≡◌, ℕ, ◌+◌, ◌<◌, ◌≤◌, List,
 use Rattle.std.proofs.lemmas.Bool.{le-leb, lt-ltb, ltb-false, leb-true}
 use Rattle.std.specs.List.{starts_with}
 use Rattle.std.specs.Str.{bytes_eq}
-use Rattle.raven_data.specs.Data.{Data, text}
-use Rattle.raven_data.specs.Faults.{is_fit, max_id}
-use Rattle.raven_data.specs.Folding.{folded, same_key}
-use Rattle.raven_data.specs.Members.{value_at}
-use Rattle.raven_data.specs.Moments.{moments_end}
-use Rattle.raven_data.specs.Rows.{Row, Body, doc, key}
-use Rattle.raven_data.specs.Written.{text_of}
+use Rattle.spec_data.specs.Data.{Data, text}
+use Rattle.spec_data.specs.Faults.{is_fit, max_id}
+use Rattle.spec_data.specs.Folding.{folded, same_key}
+use Rattle.spec_data.specs.Members.{value_at}
+use Rattle.spec_data.specs.Moments.{moments_end}
+use Rattle.spec_data.specs.Rows.{Row, Body, doc, key}
+use Rattle.spec_data.specs.Written.{text_of}
 use Rattle.spec_store.specs.Store.{row_at, put, Store, last, with_row}
 use Rattle.spec_store.specs.Kept.{max_body, is_etag}
 use Rattle.index_tree.specs.Definitions.{Definition}

@@ -5,13 +5,13 @@ use Rattle.std.proofs.lemmas.Bool.{ltb-true, ltb-false, ne_eqb}
 use Rattle.std.proofs.lemmas.Str.{IsUtf8-append, IsUtf8-encode, IsUtf8-from_is_utf8, IsUtf8-nil, encode_ascii}
 use Rattle.std.specs.List.{list_any, cons_option}
 use Rattle.std.specs.Str.{bytes_eq, is_utf8}
-use Rattle.raven_data.specs.Data.{Data, null, flag, num, text, array, object, Items, no_items, item, Entries, items_depth, list_of}
-use Rattle.raven_data.specs.Faults.{fault_of, is_fit, max_id, max_name}
-use Rattle.raven_data.specs.Json.{JsonRefusal, reading}
-use Rattle.raven_data.specs.Kept.{KeptRow}
-use Rattle.raven_data.specs.Members.{member}
-use Rattle.raven_data.specs.Moments.{moments_end}
-use Rattle.raven_data.specs.Sound.{AreSound}
+use Rattle.spec_data.specs.Data.{Data, null, flag, num, text, array, object, Items, no_items, item, Entries, items_depth, list_of}
+use Rattle.spec_data.specs.Faults.{fault_of, is_fit, max_id, max_name}
+use Rattle.spec_data.specs.Json.{JsonRefusal, reading}
+use Rattle.spec_data.specs.Kept.{KeptRow}
+use Rattle.spec_data.specs.Members.{member}
+use Rattle.spec_data.specs.Moments.{moments_end}
+use Rattle.spec_data.specs.Sound.{AreSound}
 use Rattle.spec_store.specs.Commit.{Command, Expect, AnyVector, Vector, Setting}
 use Rattle.index_tree.specs.Language.{LangRefusal}
 use Rattle.index_tree.specs.Definitions.{Definition}

@@ -3,13 +3,13 @@ use Rattle.std.proofs.Common.{◌≡◌, ◌⊎◌, ℕ, ◌+◌, ◌≤◌, Lis
 use Rattle.std.proofs.lemmas.Bool.{leb-true, ltb-true}
 use Rattle.std.proofs.lemmas.Slice.Eq.{bytes_eq-Decides}
 use Rattle.std.specs.Str.{bytes_eq}
-use Rattle.raven_data.specs.Data.{Data}
-use Rattle.raven_data.specs.Faults.{is_fit, max_id}
-use Rattle.raven_data.specs.Json.{JsonRefusal, reading}
-use Rattle.raven_data.specs.Kept.{KeptRow}
-use Rattle.raven_data.specs.Moments.{moments_end}
-use Rattle.raven_data.specs.Rows.{Row, Body, doc, gone}
-use Rattle.raven_data.specs.Written.{text_of}
+use Rattle.spec_data.specs.Data.{Data}
+use Rattle.spec_data.specs.Faults.{is_fit, max_id}
+use Rattle.spec_data.specs.Json.{JsonRefusal, reading}
+use Rattle.spec_data.specs.Kept.{KeptRow}
+use Rattle.spec_data.specs.Moments.{moments_end}
+use Rattle.spec_data.specs.Rows.{Row, Body, doc, gone}
+use Rattle.spec_data.specs.Written.{text_of}
 use Rattle.spec_store.specs.Commit.{Setting}
 use Rattle.spec_store.specs.Kept.{max_body, is_stored, document_of, body_in, is_etag, row_in, row_if_it_follows, or_bad_row, rows_after, rows_in}
 use Rattle.spec_server.specs.Machine.{Machine}

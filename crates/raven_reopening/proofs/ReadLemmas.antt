@@ -5,14 +5,14 @@ use Rattle.std.proofs.lemmas.List.{length-append}
 use Rattle.std.proofs.lemmas.Slice.Eq.{bytes_eq-Decides}
 use Rattle.std.specs.Cmp.Lexicographic.{nat_list_eq_equiv}
 use Rattle.std.specs.Str.{bytes_eq}
-use Rattle.raven_data.specs.Data.{Data}
-use Rattle.raven_data.specs.Faults.{is_fit, max_id}
-use Rattle.raven_data.specs.Folding.{same_key}
-use Rattle.raven_data.specs.Json.{reading}
-use Rattle.raven_data.specs.Kept.{all_kept, body_text, kept}
-use Rattle.raven_data.specs.Moments.{moments_end}
-use Rattle.raven_data.specs.Rows.{Row, Body, doc, gone, key}
-use Rattle.raven_data.specs.Written.{text_of}
+use Rattle.spec_data.specs.Data.{Data}
+use Rattle.spec_data.specs.Faults.{is_fit, max_id}
+use Rattle.spec_data.specs.Folding.{same_key}
+use Rattle.spec_data.specs.Json.{reading}
+use Rattle.spec_data.specs.Kept.{all_kept, body_text, kept}
+use Rattle.spec_data.specs.Moments.{moments_end}
+use Rattle.spec_data.specs.Rows.{Row, Body, doc, gone, key}
+use Rattle.spec_data.specs.Written.{text_of}
 use Rattle.spec_store.specs.Kept.{max_body, is_stored, document_of, document_in, body_in, is_etag, row_in, can_follow, row_if_it_follows, or_bad_row, rows_after, rows_in}
 use Rattle.spec_store.specs.Store.{row_at, last_of, AreRising, AreApart, Store, IsStore}
 use Rattle.spec_store.proofs.StoreLemmas.{AreRising-back}

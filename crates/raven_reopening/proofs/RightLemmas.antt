@@ -1,7 +1,7 @@
 -- The definitions of indexes are right: each is read again from the body of its row, and may have its name.
 use Rattle.std.proofs.Common.{◌≡◌, ℕ, ◌≤◌, List, [], ◌∷◌, Bool, true, false, if◌then◌else◌, length, filter, map, Some, None, Ok, refl, sym, ◌∙◌, subst, inl, inr}
-use Rattle.raven_data.specs.Faults.{max_name}
-use Rattle.raven_data.specs.Rows.{doc}
+use Rattle.spec_data.specs.Faults.{max_name}
+use Rattle.spec_data.specs.Rows.{doc}
 use Rattle.spec_store.specs.Commit.{stored_body}
 use Rattle.index_tree.specs.Definitions.{Definition, Static, Auto}
 use Rattle.spec_server.specs.Opening.{is_auto_name, may_be_named}

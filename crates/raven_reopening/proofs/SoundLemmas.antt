@@ -14,16 +14,16 @@ use Rattle.serde_json.specs.Data as json
 use Rattle.serde_json.specs.Data.{Num, unsigned, negative, float}
 use Rattle.serde_json.specs.Find.{as_i64}
 use Rattle.serde_json.specs.Read.{is_integer, float_of, number_from, number_of, of_json, of_items, of_members, read, max_depth}
-use Rattle.raven_data.specs.Data.{Data, null, flag, num, text, array, object, depth, items_depth, entries_depth, Entries, entries_of, pairs_of}
-use Rattle.raven_data.specs.Data as own
-use Rattle.raven_data.specs.Folding.{key_cmp}
-use Rattle.raven_data.specs.Json as is
-use Rattle.raven_data.specs.Json.{JsonRefusal, reading, whole, or_refusal, number_not_whole, too_deep, value_of, members_of}
-use Rattle.raven_data.specs.Rising.{Pairs, IsRising, put}
-use Rattle.raven_data.specs.Scan.{is_too_deep, outside}
-use Rattle.raven_data.specs.Sound.{IsSound, AreSound}
+use Rattle.spec_data.specs.Data.{Data, null, flag, num, text, array, object, depth, items_depth, entries_depth, Entries, entries_of, pairs_of}
+use Rattle.spec_data.specs.Data as own
+use Rattle.spec_data.specs.Folding.{key_cmp}
+use Rattle.spec_data.specs.Json as is
+use Rattle.spec_data.specs.Json.{JsonRefusal, reading, whole, or_refusal, number_not_whole, too_deep, value_of, members_of}
+use Rattle.spec_data.specs.Rising.{Pairs, IsRising, put}
+use Rattle.spec_data.specs.Scan.{is_too_deep, outside}
+use Rattle.spec_data.specs.Sound.{IsSound, AreSound}
 use Rattle.spec_store.proofs.StoreLemmas.{both_true}
-use Rattle.raven_data.proofs.MemberLemmas.{IsRising-put}
+use Rattle.spec_data.proofs.MemberLemmas.{IsRising-put}
 use Rattle.raven_reopening.proofs.BodyLemmas.{ArePairsSound, put-sound, put-depth, object-sound}
 use Rattle.raven_reopening.proofs.LexLemmas.{AreGood, tokens-good}
 

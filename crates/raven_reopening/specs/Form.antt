@@ -1,12 +1,12 @@
 -- Which rows can be stored and read again, and which requests write only such rows.
 use Rattle.std.specs.Prelude.{◌≡◌, ℕ, ◌<◌, ◌≤◌, List, [], ◌∷◌, None, Ok, IsTrue, IsUtf8, length}
 use Rattle.index_tree.specs.declared.map_query.MapQuery.{MapQuery}
-use Rattle.raven_data.specs.Data.{Data, Entries, object, depth}
-use Rattle.raven_data.specs.Faults.{is_fit, max_id, max_name}
-use Rattle.raven_data.specs.Moments.{moments_end}
-use Rattle.raven_data.specs.Rows.{Row, Body, doc, gone}
-use Rattle.raven_data.specs.Sound.{IsSound}
-use Rattle.raven_data.specs.Written.{text_of}
+use Rattle.spec_data.specs.Data.{Data, Entries, object, depth}
+use Rattle.spec_data.specs.Faults.{is_fit, max_id, max_name}
+use Rattle.spec_data.specs.Moments.{moments_end}
+use Rattle.spec_data.specs.Rows.{Row, Body, doc, gone}
+use Rattle.spec_data.specs.Sound.{IsSound}
+use Rattle.spec_data.specs.Written.{text_of}
 use Rattle.spec_store.specs.Commit.{Command, Put, Delete}
 use Rattle.spec_store.specs.Kept.{is_etag, is_stored, max_body}
 use Rattle.spec_server.specs.Machine.{Event, Request, Define, Auto, commands_in}

@@ -1,7 +1,7 @@
 -- What opens from the rows of a database is that database again.
 use Rattle.std.specs.Prelude.{◌≡◌, List, [], Ok}
-use Rattle.raven_data.specs.Folding.{folded}
-use Rattle.raven_data.specs.Kept.{all_kept}
+use Rattle.spec_data.specs.Folding.{folded}
+use Rattle.spec_data.specs.Kept.{all_kept}
 use Rattle.spec_store.specs.Commit.{Setting}
 use Rattle.spec_server.specs.Machine.{Machine}
 use Rattle.spec_server.specs.Sound.{Has}

@@ -2,11 +2,11 @@
 
 ghost use Rattle.std.specs.Prelude.{◌≡◌, ◌≤◌, ℕ, List, [], ◌∷◌, IsTrue, None, Ok, Some, length};
 ghost use Rattle.index_tree.specs.declared.map_query.MapQuery.{MapQuery};
-ghost use Rattle.raven_data.specs.Data.{Data, depth};
-ghost use Rattle.raven_data.specs.Json.{reading};
-ghost use Rattle.raven_data.specs.Kept.{all_kept, kept};
-ghost use Rattle.raven_data.specs.Rows.{Row};
-ghost use Rattle.raven_data.specs.Sound.{IsSound};
+ghost use Rattle.spec_data.specs.Data.{Data, depth};
+ghost use Rattle.spec_data.specs.Json.{reading};
+ghost use Rattle.spec_data.specs.Kept.{all_kept, kept};
+ghost use Rattle.spec_data.specs.Rows.{Row};
+ghost use Rattle.spec_data.specs.Sound.{IsSound};
 ghost use Rattle.spec_store.specs.Commit.{stored_body};
 ghost use Rattle.spec_store.specs.Kept.{row_in, rows_in};
 ghost use Rattle.index_tree.specs.Definitions.{Auto, Static};

@@ -1,7 +1,7 @@
 //! What is stored after a run opens again.
 
 ghost use Rattle.std.specs.Prelude.{List, Ok};
-ghost use Rattle.raven_data.specs.Kept.{KeptRow};
+ghost use Rattle.spec_data.specs.Kept.{KeptRow};
 ghost use Rattle.spec_store.specs.Commit.{Setting};
 ghost use Rattle.spec_server.specs.Machine.{Event, Machine, run};
 ghost use Rattle.spec_server.specs.Script.{Given, after_lines};

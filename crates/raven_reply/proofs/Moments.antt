@@ -1,8 +1,8 @@
 -- Moments as the library prints them are moments as they are to be printed.
 use Rattle.std.proofs.Common.{◌≡◌, ℕ, zero, suc, ◌+◌, ◌-◌, ◌*◌, ◌/◌, ◌%◌, ◌<◌, ◌≤◌, List, [], ◌∷◌, ◌++◌, nat_lt, refl, sym, ap, ◌∙◌, arith, pos, Some, false, subst}
 use Rattle.std.proofs.lemmas.Bool.{ltb-true, ltb-false}
-use Rattle.raven_data.specs.Moments.{Day, day_in, day_from, day_of, month_length, year_length, digits, day_text, time_text as clock_text, moment_before}
-use Rattle.raven_data.specs.Limits.{moments_end}
+use Rattle.spec_data.specs.Moments.{Day, day_in, day_from, day_of, month_length, year_length, digits, day_text, time_text as clock_text, moment_before}
+use Rattle.spec_data.specs.Limits.{moments_end}
 use Rattle.jiff_core.specs.declared.civil.date.Date.{Date}
 use Rattle.jiff_core.specs.declared.civil.time.Time.{Time}
 use Rattle.jiff_core.specs.declared.civil.datetime.DateTime.{DateTime}

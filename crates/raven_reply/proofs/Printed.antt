@@ -1,8 +1,8 @@
 -- What is printed, piece by piece behind what stands before.
 use Rattle.std.proofs.Common.{◌≡◌, ℕ, List, ◌++◌, ◌∷◌, [], Bool, append_assoc, codes, map, false}
 use Rattle.std.proofs.lemmas.List.{append-nil}
-use Rattle.raven_data.specs.Data.{Entries, object, text, items_of, flag}
-use Rattle.raven_data.specs.Written.{quoted, text_of, items_text, entries_text}
+use Rattle.spec_data.specs.Data.{Entries, object, text, items_of, flag}
+use Rattle.spec_data.specs.Written.{quoted, text_of, items_text, entries_text}
 use Rattle.spec_server.specs.Replies.{Bulk, Found, Indexes, Listing, Pumped, Pumping, Result, listing_data, number, pumping_data, result_data, reply_data}
 
 pub printed-object : (old : List ℕ) (ms : Entries) → ((old ++ 123 ∷ []) ++ entries_text false ms) ++ 125 ∷ [] ≡ old ++ text_of (object ms)

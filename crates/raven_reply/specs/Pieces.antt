@@ -1,5 +1,5 @@
 -- The value of a member of a reply.
-use Rattle.raven_data.specs.Data.{Data, flag, text}
+use Rattle.spec_data.specs.Data.{Data, flag, text}
 use Rattle.spec_server.specs.Replies.{number}
 use Rattle.raven_value.specs.View.{data_of}
 use Rattle.raven_reply.specs.declared.text.Piece.{Piece}

@@ -1,7 +1,7 @@
 //! Moments as they are printed.
 ghost use Rattle.std.specs.Prelude.{◌≡◌, ◌-◌, ◌*◌, min, pos, IfOk};
-ghost use Rattle.raven_data.specs.Limits.{moments_end};
-ghost use Rattle.raven_data.specs.Moments.{moment_text as spec_moment_text};
+ghost use Rattle.spec_data.specs.Limits.{moments_end};
+ghost use Rattle.spec_data.specs.Moments.{moment_text as spec_moment_text};
 
 use jiff_core::Timestamp;
 use jiff_fmt::temporal::DateTimePrinter;

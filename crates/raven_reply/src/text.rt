@@ -1,7 +1,7 @@
 //! What is printed of replies.
 ghost use Rattle.std.specs.Prelude.{◌≡◌, ◌++◌, ◌∷◌, [], IfOk, OnOk, false, map};
-ghost use Rattle.raven_data.specs.Data.{entries_of, items_of, object, text as spec_text};
-ghost use Rattle.raven_data.specs.Written.{entries_text, items_text, quoted, text_of};
+ghost use Rattle.spec_data.specs.Data.{entries_of, items_of, object, text as spec_text};
+ghost use Rattle.spec_data.specs.Written.{entries_text, items_text, quoted, text_of};
 ghost use Rattle.spec_server.specs.Replies.{Bulk, Conflict, Deleted, Found as FoundIds, Index, Indexes as IndexesAll, Lang as LangOf, Pumped as PumpedAll, Put as PutOne, Removed, Stale, Stats, error, error_at, listing_data, pumping_data, reply_data, result_data};
 ghost use Rattle.index_tree.specs.Language.{kind_name as spec_kind_name, part_name as spec_part_name};
 ghost use Rattle.index_definition.specs.RefusalView.{kind_view, part_view, refusal_view};

@@ -15,7 +15,7 @@ use Rattle.index_lang.specs.Lines.{Comes}
 use Rattle.raven_script.specs.LineView.{Answers, IsReading}
 use Rattle.raven_value.specs.Refusal.{fault_in}
 use Rattle.raven_value.specs.declared.fault.IdRefusal.{IdRefusal}
-use Rattle.raven_data.specs.Faults.{Fault}
+use Rattle.spec_data.specs.Faults.{Fault}
 use Rattle.raven_script.specs.RequestView.{IsBadId, IsBadName, Reads, Refuses, line_view}
 use Rattle.raven_script.proofs.Readings.{refused_on}
 use Rattle.raven_script.specs.declared.request.Line.{Line}

@@ -1,9 +1,9 @@
 -- One reading after another.
 use Rattle.std.proofs.Common.{◌≡◌, ℕ, List, [], ◌∷◌, ◌++◌, Option, Some, None, Result, Ok, Err, refl, ap, ◌∙◌, sym, subst, append_assoc, map}
-use Rattle.raven_data.specs.Faults.{Fault}
+use Rattle.spec_data.specs.Faults.{Fault}
 use Rattle.raven_value.specs.Refusal.{fault_in}
 use Rattle.spec_server.specs.Script as read
-use Rattle.raven_data.specs.Data.{Data, array, items_of, list_of}
+use Rattle.spec_data.specs.Data.{Data, array, items_of, list_of}
 use Rattle.spec_store.specs.Commit.{Command}
 use Rattle.spec_server.specs.Script.{then_read, command_read, commands_read, list_member}
 use Rattle.raven_script.specs.RequestView.{IsBadId, IsBadMember, IsBadName, Refuses}

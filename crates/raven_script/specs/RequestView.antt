@@ -1,7 +1,7 @@
 -- What a line of a script asks, and the request that it is.
 use Rattle.std.specs.Prelude.{◌≡◌, ℕ, List, Option, Some, None, map, Result, Ok, Err}
-use Rattle.raven_data.specs.Faults.{Fault}
-use Rattle.raven_data.specs.Json.{not_json, number_not_whole, too_deep}
+use Rattle.spec_data.specs.Faults.{Fault}
+use Rattle.spec_data.specs.Json.{not_json, number_not_whole, too_deep}
 use Rattle.raven_value.specs.Refusal.{fault_in}
 use Rattle.raven_value.specs.View.{data_of}
 use Rattle.spec_server.specs.Machine as is

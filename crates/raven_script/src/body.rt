@@ -1,6 +1,6 @@
 //! Ids and bodies.
 ghost use Rattle.std.specs.Prelude.{Some};
-ghost use Rattle.raven_data.specs.Json.{reading};
+ghost use Rattle.spec_data.specs.Json.{reading};
 ghost use Rattle.spec_server.specs.Script.{delete_read, id_read, json_read, name_read, object_read, put_read};
 ghost use Rattle.doc_txn.specs.CommandView.{expect_view};
 ghost use Rattle.raven_value.specs.View.{data_of};

@@ -1,9 +1,9 @@
 //! The definition of an index, in JSON.
 ghost use Rattle.std.specs.Prelude.{◌≡◌, IfOk, option_map, Some, codes};
-ghost use Rattle.raven_data.specs.Data.{entries_of};
+ghost use Rattle.spec_data.specs.Data.{entries_of};
 ghost use Rattle.raven_value.specs.View.{data_of};
 ghost use Rattle.spec_server.specs.Script.{Defining, asked_to_define, index_of as spec_index_of, map_member as spec_map_member, name_member as spec_name_member, reduce_member as spec_reduce_member, texts_in as spec_texts_in, texts_of_body as spec_texts_of_body};
-ghost use Rattle.raven_data.specs.Members.{member};
+ghost use Rattle.spec_data.specs.Members.{member};
 ghost use Rattle.raven_script.specs.LineView.{Answers};
 ghost use Rattle.raven_script.specs.RequestView.{Reads};
 

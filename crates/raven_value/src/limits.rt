@@ -1,4 +1,4 @@
-//! The limits of data. The definitions have the same numbers in `Limits` of `raven_data`.
+//! The limits of data. The definitions have the same numbers in `Limits` of `spec_data`.
 
 /// The greatest etag. Up to it a double holds every whole number exactly.
 pub const MAX_ETAG: u64 = 9_007_199_254_740_991;

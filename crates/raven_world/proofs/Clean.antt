@@ -6,8 +6,8 @@ use Rattle.std.specs.Prelude.{◌==◌, nat_lt, option_map, is_none, IsTrue, if�
 use Rattle.std.specs.Fmt.{decimal}
 use Rattle.std.proofs.lemmas.Fmt.{decimal_by_steps, length-decimal-le}
 use Rattle.std.specs.List.{position_from}
-use Rattle.raven_data.specs.Faults.{empty, too_long, control, fault_of, is_control, is_fit}
-use Rattle.raven_data.specs.Limits.{max_id, max_name}
+use Rattle.spec_data.specs.Faults.{empty, too_long, control, fault_of, is_control, is_fit}
+use Rattle.spec_data.specs.Limits.{max_id, max_name}
 use Rattle.spec_index.specs.Optimiser.{free_name, first_free}
 use Rattle.spec_index.specs.World.{Slot, serving, index_id}
 

@@ -7,10 +7,10 @@ use Rattle.std.specs.Str.{bytes_eq, IsCharBoundary}
 use Rattle.std.proofs.lemmas.Str.{IsCharBoundary-after_ascii}
 use Rattle.std.proofs.lemmas.List.{append_assoc, append-nil, drop_more, length-append, map-append}
 use Rattle.std.specs.Char.{to_ascii_lowercase}
-use Rattle.raven_data.specs.Faults.{Fault, empty, too_long, control, fault_of, is_control, is_fit}
-use Rattle.raven_data.specs.Limits.{max_name}
-use Rattle.raven_data.specs.Folding.{folded}
-use Rattle.raven_data.specs.Rows.{Row, is_document}
+use Rattle.spec_data.specs.Faults.{Fault, empty, too_long, control, fault_of, is_control, is_fit}
+use Rattle.spec_data.specs.Limits.{max_name}
+use Rattle.spec_data.specs.Folding.{folded}
+use Rattle.spec_data.specs.Rows.{Row, is_document}
 use Rattle.spec_store.specs.Commit.{Setting, is_index_id}
 use Rattle.spec_server.specs.Machine.{Machine}
 use Rattle.index_tree.specs.Definitions.{Definition, Static, Auto}

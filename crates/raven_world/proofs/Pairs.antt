@@ -1,4 +1,4 @@
 -- The members of an object, as they are listed.
-use Rattle.raven_data.proofs.MemberLemmas.{pairs_of-entries_of}
+use Rattle.spec_data.proofs.MemberLemmas.{pairs_of-entries_of}
 
 pub ruleset pairs = (pairs_of-entries_of)

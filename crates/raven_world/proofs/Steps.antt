@@ -3,7 +3,7 @@ use Rattle.std.proofs.Common.{◌≡◌, ◌<◌, ◌+◌, ◌^◌, ℕ, List, [
 use Rattle.std.proofs.lemmas.Grind.{common_steps}
 use Rattle.std.specs.Prelude.{filter, not, nat_lt}
 use Rattle.spec_store.specs.Store.{Store, last}
-use Rattle.raven_data.specs.Rows.{Row}
+use Rattle.spec_data.specs.Rows.{Row}
 use Rattle.spec_store.specs.Commit.{Client, Server, Command, Delete, AnyVector, Refused, Written, commit, etags_taken}
 use Rattle.spec_server.specs.Replies.{Reply, Index, Removed, NoIndex, UnknownLine, Result as Done, TooManyIndexes as TooMany}
 use Rattle.spec_server.specs.Replies as replies

@@ -1,7 +1,7 @@
 -- How the names of indexes begin.
 use Rattle.std.specs.Prelude.{ℕ, List, Bool, not, nat_eq, codes}
 use Rattle.std.specs.List.{starts_with}
-use Rattle.raven_data.specs.Folding.{folded}
+use Rattle.spec_data.specs.Folding.{folded}
 use Rattle.index_tree.specs.Definitions.{Definition, Static, Auto}
 use Rattle.spec_index.specs.World.{is_reserved_name}
 

@@ -1,6 +1,6 @@
 -- Which row keeps a world from being opened, and what is taken of one.
 use Rattle.std.specs.Prelude.{◌≡◌, ℕ, List, [], ◌++◌, ◌⊎◌, Bool, Option, Some, None, Ok, drop, length, if◌then◌else◌}
-use Rattle.raven_data.specs.Rows.{Row}
+use Rattle.spec_data.specs.Rows.{Row}
 use Rattle.spec_store.specs.Commit.{Setting}
 use Rattle.index_tree.specs.Definitions.{Definition}
 use Rattle.spec_server.specs.Opening.{ReadRow, rows_of, slots_after, slots_from}

@@ -1,6 +1,6 @@
 //! Answers that change nothing.
 ghost use Rattle.std.specs.Prelude.{◌≡◌, IfOk, length, map, option_map};
-ghost use Rattle.raven_data.specs.Data.{entries_of, object};
+ghost use Rattle.spec_data.specs.Data.{entries_of, object};
 ghost use Rattle.raven_value.specs.View.{data_of};
 ghost use Rattle.spec_server.specs.Machine.{answer_get, answer_indexes, answer_stale, answer_stats, listing as spec_listing, members_of, shown as spec_shown, shown_metadata as spec_shown_metadata};
 ghost use Rattle.spec_index.specs.World.{serving as spec_serving};

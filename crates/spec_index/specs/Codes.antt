@@ -1,9 +1,9 @@
 -- Codes of versions, slots, notes and worlds: a Rust type needs them if contracts see it as one.
 use Rattle.std.specs.Prelude.{ℕ, List, refl}
 use Rattle.std.specs.Coded.{Coded, coded_ℕ, coded_list, coded×, code_by}
-use Rattle.raven_data.specs.Codes.{text_code, table_code}
+use Rattle.spec_data.specs.Codes.{text_code, table_code}
 use Rattle.spec_store.specs.Store.{Store}
-use Rattle.raven_data.specs.Tables.{Table}
+use Rattle.spec_data.specs.Tables.{Table}
 use Rattle.index_tree.specs.Definitions.{Definition, definition_code}
 use Rattle.spec_store.specs.Commit.{Setting}
 use Rattle.spec_index.specs.World.{Version, Slot, Note, World}

@@ -1,8 +1,8 @@
 -- What a query finds over the documents that an index has recorded.
 use Rattle.std.specs.Prelude.{ℕ, List, [], ◌∷◌, Bool, false, if◌then◌else◌, Option, Some, None, filter, map}
 use Rattle.std.specs.Str.{bytes_eq}
-use Rattle.raven_data.specs.Scalars.{Scalar, words, Is, holds}
-use Rattle.raven_data.specs.Tables.{Table}
+use Rattle.spec_data.specs.Scalars.{Scalar, words, Is, holds}
+use Rattle.spec_data.specs.Tables.{Table}
 use Rattle.index_tree.specs.Mapper.{Mapper}
 use Rattle.index_tree.specs.Meaning.{Fields}
 use Rattle.spec_index.specs.Mapping.{scratch}

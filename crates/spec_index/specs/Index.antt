@@ -1,10 +1,10 @@
 -- What an index has recorded, and the etag that it has after a batch.
 use Rattle.std.specs.Prelude.{◌≡◌, ℕ, ◌≤◌, List, [], ◌∷◌, ◌&&◌, Option, Some, None, filter, if◌then◌else◌, IsTrue}
 use Rattle.std.specs.FinMap.{empty, get}
-use Rattle.raven_data.specs.Rows.{Row, key, is_document}
+use Rattle.spec_data.specs.Rows.{Row, key, is_document}
 use Rattle.spec_store.specs.Store.{row_at, Store, last, last_of}
 use Rattle.spec_store.specs.Later.{StillHas}
-use Rattle.raven_data.specs.Tables.{Table, Scope, in_scope, note_rows}
+use Rattle.spec_data.specs.Tables.{Table, Scope, in_scope, note_rows}
 use Rattle.spec_store.specs.Stale.{batch_rows, left_over}
 
 -- what an index that has seen the row records of it: the document, if it is in scope; nothing of a tombstone

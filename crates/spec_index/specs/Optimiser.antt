@@ -4,9 +4,9 @@ use Rattle.std.specs.List.{list_any, list_all}
 use Rattle.std.specs.Str.{bytes_eq}
 use Rattle.std.specs.Fmt.{decimal}
 use Rattle.std.specs.Cmp.Lexicographic.{pointwise}
-use Rattle.raven_data.specs.Faults.{is_fit}
-use Rattle.raven_data.specs.Limits.{max_index_name}
-use Rattle.raven_data.specs.Members.{Path}
+use Rattle.spec_data.specs.Faults.{is_fit}
+use Rattle.spec_data.specs.Limits.{max_index_name}
+use Rattle.spec_data.specs.Members.{Path}
 use Rattle.spec_store.specs.Store.{Store}
 use Rattle.spec_store.specs.Stale.{stale}
 use Rattle.index_tree.specs.Definitions.{Definition, Static, Auto}

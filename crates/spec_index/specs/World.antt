@@ -2,13 +2,13 @@
 use Rattle.std.specs.Prelude.{ℕ, ◌+◌, List, [], ◌∷◌, ◌++◌, Bool, not, ◌||◌, nat_lt, nat_le, nat_eq, ◌==◌, if◌then◌else◌, Option, Some, None, is_some, Result, Ok, Err, length, codes, filter, find, map}
 use Rattle.std.specs.List.{starts_with}
 use Rattle.std.specs.FinMap.{empty}
-use Rattle.raven_data.specs.Data.{Data, null, text, array, object, items_of, entries_of}
-use Rattle.raven_data.specs.Folding.{folded, same_key}
-pub use Rattle.raven_data.specs.Limits.{max_index_name}
-use Rattle.raven_data.specs.Members.{Path}
-use Rattle.raven_data.specs.Rows.{Row}
+use Rattle.spec_data.specs.Data.{Data, null, text, array, object, items_of, entries_of}
+use Rattle.spec_data.specs.Folding.{folded, same_key}
+pub use Rattle.spec_data.specs.Limits.{max_index_name}
+use Rattle.spec_data.specs.Members.{Path}
+use Rattle.spec_data.specs.Rows.{Row}
 use Rattle.spec_store.specs.Store.{Store, last}
-use Rattle.raven_data.specs.Tables.{Table, Scope, note_rows}
+use Rattle.spec_data.specs.Tables.{Table, Scope, note_rows}
 use Rattle.spec_store.specs.Stale.{batch_rows}
 use Rattle.spec_index.specs.Index.{etag_of_batch}
 use Rattle.index_tree.specs.Definitions.{Definition, Static, Auto, same_definition}

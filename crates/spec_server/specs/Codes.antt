@@ -1,9 +1,9 @@
 -- Codes of the machine and of parts of replies: a Rust type needs them if contracts see it as one.
 use Rattle.std.specs.Prelude.{ℕ, List, Bool, refl}
 use Rattle.std.specs.Coded.{Coded, coded_ℕ, coded_bool, coded×, code_by}
-use Rattle.raven_data.specs.Codes.{text_code}
-use Rattle.raven_data.specs.DataCode.{data_code}
-use Rattle.raven_data.specs.Data.{Data}
+use Rattle.spec_data.specs.Codes.{text_code}
+use Rattle.spec_data.specs.DataCode.{data_code}
+use Rattle.spec_data.specs.Data.{Data}
 use Rattle.spec_index.specs.World.{World}
 use Rattle.spec_server.specs.Replies.{Pumping, Listing}
 use Rattle.spec_server.specs.Machine.{Machine}

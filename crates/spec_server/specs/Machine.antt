@@ -1,13 +1,13 @@
 -- The machine: the reply to a request, and the state after it.
 use Rattle.std.specs.Prelude.{ℕ, ◌+◌, List, [], ◌∷◌, Bool, true, not, ◌&&◌, if◌then◌else◌, Option, Some, None, is_some, Result, Ok, Err, length, codes, filter, map}
 use Rattle.std.specs.Str.{bytes_eq}
-use Rattle.raven_data.specs.Data.{Data, text, object, entries_of, pairs_of}
-use Rattle.raven_data.specs.Folding.{folded}
-use Rattle.raven_data.specs.Members.{member}
-use Rattle.raven_data.specs.Moments.{moment_text}
-use Rattle.raven_data.specs.Rising.{Pairs, put}
-use Rattle.raven_data.specs.Rows.{Row, doc, gone, is_document}
-use Rattle.raven_data.specs.Scalars.{words}
+use Rattle.spec_data.specs.Data.{Data, text, object, entries_of, pairs_of}
+use Rattle.spec_data.specs.Folding.{folded}
+use Rattle.spec_data.specs.Members.{member}
+use Rattle.spec_data.specs.Moments.{moment_text}
+use Rattle.spec_data.specs.Rising.{Pairs, put}
+use Rattle.spec_data.specs.Rows.{Row, doc, gone, is_document}
+use Rattle.spec_data.specs.Scalars.{words}
 use Rattle.spec_store.specs.Store.{Store, row_at, last, empty_store}
 use Rattle.spec_store.specs.Stale.{stale, newest}
 use Rattle.index_tree.specs.Definitions.{Definition}

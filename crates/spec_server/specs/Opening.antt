@@ -2,16 +2,16 @@
 use Rattle.std.specs.Prelude.{ℕ, ◌+◌, List, [], ◌∷◌, ◌++◌, Bool, not, ◌&&◌, ◌||◌, ◌==◌, nat_le, nat_lt, nat_eq, if◌then◌else◌, Option, Some, None, Result, Ok, Err, length, codes, drop, map, ◌≡◌}
 use Rattle.std.specs.List.{list_any, starts_with}
 use Rattle.std.specs.Str.{bytes_eq}
-use Rattle.raven_data.specs.Data.{Data, null, text, array, object, no_items, item, no_entries, pairs_of}
-use Rattle.raven_data.specs.Faults.{is_fit}
-use Rattle.raven_data.specs.Folding.{folded}
-use Rattle.raven_data.specs.Members.{member}
-use Rattle.raven_data.specs.Rows.{Row, is_document}
+use Rattle.spec_data.specs.Data.{Data, null, text, array, object, no_items, item, no_entries, pairs_of}
+use Rattle.spec_data.specs.Faults.{is_fit}
+use Rattle.spec_data.specs.Folding.{folded}
+use Rattle.spec_data.specs.Members.{member}
+use Rattle.spec_data.specs.Rows.{Row, is_document}
 use Rattle.spec_store.specs.Commit.{Setting, is_index_id}
 use Rattle.index_tree.specs.Definitions.{Definition, Static, Auto}
 use Rattle.spec_index.specs.World.{Slot, new_version, is_reserved_name, max_index_name}
 use Rattle.spec_server.specs.Machine.{Machine}
-use Rattle.raven_data.specs.Kept.{KeptRow}
+use Rattle.spec_data.specs.Kept.{KeptRow}
 use Rattle.spec_store.specs.Kept.{rows_in}
 
 -- THE DEFINITION IN A BODY, as the server stores it

@@ -1,7 +1,7 @@
 -- Replies, and how they are printed.
 use Rattle.std.specs.Prelude.{ℕ, pos, List, [], ◌∷◌, ◌++◌, Bool, codes, map}
-use Rattle.raven_data.specs.Data.{Data, flag, num, text, array, object, items_of, entries_of}
-use Rattle.raven_data.specs.Written.{text_of}
+use Rattle.spec_data.specs.Data.{Data, flag, num, text, array, object, items_of, entries_of}
+use Rattle.spec_data.specs.Written.{text_of}
 use Rattle.index_tree.specs.Language.{LangRefusal, kind_name, part_name}
 
 -- what one command of a transaction did

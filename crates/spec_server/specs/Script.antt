@@ -2,11 +2,11 @@
 use Rattle.std.specs.Prelude.{ℕ, ◌+◌, ◌-◌, ◌*◌, List, [], ◌∷◌, ◌++◌, Bool, not, ◌&&◌, ◌||◌, ◌==◌, nat_lt, nat_le, if◌then◌else◌, Option, Some, None, Result, Ok, Err, length, codes}
 use Rattle.std.specs.List.{list_any, list_all, filter_map}
 use Rattle.std.specs.Str.{bytes_eq, is_utf8}
-use Rattle.raven_data.specs.Data.{Data, Entries, list_of}
-use Rattle.raven_data.specs.Data as json
-use Rattle.raven_data.specs.Faults.{Fault, empty, too_long, control, fault_of, max_id, max_name}
-use Rattle.raven_data.specs.Json.{JsonRefusal, not_json, number_not_whole, too_deep, reading}
-use Rattle.raven_data.specs.Members.{member}
+use Rattle.spec_data.specs.Data.{Data, Entries, list_of}
+use Rattle.spec_data.specs.Data as json
+use Rattle.spec_data.specs.Faults.{Fault, empty, too_long, control, fault_of, max_id, max_name}
+use Rattle.spec_data.specs.Json.{JsonRefusal, not_json, number_not_whole, too_deep, reading}
+use Rattle.spec_data.specs.Members.{member}
 use Rattle.spec_store.specs.Commit.{Command, Expect, AnyVector, Vector}
 use Rattle.index_tree.specs.Language.{LangRefusal}
 use Rattle.index_tree.specs.Definitions.{Definition}

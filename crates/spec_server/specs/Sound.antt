@@ -1,8 +1,8 @@
 -- What holds of every world, and between a world and a later one.
 use Rattle.std.specs.Prelude.{◌≡◌, ℕ, ◌≤◌, ◌<◌, List, [], ◌∷◌, ◌++◌, length, Some, ◌⊎◌, IsTrue, codes}
-use Rattle.raven_data.specs.Folding.{folded}
-use Rattle.raven_data.specs.Limits.{max_etag}
-use Rattle.raven_data.specs.Rows.{Row, doc, is_document}
+use Rattle.spec_data.specs.Folding.{folded}
+use Rattle.spec_data.specs.Limits.{max_etag}
+use Rattle.spec_data.specs.Rows.{Row, doc, is_document}
 use Rattle.spec_store.specs.Store.{row_at, Store, last, IsStore}
 use Rattle.spec_store.specs.Later.{Later}
 use Rattle.spec_index.specs.Index.{Agrees}

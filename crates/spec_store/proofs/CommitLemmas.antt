@@ -3,8 +3,8 @@ use Rattle.std.proofs.Common.{◌≡◌, ℕ, ◌+◌, List, [], ◌∷◌, ◌+
 use Rattle.std.specs.Str.{bytes_eq}
 use Rattle.std.proofs.lemmas.Slice.Eq.{bytes_eq-Decides}
 use Rattle.std.specs.Option.{option_and_then, option_map}
-use Rattle.raven_data.specs.Folding.{folded}
-use Rattle.raven_data.specs.Rows.{Row, is_document}
+use Rattle.spec_data.specs.Folding.{folded}
+use Rattle.spec_data.specs.Rows.{Row, is_document}
 use Rattle.spec_store.specs.Store.{row_at, last_of, Store, last, IsStore, with_row, with_rows}
 use Rattle.spec_store.specs.Later.{MayFollow}
 use Rattle.spec_store.specs.Commit.{Command, Put, Delete, Writer, Setting, Refusal, Refused, Written, first_of, refusal_of, reserved, too_large, collection_changed, collection_of, other_collection, conflict, store_full, etags_spent, row_spelling, document_at, row_of, tombstone, with_written, or_refused, commit_from, commit, AreNext, Commits}

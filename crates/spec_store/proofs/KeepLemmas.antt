@@ -1,8 +1,8 @@
 -- What a keeper stores for the rows of a store.
 use Rattle.std.proofs.Common.{◌≡◌, ℕ, ◌+◌, List, [], ◌∷◌, ◌++◌, true, false, not, cond, filter, Option, Some, None, refl, sym, ap, ◌∙◌, subst, arith}
-use Rattle.raven_data.specs.Folding.{same_key}
-use Rattle.raven_data.specs.Rows.{Row, key}
-use Rattle.raven_data.specs.Kept.{EtagsRise, kept, kept_key, all_kept, keep, keep_all, last_kept}
+use Rattle.spec_data.specs.Folding.{same_key}
+use Rattle.spec_data.specs.Rows.{Row, key}
+use Rattle.spec_data.specs.Kept.{EtagsRise, kept, kept_key, all_kept, keep, keep_all, last_kept}
 use Rattle.spec_store.specs.Store.{AreRising, IsStore, Store, last, last_of, put, with_row, with_rows}
 use Rattle.spec_store.specs.Commit.{AreNext}
 

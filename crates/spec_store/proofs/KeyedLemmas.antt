@@ -5,10 +5,10 @@ use Rattle.std.specs.Ordering.{match_ordering, is_eq, ordering_reverse}
 use Rattle.std.specs.Cmp.{IsTotalOrder}
 use Rattle.std.specs.Cmp.Lexicographic.{nat_list_cmp_total}
 use Rattle.std.specs.FinMap.{get, entries, values, find as entry_at, put as put_entry, get-from_entries, entries-insert, len-entries, len-empty, same_map, nat_cmp-IsAntisymmetric, slice_cmp-IsAntisymmetric}
-use Rattle.raven_data.specs.Folding.{key_cmp, same_key}
-use Rattle.raven_data.specs.Rows.{Row, key, is_document}
+use Rattle.spec_data.specs.Folding.{key_cmp, same_key}
+use Rattle.spec_data.specs.Rows.{Row, key, is_document}
 use Rattle.spec_store.specs.Store.{row_at}
-use Rattle.raven_data.specs.Tables.{Table, table_of, note_row, note_rows}
+use Rattle.spec_data.specs.Tables.{Table, table_of, note_row, note_rows}
 use Rattle.spec_store.specs.Keyed.{IsBelowFirst, AreKeyed, in_front, noted_list, noted_lists}
 use Rattle.spec_store.proofs.StoreLemmas.{swapped, shadowed, not_both, same_means}
 use Rattle.spec_store.proofs.TableLemmas.{tied, get-note_row}

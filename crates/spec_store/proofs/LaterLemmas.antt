@@ -1,7 +1,7 @@
 -- A store grows into later ones.
 use Rattle.std.proofs.Common.{◌≡◌, ℕ, ◌≤◌, List, true, false, cond, Some, refl, sym, ap, ◌∙◌, subst, arith}
-use Rattle.raven_data.specs.Folding.{same_key}
-use Rattle.raven_data.specs.Rows.{Row, key}
+use Rattle.spec_data.specs.Folding.{same_key}
+use Rattle.spec_data.specs.Rows.{Row, key}
 use Rattle.spec_store.specs.Store.{row_at, put, Store, last, IsStore, with_row}
 use Rattle.spec_store.specs.Later.{StillHas, Later, MayFollow}
 use Rattle.spec_store.proofs.StoreLemmas.{row_at-put, found_etag, same_means, last_of-put, AreRising-put, AreApart-put}

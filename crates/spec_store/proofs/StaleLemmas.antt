@@ -2,10 +2,10 @@
 use Rattle.std.proofs.Common.{◌≡◌, ℕ, ◌≤◌, List, [], ◌∷◌, Bool, true, false, cond, ◌&&◌, ◌||◌, nat_lt, Option, Some, filter, refl, sym, ap, ◌∙◌, subst, arith, ◌↔◌}
 use Rattle.std.specs.List.{list_any}
 use Rattle.std.proofs.lemmas.Bool.{ltb-false, ltb-true, lt-ltb, le-ltb}
-use Rattle.raven_data.specs.Folding.{same_key}
-use Rattle.raven_data.specs.Rows.{Row, key}
+use Rattle.spec_data.specs.Folding.{same_key}
+use Rattle.spec_data.specs.Rows.{Row, key}
 use Rattle.spec_store.specs.Store.{row_at, last_of, AreRising, AreApart, Store, IsStore}
-use Rattle.raven_data.specs.Tables.{Scope, in_scope}
+use Rattle.spec_data.specs.Tables.{Scope, in_scope}
 use Rattle.spec_store.specs.Stale.{up_to, stale, newest, Unseen}
 use Rattle.spec_store.proofs.StoreLemmas.{both_true, AreRising-lower, AreRising-filter, last_of-rising, same_itself, same_means, any_false}
 

@@ -4,8 +4,8 @@ use Rattle.std.specs.Option.{option_or, option_and_then}
 use Rattle.std.proofs.lemmas.List.Folds.{find-append}
 use Rattle.std.specs.Cmp.Lexicographic.{nat_list_eq_equiv}
 use Rattle.std.proofs.lemmas.Slice.Eq.{bytes_eq-Decides}
-use Rattle.raven_data.specs.Folding.{same_key}
-use Rattle.raven_data.specs.Rows.{Row, key}
+use Rattle.spec_data.specs.Folding.{same_key}
+use Rattle.spec_data.specs.Rows.{Row, key}
 use Rattle.spec_store.specs.Store.{row_at, put, last_of, AreRising, AreApart}
 use Rattle.std.specs.List.{list_any}
 

@@ -4,9 +4,9 @@ use Rattle.std.specs.Ordering.{eq_by_cmp}
 use Rattle.std.proofs.lemmas.Map.Text.{is_eq-slice_cmp}
 use Rattle.std.specs.Cmp.Lexicographic.{nat_list_cmp_total}
 use Rattle.std.specs.FinMap.{get, insert, remove, get-insert, get-remove}
-use Rattle.raven_data.specs.Folding.{key_cmp, same_key}
-use Rattle.raven_data.specs.Rows.{Row, key, is_document}
-use Rattle.raven_data.specs.Tables.{Table, note_row}
+use Rattle.spec_data.specs.Folding.{key_cmp, same_key}
+use Rattle.spec_data.specs.Rows.{Row, key, is_document}
+use Rattle.spec_data.specs.Tables.{Table, note_row}
 
 -- two keys compare as equal in a table exactly if they are the same
 pub tied : (q k : List ℕ) → eq_by_cmp key_cmp q k ≡ same_key q k

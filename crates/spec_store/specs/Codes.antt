@@ -1,8 +1,8 @@
 -- Codes of stores and settings: a Rust type needs them if contracts see it as one.
 use Rattle.std.specs.Prelude.{ℕ, List, refl}
 use Rattle.std.specs.Coded.{Coded, coded_ℕ, coded_list, coded×, code_by}
-use Rattle.raven_data.specs.Codes.{text_code, row_code}
-use Rattle.raven_data.specs.Rows.{Row}
+use Rattle.spec_data.specs.Codes.{text_code, row_code}
+use Rattle.spec_data.specs.Rows.{Row}
 use Rattle.spec_store.specs.Store.{Store}
 use Rattle.spec_store.specs.Commit.{Setting}
 

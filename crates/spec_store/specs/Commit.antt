@@ -4,13 +4,13 @@ use Rattle.std.specs.Option.{option_and_then, option_map}
 use Rattle.std.specs.List.{list_any, starts_with}
 use Rattle.std.specs.Str.{bytes_eq}
 use Rattle.std.specs.Fmt.{decimal}
-use Rattle.raven_data.specs.Data.{Data, text, object, no_entries, entries_of, pairs_of}
-use Rattle.raven_data.specs.Folding.{folded}
-use Rattle.raven_data.specs.Limits.{max_body, max_etag}
-use Rattle.raven_data.specs.Members.{member, value_at}
-use Rattle.raven_data.specs.Rising.{put}
-use Rattle.raven_data.specs.Rows.{Row, doc, gone, is_document}
-use Rattle.raven_data.specs.Written.{text_of}
+use Rattle.spec_data.specs.Data.{Data, text, object, no_entries, entries_of, pairs_of}
+use Rattle.spec_data.specs.Folding.{folded}
+use Rattle.spec_data.specs.Limits.{max_body, max_etag}
+use Rattle.spec_data.specs.Members.{member, value_at}
+use Rattle.spec_data.specs.Rising.{put}
+use Rattle.spec_data.specs.Rows.{Row, doc, gone, is_document}
+use Rattle.spec_data.specs.Written.{text_of}
 use Rattle.spec_store.specs.Store.{row_at, Store, last, IsStore, with_row, with_rows}
 use Rattle.spec_store.specs.Later.{Later}
 

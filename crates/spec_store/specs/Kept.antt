@@ -3,15 +3,15 @@ use Rattle.std.specs.Prelude.{ℕ, List, [], ◌∷◌, ◌++◌, Bool, false, n
 use Rattle.std.specs.Option.{option_map}
 use Rattle.std.specs.List.{list_any}
 use Rattle.std.specs.Str.{bytes_eq}
-use Rattle.raven_data.specs.Data.{Data, object, pairs_of}
-use Rattle.raven_data.specs.Faults.{is_fit, max_id}
-use Rattle.raven_data.specs.Json.{JsonRefusal, reading}
-use Rattle.raven_data.specs.Kept.{KeptRow}
-pub use Rattle.raven_data.specs.Limits.{max_body, max_etag}
-use Rattle.raven_data.specs.Members.{member}
-use Rattle.raven_data.specs.Moments.{moments_end}
-use Rattle.raven_data.specs.Rows.{Row, Body, doc, gone, key}
-use Rattle.raven_data.specs.Written.{text_of}
+use Rattle.spec_data.specs.Data.{Data, object, pairs_of}
+use Rattle.spec_data.specs.Faults.{is_fit, max_id}
+use Rattle.spec_data.specs.Json.{JsonRefusal, reading}
+use Rattle.spec_data.specs.Kept.{KeptRow}
+pub use Rattle.spec_data.specs.Limits.{max_body, max_etag}
+use Rattle.spec_data.specs.Members.{member}
+use Rattle.spec_data.specs.Moments.{moments_end}
+use Rattle.spec_data.specs.Rows.{Row, Body, doc, gone, key}
+use Rattle.spec_data.specs.Written.{text_of}
 use Rattle.spec_store.specs.Store.{row_at, last_of}
 use Rattle.spec_store.specs.Commit.{is_server_member}
 

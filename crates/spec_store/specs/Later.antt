@@ -1,6 +1,6 @@
 -- What a later store keeps of an earlier one.
 use Rattle.std.specs.Prelude.{◌≡◌, ℕ, ◌≤◌, ◌+◌, List, [], ◌∷◌, Some}
-use Rattle.raven_data.specs.Rows.{Row, key}
+use Rattle.spec_data.specs.Rows.{Row, key}
 use Rattle.spec_store.specs.Store.{row_at, Store, last, with_row}
 
 -- the id still has a row: no older, in the same collection, with the same spelling

@@ -1,9 +1,9 @@
 -- The rows in a scope past an etag: those that an index at that etag has not seen.
 use Rattle.std.specs.Prelude.{ℕ, List, Bool, true, ◌&&◌, nat_lt, nat_le, Option, Some, None, filter, take, drop, ◌≡◌, ◌<◌, IsTrue}
 use Rattle.std.specs.List.{list_any}
-use Rattle.raven_data.specs.Rows.{Row}
+use Rattle.spec_data.specs.Rows.{Row}
 use Rattle.spec_store.specs.Store.{Store, last_of, row_at}
-use Rattle.raven_data.specs.Tables.{Scope, in_scope}
+use Rattle.spec_data.specs.Tables.{Scope, in_scope}
 
 -- the rows in scope past an etag, in order of etag
 abbrev pub past : Scope → ℕ → Store → List Row

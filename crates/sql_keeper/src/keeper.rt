@@ -1,6 +1,6 @@
 //! A keeper in a database of SQLite, in a file or in memory.
 ghost use Rattle.std.specs.Prelude.{◌≡◌, ◌≤◌, IfErr, IfOk, IsErrOf, None, length};
-ghost use Rattle.raven_data.specs.Kept.{EtagsRise, is_past as spec_is_past};
+ghost use Rattle.spec_data.specs.Kept.{EtagsRise, is_past as spec_is_past};
 ghost use Rattle.raven_ports.specs.Faults.{Rose};
 
 use raven_base::{NoMemory, Sequence};

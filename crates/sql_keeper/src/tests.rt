@@ -1,6 +1,6 @@
 //! What no clause says: what a database of SQLite keeps, and which files are left alone.
 ghost use Rattle.std.specs.Prelude.{◌≡◌, ◌≤◌, IfOk, None};
-ghost use Rattle.raven_data.specs.Kept.{EtagsRise};
+ghost use Rattle.spec_data.specs.Kept.{EtagsRise};
 
 use crate::SqlKeeper;
 use raven_base::Sequence;

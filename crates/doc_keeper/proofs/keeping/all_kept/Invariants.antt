@@ -1,5 +1,5 @@
 use Rattle.std.proofs.Common.{◌≡◌, take}
-use Rattle.raven_data.specs.Kept.{all_kept}
+use Rattle.spec_data.specs.Kept.{all_kept}
 use Rattle.doc_keeper.proofs.keeping.all_kept.Given as goal
 
 abbrev pub invariant-loop-row : goal.invariant-loop-row

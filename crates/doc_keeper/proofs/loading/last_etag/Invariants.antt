@@ -1,5 +1,5 @@
 use Rattle.std.proofs.Common.{◌≡◌, drop}
-use Rattle.raven_data.specs.Kept.{last_kept}
+use Rattle.spec_data.specs.Kept.{last_kept}
 use Rattle.doc_keeper.proofs.loading.last_etag.Given as goal
 
 abbrev pub invariant-loop-kept : goal.invariant-loop-kept

@@ -1,5 +1,5 @@
 use Rattle.std.proofs.Common.{List, Option, refl, ap, sym, subst, ◌∙◌, length, arith}
-use Rattle.raven_data.specs.Kept.{KeptRow, last_kept}
+use Rattle.spec_data.specs.Kept.{KeptRow, last_kept}
 use Rattle.spec_store.specs.Kept.{rows_after}
 use Rattle.doc_keeper.specs.Loading.{IsCause, IsPage, IsPageFault}
 use Rattle.doc_keeper.specs.declared.loading.LoadFault.TheVariants.{Failed}

@@ -1,6 +1,6 @@
 use Rattle.std.proofs.Common.{◌≡◌, ◌≤◌, ◌+◌, ◌&&◌, not, filter, length}
 use Rattle.std.specs.Str.{bytes_eq}
-use Rattle.raven_data.specs.Rows.{is_document}
+use Rattle.spec_data.specs.Rows.{is_document}
 use Rattle.doc_store.specs.Maps.{rows_in}
 use Rattle.doc_store.proofs.rows.counts_of.Given as goal
 

@@ -1,5 +1,5 @@
 use Rattle.std.proofs.Common.{◌≡◌, ◌≤◌, ◌++◌, ◌&&◌, filter, length, nat_lt}
-use Rattle.raven_data.specs.Tables.{in_scope}
+use Rattle.spec_data.specs.Tables.{in_scope}
 use Rattle.doc_store.specs.Maps.{rows_in}
 use Rattle.doc_store.proofs.rows.first_past.Given as goal
 

@@ -1,6 +1,6 @@
 use Rattle.std.proofs.Common.{◌≡◌, filter}
 use Rattle.spec_store.specs.Store.{last_of}
-use Rattle.raven_data.specs.Tables.{in_scope}
+use Rattle.spec_data.specs.Tables.{in_scope}
 use Rattle.doc_store.specs.Maps.{rows_in}
 use Rattle.doc_store.proofs.rows.last_in_scope.Given as goal
 

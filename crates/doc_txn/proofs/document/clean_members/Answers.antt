@@ -1,5 +1,5 @@
 use Rattle.std.proofs.Common.{◌∙◌, ap, sym, subst, not, filter}
-use Rattle.raven_data.specs.Rising.{Pairs, IsRising}
+use Rattle.spec_data.specs.Rising.{Pairs, IsRising}
 use Rattle.spec_store.specs.Commit.{is_server_member}
 use Rattle.doc_txn.proofs.Pairs.{IsRising-filter}
 use Rattle.doc_txn.proofs.document.clean_members.Goals as goal

@@ -1,6 +1,6 @@
 use Rattle.std.proofs.Common.{◌≡◌, option_map, ◌∙◌, ap, sym}
 use Rattle.std.specs.Option.{option_copied, option_or}
-use Rattle.raven_data.specs.Folding.{folded}
+use Rattle.spec_data.specs.Folding.{folded}
 use Rattle.spec_store.specs.Store.{row_at}
 use Rattle.doc_txn.specs.CommandView.{command_view, expect_view, writer_view}
 use Rattle.doc_txn.specs.FaultView.{kind_view}

@@ -1,6 +1,6 @@
 use Rattle.std.proofs.Common.{cond, length, ◌∙◌, ap, subst, Some}
 use Rattle.spec_store.specs.Stale.{batch_rows}
-use Rattle.raven_data.specs.Tables.{note_rows}
+use Rattle.spec_data.specs.Tables.{note_rows}
 use Rattle.index_tree.specs.Mapper.{mapper_of}
 use Rattle.spec_index.specs.Mapping.{touched}
 use Rattle.spec_store.specs.Store.{last, last_of}

@@ -1,5 +1,5 @@
 use Rattle.std.proofs.Common.{◌∙◌, sym, ap, map, List, ℕ}
-use Rattle.raven_data.specs.Data.{Data}
+use Rattle.spec_data.specs.Data.{Data}
 use Rattle.index_definition.proofs.Adding.{first_names}
 use Rattle.index_definition.proofs.shape.in_order.Goals as goal
 

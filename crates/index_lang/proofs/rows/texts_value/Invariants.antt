@@ -1,5 +1,5 @@
 use Rattle.std.proofs.Common.{◌≡◌, take, map}
-use Rattle.raven_data.specs.Data.{text}
+use Rattle.spec_data.specs.Data.{text}
 use Rattle.index_lang.proofs.rows.texts_value.Given as goal
 
 abbrev pub invariant-loop-text : goal.invariant-loop-text

@@ -1,6 +1,6 @@
 use Rattle.std.proofs.Common.{◌∙◌, ◌+◌, ap, sym, subst, arith, cond, drop, is_some, length, map, take, ◌++◌, ◌∷◌, []}
 use Rattle.std.specs.FinMap.{get}
-use Rattle.raven_data.specs.Folding.{folded, same_key}
+use Rattle.spec_data.specs.Folding.{folded, same_key}
 use Rattle.index_tree.specs.Mapper.{mapper_of}
 use Rattle.index_definition.specs.DefinitionView.{definition_view}
 use Rattle.reference_track.specs.Sets.{is_id}

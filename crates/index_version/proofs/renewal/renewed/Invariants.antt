@@ -1,5 +1,5 @@
 use Rattle.std.proofs.Common.{◌≡◌, ◌+◌, ◌≤◌, drop, length, map, take}
-use Rattle.raven_data.specs.Folding.{folded}
+use Rattle.spec_data.specs.Folding.{folded}
 use Rattle.index_tree.specs.Mapper.{mapper_of}
 use Rattle.index_definition.specs.DefinitionView.{definition_view}
 use Rattle.index_version.specs.Folded.{by_folded}

@@ -1,5 +1,5 @@
 use Rattle.std.proofs.Common.{◌≡◌, drop}
-use Rattle.raven_data.specs.Tables.{note_rows}
+use Rattle.spec_data.specs.Tables.{note_rows}
 use Rattle.index_version.specs.Folded.{by_folded}
 use Rattle.index_version.proofs.table.all_noted.Given as goal
 

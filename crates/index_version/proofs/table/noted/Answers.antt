@@ -1,7 +1,7 @@
 use Rattle.std.proofs.Common.{◌∙◌, ap, sym}
 use Rattle.std.specs.BTreeMap.{insert_entry, is_at}
 use Rattle.std.specs.Map.{remove_entry}
-use Rattle.raven_data.specs.Rows.{Row}
+use Rattle.spec_data.specs.Rows.{Row}
 use Rattle.reference_track.specs.Sets.{id_cmp}
 use Rattle.index_version.proofs.TableLemmas.{noted_document, noted_tombstone}
 use Rattle.index_version.proofs.table.noted.Goals as goal

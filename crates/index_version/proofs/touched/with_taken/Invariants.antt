@@ -1,5 +1,5 @@
 use Rattle.std.proofs.Common.{◌≡◌, ◌||◌, ℕ, List, drop}
-use Rattle.raven_data.specs.Folding.{folded}
+use Rattle.spec_data.specs.Folding.{folded}
 use Rattle.spec_index.specs.Mapping.{is_in_batch}
 use Rattle.reference_track.specs.Sets.{is_one_of}
 use Rattle.index_version.proofs.touched.with_taken.Given as goal

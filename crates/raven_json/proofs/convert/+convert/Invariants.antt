@@ -1,6 +1,6 @@
 use Rattle.std.proofs.Common.{◌≡◌, [], drop}
 use Rattle.serde_json.specs.View.{items_view, members_view}
-use Rattle.raven_data.specs.Json.{items_of, members_of}
+use Rattle.spec_data.specs.Json.{items_of, members_of}
 use Rattle.raven_json.proofs.convert.+convert.Given as goal
 
 abbrev pub invariant-members_of-loop-key : goal.invariant-members_of-loop-key

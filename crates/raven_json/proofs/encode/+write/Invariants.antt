@@ -1,8 +1,8 @@
 use Rattle.std.proofs.Common.{◌≡◌, ◌++◌, ◌+◌, ◌*◌, drop, map, false}
-use Rattle.raven_data.specs.Data.{depth, items_of, items_depth, entries_of, entries_depth}
-use Rattle.raven_data.specs.Sound.{AreSound, HasSound}
+use Rattle.spec_data.specs.Data.{depth, items_of, items_depth, entries_of, entries_depth}
+use Rattle.spec_data.specs.Sound.{AreSound, HasSound}
 use Rattle.raven_value.specs.View.{data_of, pair_of}
-use Rattle.raven_data.specs.Written.{items_text, entries_text}
+use Rattle.spec_data.specs.Written.{items_text, entries_text}
 use Rattle.raven_json.proofs.encode.+write.Given as goal
 
 abbrev pub decreases-write_value : goal.decreases-write_value

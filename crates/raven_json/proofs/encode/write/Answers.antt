@@ -1,5 +1,5 @@
 use Rattle.std.proofs.Common.{◌++◌, ◌∙◌, ap}
-use Rattle.raven_data.specs.Written.{text_of}
+use Rattle.spec_data.specs.Written.{text_of}
 use Rattle.raven_value.specs.View.{data_of}
 use Rattle.raven_json.proofs.RoundTrip.{written_utf8}
 use Rattle.raven_json.proofs.encode.write.Goals as goal

@@ -1,5 +1,5 @@
 use Rattle.std.proofs.Common.{◌≡◌, ◌++◌, ◌∷◌, [], drop, flat_map}
-use Rattle.raven_data.specs.Written.{escaped, quoted}
+use Rattle.spec_data.specs.Written.{escaped, quoted}
 use Rattle.raven_json.proofs.encode.write_quoted.Given as goal
 
 abbrev pub invariant-loop-byte : goal.invariant-loop-byte

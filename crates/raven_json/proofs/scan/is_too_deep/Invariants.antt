@@ -1,5 +1,5 @@
 use Rattle.std.proofs.Common.{◌≡◌, ◌≤◌, drop}
-use Rattle.raven_data.specs.Scan.{is_too_deep, outside}
+use Rattle.spec_data.specs.Scan.{is_too_deep, outside}
 use Rattle.raven_json.specs.PlaceView.{place_view}
 use Rattle.raven_json.proofs.scan.is_too_deep.Given as goal
 

@@ -1,4 +1,4 @@
-use Rattle.raven_data.specs.Orders.{order-total}
+use Rattle.spec_data.specs.Orders.{order-total}
 use Rattle.raven_laws.proofs.indexes.orders_are_total.Goals as goal
 
 pub returns : goal.returns

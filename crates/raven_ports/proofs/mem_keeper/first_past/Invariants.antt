@@ -1,5 +1,5 @@
 use Rattle.std.proofs.Common.{◌≡◌, ◌≤◌, ◌++◌, drop, filter, length}
-use Rattle.raven_data.specs.Kept.{is_past}
+use Rattle.spec_data.specs.Kept.{is_past}
 use Rattle.raven_ports.proofs.mem_keeper.first_past.Given as goal
 
 -- what was found so far, and what passes among the rest

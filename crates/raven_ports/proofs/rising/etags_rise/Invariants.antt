@@ -1,5 +1,5 @@
 use Rattle.std.proofs.Common.{◌↔◌, drop, None}
-use Rattle.raven_data.specs.Kept.{EtagsRise}
+use Rattle.spec_data.specs.Kept.{EtagsRise}
 use Rattle.raven_ports.proofs.rising.etags_rise.Given as goal
 
 -- all rise exactly where the rest rises from here

@@ -1,6 +1,6 @@
 use Rattle.std.proofs.Common.{◌-◌, ◌∙◌, arith, min, Some}
 use Rattle.std.proofs.lemmas.Result.{IfOk-weaker}
-use Rattle.raven_data.specs.Limits.{moments_end}
+use Rattle.spec_data.specs.Limits.{moments_end}
 use Rattle.raven_reply.proofs.Moments.{shown_moment}
 use Rattle.raven_reply.proofs.moment.moment_text.Goals as goal
 

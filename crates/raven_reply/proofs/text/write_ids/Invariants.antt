@@ -1,6 +1,6 @@
 use Rattle.std.proofs.Common.{◌≡◌, ◌++◌, drop, false, map}
-use Rattle.raven_data.specs.Data.{items_of, text}
-use Rattle.raven_data.specs.Written.{items_text}
+use Rattle.spec_data.specs.Data.{items_of, text}
+use Rattle.spec_data.specs.Written.{items_text}
 use Rattle.raven_reply.proofs.text.write_ids.Given as goal
 
 abbrev pub invariant-loop-id : goal.invariant-loop-id

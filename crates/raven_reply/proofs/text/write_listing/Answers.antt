@@ -1,5 +1,5 @@
 use Rattle.std.proofs.Common.{◌≡◌, ◌++◌, ◌∙◌, ℕ, List, OnOk, ap, subst}
-use Rattle.raven_data.specs.Written.{text_of}
+use Rattle.spec_data.specs.Written.{text_of}
 use Rattle.spec_server.specs.Replies.{Listing, listing_data}
 use Rattle.raven_value.specs.View.{data_of}
 use Rattle.raven_reply.specs.declared.reply.Listing.TheInside.{Inside}

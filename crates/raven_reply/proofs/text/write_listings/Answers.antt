@@ -1,8 +1,8 @@
 use Rattle.std.proofs.Common.{◌≡◌, ◌++◌, ◌+◌, ◌<◌, ◌∷◌, ◌∙◌, ℕ, suc, List, length, get_or, drop, map, Bool, true, sym, ap, arith, add-one, append_assoc}
 use Rattle.std.proofs.Math.Seq.{drop-cons}
 use Rattle.std.proofs.lemmas.List.{append-nil}
-use Rattle.raven_data.specs.Data.{Data, items_of}
-use Rattle.raven_data.specs.Written.{comma_if, items_text, text_of}
+use Rattle.spec_data.specs.Data.{Data, items_of}
+use Rattle.spec_data.specs.Written.{comma_if, items_text, text_of}
 use Rattle.spec_server.specs.Replies.{listing_data}
 use Rattle.raven_reply.proofs.text.write_listings.Goals as goal
 use Rattle.raven_reply.proofs.text.write_listings.Goals.{then-later+in_ok-write_bytes, else-later}

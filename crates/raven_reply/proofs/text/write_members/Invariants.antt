@@ -1,6 +1,6 @@
 use Rattle.std.proofs.Common.{◌≡◌, ◌++◌, drop, false, map}
-use Rattle.raven_data.specs.Data.{entries_of}
-use Rattle.raven_data.specs.Written.{entries_text}
+use Rattle.spec_data.specs.Data.{entries_of}
+use Rattle.spec_data.specs.Written.{entries_text}
 use Rattle.raven_reply.specs.Pieces.{piece_data}
 use Rattle.raven_reply.proofs.text.write_members.Given as goal
 

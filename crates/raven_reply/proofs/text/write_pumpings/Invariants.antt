@@ -1,6 +1,6 @@
 use Rattle.std.proofs.Common.{◌≡◌, ◌++◌, drop, false, map}
-use Rattle.raven_data.specs.Data.{items_of}
-use Rattle.raven_data.specs.Written.{items_text}
+use Rattle.spec_data.specs.Data.{items_of}
+use Rattle.spec_data.specs.Written.{items_text}
 use Rattle.spec_server.specs.Replies.{pumping_data}
 use Rattle.raven_reply.proofs.text.write_pumpings.Given as goal
 

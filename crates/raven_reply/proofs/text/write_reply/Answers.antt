@@ -1,5 +1,5 @@
 use Rattle.std.proofs.Common.{◌≡◌, ◌++◌, ◌∙◌, OnOk, sym, ap, subst}
-use Rattle.raven_data.specs.Written.{text_of}
+use Rattle.spec_data.specs.Written.{text_of}
 use Rattle.spec_server.specs.Replies.{CollectionChanged, reply_data}
 use Rattle.raven_reply.specs.ReplyView.{reply_view}
 use Rattle.raven_reply.proofs.text.write_reply.Goals as goal

@@ -1,5 +1,5 @@
 use Rattle.std.proofs.Common.{◌++◌, ◌∙◌, sym, ap}
-use Rattle.raven_data.specs.Written.{text_of}
+use Rattle.spec_data.specs.Written.{text_of}
 use Rattle.spec_server.specs.Replies.{Result, result_data}
 use Rattle.raven_reply.specs.ReplyView.{result_view}
 use Rattle.raven_reply.proofs.text.write_result.Goals as goal

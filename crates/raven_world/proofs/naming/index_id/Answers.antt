@@ -1,6 +1,6 @@
 use Rattle.std.proofs.Common.{◌++◌, ℕ, List, ◌∙◌, ap}
-use Rattle.raven_data.specs.Faults.{fault_of}
-use Rattle.raven_data.specs.Limits.{max_id}
+use Rattle.spec_data.specs.Faults.{fault_of}
+use Rattle.spec_data.specs.Limits.{max_id}
 use Rattle.raven_world.proofs.Clean.{faultless-index_id}
 use Rattle.raven_world.proofs.naming.index_id.Goals as goal
 

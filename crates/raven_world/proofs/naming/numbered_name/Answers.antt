@@ -1,6 +1,6 @@
 use Rattle.std.proofs.Common.{◌∙◌, ap}
-use Rattle.raven_data.specs.Faults.{fault_of}
-use Rattle.raven_data.specs.Limits.{max_name}
+use Rattle.spec_data.specs.Faults.{fault_of}
+use Rattle.spec_data.specs.Limits.{max_name}
 use Rattle.spec_index.specs.Optimiser.{first_free}
 use Rattle.raven_world.proofs.Clean.{faultless-auto}
 use Rattle.raven_world.proofs.naming.numbered_name.Goals as goal

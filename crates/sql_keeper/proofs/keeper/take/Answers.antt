@@ -1,6 +1,6 @@
 use Rattle.std.proofs.Common.{◌∙◌, Some, ap, sym, length, arith, ◌∷◌, []}
 use Rattle.std.proofs.lemmas.List.{length-append}
-use Rattle.raven_data.specs.Kept.{KeptRow}
+use Rattle.spec_data.specs.Kept.{KeptRow}
 use Rattle.raven_ports.proofs.RisingLemmas.{rises_more, last_more}
 use Rattle.sql_keeper.proofs.keeper.take.Goals as goal
 

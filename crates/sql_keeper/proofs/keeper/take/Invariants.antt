@@ -1,5 +1,5 @@
 use Rattle.std.proofs.Common.{◌≡◌, ◌≤◌, length}
-use Rattle.raven_data.specs.Kept.{EtagsRise, last_kept}
+use Rattle.spec_data.specs.Kept.{EtagsRise, last_kept}
 use Rattle.sql_keeper.proofs.keeper.take.Given as goal
 
 -- the etags rise so far, up to the last

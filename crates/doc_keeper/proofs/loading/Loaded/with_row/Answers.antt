@@ -1,5 +1,5 @@
 use Rattle.std.proofs.Common.{◌≡◌, List, subst, sym, true, arith}
-use Rattle.raven_data.specs.Rows.{Row}
+use Rattle.spec_data.specs.Rows.{Row}
 use Rattle.spec_store.specs.Kept.{can_follow}
 use Rattle.doc_keeper.proofs.LoadLemmas.{stays_within, stays_of}
 use Rattle.doc_keeper.proofs.loading.Loaded.with_row.Goals as goal

@@ -1,8 +1,8 @@
 use Rattle.std.proofs.Common.{◌≡◌, ℕ, List, filter, ◌∙◌, ap, sym, arith}
 use Rattle.std.specs.Ordering.{nat_cmp}
-use Rattle.raven_data.specs.Rows.{Row}
+use Rattle.spec_data.specs.Rows.{Row}
 use Rattle.spec_store.specs.Store.{Store, last_of}
-use Rattle.raven_data.specs.Tables.{Scope, in_scope}
+use Rattle.spec_data.specs.Tables.{Scope, in_scope}
 use Rattle.spec_store.specs.Stale.{newest}
 use Rattle.paged_map.specs.Range.{between}
 use Rattle.doc_store.specs.Maps.{Shows, rows_in, newest_among}

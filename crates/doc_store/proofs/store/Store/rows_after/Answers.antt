@@ -1,8 +1,8 @@
 use Rattle.std.proofs.Common.{◌≡◌, ◌<◌, ℕ, List, IsTrue, ◌↔◌, ◌&&◌, filter, take, length, nat_lt, ◌∙◌, ap, subst, arith}
 use Rattle.std.specs.Ordering.{nat_cmp}
-use Rattle.raven_data.specs.Rows.{Row}
+use Rattle.spec_data.specs.Rows.{Row}
 use Rattle.spec_store.specs.Store.{Store}
-use Rattle.raven_data.specs.Tables.{Scope, in_scope}
+use Rattle.spec_data.specs.Tables.{Scope, in_scope}
 use Rattle.spec_store.specs.Stale.{past}
 use Rattle.paged_map.specs.Range.{between}
 use Rattle.doc_store.specs.Maps.{Shows, rows_in}

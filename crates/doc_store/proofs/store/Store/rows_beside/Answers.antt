@@ -1,5 +1,5 @@
 use Rattle.std.proofs.Common.{◌∙◌, ap, sym}
-use Rattle.raven_data.specs.Rows.{Row}
+use Rattle.spec_data.specs.Rows.{Row}
 use Rattle.doc_store.proofs.MapLemmas.{shown, beside_some, beside_none}
 use Rattle.doc_store.proofs.store.Store.rows_beside.Goals as goal
 

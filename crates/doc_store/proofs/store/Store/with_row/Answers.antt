@@ -1,8 +1,8 @@
 use Rattle.std.proofs.Common.{◌≡◌, List, ◌∙◌, ap, filter, not}
 use Rattle.std.specs.Ordering.{nat_cmp}
 use Rattle.std.specs.BTreeMap.{insert_entry}
-use Rattle.raven_data.specs.Folding.{same_key, key_cmp}
-use Rattle.raven_data.specs.Rows.{Row, key}
+use Rattle.spec_data.specs.Folding.{same_key, key_cmp}
+use Rattle.spec_data.specs.Rows.{Row, key}
 use Rattle.spec_store.specs.Store.{Store, put}
 use Rattle.doc_store.specs.Maps.{Shows, by_etag, id_cmp}
 use Rattle.doc_store.proofs.MapLemmas.{shown, put_is, rows_are, grown}

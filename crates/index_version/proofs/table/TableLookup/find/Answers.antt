@@ -1,7 +1,7 @@
 use Rattle.std.proofs.Common.{Some, sym, ap, ◌∙◌}
 use Rattle.std.specs.FinMap.{get}
-use Rattle.raven_data.specs.Folding.{folded}
-use Rattle.raven_data.specs.Tables.{Table}
+use Rattle.spec_data.specs.Folding.{folded}
+use Rattle.spec_data.specs.Tables.{Table}
 use Rattle.index_version.proofs.FoldedMaps.{get-by_folded}
 use Rattle.index_version.proofs.table.TableLookup.find.Goals as goal
 

@@ -1,6 +1,6 @@
 use Rattle.std.proofs.Common.{Some, None, [], ◌∷◌, filter, length, ◌∙◌, ap, sym, arith}
 use Rattle.std.proofs.lemmas.List.{length-append}
-use Rattle.raven_data.specs.Kept.{KeptRow, is_past}
+use Rattle.spec_data.specs.Kept.{KeptRow, is_past}
 use Rattle.raven_ports.proofs.FiledLemmas.{stepped, none_left, ended, walked}
 use Rattle.raven_ports.proofs.committed.Committed.add_past.Goals as goal
 

@@ -1,6 +1,6 @@
 use Rattle.std.proofs.Common.{◌∙◌, ap, sym, ℕ, option_map}
 use Rattle.std.specs.List.{find}
-use Rattle.raven_data.specs.Kept.{KeptRow, is_past}
+use Rattle.spec_data.specs.Kept.{KeptRow, is_past}
 use Rattle.raven_ports.proofs.FiledLemmas.{shown, found_after, found_first}
 use Rattle.raven_ports.proofs.committed.Committed.first_past.Goals as goal
 

@@ -1,8 +1,8 @@
 use Rattle.std.proofs.Common.{◌≡◌, List, ◌∙◌, ap, filter, not}
 use Rattle.std.specs.Ordering.{nat_cmp}
 use Rattle.std.specs.BTreeMap.{insert_entry}
-use Rattle.raven_data.specs.Folding.{same_key, key_cmp}
-use Rattle.raven_data.specs.Kept.{KeptRow, keep, kept_key}
+use Rattle.spec_data.specs.Folding.{same_key, key_cmp}
+use Rattle.spec_data.specs.Kept.{KeptRow, keep, kept_key}
 use Rattle.raven_ports.specs.Filed.{Shows, rows_in, by_etag}
 use Rattle.raven_ports.proofs.FiledLemmas.{shown, kept_in, grown, rows_in-by_etag}
 use Rattle.raven_ports.proofs.committed.Committed.with_row.Goals as goal

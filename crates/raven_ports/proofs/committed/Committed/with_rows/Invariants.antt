@@ -1,5 +1,5 @@
 use Rattle.std.proofs.Common.{◌≡◌, None, drop}
-use Rattle.raven_data.specs.Kept.{EtagsRise, keep_all, last_kept}
+use Rattle.spec_data.specs.Kept.{EtagsRise, keep_all, last_kept}
 use Rattle.raven_ports.proofs.committed.Committed.with_rows.Given as goal
 
 -- the rest goes in behind what went in so far

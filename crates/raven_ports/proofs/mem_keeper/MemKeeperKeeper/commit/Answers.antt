@@ -1,5 +1,5 @@
 use Rattle.std.proofs.Common.{◌++◌, [], None, Option, Some, List, filter, not, unwrap_or, ap, ◌∙◌, subst, sym}
-use Rattle.raven_data.specs.Kept.{KeptRow, EtagsRise, keep_all, last_kept}
+use Rattle.spec_data.specs.Kept.{KeptRow, EtagsRise, keep_all, last_kept}
 use Rattle.raven_ports.specs.Filed.{is_among}
 use Rattle.raven_ports.specs.KeptMemory.{KeptMemory}
 use Rattle.raven_ports.proofs.KeptLemmas.{all_rise, committed_after, rise_past}

@@ -1,6 +1,6 @@
 use Rattle.std.proofs.Common.{◌++◌, [], unwrap_or, ap, ◌∙◌}
 use Rattle.std.specs.Option.{option_copied}
-use Rattle.raven_data.specs.Kept.{kept_after}
+use Rattle.spec_data.specs.Kept.{kept_after}
 use Rattle.raven_ports.proofs.KeptLemmas.{loaded_rises}
 use Rattle.raven_ports.proofs.mem_keeper.MemKeeperKeeper.load.Goals as goal
 

@@ -1,5 +1,5 @@
 use Rattle.std.proofs.Common.{◌<◌, ◌∙◌, List, Some, None, get_or, if◌then◌else◌, inr, length, ap, subst, sym}
-use Rattle.raven_data.specs.Rows.{Row}
+use Rattle.spec_data.specs.Rows.{Row}
 use Rattle.doc_txn.specs.SettingView.{setting_of}
 use Rattle.index_lang.specs.Openings.{EndsAt}
 use Rattle.raven_world.specs.Opened.{read_as}

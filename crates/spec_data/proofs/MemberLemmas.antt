@@ -2,9 +2,9 @@
 use Rattle.std.proofs.Common.{◌≡◌, ℕ, List, [], ◌∷◌, Ordering, Less, Equal, Greater, refl, ap, ◌∙◌}
 use Rattle.std.proofs.lemmas.Cmp.{nat_list_cmp_total}
 use Rattle.std.specs.Ordering.{match_ordering, ordering_reverse}
-use Rattle.raven_data.specs.Data.{Data, entries_of, pairs_of}
-use Rattle.raven_data.specs.Folding.{key_cmp}
-use Rattle.raven_data.specs.Rising.{Pairs, IsBelowAll, IsRising, put}
+use Rattle.spec_data.specs.Data.{Data, entries_of, pairs_of}
+use Rattle.spec_data.specs.Folding.{key_cmp}
+use Rattle.spec_data.specs.Rising.{Pairs, IsBelowAll, IsRising, put}
 
 pub pairs_of-entries_of : (ms : Pairs) → pairs_of (entries_of ms) ≡ ms
 pairs_of-entries_of [] = refl

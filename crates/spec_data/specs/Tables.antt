@@ -3,8 +3,8 @@ use Rattle.std.specs.Prelude.{ℕ, List, [], ◌∷◌, Bool, if◌then◌else�
 use Rattle.std.specs.Str.{bytes_eq}
 use Rattle.std.specs.List.{list_any}
 use Rattle.std.specs.FinMap.{FinMap, insert, remove, from_entries}
-use Rattle.raven_data.specs.Folding.{key_cmp}
-use Rattle.raven_data.specs.Rows.{Row, key, is_document}
+use Rattle.spec_data.specs.Folding.{key_cmp}
+use Rattle.spec_data.specs.Rows.{Row, key, is_document}
 
 -- the recorded documents by their folded ids
 abbrev pub Table : Type 0
