@@ -10,7 +10,7 @@
 //! | `fields` | the names of its fields |
 //! | `row` | the body of the row that is put for it |
 //!
-//! An empty line and one that begins with `#` have no answer; any other line ends the program with an error. In each line `⟨XX⟩` stands for
+//! An empty line and one that begins with `#` have no answer; any other line ends the program with an error. In each line `⟨XX⟩` means
 //! bytes, two hex digits each, and `⟨N*TEXT⟩` for N copies of the text.
 #![tactic(auto)]
 

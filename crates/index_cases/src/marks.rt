@@ -17,7 +17,7 @@ fn add_mark(alloc: Global, out: &mut String, mark: &str) -> Result<()> {
     Ok(())
 }
 
-/// The line with what its marks stand for.
+/// The line with what its marks mean.
 pub fn written_out(alloc: Global, line: &str) -> Result<String> {
     let mut pieces = line.split("⟨");
     let mut out = String::from_str(alloc, pieces.next().unwrap_or(""))?;

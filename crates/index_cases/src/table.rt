@@ -65,12 +65,12 @@ impl Table {
     }
 
     fn last(&self) -> Result<&Definition> {
-        self.definitions.last().context("no definition stands here")
+        self.definitions.last().context("there is no definition")
     }
 
     fn same(&self, alloc: Global) -> Result<String> {
         let [.., before, last] = self.definitions.as_slice() else {
-            bail!("no two definitions stand here");
+            bail!("there are no two definitions");
         };
         let answer = if same(before, last) { "yes" } else { "no" };
         Ok(format!(in alloc; "    {answer}\n")?)

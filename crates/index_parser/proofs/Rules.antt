@@ -1,9 +1,8 @@
 -- What the loops and rules read, by the next token.
-use Rattle.std.proofs.Common.{◌≡◌, ℕ, zero, suc, ◌+◌, ◌-◌, ◌<◌, ◌≤◌, Bool, true, false, cond, List, [], ◌∷◌, ◌++◌, length, Option, Some, None, refl, sym, ◌∙◌, ap, subst, arith}
+use Rattle.std.proofs.Common.{◌≡◌, ℕ, suc, ◌+◌, ◌-◌, ◌<◌, ◌≤◌, Bool, true, false, cond, List, [], ◌∷◌, ◌++◌, length, Option, Some, None, refl, sym, ◌∙◌, ap, subst, arith}
 use Rattle.exact_parse.specs.Steps.{head, tail, TooLarge, Outcome, Read, Refused, and_then, ◌>>=◌, ◌>>◌, pure, refuse, take, take_as, skip, choose, Ends, More, Counts}
 use Rattle.exact_parse.proofs.Keeping.{read_shorter}
 use Rattle.exact_parse.proofs.Loops.{loop_ends}
-use Rattle.index_tokens.specs.declared.token.Token.{Token}
 use Rattle.index_tokens.specs.declared.token.Token.TheVariants as t
 use Rattle.index_tokens.specs.declared.token.Placed.{Placed}
 use Rattle.index_tokens.specs.Reads.{Kind, Reads}
@@ -13,14 +12,14 @@ use Rattle.index_tree.specs.declared.expression.BinaryOp.{BinaryOp}
 use Rattle.index_tree.specs.declared.map_query.Clause.{Clause}
 use Rattle.index_tree.specs.Trees.{Tree, Binary, Dot}
 use Rattle.index_grammar.specs.declared.spelled.PlacedMember.{PlacedMember}
-use Rattle.index_grammar.specs.Expressions.{Spells, Whole, Level, Post}
+use Rattle.index_grammar.specs.Expressions.{Spells, Level, Post}
 use Rattle.index_grammar.specs.Limits.{most_operators}
 use Rattle.index_grammar.specs.Maps.{SpellsClause}
 use Rattle.index_grammar.specs.ExpressionReading as expr
 use Rattle.index_grammar.specs.ExpressionReading.{Deeper, operator_at, operator_then, operator_next, point_next, deeper_of}
 use Rattle.index_grammar.specs.MapReading as read
 use Rattle.index_grammar.specs.MapReading.{clause_next}
-use Rattle.index_grammar.proofs.ExpressionKeeps.{Behind, points_keep, climb_keeps, level_at, expression_keeps}
+use Rattle.index_grammar.proofs.ExpressionKeeps.{Behind, points_keep, climb_keeps, level_at}
 use Rattle.index_grammar.proofs.MapKeeps.{BehindClauses, clauses_keep, filter_keeps, binding_keeps}
 use Rattle.index_parser.specs.Parts.{clause_if_any}
 use Rattle.index_parser.proofs.Turning.{loop_full, loop_counted, loop_passed}

@@ -1,9 +1,9 @@
 -- What one turn of a loop reads.
 use Rattle.std.proofs.Common.{◌≡◌, ℕ, ◌+◌, ◌<◌, ◌≤◌, Bool, true, false, nat_lt, List, Option, refl, ◌∙◌, ap, arith}
 use Rattle.std.proofs.lemmas.Bool.{ltb-true, lt-ltb}
-use Rattle.exact_parse.specs.Steps.{head, tail, Cause, TooLarge, Outcome, Read, Refused, Reader, and_then, ◌>>=◌, ◌>>◌, skip, within, Next, Ends, More, Counts, turn, loop}
+use Rattle.exact_parse.specs.Steps.{head, tail, TooLarge, Refused, Reader, and_then, ◌>>=◌, ◌>>◌, skip, within, Next, More, Counts, turn, loop}
 use Rattle.exact_parse.specs.Loops.{LoopKeeps}
-use Rattle.exact_parse.proofs.Loops.{loop_ends, loop_turn}
+use Rattle.exact_parse.proofs.Loops.{loop_turn}
 
 not_below : (c most : ℕ) → most ≤ c → nat_lt c most ≡ false
 not_below c most h = by (nat_lt c most) refl

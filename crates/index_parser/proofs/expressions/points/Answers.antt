@@ -1,4 +1,4 @@
-use Rattle.std.proofs.Common.{rules, arith, ◌≡◌, ◌∙◌, ◌<◌, ◌≤◌, Bool, true, false, sym}
+use Rattle.std.proofs.Common.{rules, arith, ◌≡◌, ◌∙◌, ◌<◌, ◌≤◌, true, false}
 use Rattle.std.proofs.lemmas.Grind.{common_steps}
 use Rattle.exact_parse.specs.Steps.{head}
 use Rattle.index_tokens.specs.declared.token.Token.TheVariants as t

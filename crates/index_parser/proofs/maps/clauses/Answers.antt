@@ -1,4 +1,4 @@
-use Rattle.std.proofs.Common.{rules, arith, ◌≡◌, ◌∙◌, ◌<◌, Some, None, sym, ap}
+use Rattle.std.proofs.Common.{rules, arith, ◌≡◌, ◌∙◌, Some, None, sym, ap}
 use Rattle.std.proofs.lemmas.Grind.{common_steps}
 use Rattle.exact_parse.specs.Steps.{Read, and_then}
 use Rattle.index_grammar.specs.MapReading as spec

@@ -1,8 +1,8 @@
 use Rattle.std.proofs.Common.{rules, arith, ◌≡◌, ◌∙◌, ◌+◌, ◌-◌, true, false, sym, ap}
 use Rattle.std.proofs.lemmas.Grind.{common_steps}
-use Rattle.exact_parse.specs.Steps.{head, Read, take}
+use Rattle.exact_parse.specs.Steps.{head}
 use Rattle.index_tokens.specs.declared.token.Token.TheVariants as t
-use Rattle.index_tokens.specs.Words.{next_is, the}
+use Rattle.index_tokens.specs.Words.{next_is}
 use Rattle.index_grammar.specs.MapReading as spec
 use Rattle.index_parser.proofs.Rules.{members_on, members_close, members_comma, members_comma_close, members_more, members_none}
 use Rattle.index_parser.proofs.maps.members.Goals as goal
