@@ -183,10 +183,12 @@ short run script begun M N h (inr a) k = inr (stopped run script begun M N h a k
 pub ends_done : (run : Run) (script : List ℕ) (begun : KeeperState) (M N : Machine) → HasBegun run script begun M
     → Answers run.clock script (state_of M begun run.before.output) (state_of N run.after.keeper run.after.output) → Keeps run.after.keeper.held N → EndsRightly is.Done run
 ends_done run script begun M N h a k =
-    ends_as run is.Done
-    ((h.options, h.ordered), was_read run.before.input.left run.after.input.left script h.all h.size,
-    of_script run.before.input.left run.after.input.left script (Finished run) h.all
-    (record { begun = begun; first = M; last = N; begins = begins run script begun M h; answers = a; holds = k.holds }))
+    ends_as run is.Done (
+      (h.options, h.ordered),
+      was_read run.before.input.left run.after.input.left script h.all h.size,
+      of_script run.before.input.left run.after.input.left script (Finished run) h.all
+          (record { begun = begun; first = M; last = N; begins = begins run script begun M h; answers = a; holds = k.holds }),
+    )
 
 pub ends_stopped : (run : Run) (script : List ℕ) (begun : KeeperState) (M N : Machine) → HasBegun run script begun M
     → StopsIn run.clock script (state_of M begun run.before.output) (state_of N run.after.keeper run.after.output) → Keeps run.after.keeper.held N

@@ -11,36 +11,26 @@ use Rattle.raven_console.specs.Runs.{Finished, HasNoFault, HoldsSame, IsKeptBad,
 pub record EndsRightly (status : Status) (run : Run) : Type 0 where
   -- all lines were executed and all replies were written, and the keeper holds the rows of the last store
   pub done : status ≡ Done → IfSome run.before.input.left (Finished run)
-
   -- the arguments are malformed
   pub usage : status ≡ Usage → options_in run.arguments ≡ None
-
   -- and if they are, nothing else is reported
   pub ordered : options_in run.arguments ≡ None → (status ≡ Usage) ⊎ (status ≡ NoMemory)
-
   -- a device has failed only if its count of faults rose
   pub read_fault : status ≡ ReadFault → Rose run.before.input.faults run.after.input.faults
   pub write_fault : status ≡ WriteFault → Rose run.before.output.faults run.after.output.faults
   pub kept_fault : status ≡ KeptFault → Rose run.before.keeper.count run.after.keeper.count
-
   -- the first invalid row that the keeper holds has this etag
   pub kept_bad : (etag : ℕ) → status ≡ KeptBad etag → IsKeptBad run etag
-
   -- all of the input was taken, and it was no more than may be read
   pub read : (status ≡ Done) ⊎ (status ≡ WriteFault) → IsRead run.before.input.left run.after.input.left
-
   -- the replies end in one of them, and no later line was executed
   pub stopped : status ≡ WriteFault → IfSome run.before.input.left (Stopped run)
-
   -- nothing was written and stored, or it stopped before one of the lines, or at its reply
   pub memory : status ≡ NoMemory → HoldsSame run ⊎ (IfSome run.before.input.left (StoppedEarly run) ⊎ IfSome run.before.input.left (Stopped run))
-
   -- one byte more than may be read was taken of the input
   pub too_large : status ≡ InputTooLarge → TakesMore run.before.input.left run.after.input.left
-
   -- no more than may be read was taken of the input
   pub within : status ≡ ReadFault → TakesWithin run.before.input.left run.after.input.left
-
   -- a valid input is answered to its end, if no device fails and there is memory
   pub complete : IsValid run → HasNoFault run → (status ≡ Done) ⊎ (status ≡ NoMemory)
 

@@ -77,10 +77,11 @@ fn run<S: Source, O: Sink, K: Keeper, C: Clock>(
     clock: &C,
 ) -> Status
     ensures ends { EndsRightly result (record {
-        arguments = map string_bytes arguments.now;
-        clock = C.moment clock.now;
-        before = devices_of (S.state input.old) (O.state output.old) (K.state keeper.old);
-        after = devices_of (S.state input.new) (O.state output.new) (K.state keeper.new) }) }
+      arguments = map string_bytes arguments.now;
+      clock = C.moment clock.now;
+      before = devices_of (S.state input.old) (O.state output.old) (K.state keeper.old);
+      after = devices_of (S.state input.new) (O.state output.new) (K.state keeper.new);
+    }) }
     ensures untouched { result ≡ Status.Usage → (input.new ≡ input.old) × ((output.new ≡ output.old) × (keeper.new ≡ keeper.old)) }
     ensures unwritten { (result ≡ Status.ReadFault) ⊎ (result ≡ Status.InputTooLarge) → (output.new ≡ output.old) × (keeper.new ≡ keeper.old) }
     ensures unopened { IsUnopened result → (output.new ≡ output.old) × ((K.state keeper.new).held ≡ (K.state keeper.old).held) }
@@ -124,10 +125,11 @@ pub fn raven<R: AllocGlobal, S: Source, O: Sink, K: Keeper + Drop, C: Clock + Dr
     clock: Arc<C>,
 ) -> Finish<K>
     ensures ends { IfSome result.keeper (λ k. EndsRightly result.status (record {
-        arguments = map string_bytes arguments.now;
-        clock = C.moment clock.value;
-        before = devices_of (S.state input.old) (O.state output.old) (K.state keeper);
-        after = devices_of (S.state input.new) (O.state output.new) (K.state k) })) }
+      arguments = map string_bytes arguments.now;
+      clock = C.moment clock.value;
+      before = devices_of (S.state input.old) (O.state output.old) (K.state keeper);
+      after = devices_of (S.state input.new) (O.state output.new) (K.state k);
+    })) }
     ensures untouched { result.status ≡ Status.Usage → (input.new ≡ input.old) × ((output.new ≡ output.old) × (result.keeper ≡ Some keeper)) }
     ensures unwritten { (result.status ≡ Status.ReadFault) ⊎ (result.status ≡ Status.InputTooLarge)
         → (output.new ≡ output.old) × (result.keeper ≡ Some keeper) }

@@ -98,8 +98,11 @@ with_zeros (c ∷ e ∷ cs) d some short = elim (c == 48) as (λ t. c == 48 ≡ 
       let is = eqb-true c 48 f in
       let rest = with_zeros (e ∷ cs) (and_parts (is_digit c) (list_all is_digit (e ∷ cs)) d).1 (omega arith) (omega arith) in
       (suc rest.0, subst (λ x. x ∷ e ∷ cs ≡ 48 ∷ zeros rest.0 ++ decimal (number_from 0 (x ∷ e ∷ cs))) (sym is) (ap (λ xs. 48 ∷ xs) rest.1))
-  | false ↦ λ f. (0, sym (decimal-digits_value numerals (c ∷ e ∷ cs) d some (λ is. absurd (not_zero is f))
-      (let small = digits_value_short numerals (c ∷ e ∷ cs) 16 d short in omega arith)))
+  | false ↦ λ f. (
+    0,
+    sym (decimal-digits_value numerals (c ∷ e ∷ cs) d some (λ is. absurd (not_zero is f))
+        (let small = digits_value_short numerals (c ∷ e ∷ cs) 16 d short in omega arith)),
+  )
 ] refl
   where
     not_zero : c ≡ 48 → c == 48 ≡ false → ⊥
@@ -143,7 +146,7 @@ number-to text n s =
     let all : AreDigits text = subst AreDigits (sym s.digits) (zeros-digits s.leading ds (digits_decimal numerals n small)) in
     let some : 0 < length text = subst (λ xs. 0 < length xs) (sym s.digits) (zeros-some s.leading ds (decimal_is_IsNumeral n small).0.0) in
     let passed = and_from (nat_lt 0 (length text) && nat_le (length text) 16) (list_all is_digit text)
-        (and_from (nat_lt 0 (length text)) (nat_le (length text) 16) (lt-ltb 0 (length text) some) (le-leb (length text) 16 s.short)) all in
+    (and_from (nat_lt 0 (length text)) (nat_le (length text) 16) (lt-ltb 0 (length text) some) (le-leb (length text) 16 s.short)) all in
     ap (λ t. cond t (Some (number_from 0 text)) None) passed
     ∙ ap Some (ap (number_from 0) s.digits ∙ zeros-value s.leading ds ∙ digits_value-decimal numerals n small)
 

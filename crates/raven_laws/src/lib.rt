@@ -12,8 +12,8 @@ mod stores;
 mod writes;
 
 pub use definitions::{
-    autos_are_answered, batches_for_one_leave_the_others, definitions_are_answered, same_definition_is_exact,
-    removals_are_answered,
+    autos_are_answered, batches_for_one_leave_the_others, definitions_are_answered,
+    removals_are_answered, same_definition_is_exact,
 };
 pub use indexes::{
     agreement_survives, batch_agrees, documents_are_all, fresh_is_whole, orders_are_total,
@@ -26,8 +26,8 @@ pub use opening::{
 };
 pub use runs::{
     batches_move_what_is_stale, every_index_serves_its_name, every_run_goes_on, every_run_is_sound,
-    flags_are_exact, fresh_answers_are_exact, fresh_answers_are_from_scratch, ids_are_spelled_as_stored,
-    large_batches_are_enough, later_worlds_order, new_names_are_free,
+    flags_are_exact, fresh_answers_are_exact, fresh_answers_are_from_scratch,
+    ids_are_spelled_as_stored, large_batches_are_enough, later_worlds_order, new_names_are_free,
     new_names_have_the_least_number, picks_are_best, served_names_stay,
 };
 pub use scripts::{
@@ -35,5 +35,6 @@ pub use scripts::{
 };
 pub use stores::{commit_grows, later_orders};
 pub use writes::{
-    deletes_are_answered, only_writes_write, puts_are_answered, rows_were_written, transactions_are_whole,
+    deletes_are_answered, only_writes_write, puts_are_answered, rows_were_written,
+    transactions_are_whole,
 };
