@@ -3,7 +3,7 @@ ghost use Rattle.std.specs.Prelude.{◌≡◌, IfOk, Some};
 ghost use Rattle.spec_index.specs.World as is;
 ghost use Rattle.spec_server.specs.Machine.{Auto, change_of, no_change};
 ghost use Rattle.raven_script.specs.RequestView.{request_view};
-ghost use Rattle.raven_world.specs.WorldView.{change_view, machine_of, result_view};
+ghost use Rattle.raven_world.specs.WorldView.{change_view, machine_of, answer_view};
 ghost use Rattle.raven_reply.specs.ReplyView.{reply_view};
 ghost use Rattle.raven_console.specs.OutcomeView.{outcome_view};
 
@@ -43,7 +43,7 @@ fn changed(change: Change) -> Outcome
 }
 
 fn settled(alloc: Global, answer: Result<Change, WorldFault>) -> Result<Outcome, NoMemory>
-    ensures { IfOk result (λ outcome. (W : is.World) → result_view W answer ≡ Some (outcome_view W outcome)) }
+    ensures { IfOk result (λ outcome. (W : is.World) → answer_view W answer ≡ Some (outcome_view W outcome)) }
 {
     match answer {
         Ok(change) => Ok(changed(change)),

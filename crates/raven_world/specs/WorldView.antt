@@ -23,10 +23,10 @@ abbrev pub define_as : Definition → Request
 define_as d = Define d.name (definition_view d.body)
 
 -- a change has the reply, the new world and the rows to store, and a refusal leaves the world as it was
-abbrev pub result_view : is.World → Result Change WorldFault → Option Asked
-result_view W (Ok c) = Some (change_view c)
-result_view W (Err (Refused reply)) = Some (no_change (machine_of W) (reply_view reply))
-result_view W (Err NoMemory) = None
+abbrev pub answer_view : is.World → Result Change WorldFault → Option Asked
+answer_view W (Ok c) = Some (change_view c)
+answer_view W (Err (Refused reply)) = Some (no_change (machine_of W) (reply_view reply))
+answer_view W (Err NoMemory) = None
 
 -- either the reply to the query, which changes nothing, or that an index is to be made for it
 abbrev pub AnswersQuery : is.World → (collection field : List ℕ) → Answered → Type 0

@@ -1,6 +1,7 @@
 //! Answers that change nothing.
-ghost use Rattle.std.specs.Prelude.{◌≡◌, IfOk, length, map, option_map};
-ghost use Rattle.spec_data.specs.Data.{entries_of, object};
+ghost use Rattle.std.specs.Prelude.{◌≡◌, IfOk, OnOk, length, map, option_map};
+ghost use Rattle.spec_data.specs.Data.{entries_of, object, text as spec_text};
+ghost use Rattle.spec_data.specs.Rising.{put};
 ghost use Rattle.raven_value.specs.View.{data_of};
 ghost use Rattle.spec_server.specs.Machine.{answer_get, answer_indexes, answer_stale, answer_stats, listing as spec_listing, members_of, shown as spec_shown, shown_metadata as spec_shown_metadata};
 ghost use Rattle.spec_index.specs.World.{serving as spec_serving};
@@ -17,6 +18,12 @@ use raven_base::NoMemory;
 use raven_reply::{Listing, Listings, Reply, moment_text};
 use raven_value::{Body, Id, Members, Name, Row, Text, Value};
 use std::alloc::Global;
+
+fn put_text(alloc: Global, members: &mut Members, name: &str, text: Text) -> Result<(), NoMemory>
+    ensures { OnOk result (members.new ≡ put name.now (spec_text text) members.old) }
+{
+    members.put_at(alloc, name, Value::Text(text))
+}
 
 // The members of an object, and none of any other value.
 #[tactic(auto, using(crate::proofs::Pairs::pairs))]
@@ -45,11 +52,15 @@ fn shown_metadata(
     let collection = row.collection.clone()?;
     let id = Text::of(alloc, row.id.as_str())?;
     let changed = moment_text(alloc, row.changed)?;
-    let vector = vector(alloc, row.etag, base)?;
-    members.put_at(alloc, "@last-modified", Value::Text(changed))?;
-    members.put_at(alloc, "@id", Value::Text(id))?;
-    members.put_at(alloc, "@collection", Value::Text(collection))?;
-    members.put_at(alloc, "@change-vector", Value::Text(vector))?;
+    put_text(alloc, &mut members, "@last-modified", changed)?;
+    put_text(alloc, &mut members, "@id", id)?;
+    put_text(alloc, &mut members, "@collection", collection)?;
+    put_text(
+        alloc,
+        &mut members,
+        "@change-vector",
+        vector(alloc, row.etag, base)?,
+    )?;
     Ok(members)
 }
 

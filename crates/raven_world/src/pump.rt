@@ -2,7 +2,7 @@
 ghost use Rattle.std.specs.Prelude.{◌≡◌, ◌≤◌, ◌∷◌, [], IfOk, IfSome, map};
 ghost use Rattle.spec_server.specs.Machine.{after_batch as spec_brought_on, after_batch_if_named as spec_brought_on_if, pump, pump_at, pumping};
 ghost use Rattle.spec_index.specs.World.{batch, serving as spec_serving};
-ghost use Rattle.raven_world.specs.WorldView.{change_view, machine_of, result_view};
+ghost use Rattle.raven_world.specs.WorldView.{change_view, machine_of, answer_view};
 
 use crate::answer::no_index;
 use crate::slot::{Slot, is_named, serving};
@@ -147,7 +147,7 @@ impl World {
 
     /// The index of this name catches up by one batch of at most `max` rows.
     pub fn pump_one(&self, alloc: Global, max: u32, name: &Name) -> Result<Change, WorldFault>
-        ensures { IfSome (result_view self.now result) (λ change. change ≡ pump_at (machine_of self.now) max name.now (spec_serving self.now.slots name.now)) }
+        ensures { IfSome (answer_view self.now result) (λ change. change ≡ pump_at (machine_of self.now) max name.now (spec_serving self.now.slots name.now)) }
     {
         let Some(slot) = serving(&self.slots, name.as_str()) else {
             return Err(WorldFault::Refused(no_index(alloc, name)?));

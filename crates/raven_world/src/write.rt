@@ -6,7 +6,7 @@ ghost use Rattle.spec_server.specs.Replies.{Bulk};
 ghost use Rattle.doc_txn.specs.CommandView.{command_view};
 ghost use Rattle.doc_txn.specs.FaultView.{kind_view};
 ghost use Rattle.raven_reply.specs.ReplyView.{reply_view, result_view};
-ghost use Rattle.raven_world.specs.WorldView.{change_view, machine_of, result_view};
+ghost use Rattle.raven_world.specs.WorldView.{change_view, machine_of, answer_view};
 ghost use Rattle.raven_world.specs.Transacts.{Transacts};
 
 use crate::slot::copies;
@@ -159,7 +159,7 @@ impl World {
         command: Command,
         now: u64,
     ) -> Result<Change, WorldFault>
-        ensures { IfSome (result_view self.now result) (λ change. change ≡ write (machine_of self.now) single_reply now (command_view command ∷ [])) }
+        ensures { IfSome (answer_view self.now result) (λ change. change ≡ write (machine_of self.now) single_reply now (command_view command ∷ [])) }
     {
         let mut commands = Commands::new(alloc);
         commands.push(command)?;
@@ -171,7 +171,7 @@ impl World {
     /// Takes commands in order, all of them or none, and replies to each.
     #[tactic(auto, using(crate::proofs::Steps::writes))]
     pub fn commit(&self, alloc: Global, commands: &Commands, now: u64) -> Result<Change, WorldFault>
-        ensures { IfSome (result_view self.now result) (λ change. change ≡ write (machine_of self.now) Bulk now (map command_view commands.now)) }
+        ensures { IfSome (answer_view self.now result) (λ change. change ≡ write (machine_of self.now) Bulk now (map command_view commands.now)) }
     {
         let done = self.transact(alloc, commands, now)?;
         let results = BulkResults::of(self.results(alloc, commands, &done)?);
