@@ -5,7 +5,7 @@ set -eu
 here=$(cd "$(dirname "$0")" && pwd)
 top=$(cd "$here/../.." && pwd)
 scratch=${1:-$(mktemp -d /tmp/index_bench.XXXXXX)}
-needed="raven_base spec_data raven_value raven_json spec_store spec_index spec_server exact_parse index_tokens index_tree index_grammar index_parser reduce_grammar reduce_parser index_definition index_lang map_stage"
+needed="raven_base spec_data raven_value raven_json spec_store spec_index spec_server exact_parse index_tokens index_tree token_reader index_grammar index_parser reduce_grammar reduce_parser index_definition index_lang map_stage"
 ported="serde_json json jiff_core jiff_fmt thiserror"
 mkdir -p "$scratch/crates/index_bench/src" "$scratch/crates/index_bench/proofs/time_mapping"
 : > "$scratch/crates.txt"
