@@ -3,16 +3,18 @@ use Rattle.std.proofs.Common.{◌≡◌, ℕ, List, [], Bool, true, Option, Some
 use Rattle.std.specs.Prelude.{option_map}
 use Rattle.spec_data.specs.Faults.{Fault}
 use Rattle.spec_data.specs.Rows.{Row}
-use Rattle.spec_server.specs.Machine.{Machine, Request, change_of, step}
+use Rattle.spec_server.specs.Machine as is
+use Rattle.spec_server.specs.Machine.{Machine}
 use Rattle.spec_server.specs.Replies.{Reply, printed}
-use Rattle.spec_server.specs.Script.{BadId, BadName, Circumstance, Do, LineRead, ReadRefusal, asked_of, after_line, fault_reply, left_by, refusal_reply, reply_to, written_for}
+use Rattle.spec_server.specs.Script.{BadId, BadName, LineRead, ReadRefusal, asked_of, after_line, fault_reply, left_by, refusal_reply, reply_to, written_for}
 use Rattle.index_lang.specs.Lines.{IsLine}
 use Rattle.raven_script.specs.LineView.{Answers, IsReading}
 use Rattle.raven_script.specs.RequestView.{IsBadId, IsBadName, line_view}
 use Rattle.raven_script.specs.declared.request.Line.{Line}
-use Rattle.raven_console.specs.Answering.{IsAnswered, IsRefusedLine}
+use Rattle.raven_console.specs.Answering.{IsAnswered, IsPerformed, IsRefusedLine}
+use Rattle.raven_ports.specs.Asking.{Asked}
 use Rattle.raven_ports.specs.States.{KeeperState}
-use Rattle.raven_console.specs.Devices.{Asked, circumstance, given, rows_in}
+use Rattle.raven_console.specs.Devices.{circumstance, rows_in}
 
 -- REFUSALS
 
@@ -36,26 +38,26 @@ if_ok (Err e) P Q f h = tt
 
 -- nothing was asked of the keeper
 unasked : (line : List ℕ) (now : ℕ) (before after : KeeperState) (M N : Machine) (text : List ℕ) (read : LineRead) → IsLine line read → after ≡ before → N ≡ M
-    → text ≡ written_for M (circumstance now true before after) read → M ≡ left_by M (circumstance now true before after) read → [] ≡ rows_in M now read → IsAnswered line now true before after M N text
+    → text ≡ written_for M (circumstance now [] before after) read → M ≡ left_by M (circumstance now [] before after) read → [] ≡ rows_in M now read → IsAnswered line now before after M N text
 unasked line now before after M N text read means same still t m r = record {
   read = read;
+  takes = [];
   means = means;
   reply = t;
   machine = still ∙ m;
-  asked = subst (λ all. Asked before after true all) r (refl, same);
+  asked = subst (λ all. Asked before after [] all) r (refl, same);
 }
 
 pub answers-refused : (line : List ℕ) (now : ℕ) (before after : KeeperState) (M N : Machine) (text : List ℕ) (reply : Reply) → IsRefusedLine line reply → text ≡ printed reply → after ≡ before → N ≡ M
-    → IsAnswered line now true before after M N text
+    → IsAnswered line now before after M N text
 answers-refused line now before after M N text reply h t same still = unasked line now before after M N text (Err h.refusal) h.means same still (t ∙ ap printed h.reply_is) refl refl
 
-pub answers-none : (line : List ℕ) (now : ℕ) (before after : KeeperState) (M N : Machine) (text : List ℕ) → IsLine line (Ok None) → text ≡ [] → after ≡ before → N ≡ M → IsAnswered line now true before after M N text
+pub answers-none : (line : List ℕ) (now : ℕ) (before after : KeeperState) (M N : Machine) (text : List ℕ) → IsLine line (Ok None) → text ≡ [] → after ≡ before → N ≡ M → IsAnswered line now before after M N text
 answers-none line now before after M N text means t same still = unasked line now before after M N text (Ok None) means same still t refl refl
 
-pub answers-done : (line : List ℕ) (now : ℕ) (taken : Bool) (before after : KeeperState) (M N : Machine) (text : List ℕ) (request : Request) → IsLine line (Ok (Some (Do request)))
-    → text ≡ printed (step M (circumstance now taken before after).keeping now request).reply → N ≡ (step M (circumstance now taken before after).keeping now request).machine
-    → Asked before after taken (change_of M now request).rows → IsAnswered line now taken before after M N text
-answers-done line now taken before after M N text request means t m a = record { read = Ok (Some (Do request)); means = means; reply = t; machine = m; asked = a }
+pub answers-done : (line : List ℕ) (now : ℕ) (before after : KeeperState) (M N : Machine) (text : List ℕ) (asks : is.Line) → IsLine line (Ok (Some asks)) → IsPerformed asks now before after M N text
+    → IsAnswered line now before after M N text
+answers-done line now before after M N text asks means p = record { read = Ok (Some asks); takes = p.takes; means = means; reply = p.reply; machine = p.machine; asked = p.asked }
 
 -- what was read is what the line means
 pub line_means : (line : List ℕ) (found : Option Line) → Answers (asked_of line) (Ok found) → IsLine line (Ok (option_map line_view found))

@@ -20,7 +20,7 @@ use Rattle.doc_txn.specs.declared.limits.Limits.{Limits}
 use Rattle.spec_store.proofs.StoreLemmas.{both_true}
 use Rattle.doc_keeper.specs.Loading.{AreCalls, IsLoaded}
 use Rattle.raven_world.specs.Opened as worlds
-use Rattle.raven_laws.proofs.OpenLemmas.{opened_from-Sound, opened_from-rows}
+use Rattle.raven_laws.proofs.OpenLemmas.{opened_from-IsMachine, opened_from-rows}
 use Rattle.raven_reading.proofs.TextLemmas.{opened-told}
 use Rattle.raven_ports.specs.States.{KeeperState}
 use Rattle.raven_console.specs.Devices.{Keeps}
@@ -154,7 +154,7 @@ pub keeps_from : (setting : Setting) (held after : Option (List KeptRow)) (M : M
 keeps_from setting held after M e o =
     let as_read = opened-told setting o.rows M o.opened in
     let is = opened_from-rows setting o.rows M as_read.opened in
-    subst (λ h. Keeps h M) (sym e) (record { sound = opened_from-Sound setting o.rows M as_read; holds = by held o.whole is.kept })
+    subst (λ h. Keeps h M) (sym e) (record { sound = opened_from-IsMachine setting o.rows M as_read; holds = by held o.whole is.kept })
   where
     by : (held : Option (List KeptRow)) → IfSome held (λ all. all ≡ o.rows) → all_kept M.world.store.rows ≡ o.rows → IfSome held (λ all. all ≡ all_kept M.world.store.rows)
     by None h k = tt

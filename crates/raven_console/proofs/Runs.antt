@@ -2,13 +2,14 @@
 use Rattle.std.proofs.Common.{◌≡◌, ℕ, ◌<◌, List, [], ◌∷◌, ◌++◌, Bool, Option, IfSome, refl, ap, sym, ◌∙◌, append_assoc, subst}
 use Rattle.std.proofs.lemmas.List.{append-nil}
 use Rattle.spec_data.specs.Moments.{moments_end}
+use Rattle.raven_ports.specs.Asking.{Asked}
 use Rattle.raven_ports.specs.Reported.{appended}
 use Rattle.raven_ports.specs.States.{KeeperState, SinkState}
 use Rattle.spec_server.specs.Lines.{lines}
 use Rattle.spec_server.specs.Machine.{Machine}
 use Rattle.spec_server.specs.Script.{Given, reply_to, replies_to, after_line, after_lines}
 use Rattle.raven_console.specs.Answering.{IsAnswered}
-use Rattle.raven_console.specs.Devices.{AreGiven, Asked, IsGiven, MayGive, given, rows_in}
+use Rattle.raven_console.specs.Devices.{AreGiven, IsGiven, MayGive, given, rows_in}
 use Rattle.raven_console.specs.Answers.{Answers, GivesPrefix, ServerState, StopsBefore, StopsIn, texts_of}
 use Rattle.raven_console.proofs.Pieces.{appended-appended, appended-nil}
 
@@ -39,41 +40,41 @@ pub record HasRun (clock : Option ℕ) (script : List ℕ) (before at : ServerSt
   pub left : at.machine ≡ after_lines done before.machine
 
 -- the line that was answered
-pub record Answered (clock : Option ℕ) (at after : ServerState) (line : List ℕ) (moment : ℕ) (taken : Bool) (reply : List ℕ) : Type 0 where
+pub record Answered (clock : Option ℕ) (at after : ServerState) (line : List ℕ) (moment : ℕ) (reply : List ℕ) : Type 0 where
   pub moment_is : MayGive clock moment
-  pub answer : IsAnswered line moment taken at.keeper after.keeper at.machine after.machine reply
+  pub answer : IsAnswered line moment at.keeper after.keeper at.machine after.machine reply
 
-pub answered : (clock : Option ℕ) (at after : ServerState) (line : List ℕ) (moment : ℕ) (taken : Bool) (reply : List ℕ) → moment < moments_end → IfSome clock (λ m. moment ≡ m)
-    → IsAnswered line moment taken at.keeper after.keeper at.machine after.machine reply → Answered clock at after line moment taken reply
-answered clock at after line moment taken reply b s a = record { moment_is = record { below = b; still = s }; answer = a }
+pub answered : (clock : Option ℕ) (at after : ServerState) (line : List ℕ) (moment : ℕ) (reply : List ℕ) → moment < moments_end → IfSome clock (λ m. moment ≡ m)
+    → IsAnswered line moment at.keeper after.keeper at.machine after.machine reply → Answered clock at after line moment reply
+answered clock at after line moment reply b s a = record { moment_is = record { below = b; still = s }; answer = a }
 
 -- the line as it was given, to a machine that is the one before it
-line_given : (clock : Option ℕ) (at after : ServerState) (M : Machine) (line : List ℕ) (moment : ℕ) (taken : Bool) (reply : List ℕ) → at.machine ≡ M
-    → (a : Answered clock at after line moment taken reply) → IsGiven clock at.keeper after.keeper M (given line a.answer.read moment taken at.keeper after.keeper)
-line_given clock at after M line moment taken reply e a = record {
+line_given : (clock : Option ℕ) (at after : ServerState) (M : Machine) (line : List ℕ) (moment : ℕ) (reply : List ℕ) → at.machine ≡ M
+    → (a : Answered clock at after line moment reply) → IsGiven clock at.keeper after.keeper M (given line a.answer.read moment a.answer.takes at.keeper after.keeper)
+line_given clock at after M line moment reply e a = record {
   line = line;
   read = a.answer.read;
   now = moment;
-  taken = taken;
+  takes = a.answer.takes;
   is = refl;
   means = a.answer.means;
   moment = a.moment_is;
-  asked = let P : Machine → Type 0 = λ x. Asked at.keeper after.keeper taken (rows_in x moment a.answer.read) in subst P e a.answer.asked;
+  asked = let P : Machine → Type 0 = λ x. Asked at.keeper after.keeper a.answer.takes (rows_in x moment a.answer.read) in subst P e a.answer.asked;
 }
 
 pub starts : (clock : Option ℕ) (script : List ℕ) (state : ServerState) → HasRun clock script state state script
 starts clock script state = record { done = []; split = refl; given = refl; written = sym (appended-nil state.output.held); left = refl }
 
-pub runs_on : (clock : Option ℕ) (script : List ℕ) (before at after : ServerState) (rest line more : List ℕ) (moment : ℕ) (taken : Bool) (reply : List ℕ)
-    → HasRun clock script before at rest → lines rest ≡ line ∷ lines more → Answered clock at after line moment taken reply → after.output.held ≡ appended at.output.held reply
+pub runs_on : (clock : Option ℕ) (script : List ℕ) (before at after : ServerState) (rest line more : List ℕ) (moment : ℕ) (reply : List ℕ)
+    → HasRun clock script before at rest → lines rest ≡ line ∷ lines more → Answered clock at after line moment reply → after.output.held ≡ appended at.output.held reply
     → HasRun clock script before after more
-runs_on clock script before at after rest line more moment taken reply h l a k =
-    let g : Given = given line a.answer.read moment taken at.keeper after.keeper in
+runs_on clock script before at after rest line more moment reply h l a k =
+    let g : Given = given line a.answer.read moment a.answer.takes at.keeper after.keeper in
     let M : Machine = before.machine in
     record {
       done = h.done ++ g ∷ [];
       split = h.split ∙ ap (λ z. texts_of h.done ++ z) l ∙ sym (texts_of-after h.done g (lines more));
-      given = one_more_given clock before.keeper at.keeper after.keeper M h.done g h.given (line_given clock at after (after_lines h.done M) line moment taken reply h.left a);
+      given = one_more_given clock before.keeper at.keeper after.keeper M h.done g h.given (line_given clock at after (after_lines h.done M) line moment reply h.left a);
       written = k ∙ ap (λ z. appended z reply) h.written ∙ appended-appended before.output.held (replies_to h.done M) reply
           ∙ ap (λ z. appended before.output.held (replies_to h.done M ++ z)) (a.answer.reply ∙ ap (reply_to g) h.left) ∙ ap (appended before.output.held) (sym (replies_to-after h.done g M));
       left = a.answer.machine ∙ ap (after_line g) h.left ∙ sym (after_lines-after h.done g M);
@@ -83,11 +84,11 @@ pub runs_out : (clock : Option ℕ) (script : List ℕ) (before at : ServerState
 runs_out clock script before at rest h e =
     record { all = h.done; split = h.split ∙ ap (λ z. texts_of h.done ++ lines z) e ∙ append-nil (texts_of h.done); given = h.given; written = h.written; executed = h.left }
 
-pub stops_in : (clock : Option ℕ) (script : List ℕ) (before at after : ServerState) (rest line : List ℕ) (more : List (List ℕ)) (moment : ℕ) (taken : Bool) (reply : List ℕ)
-    → HasRun clock script before at rest → lines rest ≡ line ∷ more → Answered clock at after line moment taken reply → GivesPrefix at.output.held after.output.held reply
+pub stops_in : (clock : Option ℕ) (script : List ℕ) (before at after : ServerState) (rest line : List ℕ) (more : List (List ℕ)) (moment : ℕ) (reply : List ℕ)
+    → HasRun clock script before at rest → lines rest ≡ line ∷ more → Answered clock at after line moment reply → GivesPrefix at.output.held after.output.held reply
     → StopsIn clock script before after
-stops_in clock script before at after rest line more moment taken reply h l a k =
-    let g : Given = given line a.answer.read moment taken at.keeper after.keeper in
+stops_in clock script before at after rest line more moment reply h l a k =
+    let g : Given = given line a.answer.read moment a.answer.takes at.keeper after.keeper in
     let M : Machine = before.machine in
     record {
       done = h.done;
@@ -97,7 +98,7 @@ stops_in clock script before at after rest line more moment taken reply h l a k 
       rest = k.rest;
       split = h.split ∙ ap (λ z. texts_of h.done ++ z) l ∙ sym (texts_of-after h.done g more);
       piece = ap (reply_to g) (sym h.left) ∙ sym a.answer.reply ∙ k.split;
-      given = one_more_given clock before.keeper at.keeper after.keeper M h.done g h.given (line_given clock at after (after_lines h.done M) line moment taken reply h.left a);
+      given = one_more_given clock before.keeper at.keeper after.keeper M h.done g h.given (line_given clock at after (after_lines h.done M) line moment reply h.left a);
       written = k.given ∙ ap (λ z. appended z k.prefix) h.written ∙ appended-appended before.output.held (replies_to h.done M) k.prefix;
       executed = a.answer.machine ∙ ap (after_line g) h.left ∙ sym (after_lines-after h.done g M);
     }

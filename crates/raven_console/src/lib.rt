@@ -15,7 +15,7 @@ mod run;
 mod status;
 
 pub use arguments::outside;
-pub use machine::{Answer, Machine};
+pub use machine::Machine;
 pub use options::Outside;
 pub use raven_script::{Line, ReadRefusal, Request, line};
 pub use run::{Finish, answer_lines, raven};

@@ -1,9 +1,8 @@
 //! What a request leaves.
 ghost use Rattle.std.specs.Prelude.{◌≡◌, IfOk, Some};
-ghost use Rattle.spec_index.specs.World as is;
-ghost use Rattle.spec_server.specs.Machine.{Auto, change_of, no_change};
+ghost use Rattle.spec_server.specs.Machine.{Auto, course_of, only_reply};
 ghost use Rattle.raven_script.specs.RequestView.{request_view};
-ghost use Rattle.raven_world.specs.WorldView.{change_view, machine_of, answer_view};
+ghost use Rattle.raven_world.specs.WorldView.{answer_view, change_view};
 ghost use Rattle.raven_reply.specs.ReplyView.{reply_view};
 ghost use Rattle.raven_console.specs.OutcomeView.{outcome_view};
 
@@ -14,40 +13,45 @@ use raven_value::{Rows, Text};
 use raven_world::{Answered, Change, Reply, World, WorldFault};
 use std::alloc::Global;
 
-/// The reply to a request, the new world if there is one, and the rows that it wrote.
+/// A change that waits for the keeper: the rows to store, and the world once they are stored.
+#[derive(Drop)]
+pub struct Pending {
+    pub rows: Rows,
+    pub world: World,
+}
+
+/// The reply to a request, and the change that it makes, if any.
 #[derive(Drop)]
 pub struct Outcome {
     pub reply: Reply,
-    pub world: Option<World>,
-    pub rows: Rows,
+    pub change: Option<Pending>,
 }
 
-fn unchanged(alloc: Global, reply: Reply) -> Outcome
-    ensures { (W : is.World) → outcome_view W result ≡ no_change (machine_of W) (reply_view reply) }
+fn unchanged(reply: Reply) -> Outcome
+    ensures { outcome_view result ≡ only_reply (reply_view reply) }
 {
     Outcome {
         reply,
-        world: None,
-        rows: Rows::new(alloc),
+        change: None,
     }
 }
 
 fn changed(change: Change) -> Outcome
-    ensures { (W : is.World) → outcome_view W result ≡ change_view change }
+    ensures { outcome_view result ≡ change_view change }
 {
+    let Change { world, rows, reply } = change;
     Outcome {
-        reply: change.reply,
-        world: Some(change.world),
-        rows: change.rows,
+        reply,
+        change: Some(Pending { rows, world }),
     }
 }
 
-fn settled(alloc: Global, answer: Result<Change, WorldFault>) -> Result<Outcome, NoMemory>
-    ensures { IfOk result (λ outcome. (W : is.World) → answer_view W answer ≡ Some (outcome_view W outcome)) }
+fn settled(answer: Result<Change, WorldFault>) -> Result<Outcome, NoMemory>
+    ensures { IfOk result (λ outcome. answer_view answer ≡ Some (outcome_view outcome)) }
 {
     match answer {
         Ok(change) => Ok(changed(change)),
-        Err(WorldFault::Refused(reply)) => Ok(unchanged(alloc, reply)),
+        Err(WorldFault::Refused(reply)) => Ok(unchanged(reply)),
         Err(WorldFault::NoMemory) => Err(NoMemory),
     }
 }
@@ -59,11 +63,11 @@ fn picked(
     collection: &Text,
     field: &Text,
 ) -> Result<Outcome, NoMemory>
-    ensures { IfOk result (λ outcome. outcome_view world.now outcome ≡ change_of (machine_of world.now) now (Auto collection.now field.now)) }
+    ensures { IfOk result (λ outcome. outcome_view outcome ≡ course_of world.now now (Auto collection.now field.now)) }
 {
     match world.answer(alloc, collection, field)? {
-        Answered::Reply(reply) => Ok(unchanged(alloc, reply)),
-        Answered::MustMake => settled(alloc, world.make(alloc, collection, field, now)),
+        Answered::Reply(reply) => Ok(unchanged(reply)),
+        Answered::MustMake => settled(world.make(alloc, collection, field, now)),
     }
 }
 
@@ -74,32 +78,32 @@ pub fn outcome_of(
     now: u64,
     request: Request,
 ) -> Result<Outcome, NoMemory>
-    ensures { IfOk result (λ outcome. outcome_view world.now outcome ≡ change_of (machine_of world.now) now (request_view request)) }
+    ensures { IfOk result (λ outcome. outcome_view outcome ≡ course_of world.now now (request_view request)) }
 {
     match request {
         Request::Put { id, expected, body } => {
             let command = Command::Put { id, expected, body };
-            settled(alloc, world.commit_one(alloc, command, now))
+            settled(world.commit_one(alloc, command, now))
         }
         Request::Delete { id, expected } => {
             let command = Command::Delete { id, expected };
-            settled(alloc, world.commit_one(alloc, command, now))
+            settled(world.commit_one(alloc, command, now))
         }
-        Request::Bulk { commands } => settled(alloc, world.commit(alloc, &commands, now)),
-        Request::Get { id } => Ok(unchanged(alloc, world.get(alloc, &id)?)),
+        Request::Bulk { commands } => settled(world.commit(alloc, &commands, now)),
+        Request::Get { id } => Ok(unchanged(world.get(alloc, &id)?)),
         Request::Auto { collection, field } => picked(alloc, world, now, &collection, &field),
         Request::Find { index, field, text } => {
-            Ok(unchanged(alloc, world.find(alloc, &index, &field, &text)?))
+            Ok(unchanged(world.find(alloc, &index, &field, &text)?))
         }
-        Request::Define { definition } => settled(alloc, world.define(alloc, definition, now)),
-        Request::Remove { name } => settled(alloc, world.remove(alloc, &name, now)),
+        Request::Define { definition } => settled(world.define(alloc, definition, now)),
+        Request::Remove { name } => settled(world.remove(alloc, &name, now)),
         Request::Pump { max, index: None } => Ok(changed(world.pump(alloc, max)?)),
         Request::Pump {
             max,
             index: Some(name),
-        } => settled(alloc, world.pump_one(alloc, max, &name)),
-        Request::Stale { name, cutoff } => Ok(unchanged(alloc, world.stale(alloc, &name, cutoff)?)),
-        Request::Indexes => Ok(unchanged(alloc, world.indexes(alloc)?)),
-        Request::Stats => Ok(unchanged(alloc, world.stats())),
+        } => settled(world.pump_one(alloc, max, &name)),
+        Request::Stale { name, cutoff } => Ok(unchanged(world.stale(alloc, &name, cutoff)?)),
+        Request::Indexes => Ok(unchanged(world.indexes(alloc)?)),
+        Request::Stats => Ok(unchanged(world.stats())),
     }
 }

@@ -55,10 +55,10 @@ pub fn answer_lines<K: Keeper, C: Clock, O: Sink>(
     while !rest.is_empty() {
         let (line, more) = next_line(rest);
         let now = clock.now();
-        let Ok(answer) = machine.answer(alloc, keeper, now, line) else {
+        let Ok(text) = machine.answer(alloc, keeper, now, line) else {
             return Err(SinkFault::NoMemory);
         };
-        if let Err(fault) = give_all(output, &answer.text) {
+        if let Err(fault) = give_all(output, &text) {
             return Err(fault);
         }
         rest = more;

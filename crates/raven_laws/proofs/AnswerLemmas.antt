@@ -19,7 +19,7 @@ use Rattle.spec_index.specs.Mapping.{mapped_documents, entry_of, scratch}
 use Rattle.spec_store.specs.Commit.{Setting}
 use Rattle.spec_index.specs.World.{Slot, World, reads, serving}
 use Rattle.spec_server.specs.Replies.{Reply}
-use Rattle.spec_server.specs.Machine.{Machine, Event, Keeping, Request, Put, Delete, Bulk, Get, Define, Remove, Auto, Find, Pump, Stale, Indexes, Stats, start, run, step, answer_find, answer_stale, is_stale, listing}
+use Rattle.spec_server.specs.Machine.{Machine, Event, Keeping, Put, Delete, Bulk, Get, Define, Remove, Auto, Find, Pump, Stale, Indexes, Stats, start, run, step, answer_find, answer_stale, is_stale, listing, Line, Do}
 use Rattle.spec_index.specs.Find.{field_is_text, found_in}
 use Rattle.spec_server.specs.Sound.{Has, Sound}
 use Rattle.raven_laws.specs.Claims.{Flag, FlagIsExact, IsSpelledAsStored, flag, flags_in, ids_in, find_reply, listed_flag, FreshIsFromScratch, FlagsAreExact, IdsAreSpelledAsStored}
@@ -59,13 +59,13 @@ exact_flag M name cutoff s o h =
     }
 
 find_flag : (M : Machine) (index field ws : List ℕ) (f : Flag) (there : Option Slot) → Sound M.world → serving M.world.slots index ≡ there
-    → Has (flags_in (Find index field ws) (answer_find M.world index field ws there)) f → FlagIsExact M f
+    → Has (flags_in (Do (Find index field ws)) (answer_find M.world index field ws there)) f → FlagIsExact M f
 find_flag M index field ws f None o h at = absurd at
 find_flag M index field ws f (Some s) o h (inl same) = subst (FlagIsExact M) same (exact_flag M index None s o h)
 find_flag M index field ws f (Some s) o h (inr no_more) = absurd no_more
 
 stale_flag : (M : Machine) (name : List ℕ) (cutoff : Option ℕ) (f : Flag) (there : Option Slot) → Sound M.world → serving M.world.slots name ≡ there
-    → Has (flags_in (Stale name cutoff) (answer_stale M.world name cutoff there)) f → FlagIsExact M f
+    → Has (flags_in (Do (Stale name cutoff)) (answer_stale M.world name cutoff there)) f → FlagIsExact M f
 stale_flag M name cutoff f None o h at = absurd at
 stale_flag M name cutoff f (Some s) o h (inl same) = subst (FlagIsExact M) same (exact_flag M name cutoff s o h)
 stale_flag M name cutoff f (Some s) o h (inr no_more) = absurd no_more
@@ -76,30 +76,30 @@ listing_flag M f o at =
     let s = Has-map (listing M.world.store) M.world.slots l.0 l.1 in
     subst (FlagIsExact M) (ap listed_flag s.2 ∙ l.2) (exact_flag M s.0.name None s.0 o (serves M.world.slots s.0 o.apart s.1))
 
-shown_flag : (M : Machine) (k : Keeping) (now : ℕ) (request : Request) (f : Flag) → Sound M.world → Has (flags_in request (step M k now request).reply) f → FlagIsExact M f
-shown_flag M k now (Put id expected body) f o at = absurd at
-shown_flag M k now (Delete id expected) f o at = absurd at
-shown_flag M k now (Bulk commands) f o at = absurd at
-shown_flag M k now (Get id) f o at = absurd at
-shown_flag M k now (Define name d) f o at = absurd at
-shown_flag M k now (Remove name) f o at = absurd at
-shown_flag M k now (Auto collection field) f o at = absurd at
-shown_flag M k now (Find index field ws) f o at = find_flag M index field ws f (serving M.world.slots index) o refl at
-shown_flag M k now (Pump max index) f o at = absurd at
-shown_flag M k now (Stale name cutoff) f o at = stale_flag M name cutoff f (serving M.world.slots name) o refl at
-shown_flag M k now Indexes f o at = listing_flag M f o at
-shown_flag M k now Stats f o at = absurd at
+shown_flag : (M : Machine) (k : Keeping) (now : ℕ) (line : Line) (f : Flag) → Sound M.world → Has (flags_in line (step M k now line).reply) f → FlagIsExact M f
+shown_flag M k now (Do (Put id expected body)) f o at = absurd at
+shown_flag M k now (Do (Delete id expected)) f o at = absurd at
+shown_flag M k now (Do (Bulk commands)) f o at = absurd at
+shown_flag M k now (Do (Get id)) f o at = absurd at
+shown_flag M k now (Do (Define name d)) f o at = absurd at
+shown_flag M k now (Do (Remove name)) f o at = absurd at
+shown_flag M k now (Do (Auto collection field)) f o at = absurd at
+shown_flag M k now (Do (Find index field ws)) f o at = find_flag M index field ws f (serving M.world.slots index) o refl at
+shown_flag M k now (Do (Pump max index)) f o at = absurd at
+shown_flag M k now (Do (Stale name cutoff)) f o at = stale_flag M name cutoff f (serving M.world.slots name) o refl at
+shown_flag M k now (Do Indexes) f o at = listing_flag M f o at
+shown_flag M k now (Do Stats) f o at = absurd at
 
 pub Sound-flags : (M : Machine) → Sound M.world → FlagsAreExact M
 Sound-flags M o = record {
-  exact = λ k now request f at. shown_flag M k now request f o at;
+  exact = λ k now line f at. shown_flag M k now line f o at;
   find = λ index field ws s h. (
     is_stale M.world.store s,
-    subst (λ there. Has (flags_in (Find index field ws) (answer_find M.world index field ws there)) (flag index None (is_stale M.world.store s))) (sym h) (inl refl),
+    subst (λ there. Has (flags_in (Do (Find index field ws)) (answer_find M.world index field ws there)) (flag index None (is_stale M.world.store s))) (sym h) (inl refl),
   );
   cutoff = λ name cutoff s h. (
     stale M.world.store (reads s.version) s.version.etag cutoff,
-    subst (λ there. Has (flags_in (Stale name cutoff) (answer_stale M.world name cutoff there)) (flag name cutoff (stale M.world.store (reads s.version) s.version.etag cutoff))) (sym h) (inl refl),
+    subst (λ there. Has (flags_in (Do (Stale name cutoff)) (answer_stale M.world name cutoff there)) (flag name cutoff (stale M.world.store (reads s.version) s.version.etag cutoff))) (sym h) (inl refl),
   );
   listed = λ s h. (is_stale M.world.store s, Has-mapped listed_flag (map (listing M.world.store) M.world.slots) (listing M.world.store s) (Has-mapped (listing M.world.store) M.world.slots s h));
 }

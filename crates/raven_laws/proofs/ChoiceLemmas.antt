@@ -13,7 +13,7 @@ use Rattle.spec_server.specs.Sound.{Has, NumbersRise, Sound}
 use Rattle.raven_laws.specs.Choices.{AutoIsAnswered, Before, FollowsChoice, IsMakeAnswer, IsBefore, IsChosen, IsFirstFree, IsNumberedName, IsUsed, numbered_name}
 use Rattle.raven_laws.proofs.DefinitionLemmas.{new-answered}
 use Rattle.raven_laws.proofs.NameLemmas.{name_of-free}
-use Rattle.raven_laws.proofs.SlotLemmas.{Has-filter, NumbersRise-filter, into-filter, passes}
+use Rattle.raven_laws.proofs.SlotLemmas.{Has-filter, NumbersRise-filter, above, into-filter, passes}
 
 -- THE ORDER
 
@@ -60,11 +60,6 @@ apart f g v w m n (inr (same, inr a)) (inr (again, inl b)) = let x = a.0 in omeg
 apart f g v w m n (inr (same, inr a)) (inr (again, inr b)) = let x = a.1 in let y = b.1 in omega arith
 
 -- THE BEST OF A LIST
-
-above : (low : ℕ) (slots : List Slot) (t : Slot) → NumbersRise low slots → Has slots t → low < t.number
-above low [] t up h = absurd h
-above low (x ∷ slots) t up (inl same) = subst (λ (y : Slot). low < y.number) same up.0
-above low (x ∷ slots) t up (inr h) = let a = above x.number slots t up.1 h in let b = up.0 in omega arith
 
 -- the slot is in the list and before all others
 record IsLeast (S : Store) (slots : List Slot) (s : Slot) : Type 0 where
@@ -177,7 +172,7 @@ one-chosen S slots shape Merge Merge a b = refl
 -- WHAT AUTO DOES
 
 choice-followed : (M : Machine) (k : Keeping) (now : ℕ) (c : Choice) → Sound M.world → M.world.setting.max_slots < 2 ^ 32
-    → FollowsChoice M k now (settled M k (use_or_make M now c)) c
+    → FollowsChoice M k now (settled M k (use_or_make M.world now c)) c
 choice-followed M k now (Use s) o few = refl
 choice-followed M k now Merge o few = refl
 choice-followed M k now (Make shape) o few =
@@ -186,10 +181,10 @@ choice-followed M k now (Make shape) o few =
     let d = Definition.Auto shape.collection shape.fields in
     let free : serving W.slots name ≡ None = name_of-free W.slots (last W.store + 1) shape (let a = o.limits.slots in omega arith) in
     elim (nat_le W.setting.max_slots (length W.slots)) as (λ b. nat_le W.setting.max_slots (length W.slots) ≡ b
-    → IsMakeAnswer M k now name d (settled M k (change_of_slots M now Reply.Index name
+    → IsMakeAnswer M k now name d (settled M k (change_of_slots M.world now Reply.Index name
     (cond b (Err SlotRefusal.TooManyIndexes) (cond (is_some (serving W.slots name)) (Err SlotRefusal.NameServes) (Ok (added W name d))))))) [
       | true ↦ λ e. inl (record { full = leb-true W.setting.max_slots (length W.slots) e; reply = refl })
-      | false ↦ λ e. subst (λ found. IsMakeAnswer M k now name d (settled M k (change_of_slots M now Reply.Index name (cond (is_some found) (Err SlotRefusal.NameServes) (Ok (added W name d))))))
+      | false ↦ λ e. subst (λ found. IsMakeAnswer M k now name d (settled M k (change_of_slots M.world now Reply.Index name (cond (is_some found) (Err SlotRefusal.NameServes) (Ok (added W name d))))))
           (sym free) (inr (new-answered M k now name d free e))
     ] refl
 

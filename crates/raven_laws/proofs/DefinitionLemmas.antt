@@ -14,7 +14,7 @@ use Rattle.spec_store.specs.Commit.{Command, AnyVector, Server, Written, documen
 use Rattle.spec_index.specs.World.{Slot, SlotRefusal, added, define_at, index_id, is_named, is_reserved_name, max_index_name, removed, row_body, serving, unless_refused}
 use Rattle.spec_server.specs.Sound.{Has, IsListed, Sound}
 use Rattle.spec_server.specs.Replies.{Reply}
-use Rattle.spec_server.specs.Machine.{Machine, Keeping, Replied, Pump, after_batch, after_batch_if_named, pump_at, change_of_slots, rewrote, same_machine, settled, step}
+use Rattle.spec_server.specs.Machine.{Machine, Keeping, Replied, Pump, after_batch, after_batch_if_named, pump_at, change_of_slots, rewrote, same_machine, settled, step, Do, in_world, with_world}
 use Rattle.raven_laws.specs.Definitions.{BatchIsAnswered, DefineIsAnswered, IsAdvanced, IsDefineAnswer, IsNewIndex, IsNoIndex, IsRemoveAnswer, IsRemoved, IsRowRefused, MayBeGiven, OtherSlotsStay, RemoveIsAnswered, SameReduces, SaysTheSame, new_slot}
 use Rattle.raven_laws.specs.Writes.{IsKeeperFault}
 use Rattle.spec_store.proofs.StoreLemmas.{both_true, found_key, same_itself}
@@ -101,7 +101,7 @@ module _ (M : Machine) (k : Keeping) (now : ℕ) (name : List ℕ) (d : Definiti
   }
 
   pub new-answered : serving M.world.slots name ≡ None → nat_le M.world.setting.max_slots (length M.world.slots) ≡ false
-      → let replied = settled M k (change_of_slots M now Reply.Index name (Ok (added M.world name d))) in
+      → let replied = settled M k (change_of_slots M.world now Reply.Index name (Ok (added M.world name d))) in
       IsRowRefused M now (Command.Put (index_id name) AnyVector (row_body d) ∷ []) replied ⊎ (IsKeeperFault M k replied ⊎ IsNewIndex M k name d replied)
   new-answered free room =
       let id = index_id name in
@@ -111,9 +111,9 @@ module _ (M : Machine) (k : Keeping) (now : ℕ) (name : List ℕ) (d : Definiti
       let done : Written = record { store = record { rows = put r rows }; rows = r ∷ [] } in
       let slots = (added M.world name d).slots in
       let under = put_key id rows in
-      let kept : Replied = record { reply = Reply.Index name; machine = record { world = record { setting = M.world.setting; store = done.store; slots = slots; notes = M.world.notes } } } in
+      let kept : Replied = record { reply = Reply.Index name; machine = with_world M (in_world M.world done.store slots) } in
       elim (refusal_of M.world.setting Server M.world.store c) as (λ o. refusal_of M.world.setting Server M.world.store c ≡ o
-      → let replied = settled M k (rewrote M (Reply.Index name) slots (or_refused o 0 (Ok done))) in
+      → let replied = settled M k (rewrote M.world (Reply.Index name) slots (or_refused o 0 (Ok done))) in
       IsRowRefused M now (c ∷ []) replied ⊎ (IsKeeperFault M k replied ⊎ IsNewIndex M k name d replied)) [
         | None ↦ λ e. inr (elim (first_or_not k.takes) [
           | inl taken ↦ inr (subst (λ b. IsNewIndex M k name d (cond b kept (same_machine M (Reply.KeeperFault k.before k.after)))) (sym taken) (record {
@@ -132,23 +132,23 @@ module _ (M : Machine) (k : Keeping) (now : ℕ) (name : List ℕ) (d : Definiti
       ] refl
 
   define-kept : MayBeGiven name → serving M.world.slots name ≡ None → nat_le M.world.setting.max_slots (length M.world.slots) ≡ false
-      → IsDefineAnswer M k now name d (settled M k (change_of_slots M now Reply.Index name (Ok (added M.world name d))))
+      → IsDefineAnswer M k now name d (settled M k (change_of_slots M.world now Reply.Index name (Ok (added M.world name d))))
   define-kept given free room = elim (new-answered free room) [
     | inl refused ↦ inr (inr (inr (inr (inr (inl (record { given = given; free = free; row = refused }))))))
     | inr (inl failed) ↦ inr (inr (inr (inr (inr (inr (inl failed))))))
     | inr (inr new) ↦ inr (inr (inr (inr (inr (inr (inr (record { given = given; new = new })))))))
   ]
 
-  define-at : (there : Option Slot) → serving M.world.slots name ≡ there → MayBeGiven name → IsDefineAnswer M k now name d (settled M k (change_of_slots M now Reply.Index name (define_at M.world name d there)))
+  define-at : (there : Option Slot) → serving M.world.slots name ≡ there → MayBeGiven name → IsDefineAnswer M k now name d (settled M k (change_of_slots M.world now Reply.Index name (define_at M.world name d there)))
   define-at None free given =
       elim (nat_le M.world.setting.max_slots (length M.world.slots)) as (λ b. nat_le M.world.setting.max_slots (length M.world.slots) ≡ b
-      → IsDefineAnswer M k now name d (settled M k (change_of_slots M now Reply.Index name (cond b (Err SlotRefusal.TooManyIndexes) (Ok (added M.world name d)))))) [
+      → IsDefineAnswer M k now name d (settled M k (change_of_slots M.world now Reply.Index name (cond b (Err SlotRefusal.TooManyIndexes) (Ok (added M.world name d)))))) [
         | true ↦ λ e. inr (inr (inr (inr (inl (record { given = given; free = free; full = leb-true M.world.setting.max_slots (length M.world.slots) e; reply = refl })))))
         | false ↦ λ e. define-kept given free e
       ] refl
   define-at (Some s) serves given =
       elim (same_definition d s.version.definition) as (λ b. same_definition d s.version.definition ≡ b
-      → IsDefineAnswer M k now name d (settled M k (change_of_slots M now Reply.Index name (cond b (Ok (record { slots = M.world.slots; commands = []; name = s.name })) (Err SlotRefusal.NameServes))))) [
+      → IsDefineAnswer M k now name d (settled M k (change_of_slots M.world now Reply.Index name (cond b (Ok (record { slots = M.world.slots; commands = []; name = s.name })) (Err SlotRefusal.NameServes))))) [
         | true ↦ λ e. inr (inr (inr (inl (record { given = given; slot = s; serves = serves; same = (definitions-told d s.version.definition).0 e; reply = refl }))))
         | false ↦ λ e. inr (inr (inl (record {
           given = given;
@@ -163,11 +163,11 @@ module _ (M : Machine) (k : Keeping) (now : ℕ) (name : List ℕ) (d : Definiti
   define-answered =
       let rest = define_at M.world name d (serving M.world.slots name) in
       elim (is_reserved_name name) as (λ b. is_reserved_name name ≡ b
-      → IsDefineAnswer M k now name d (settled M k (change_of_slots M now Reply.Index name (unless_refused (cond b (Some SlotRefusal.ReservedName)
+      → IsDefineAnswer M k now name d (settled M k (change_of_slots M.world now Reply.Index name (unless_refused (cond b (Some SlotRefusal.ReservedName)
       (cond (nat_lt max_index_name (length name)) (Some (SlotRefusal.NameTooLong (length name))) None)) rest)))) [
         | true ↦ λ e. inl (record { reserved = e; reply = refl })
         | false ↦ λ e. elim (nat_lt max_index_name (length name)) as (λ b. nat_lt max_index_name (length name) ≡ b
-            → IsDefineAnswer M k now name d (settled M k (change_of_slots M now Reply.Index name (unless_refused (cond b (Some (SlotRefusal.NameTooLong (length name))) None) rest)))) [
+            → IsDefineAnswer M k now name d (settled M k (change_of_slots M.world now Reply.Index name (unless_refused (cond b (Some (SlotRefusal.NameTooLong (length name))) None) rest)))) [
               | true ↦ λ f. inr (inl (record { unreserved = e; long = ltb-true max_index_name (length name) f; reply = refl }))
               | false ↦ λ f. define-at (serving M.world.slots name) refl (record { unreserved = e; short = ltb-false max_index_name (length name) f })
             ] refl
@@ -182,7 +182,7 @@ none-serves slots name = elim (serving (others_of name slots) name) as (λ o. se
 ] refl
 
 removed-answered : (M : Machine) (k : Keeping) (now : ℕ) (name : List ℕ) (there : Option Slot) → serving M.world.slots name ≡ there → Sound M.world
-    → IsRemoveAnswer M k now name (settled M k (change_of_slots M now Reply.Removed name (removed M.world name there)))
+    → IsRemoveAnswer M k now name (settled M k (change_of_slots M.world now Reply.Removed name (removed M.world name there)))
 removed-answered M k now name None e o = inl (record { none = e; reply = refl })
 removed-answered M k now name (Some s) serves o =
     let id = index_id s.name in
@@ -194,10 +194,10 @@ removed-answered M k now name (Some s) serves o =
     let t = tombstone (last M.world.store + 1) now i.row in
     let under : key t ≡ folded id = sym (found_key (folded id) rows i.row i.found) in
     let less = others_of name M.world.slots in
-    let kept : Replied = record { reply = Reply.Removed s.name; machine = record { world = record { setting = M.world.setting; store = record { rows = put t rows }; slots = less; notes = M.world.notes } } } in
+    let kept : Replied = record { reply = Reply.Removed s.name; machine = with_world M (in_world M.world (record { rows = put t rows }) less) } in
     elim (refusal_of M.world.setting Server M.world.store c) as (λ r. refusal_of M.world.setting Server M.world.store c ≡ r
-    → IsRemoveAnswer M k now name (settled M k (rewrote M (Reply.Removed s.name) less (or_refused r 0 (Ok (done (document_at M.world.store (folded id)))))))) [
-      | None ↦ λ e. subst (λ x. IsRemoveAnswer M k now name (settled M k (rewrote M (Reply.Removed s.name) less (Ok (done x))))) (sym there) (inr (inr (elim (first_or_not k.takes) [
+    → IsRemoveAnswer M k now name (settled M k (rewrote M.world (Reply.Removed s.name) less (or_refused r 0 (Ok (done (document_at M.world.store (folded id)))))))) [
+      | None ↦ λ e. subst (λ x. IsRemoveAnswer M k now name (settled M k (rewrote M.world (Reply.Removed s.name) less (Ok (done x))))) (sym there) (inr (inr (elim (first_or_not k.takes) [
         | inl taken ↦ inr (subst (λ b. IsRemoved M k now name (cond b kept (same_machine M (Reply.KeeperFault k.before k.after)))) (sym taken) (record {
           slot = s;
           serves = serves;
@@ -254,7 +254,7 @@ map-others M N max name e = record {
 pub batch-answered : (M : Machine) (k : Keeping) (now max : ℕ) (name : List ℕ) → BatchIsAnswered M k now max name
 batch-answered M k now max name = by (serving M.world.slots name) refl
   where
-    by : (there : Option Slot) → serving M.world.slots name ≡ there → let replied = settled M k (pump_at M max name there) in IsNoIndex M name replied ⊎ IsAdvanced M max name replied
+    by : (there : Option Slot) → serving M.world.slots name ≡ there → let replied = settled M k (pump_at M.world max name there) in IsNoIndex M name replied ⊎ IsAdvanced M max name replied
     by None e = inl (record { none = e; reply = refl })
     by (Some s) e =
         let at = served M.world.slots name s e in
@@ -264,13 +264,13 @@ batch-answered M k now max name = by (serving M.world.slots name) refl
           serves = e;
           reply = refl;
           brought = subst (Has (map (brought M max name) M.world.slots)) (brought-named M max name s named) (Has-mapped (brought M max name) M.world.slots s at.0);
-          others = map-others M (settled M k (pump_at M max name (Some s))).machine max name refl;
+          others = map-others M (settled M k (pump_at M.world max name (Some s))).machine max name refl;
           store = refl;
         })
 
-pub batch-others : (M : Machine) (k : Keeping) (now max : ℕ) (name : List ℕ) → OtherSlotsStay M name (step M k now (Pump max (Some name))).machine
+pub batch-others : (M : Machine) (k : Keeping) (now max : ℕ) (name : List ℕ) → OtherSlotsStay M name (step M k now (Do (Pump max (Some name)))).machine
 batch-others M k now max name = by (serving M.world.slots name)
   where
-    by : (there : Option Slot) → OtherSlotsStay M name (settled M k (pump_at M max name there)).machine
+    by : (there : Option Slot) → OtherSlotsStay M name (settled M k (pump_at M.world max name there)).machine
     by None = record { kept = λ s h other. h; no_more = λ s h other. h }
-    by (Some s) = map-others M (settled M k (pump_at M max name (Some s))).machine max name refl
+    by (Some s) = map-others M (settled M k (pump_at M.world max name (Some s))).machine max name refl

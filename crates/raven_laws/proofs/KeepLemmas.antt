@@ -1,5 +1,5 @@
 -- What a keeper stores is the rows of the store.
-use Rattle.std.proofs.Common.{◌≡◌, ℕ, ◌+◌, List, [], ◌∷◌, true, false, cond, Option, Some, None, Result, Ok, Err, refl, sym, ap, ◌∙◌, subst}
+use Rattle.std.proofs.Common.{◌≡◌, ℕ, ◌+◌, List, [], ◌∷◌, Bool, true, false, cond, Option, Some, None, Result, Ok, Err, refl, sym, ap, ◌∙◌, subst}
 use Rattle.std.specs.Option.{option_map}
 use Rattle.spec_data.specs.Folding.{folded}
 use Rattle.spec_data.specs.Rows.{Row}
@@ -9,11 +9,11 @@ use Rattle.spec_store.specs.Commit.{AreNext, Client, Command, Put, Delete, Refus
 use Rattle.index_tree.specs.Definitions.{Definition}
 use Rattle.spec_index.specs.Optimiser.{Choice, Use, Make, Merge, pick, name_of}
 use Rattle.spec_server.specs.Replies as replies
-use Rattle.spec_index.specs.World.{Slot, serving, SlotChange, SlotRefusal, define, define_named, remove}
-use Rattle.spec_server.specs.Machine.{Machine, Request, Put as PutOne, Delete as DeleteOne, Bulk, Get, Define, Remove, Auto, Find, Pump, Stale, Indexes, Stats, Event, Keeping, Change, after, change_of, is_taken, one_field, pump_at, pump_for, change_of_slots, rewrote, run, same_machine, settled, single_reply, use_or_make, write, wrote}
+use Rattle.spec_index.specs.World.{Slot, World, serving, SlotChange, SlotRefusal, define, define_named, remove}
+use Rattle.spec_server.specs.Machine.{Machine, Request, Put as PutOne, Delete as DeleteOne, Bulk, Get, Define, Remove, Auto, Find, Pump, Stale, Indexes, Stats, Line, Do, Event, Keeping, Change, after, changes_of, course_of, is_taken, made, one_field, pump_at, pump_for, change_of_slots, rewrote, run, same_machine, single_reply, step, takes_after, use_or_make, with_world, write, wrote}
 use Rattle.spec_server.specs.Script.{Given, after_lines, events_of}
 use Rattle.raven_laws.proofs.ScriptLemmas.{lines-run}
-use Rattle.raven_laws.specs.Keeping.{rows_stored, stored_after}
+use Rattle.raven_laws.specs.Keeping.{AreTheirRows, kept_after_all, rows_made, stored_after}
 use Rattle.spec_store.proofs.StoreLemmas.{same_row}
 use Rattle.spec_store.proofs.CommitLemmas.{same_ok, with_rows-push, AreNext-push, last-with_rows}
 use Rattle.spec_store.proofs.KeepLemmas.{kept-with_rows}
@@ -59,80 +59,81 @@ commit-Adds s w now cs S new is = commit_from-Adds S 0 s w now cs (record { stor
 
 -- CHANGES
 
--- the store of a change is the one before with the rows of the change
-pub record IsItsRows (S : Store) (c : Change) : Type 0 where
-  pub store : c.machine.world.store ≡ with_rows S c.rows
-  pub next : AreNext (last S) c.rows
+wrote-rows : (W : World) (reply : List replies.Result → replies.Reply) (now : ℕ) (commands : List Command) (o : Result Written Refused)
+    → commit W.setting Client now commands W.store ≡ o → AreTheirRows W.store (wrote W reply now commands o).changes
+wrote-rows W reply now commands (Err refused) is = tt
+wrote-rows W reply now commands (Ok w) is =
+    let a = commit-Adds W.setting Client now commands W.store w is in (record { store = a.store; next = a.next }, tt)
 
-unchanged : (M : Machine) (reply : replies.Reply) → IsItsRows M.world.store (record { reply = reply; machine = M; rows = [] })
-unchanged M reply = record { store = refl; next = tt }
+write-rows : (W : World) (reply : List replies.Result → replies.Reply) (now : ℕ) (commands : List Command) → AreTheirRows W.store (write W reply now commands).changes
+write-rows W reply now commands = wrote-rows W reply now commands (commit W.setting Client now commands W.store) refl
 
-wrote-rows : (M : Machine) (reply : List replies.Result → replies.Reply) (now : ℕ) (commands : List Command) (o : Result Written Refused)
-    → commit M.world.setting Client now commands M.world.store ≡ o → IsItsRows M.world.store (wrote M reply now commands o)
-wrote-rows M reply now commands (Err refused) is = unchanged M _
-wrote-rows M reply now commands (Ok w) is =
-    let a = commit-Adds M.world.setting Client now commands M.world.store w is in record { store = a.store; next = a.next }
+rewrote-rows : (W : World) (reply : replies.Reply) (slots : List Slot) (now : ℕ) (commands : List Command) (o : Result Written Refused)
+    → commit W.setting Server now commands W.store ≡ o → AreTheirRows W.store (rewrote W reply slots o).changes
+rewrote-rows W reply slots now commands (Err refused) is = tt
+rewrote-rows W reply slots now commands (Ok w) is =
+    let a = commit-Adds W.setting Server now commands W.store w is in (record { store = a.store; next = a.next }, tt)
 
-write-rows : (M : Machine) (reply : List replies.Result → replies.Reply) (now : ℕ) (commands : List Command) → IsItsRows M.world.store (write M reply now commands)
-write-rows M reply now commands = wrote-rows M reply now commands (commit M.world.setting Client now commands M.world.store) refl
+reslotted-rows : (W : World) (now : ℕ) (reply : List ℕ → replies.Reply) (name : List ℕ) (r : Result SlotChange SlotRefusal) → AreTheirRows W.store (change_of_slots W now reply name r).changes
+reslotted-rows W now reply name (Err refusal) = tt
+reslotted-rows W now reply name (Ok c) = rewrote-rows W (reply c.name) c.slots now c.commands (commit W.setting Server now c.commands W.store) refl
 
-rewrote-rows : (M : Machine) (reply : replies.Reply) (slots : List Slot) (now : ℕ) (commands : List Command) (o : Result Written Refused)
-    → commit M.world.setting Server now commands M.world.store ≡ o → IsItsRows M.world.store (rewrote M reply slots o)
-rewrote-rows M reply slots now commands (Err refused) is = unchanged M _
-rewrote-rows M reply slots now commands (Ok w) is =
-    let a = commit-Adds M.world.setting Server now commands M.world.store w is in record { store = a.store; next = a.next }
+auto-rows : (W : World) (now : ℕ) (c : Choice) → AreTheirRows W.store (use_or_make W now c).changes
+auto-rows W now (Use s) = tt
+auto-rows W now (Make shape) =
+    let name = name_of W.slots (last W.store + 1) shape in reslotted-rows W now replies.Index name (define W name (Definition.Auto shape.collection shape.fields))
+auto-rows W now Merge = tt
 
-reslotted-rows : (M : Machine) (now : ℕ) (reply : List ℕ → replies.Reply) (name : List ℕ) (r : Result SlotChange SlotRefusal) → IsItsRows M.world.store (change_of_slots M now reply name r)
-reslotted-rows M now reply name (Err refusal) = unchanged M _
-reslotted-rows M now reply name (Ok c) = rewrote-rows M (reply c.name) c.slots now c.commands (commit M.world.setting Server now c.commands M.world.store) refl
+pump_at-rows : (W : World) (max : ℕ) (name : List ℕ) (there : Option Slot) → AreTheirRows W.store (pump_at W max name there).changes
+pump_at-rows W max name None = tt
+pump_at-rows W max name (Some s) = (record { store = refl; next = tt }, tt)
 
-auto-rows : (M : Machine) (now : ℕ) (c : Choice) → IsItsRows M.world.store (use_or_make M now c)
-auto-rows M now (Use s) = unchanged M _
-auto-rows M now (Make shape) =
-    let name = name_of M.world.slots (last M.world.store + 1) shape in reslotted-rows M now replies.Index name (define M.world name (Definition.Auto shape.collection shape.fields))
-auto-rows M now Merge = unchanged M _
+pump_for-rows : (W : World) (max : ℕ) (index : Option (List ℕ)) → AreTheirRows W.store (pump_for W max index).changes
+pump_for-rows W max None = (record { store = refl; next = tt }, tt)
+pump_for-rows W max (Some name) = pump_at-rows W max name (serving W.slots name)
 
-pump_at-rows : (M : Machine) (max : ℕ) (name : List ℕ) (there : Option Slot) → IsItsRows M.world.store (pump_at M max name there)
-pump_at-rows M max name None = unchanged M _
-pump_at-rows M max name (Some s) = record { store = refl; next = tt }
+course-rows : (W : World) (now : ℕ) (request : Request) → AreTheirRows W.store (course_of W now request).changes
+course-rows W now (PutOne id expected body) = write-rows W single_reply now (Command.Put id expected body ∷ [])
+course-rows W now (DeleteOne id expected) = write-rows W single_reply now (Command.Delete id expected ∷ [])
+course-rows W now (Bulk commands) = write-rows W replies.Bulk now commands
+course-rows W now (Get id) = tt
+course-rows W now (Define name d) = reslotted-rows W now replies.Index name (define_named W name d)
+course-rows W now (Remove name) = reslotted-rows W now replies.Removed name (remove W name)
+course-rows W now (Auto collection field) = auto-rows W now (pick (one_field collection field) W.store W.slots)
+course-rows W now (Find index field ws) = tt
+course-rows W now (Pump max index) = pump_for-rows W max index
+course-rows W now (Stale name cutoff) = tt
+course-rows W now Indexes = tt
+course-rows W now Stats = tt
 
-pump_for-rows : (M : Machine) (max : ℕ) (index : Option (List ℕ)) → IsItsRows M.world.store (pump_for M max index)
-pump_for-rows M max None = record { store = refl; next = tt }
-pump_for-rows M max (Some name) = pump_at-rows M max name (serving M.world.slots name)
-
-pub change-rows : (M : Machine) (now : ℕ) (request : Request) → IsItsRows M.world.store (change_of M now request)
-change-rows M now (PutOne id expected body) = write-rows M single_reply now (Command.Put id expected body ∷ [])
-change-rows M now (DeleteOne id expected) = write-rows M single_reply now (Command.Delete id expected ∷ [])
-change-rows M now (Bulk commands) = write-rows M replies.Bulk now commands
-change-rows M now (Get id) = unchanged M _
-change-rows M now (Define name d) = reslotted-rows M now replies.Index name (define_named M.world name d)
-change-rows M now (Remove name) = reslotted-rows M now replies.Removed name (remove M.world name)
-change-rows M now (Auto collection field) = auto-rows M now (pick (one_field collection field) M.world.store M.world.slots)
-change-rows M now (Find index field ws) = unchanged M _
-change-rows M now (Pump max index) = pump_for-rows M max index
-change-rows M now (Stale name cutoff) = unchanged M _
-change-rows M now Indexes = unchanged M _
-change-rows M now Stats = unchanged M _
+pub changes-rows : (W : World) (now : ℕ) (line : Line) → AreTheirRows W.store (changes_of W now line)
+changes-rows W now (Do request) = course-rows W now request
 
 -- EVENTS
 
-settled-rows : (M : Machine) (k : Keeping) (c : Change) → IsItsRows M.world.store c
-    → (settled M k c).machine.world.store ≡ with_rows M.world.store (cond (is_taken k c.rows) c.rows [])
-settled-rows M k c a = elim (is_taken k c.rows) as (λ b.
-    (cond b (record { reply = c.reply; machine = c.machine }) (same_machine M (replies.KeeperFault k.before k.after))).machine.world.store ≡ with_rows M.world.store (cond b c.rows [])) [
-      | true ↦ a.store
+-- after changes the keeper stores the rows of the store that they leave
+made-held : (k : Keeping) (M : Machine) (takes : List Bool) (changes : List Change) (reply : replies.Reply) → AreTheirRows M.world.store changes
+    → kept_after_all (rows_made takes changes) (all_kept M.world.store.rows) ≡ all_kept (made k M takes changes reply).machine.world.store.rows
+made-held k M takes [] reply a = refl
+made-held k M takes (c ∷ more) reply a =
+    let N = with_world M c.world in
+    let later = takes_after c.rows takes in
+    let one : keep_all (all_kept M.world.store.rows) (all_kept c.rows) ≡ all_kept c.world.store.rows =
+    kept-with_rows M.world.store c.rows ∙ ap (λ (S : Store). all_kept S.rows) (sym a.0.store) in
+    let rest = made-held k N later more reply a.1 in
+    elim (is_taken takes c.rows) as (λ b. kept_after_all (cond b (c.rows ∷ rows_made later more) []) (all_kept M.world.store.rows)
+    ≡ all_kept (cond b (made k N later more reply) (same_machine M (replies.KeeperFault k.before k.after))).machine.world.store.rows) [
+      | true ↦ ap (kept_after_all (rows_made later more)) one ∙ rest
       | false ↦ refl
     ]
 
--- after an event the keeper stores the rows of the store that the event leaves
-pub held-next : (M : Machine) (e : Event) → keep_all (all_kept M.world.store.rows) (all_kept (rows_stored M e)) ≡ all_kept (after M e).world.store.rows
-held-next M e =
-    kept-with_rows M.world.store (rows_stored M e)
-    ∙ ap (λ (S : Store). all_kept S.rows) (sym (settled-rows M e.keeping (change_of M e.now e.request) (change-rows M e.now e.request)))
+step-held : (M : Machine) (k : Keeping) (now : ℕ) (line : Line)
+    → kept_after_all (rows_made k.takes (changes_of M.world now line)) (all_kept M.world.store.rows) ≡ all_kept (step M k now line).machine.world.store.rows
+step-held M k now (Do request) = let c = course_of M.world now request in made-held k M k.takes c.changes c.reply (course-rows M.world now request)
 
 pub held-run : (M : Machine) (es : List Event) → stored_after es M (all_kept M.world.store.rows) ≡ all_kept (run es M).world.store.rows
 held-run M [] = refl
-held-run M (e ∷ es) = ap (stored_after es (after M e)) (held-next M e) ∙ held-run (after M e) es
+held-run M (e ∷ es) = ap (stored_after es (after M e)) (step-held M e.keeping e.now e.line) ∙ held-run (after M e) es
 
 pub held-lines : (M : Machine) (lines : List Given) → stored_after (events_of lines) M (all_kept M.world.store.rows) ≡ all_kept (after_lines lines M).world.store.rows
 held-lines M lines = held-run M (events_of lines) ∙ ap (λ (N : Machine). all_kept N.world.store.rows) (sym (lines-run lines M))

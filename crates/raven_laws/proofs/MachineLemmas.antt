@@ -1,5 +1,5 @@
 -- Each step of the machine leaves a sound and later world.
-use Rattle.std.proofs.Common.{◌≡◌, ℕ, ◌+◌, ◌<◌, ◌≤◌, List, [], ◌∷◌, ◌++◌, length, Option, Some, None, Result, Ok, Err, map, refl, sym, ap, subst, arith, inl, true, false, cond}
+use Rattle.std.proofs.Common.{◌≡◌, ℕ, ◌+◌, ◌<◌, ◌≤◌, List, [], ◌∷◌, ◌++◌, Bool, length, Option, Some, None, Result, Ok, Err, map, refl, sym, ap, ◌∙◌, subst, arith, inl, inr, true, false, cond}
 use Rattle.spec_data.specs.Rows.{Row}
 use Rattle.spec_store.specs.Store.{Store, last, IsStore}
 use Rattle.spec_store.specs.Later.{Later}
@@ -9,12 +9,12 @@ use Rattle.index_tree.specs.Definitions.{Definition}
 use Rattle.spec_index.specs.Optimiser.{Choice, Use, Make, Merge, pick, name_of}
 use Rattle.spec_store.specs.Commit.{Command, Put, Delete, Writer, Client, Server, Setting, Refused, Written, refusal_of, row_of, with_written, or_refused, commit_from, commit}
 use Rattle.spec_server.specs.Replies as replies
-use Rattle.spec_index.specs.World.{Slot, World, reads, advanced, batch, serving, SlotChange, SlotRefusal, define, define_named, is_named, remove}
-use Rattle.spec_server.specs.Machine.{Machine, Request, Put as PutOne, Delete as DeleteOne, Bulk, Get, Define, Remove, Auto, Find, Pump, Stale, Indexes, Stats, Event, Keeping, Change, is_taken, same_machine, settled, single_reply, wrote, write, rewrote, change_of_slots, use_or_make, one_field, or_as_before, after_batch, after_batch_if_named, with_slots, pump, pump_at, pump_for, change_of, step, start, after, run}
-use Rattle.spec_server.specs.Sound.{Has, NumbersRise, NamesApart, AreListed, Sound, LaterW}
+use Rattle.spec_index.specs.World.{Slot, Version, World, reads, advanced, batch, serving, SlotChange, SlotRefusal, define, define_named, is_named, remove}
+use Rattle.spec_server.specs.Machine.{Machine, Request, Put as PutOne, Delete as DeleteOne, Bulk, Get, Define, Remove, Auto, Find, Pump, Stale, Indexes, Stats, Event, Held, Keeping, Line, Do, Change, Course, is_taken, takes_after, with_world, same_machine, made, settled, single_reply, wrote, write, rewrote, change_of_slots, use_or_make, one_field, or_as_before, after_batch, after_batch_if_named, with_slots, pump, pump_at, pump_for, course_of, step, start, after, run}
+use Rattle.spec_server.specs.Sound.{Has, NumbersRise, NamesApart, AreListed, Sound, IsHeld, IsMachine, LaterW}
 use Rattle.spec_store.proofs.LaterLemmas.{Later-itself, IsStore-with, last-with}
 use Rattle.spec_store.proofs.CommitLemmas.{row_of-follows, commit-Commits}
-use Rattle.raven_laws.proofs.SlotLemmas.{Has-map, NumbersRise-map, NamesApart-map, batch-Brought}
+use Rattle.raven_laws.proofs.SlotLemmas.{Brought, Fits-later, Has-map, NumbersRise-map, NamesApart-map, batch-Brought, same_slot}
 use Rattle.raven_laws.proofs.ListedLemmas.{commit_from-applied, clients-AreListed, map-AreListed}
 use Rattle.raven_laws.proofs.LimitLemmas.{commit_from-fits, commit_from-last, length_mapped}
 use Rattle.raven_laws.proofs.WorldLemmas.{append-none, LaterW-itself, LaterW-then, Comes, stays, StartsWithPut, Onto, Settles, define-Settles, define_named-Settles, remove-Settles}
@@ -64,23 +64,32 @@ Turns-Moves W S slots o t = record {
   };
 }
 
+-- each of the changes leads from a sound world to a sound and later one
+abbrev pub AllMove : World → List Change → Type 0
+AllMove W [] = Unit {0}
+AllMove W (c ∷ more) = Moves W c.world × AllMove c.world more
+
+abbrev pub CourseMoves : World → Course → Type 0
+CourseMoves W course = AllMove W course.changes
+
 -- WRITES
 
-wrote-Moves : (now : ℕ) (M : Machine) (reply : List replies.Result → replies.Reply) (commands : List Command) (o : Result Written Refused) → Sound M.world → commit M.world.setting Client now commands M.world.store ≡ o → Moves M.world (wrote M reply now commands o).machine.world
-wrote-Moves now M reply commands (Err refused) o is = Moves-itself M.world o
-wrote-Moves now M reply commands (Ok w) o is =
-    let c = commit-Commits M.world.setting Client now commands M.world.store w o.store is in
-    Turns-Moves M.world w.store M.world.slots o (record {
+wrote-Moves : (now : ℕ) (W : World) (reply : List replies.Result → replies.Reply) (commands : List Command) (o : Result Written Refused) → Sound W
+    → commit W.setting Client now commands W.store ≡ o → CourseMoves W (wrote W reply now commands o)
+wrote-Moves now W reply commands (Err refused) o is = tt
+wrote-Moves now W reply commands (Ok w) o is =
+    let c = commit-Commits W.setting Client now commands W.store w o.store is in
+    (Turns-Moves W w.store W.slots o (record {
       store = c.sound;
       later = c.later;
-      comes = λ s h. stays M.world w.store [] s o c.later h;
+      comes = λ s h. stays W w.store [] s o c.later h;
       rising = o.rising;
       apart = o.apart;
-      listed = clients-AreListed 0 M.world.setting now commands _ w M.world.slots is o.listed;
-      rows = commit_from-fits 0 M.world.setting Client now commands _ w o.limits.rows is;
+      listed = clients-AreListed 0 W.setting now commands _ w W.slots is o.listed;
+      rows = commit_from-fits 0 W.setting Client now commands _ w o.limits.rows is;
       count = o.limits.slots;
-      etags = commit_from-last 0 M.world.setting Client now commands _ w o.limits.etags is;
-    })
+      etags = commit_from-last 0 W.setting Client now commands _ w o.limits.etags is;
+    }), tt)
 
 -- CHANGES OF INDEXES
 
@@ -113,42 +122,42 @@ put-grows s w now (Put id expected body ∷ cs) S new o h p =
       | Some kind ↦ λ e g. absurd cc
     ] refl h
 
-rewrote-Moves : (now : ℕ) (M : Machine) (reply : replies.Reply) (c : SlotChange) (o : Result Written Refused) → Sound M.world → ((S : Store) → Onto M.world c S → Settles M.world c S)
-    → commit M.world.setting Server now c.commands M.world.store ≡ o → Moves M.world (rewrote M reply c.slots o).machine.world
-rewrote-Moves now M reply c (Err refused) o by is = Moves-itself M.world o
-rewrote-Moves now M reply c (Ok w) o by is =
-    let k = commit-Commits M.world.setting Server now c.commands M.world.store w o.store is in
+rewrote-Moves : (now : ℕ) (W : World) (reply : replies.Reply) (c : SlotChange) (o : Result Written Refused) → Sound W → ((S : Store) → Onto W c S → Settles W c S)
+    → commit W.setting Server now c.commands W.store ≡ o → CourseMoves W (rewrote W reply c.slots o)
+rewrote-Moves now W reply c (Err refused) o by is = tt
+rewrote-Moves now W reply c (Ok w) o by is =
+    let k = commit-Commits W.setting Server now c.commands W.store w o.store is in
     let t = by w.store (record {
       store = k.sound;
       later = k.later;
-      grown = put-grows M.world.setting Server now c.commands M.world.store w o.store is;
+      grown = put-grows W.setting Server now c.commands W.store w o.store is;
       now = now;
-      written = commit_from-applied 0 M.world.setting Server now c.commands _ w is;
+      written = commit_from-applied 0 W.setting Server now c.commands _ w is;
     }) in
-    Turns-Moves M.world w.store c.slots o (record {
+    (Turns-Moves W w.store c.slots o (record {
       store = k.sound;
       later = k.later;
       comes = t.slots;
       rising = t.rising;
       apart = t.apart;
       listed = t.listed;
-      rows = commit_from-fits 0 M.world.setting Server now c.commands _ w o.limits.rows is;
+      rows = commit_from-fits 0 W.setting Server now c.commands _ w o.limits.rows is;
       count = t.count;
-      etags = commit_from-last 0 M.world.setting Server now c.commands _ w o.limits.etags is;
-    })
+      etags = commit_from-last 0 W.setting Server now c.commands _ w o.limits.etags is;
+    }), tt)
 
-reslotted-Moves : (now : ℕ) (M : Machine) (reply : List ℕ → replies.Reply) (name : List ℕ) (r : Result SlotChange SlotRefusal) → Sound M.world
-    → ((c : SlotChange) → r ≡ Ok c → Sound M.world → (S : Store) → Onto M.world c S → Settles M.world c S) → Moves M.world (change_of_slots M now reply name r).machine.world
-reslotted-Moves now M reply name (Err refusal) o by = Moves-itself M.world o
-reslotted-Moves now M reply name (Ok c) o by = rewrote-Moves now M (reply c.name) c (commit M.world.setting Server now c.commands M.world.store) o (by c refl o) refl
+reslotted-Moves : (now : ℕ) (W : World) (reply : List ℕ → replies.Reply) (name : List ℕ) (r : Result SlotChange SlotRefusal) → Sound W
+    → ((c : SlotChange) → r ≡ Ok c → Sound W → (S : Store) → Onto W c S → Settles W c S) → CourseMoves W (change_of_slots W now reply name r)
+reslotted-Moves now W reply name (Err refusal) o by = tt
+reslotted-Moves now W reply name (Ok c) o by = rewrote-Moves now W (reply c.name) c (commit W.setting Server now c.commands W.store) o (by c refl o) refl
 
-auto-Moves : (now : ℕ) (M : Machine) (c : Choice) → Sound M.world → Moves M.world (use_or_make M now c).machine.world
-auto-Moves now M (Use s) o = Moves-itself M.world o
-auto-Moves now M (Make shape) o =
-    let name = name_of M.world.slots (last M.world.store + 1) shape in
+auto-Moves : (now : ℕ) (W : World) (c : Choice) → Sound W → CourseMoves W (use_or_make W now c)
+auto-Moves now W (Use s) o = tt
+auto-Moves now W (Make shape) o =
+    let name = name_of W.slots (last W.store + 1) shape in
     let d = Definition.Auto shape.collection shape.fields in
-    reslotted-Moves now M replies.Index name (define M.world name d) o (define-Settles M.world name d)
-auto-Moves now M Merge o = Moves-itself M.world o
+    reslotted-Moves now W replies.Index name (define W name d) o (define-Settles W name d)
+auto-Moves now W Merge o = tt
 
 -- BATCHES
 
@@ -180,92 +189,165 @@ brought-Keeps S max x = record { number = refl; name = refl; row = refl; definit
     by (r ∷ rows) = refl
 
 -- each slot is advanced by a batch or stays as it is
-mapped-Moves : (M : Machine) (f : Slot → Slot) → Sound M.world → ((x : Slot) → Has M.world.slots x → Comes M.world M.world.store [] (f x)) → ((x : Slot) → Keeps x (f x))
-    → Moves M.world (with_slots M.world (map f M.world.slots))
-mapped-Moves M f o comes keeps = Turns-Moves M.world M.world.store (map f M.world.slots) o (record {
+mapped-Moves : (W : World) (f : Slot → Slot) → Sound W → ((x : Slot) → Has W.slots x → Comes W W.store [] (f x)) → ((x : Slot) → Keeps x (f x))
+    → Moves W (with_slots W (map f W.slots))
+mapped-Moves W f o comes keeps = Turns-Moves W W.store (map f W.slots) o (record {
   store = o.store;
-  later = Later-itself M.world.store;
-  comes = λ s h. let x = Has-map f M.world.slots s h in subst (Comes M.world M.world.store []) x.2 (comes x.0 x.1);
-  rising = NumbersRise-map 0 f M.world.slots (λ x. (keeps x).number) o.rising;
-  apart = NamesApart-map f M.world.slots (λ x. (keeps x).name) o.apart;
-  listed = map-AreListed M.world.store f M.world.slots (λ x h. ((keeps x).name, (keeps x).row, (keeps x).definition)) o.listed;
+  later = Later-itself W.store;
+  comes = λ s h. let x = Has-map f W.slots s h in subst (Comes W W.store []) x.2 (comes x.0 x.1);
+  rising = NumbersRise-map 0 f W.slots (λ x. (keeps x).number) o.rising;
+  apart = NamesApart-map f W.slots (λ x. (keeps x).name) o.apart;
+  listed = map-AreListed W.store f W.slots (λ x h. ((keeps x).name, (keeps x).row, (keeps x).definition)) o.listed;
   rows = o.limits.rows;
-  count = let a = length_mapped f M.world.slots in let b = o.limits.slots in omega arith;
+  count = let a = length_mapped f W.slots in let b = o.limits.slots in omega arith;
   etags = o.limits.etags;
 })
 
-pump-Moves : (M : Machine) (max : ℕ) → Sound M.world → Moves M.world (pump M max).machine.world
-pump-Moves M max o = mapped-Moves M (after_batch M.world.store max) o (λ x h. brought-Comes M.world x max o h) (brought-Keeps M.world.store max)
+pump-Moves : (W : World) (max : ℕ) → Sound W → CourseMoves W (pump W max)
+pump-Moves W max o = (mapped-Moves W (after_batch W.store max) o (λ x h. brought-Comes W x max o h) (brought-Keeps W.store max), tt)
 
 -- a batch for one name
-pump_at-Moves : (M : Machine) (max : ℕ) (name : List ℕ) (there : Option Slot) → Sound M.world → Moves M.world (pump_at M max name there).machine.world
-pump_at-Moves M max name None o = Moves-itself M.world o
-pump_at-Moves M max name (Some s) o = mapped-Moves M (after_batch_if_named M.world.store max name) o comes keeps
+pump_at-Moves : (W : World) (max : ℕ) (name : List ℕ) (there : Option Slot) → Sound W → CourseMoves W (pump_at W max name there)
+pump_at-Moves W max name None o = tt
+pump_at-Moves W max name (Some s) o = (mapped-Moves W (after_batch_if_named W.store max name) o comes keeps, tt)
   where
-    comes : (x : Slot) → Has M.world.slots x → Comes M.world M.world.store [] (after_batch_if_named M.world.store max name x)
-    comes x h = elim (is_named name x) as (λ b. Comes M.world M.world.store [] (cond b (after_batch M.world.store max x) x)) [
-      | true ↦ brought-Comes M.world x max o h
-      | false ↦ stays M.world M.world.store [] x o (Later-itself M.world.store) h
+    comes : (x : Slot) → Has W.slots x → Comes W W.store [] (after_batch_if_named W.store max name x)
+    comes x h = elim (is_named name x) as (λ b. Comes W W.store [] (cond b (after_batch W.store max x) x)) [
+      | true ↦ brought-Comes W x max o h
+      | false ↦ stays W W.store [] x o (Later-itself W.store) h
     ]
 
-    keeps : (x : Slot) → Keeps x (after_batch_if_named M.world.store max name x)
-    keeps x = elim (is_named name x) as (λ b. Keeps x (cond b (after_batch M.world.store max x) x)) [
-      | true ↦ brought-Keeps M.world.store max x
+    keeps : (x : Slot) → Keeps x (after_batch_if_named W.store max name x)
+    keeps x = elim (is_named name x) as (λ b. Keeps x (cond b (after_batch W.store max x) x)) [
+      | true ↦ brought-Keeps W.store max x
       | false ↦ record { number = refl; name = refl; row = refl; definition = refl }
     ]
 
-pump_for-Moves : (M : Machine) (max : ℕ) (index : Option (List ℕ)) → Sound M.world → Moves M.world (pump_for M max index).machine.world
-pump_for-Moves M max None o = pump-Moves M max o
-pump_for-Moves M max (Some name) o = pump_at-Moves M max name (serving M.world.slots name) o
+pump_for-Moves : (W : World) (max : ℕ) (index : Option (List ℕ)) → Sound W → CourseMoves W (pump_for W max index)
+pump_for-Moves W max None o = pump-Moves W max o
+pump_for-Moves W max (Some name) o = pump_at-Moves W max name (serving W.slots name) o
+
+-- REQUESTS
+
+write-Moves : (now : ℕ) (W : World) (reply : List replies.Result → replies.Reply) (commands : List Command) → Sound W → CourseMoves W (write W reply now commands)
+write-Moves now W reply commands o = wrote-Moves now W reply commands (commit W.setting Client now commands W.store) o refl
+
+course-Moves : (W : World) (now : ℕ) (r : Request) → Sound W → CourseMoves W (course_of W now r)
+course-Moves W now (PutOne id expected body) o = write-Moves now W single_reply (Command.Put id expected body ∷ []) o
+course-Moves W now (DeleteOne id expected) o = write-Moves now W single_reply (Command.Delete id expected ∷ []) o
+course-Moves W now (Bulk commands) o = write-Moves now W replies.Bulk commands o
+course-Moves W now (Get id) o = tt
+course-Moves W now (Define name d) o = reslotted-Moves now W replies.Index name (define_named W name d) o (define_named-Settles W name d)
+course-Moves W now (Remove name) o = reslotted-Moves now W replies.Removed name (remove W name) o (remove-Settles W name)
+course-Moves W now (Auto collection field) o = auto-Moves now W (pick (one_field collection field) W.store W.slots) o
+course-Moves W now (Find index field ws) o = tt
+course-Moves W now (Pump max index) o = pump_for-Moves W max index o
+course-Moves W now (Stale name cutoff) o = tt
+course-Moves W now Indexes o = tt
+course-Moves W now Stats o = tt
+
+-- HELD BATCHES
+
+-- a batch that was just read may be published
+pub batch-IsHeld : (W : World) (worker : ℕ) (s : Slot) (v : Version) (max : ℕ) → Sound W → Has W.slots s → batch s.version W.store max ≡ Some v
+    → IsHeld W (record { worker = worker; number = s.number; version = v })
+batch-IsHeld W worker s v max o h is = record {
+  fits = b.fits;
+  within = o.numbers s h;
+  same = λ x there k. ap (λ (y : Slot). y.version.definition) (same_slot 0 W.slots x s o.rising there h k) ∙ b.definition;
+}
+  where
+    b : Brought W.store s.version v
+    b = batch-Brought W.store s.version v max o.store (o.fits s h) is
+
+-- and also in every later world
+pub IsHeld-later : (W N : World) (h : Held) → IsHeld W h → LaterW W N → IsHeld N h
+IsHeld-later W N h i l = record {
+  fits = Fits-later W.store N.store h.version i.fits l.store;
+  within = let a = i.within in let b = l.store in let c = b.grown in omega arith;
+  same = λ s at e. elim (l.numbers s at) [
+    | inl w ↦ let k = w.2 in sym k.definition ∙ i.same w.0 w.1 (k.number ∙ e)
+    | inr new ↦ absurd (let a = i.within in omega arith)
+  ];
+}
 
 -- RUNS
 
-write-Moves : (now : ℕ) (M : Machine) (reply : List replies.Result → replies.Reply) (commands : List Command) → Sound M.world → Moves M.world (write M reply now commands).machine.world
-write-Moves now M reply commands o = wrote-Moves now M reply commands (commit M.world.setting Client now commands M.world.store) o refl
+-- from one state of the machine to a later one
+pub record Steps (M N : Machine) : Type 0 where
+  pub machine : IsMachine N
+  pub later : LaterW M.world N.world
 
-change-Moves : (M : Machine) (now : ℕ) (r : Request) → Sound M.world → Moves M.world (change_of M now r).machine.world
-change-Moves M now (PutOne id expected body) o = write-Moves now M single_reply (Command.Put id expected body ∷ []) o
-change-Moves M now (DeleteOne id expected) o = write-Moves now M single_reply (Command.Delete id expected ∷ []) o
-change-Moves M now (Bulk commands) o = write-Moves now M replies.Bulk commands o
-change-Moves M now (Get id) o = Moves-itself M.world o
-change-Moves M now (Define name d) o = reslotted-Moves now M replies.Index name (define_named M.world name d) o (define_named-Settles M.world name d)
-change-Moves M now (Remove name) o = reslotted-Moves now M replies.Removed name (remove M.world name) o (remove-Settles M.world name)
-change-Moves M now (Auto collection field) o = auto-Moves now M (pick (one_field collection field) M.world.store M.world.slots) o
-change-Moves M now (Find index field ws) o = Moves-itself M.world o
-change-Moves M now (Pump max index) o = pump_for-Moves M max index o
-change-Moves M now (Stale name cutoff) o = Moves-itself M.world o
-change-Moves M now Indexes o = Moves-itself M.world o
-change-Moves M now Stats o = Moves-itself M.world o
+pub Steps-itself : (M : Machine) → IsMachine M → Steps M M
+Steps-itself M i = record { machine = i; later = LaterW-itself M.world }
 
--- whatever the keeper does
-settled-Moves : (M : Machine) (k : Keeping) (c : Change) → Sound M.world → Moves M.world c.machine.world → Moves M.world (settled M k c).machine.world
-settled-Moves M k c o m = elim (is_taken k c.rows) as (λ b. Moves M.world (cond b (record { reply = c.reply; machine = c.machine }) (same_machine M (replies.KeeperFault k.before k.after))).machine.world) [
-  | true ↦ m
-  | false ↦ Moves-itself M.world o
-]
+pub Steps-then : (M N P : Machine) → Steps M N → Steps N P → Steps M P
+Steps-then M N P f g = record { machine = g.machine; later = LaterW-then M.world N.world P.world f.later g.later }
 
-pub step-Moves : (M : Machine) (k : Keeping) (now : ℕ) (r : Request) → Sound M.world → Moves M.world (step M k now r).machine.world
-step-Moves M k now r o = settled-Moves M k (change_of M now r) o (change-Moves M now r o)
-
-pub run-Moves : (es : List Event) (M : Machine) → Sound M.world → Moves M.world (run es M).world
-run-Moves [] M o = Moves-itself M.world o
-run-Moves (e ∷ es) M o =
-    let one = step-Moves M e.keeping e.now e.request o in Moves-then M.world (after M e).world (run es (after M e)).world one (run-Moves es (after M e) one.sound)
-
-pub start-Sound : (setting : Setting) → Sound (start setting).world
-start-Sound setting = record {
-  store = record { rising = tt; apart = tt };
-  fits = λ s h. absurd h;
-  numbers = λ s h. absurd h;
-  rising = tt;
-  apart = λ s t h. absurd h;
-  listed = record { each = λ s h. absurd h; only = λ q r h. absurd (let e = h in cc) };
-  notes = λ n h. absurd h;
-  limits = record { rows = omega arith; slots = omega arith; notes = omega arith; etags = omega arith };
+Steps-to : (M : Machine) (W : World) → IsMachine M → Moves M.world W → Steps M (with_world M W)
+Steps-to M W i m = record {
+  machine = record { world = m.sound; held = λ h has. IsHeld-later M.world W h (i.held h has) m.later };
+  later = m.later;
 }
 
+-- each of the changes leaves such a world
+abbrev pub AllLeave : (World → Type 0) → List Change → Type 0
+AllLeave P [] = Unit {0}
+AllLeave P (c ∷ more) = P c.world × AllLeave P more
+
+-- whatever the keeper does, the world that is left is the one before or that of a change
+pub made-leaves : (P : World → Type 0) (k : Keeping) (M : Machine) (takes : List Bool) (changes : List Change) (reply : replies.Reply) → P M.world → AllLeave P changes
+    → P (made k M takes changes reply).machine.world
+made-leaves P k M takes [] reply p all = p
+made-leaves P k M takes (c ∷ more) reply p all =
+    let rest = made-leaves P k (with_world M c.world) (takes_after c.rows takes) more reply all.0 all.1 in
+    elim (is_taken takes c.rows) as (λ b. P (cond b (made k (with_world M c.world) (takes_after c.rows takes) more reply) (same_machine M (replies.KeeperFault k.before k.after))).machine.world) [
+      | true ↦ rest
+      | false ↦ p
+    ]
+
+pub settled-leaves : (P : World → Type 0) (M : Machine) (k : Keeping) (c : Course) → P M.world → AllLeave P c.changes → P (settled M k c).machine.world
+settled-leaves P M k c p all = made-leaves P k M k.takes c.changes c.reply p all
+
+made-Steps : (k : Keeping) (M : Machine) (takes : List Bool) (changes : List Change) (reply : replies.Reply) → IsMachine M → AllMove M.world changes → Steps M (made k M takes changes reply).machine
+made-Steps k M takes [] reply i all = Steps-itself M i
+made-Steps k M takes (c ∷ more) reply i all =
+    let one = Steps-to M c.world i all.0 in
+    let rest = made-Steps k (with_world M c.world) (takes_after c.rows takes) more reply one.machine all.1 in
+    elim (is_taken takes c.rows) as (λ b.
+    Steps M (cond b (made k (with_world M c.world) (takes_after c.rows takes) more reply) (same_machine M (replies.KeeperFault k.before k.after))).machine) [
+      | true ↦ Steps-then M (with_world M c.world) (made k (with_world M c.world) (takes_after c.rows takes) more reply).machine one rest
+      | false ↦ Steps-itself M i
+    ]
+
+pub step-Steps : (M : Machine) (k : Keeping) (now : ℕ) (line : Line) → IsMachine M → Steps M (step M k now line).machine
+step-Steps M k now (Do request) i =
+    let course = course_of M.world now request in made-Steps k M k.takes course.changes course.reply i (course-Moves M.world now request i.world)
+
+pub run-Steps : (es : List Event) (M : Machine) → IsMachine M → Steps M (run es M)
+run-Steps [] M i = Steps-itself M i
+run-Steps (e ∷ es) M i = let one = step-Steps M e.keeping e.now e.line i in Steps-then M (after M e) (run es (after M e)) one (run-Steps es (after M e) one.machine)
+
+pub start-IsMachine : (setting : Setting) → IsMachine (start setting)
+start-IsMachine setting = record { world = start-Sound setting; held = λ h has. absurd has }
+  where
+    start-Sound : (setting : Setting) → Sound (start setting).world
+    start-Sound setting = record {
+      store = record { rising = tt; apart = tt };
+      fits = λ s h. absurd h;
+      numbers = λ s h. absurd h;
+      rising = tt;
+      apart = λ s t h. absurd h;
+      listed = record { each = λ s h. absurd h; only = λ q r h. absurd (let e = h in cc) };
+      notes = λ n h. absurd h;
+      limits = record { rows = omega arith; slots = omega arith; notes = omega arith; etags = omega arith };
+    }
+
+pub run-IsMachine : (setting : Setting) (es : List Event) → IsMachine (run es (start setting))
+run-IsMachine setting es = let m = run-Steps es (start setting) (start-IsMachine setting) in m.machine
+
 pub run-Sound : (setting : Setting) (es : List Event) → Sound (run es (start setting)).world
-run-Sound setting es = let m = run-Moves es (start setting) (start-Sound setting) in m.sound
+run-Sound setting es = let m = run-IsMachine setting es in m.world
 
 pub run-append : (es fs : List Event) (M : Machine) → run (es ++ fs) M ≡ run fs (run es M)
 run-append [] fs M = refl
@@ -273,5 +355,5 @@ run-append (e ∷ es) fs M = run-append es fs (after M e)
 
 pub run-LaterW : (setting : Setting) (es fs : List Event) → LaterW (run es (start setting)).world (run (es ++ fs) (start setting)).world
 run-LaterW setting es fs =
-    let n = run-Moves fs (run es (start setting)) (run-Sound setting es) in
+    let n = run-Steps fs (run es (start setting)) (run-IsMachine setting es) in
     subst (λ (N : Machine). LaterW (run es (start setting)).world N.world) (sym (run-append es fs (start setting))) n.later

@@ -23,10 +23,10 @@ use Rattle.spec_index.specs.World.{Slot, new_version, index_id, row_body}
 use Rattle.spec_server.specs.Machine.{Machine}
 use Rattle.spec_server.specs.Opening.{OpenedFrom, is_part, auto_read, map_read, form_of, body_form, NoForm, ReadRow, is_defining, name_in, may_be_named, is_filed, is_too_many, slot_of, with_slot, slots_with, slots_after, or_bad, and_then, slots_from, opened_with, rows_of}
 use Rattle.spec_store.specs.Kept.{max_body, max_etag, is_stored, document_of, document_in, body_in, is_etag, row_in, can_follow, row_if_it_follows, or_bad_row, rows_after, rows_in}
-use Rattle.spec_server.specs.Sound.{Has, Fits, NumbersRise, NamesApart, AreListed, Sound}
+use Rattle.spec_server.specs.Sound.{Has, Fits, NumbersRise, NamesApart, AreListed, IsMachine, Sound}
 use Rattle.raven_laws.specs.Opened.{AgreesWithForm, AgreesWithBody, HasOwnDefinition, HaveOwnDefinitions, OpenedFaithfully}
 use Rattle.spec_store.proofs.StoreLemmas.{same_row, both_true, either_false, same_itself, same_means, found_key, row_at-append, last_of-append}
-use Rattle.raven_laws.proofs.SlotLemmas.{Has-append, Has-left, Has-right, find-Has, NumbersRise-push, Fits-fresh}
+use Rattle.raven_laws.proofs.SlotLemmas.{Has-append, Has-left, Has-right, find-Has, NumbersRise-push, Fits-fresh, same_slot}
 use Rattle.raven_laws.proofs.MemberLemmas.{Rises, read_rises, they_are}
 
 -- ONE ROW
@@ -564,19 +564,6 @@ Has-found (x ∷ rows) r apart (inr h) =
       | false ↦ λ e. Has-found rows r apart.1 h
     ] refl
 
-number-above : (low : ℕ) (slots : List Slot) (s : Slot) → NumbersRise low slots → Has slots s → low < s.number
-number-above low [] s up h = absurd h
-number-above low (x ∷ slots) s up (inl e) = subst (λ (y : Slot). low < y.number) e up.0
-number-above low (x ∷ slots) s up (inr h) = let first = up.0 in let later = number-above x.number slots s up.1 h in omega arith
-
--- slots with the same number are the same
-same-number : (low : ℕ) (slots : List Slot) (s t : Slot) → NumbersRise low slots → Has slots s → Has slots t → s.number ≡ t.number → s ≡ t
-same-number low [] s t up h g e = absurd h
-same-number low (x ∷ slots) s t up (inl a) (inl b) e = sym a ∙ b
-same-number low (x ∷ slots) s t up (inl a) (inr g) e = absurd (let n = ap (λ (y : Slot). y.number) a in let later = number-above x.number slots t up.1 g in omega arith)
-same-number low (x ∷ slots) s t up (inr h) (inl b) e = absurd (let n = ap (λ (y : Slot). y.number) b in let later = number-above x.number slots s up.1 h in omega arith)
-same-number low (x ∷ slots) s t up (inr h) (inr g) e = same-number x.number slots s t up.1 h g e
-
 opened-apart : (max : ℕ) (rows : List Row) (slots : List Slot) → AreApart rows → AreMade max rows slots → NamesApart slots
 opened-apart max rows slots apart a s t h g e =
     let x = a.each s h in
@@ -585,7 +572,7 @@ opened-apart max rows slots apart a s t h g e =
     ap (λ n. folded (codes "@index/") ++ n) (ap (λ (z : Slot). folded z.name) x.made ∙ e ∙ ap (λ (z : Slot). folded z.name) (sym y.made)) in
     let keyed : key x.from ≡ key y.from = indexed x.from.id x.indexed ∙ named ∙ sym (indexed y.from.id y.indexed) in
     let same : x.from ≡ y.from = same_row x.from y.from (sym (Has-found rows x.from apart x.there) ∙ ap (λ k. row_at k rows) keyed ∙ Has-found rows y.from apart y.there) in
-    same-number 0 slots s t a.rising h g (ap (λ (z : Slot). z.number) (sym x.made) ∙ ap (λ (r : Row). r.etag) same ∙ ap (λ (z : Slot). z.number) y.made)
+    same_slot 0 slots s t a.rising h g (ap (λ (z : Slot). z.number) (sym x.made) ∙ ap (λ (r : Row). r.etag) same ∙ ap (λ (z : Slot). z.number) y.made)
 
 opened-listed : (max : ℕ) (rows : List Row) (slots : List Slot) → Stand max rows → (most : ℕ) → AreMade most rows slots → AreListed (record { rows = rows }) slots
 opened-listed max rows slots s most a = record {
@@ -609,7 +596,7 @@ opened-listed max rows slots s most a = record {
 
 -- the machine that rows open
 abbrev machine_of : Setting → List Row → List Slot → Machine
-machine_of s rows slots = record { world = record { setting = s; store = record { rows = rows }; slots = slots; notes = [] } }
+machine_of s rows slots = record { world = record { setting = s; store = record { rows = rows }; slots = slots; notes = [] }; held = [] }
 
 world-Sound : (s : Setting) (rows : List Row) (slots : List Slot) → Stand s.max_rows rows → AreMade s.max_slots rows slots → Sound (machine_of s rows slots).world
 world-Sound s rows slots f a =
@@ -662,6 +649,7 @@ pub record HoldsRows (s : Setting) (held : List KeptRow) (M : Machine) : Type 0 
   pub kept : all_kept M.world.store.rows ≡ held
   pub setting : M.world.setting ≡ s
   pub notes : M.world.notes ≡ []
+  pub idle : M.held ≡ []
   pub slots : (x : Slot) → Has M.world.slots x → x.version ≡ new_version x.version.definition
 
 holds-rows : (s : Setting) (held : List KeptRow) (M : Machine) (xs : List ReadRow) → AreRowsOf s.max_rows held (rows_of xs)
@@ -669,7 +657,7 @@ holds-rows : (s : Setting) (held : List KeptRow) (M : Machine) (xs : List ReadRo
 holds-rows s held M xs f (Err etag) k g = absurd cc
 holds-rows s held M xs f (Ok slots) k g =
     subst (HoldsRows s held) (same_machine_of (machine_of s (rows_of xs) slots) M g)
-    (record { kept = f.kept; setting = refl; notes = refl; slots = all-fresh s 0 [] xs slots (λ x at. absurd at) k })
+    (record { kept = f.kept; setting = refl; notes = refl; idle = refl; slots = all-fresh s 0 [] xs slots (λ x at. absurd at) k })
 
 pub opened_from-rows : (s : Setting) (held : List KeptRow) (M : Machine) → OpenedFrom s held M → HoldsRows s held M
 opened_from-rows s held M from = holds-rows s held M from.read (rows_in-AreRowsOf s.max_rows held (rows_of from.read) from.rows) (slots_from s 0 [] from.read) refl from.opens
@@ -685,3 +673,8 @@ opened-sound s held M xs f told (Ok slots) k g =
 pub opened_from-Sound : (s : Setting) (held : List KeptRow) (M : Machine) → OpenedFaithfully s held M → Sound M.world
 opened_from-Sound s held M o =
     let from = o.opened in opened-sound s held M from.read (rows_in-AreRowsOf s.max_rows held (rows_of from.read) from.rows) o.told (slots_from s 0 [] from.read) refl from.opens
+
+pub opened_from-IsMachine : (s : Setting) (held : List KeptRow) (M : Machine) → OpenedFaithfully s held M → IsMachine M
+opened_from-IsMachine s held M o =
+    let idle = (opened_from-rows s held M o.opened).idle in
+    record { world = opened_from-Sound s held M o; held = λ h has. absurd (subst (λ all. Has all h) idle has) }

@@ -3,10 +3,10 @@ use Rattle.std.proofs.Common.{◌≡◌, List, [], ◌∷◌, ◌++◌, Some, No
 use Rattle.std.specs.List.{cons_option}
 use Rattle.spec_store.specs.Commit.{Setting}
 use Rattle.spec_server.specs.Machine.{Machine, Event, start, run}
-use Rattle.spec_server.specs.Sound.{Sound, LaterW}
-use Rattle.spec_server.specs.Script.{Do, LineRead, Circumstance, Given, event_of, left_by, after_line, after_lines, events_of}
+use Rattle.spec_server.specs.Sound.{IsMachine, Sound, LaterW}
+use Rattle.spec_server.specs.Script.{LineRead, Circumstance, Given, event_of, left_by, after_line, after_lines, events_of}
 use Rattle.raven_laws.specs.Claims.{FreshIsFromScratch, FreshIsExact, FlagsAreExact, IdsAreSpelledAsStored}
-use Rattle.raven_laws.proofs.MachineLemmas.{run-Sound, run-Moves}
+use Rattle.raven_laws.proofs.MachineLemmas.{run-IsMachine, run-Steps}
 use Rattle.raven_laws.proofs.MatchLemmas.{Sound-exact}
 use Rattle.raven_laws.proofs.AnswerLemmas.{Sound-fresh, Sound-flags, Sound-ids}
 
@@ -14,7 +14,7 @@ use Rattle.raven_laws.proofs.AnswerLemmas.{Sound-fresh, Sound-flags, Sound-ids}
 one_line : (c : Circumstance) (r : LineRead) (events : List Event) (M : Machine) → run (cons_option (event_of c r) events) M ≡ run events (left_by M c r)
 one_line c (Err refusal) events M = refl
 one_line c (Ok None) events M = refl
-one_line c (Ok (Some (Do request))) events M = refl
+one_line c (Ok (Some line)) events M = refl
 
 pub lines-run : (all : List Given) (M : Machine) → after_lines all M ≡ run (events_of all) M
 lines-run [] M = refl
@@ -24,12 +24,15 @@ pub lines-append : (all more : List Given) (M : Machine) → after_lines (all ++
 lines-append [] more M = refl
 lines-append (g ∷ all) more M = lines-append all more (after_line g M)
 
+lines-IsMachine : (setting : Setting) (all : List Given) → IsMachine (after_lines all (start setting))
+lines-IsMachine setting all = subst IsMachine (sym (lines-run all (start setting))) (run-IsMachine setting (events_of all))
+
 pub lines-Sound : (setting : Setting) (all : List Given) → Sound (after_lines all (start setting)).world
-lines-Sound setting all = subst (λ (M : Machine). Sound M.world) (sym (lines-run all (start setting))) (run-Sound setting (events_of all))
+lines-Sound setting all = let m = lines-IsMachine setting all in m.world
 
 pub lines-LaterW : (setting : Setting) (all more : List Given) → LaterW (after_lines all (start setting)).world (after_lines (all ++ more) (start setting)).world
 lines-LaterW setting all more =
-    let m = run-Moves (events_of more) (after_lines all (start setting)) (lines-Sound setting all) in
+    let m = run-Steps (events_of more) (after_lines all (start setting)) (lines-IsMachine setting all) in
     subst (λ (N : Machine). LaterW (after_lines all (start setting)).world N.world) (sym (lines-append all more (start setting) ∙ lines-run more (after_lines all (start setting)))) m.later
 
 pub lines-fresh : (setting : Setting) (all : List Given) → FreshIsFromScratch (after_lines all (start setting))

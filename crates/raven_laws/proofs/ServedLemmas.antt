@@ -9,11 +9,11 @@ use Rattle.spec_index.specs.Optimiser.{Choice, Make, Merge, Use, name_of, pick}
 use Rattle.spec_index.specs.World.{Slot, SlotChange, SlotRefusal, World, added, added_if_room, batch, define, define_at, define_named, is_named, name_refusal, removed, serving, unless_refused}
 use Rattle.spec_server.specs.Replies.{Reply, Result as Done}
 use Rattle.spec_server.specs.Replies as replies
-use Rattle.spec_server.specs.Machine.{Auto, Bulk, Change, Define, Delete, Find, Get, Indexes, Keeping, Machine, Pump, Put, Remove, Request, Stale, Stats, after_batch, after_batch_if_named, change_of, is_taken, one_field, or_as_before, pump, pump_at, change_of_slots, rewrote, same_machine, settled, single_reply, use_or_make, write, wrote}
+use Rattle.spec_server.specs.Machine.{Auto, Bulk, Course, Define, Delete, Do, Find, Get, Indexes, Keeping, Line, Machine, Pump, Put, Remove, Stale, Stats, after_batch, after_batch_if_named, change_of_slots, course_of, in_world, is_taken, one_field, or_as_before, pump_at, pump_for, rewrote, same_machine, settled, single_reply, use_or_make, with_slots, with_world, write, wrote}
 use Rattle.spec_server.specs.Sound.{Continues, Has, Sound}
 use Rattle.spec_store.proofs.StoreLemmas.{same_means}
 use Rattle.raven_laws.specs.Served.{ServedStays, StaysOrIsRemoved, StillServes}
-use Rattle.raven_laws.proofs.MachineLemmas.{brought-Keeps}
+use Rattle.raven_laws.proofs.MachineLemmas.{AllLeave, brought-Keeps, settled-leaves}
 use Rattle.raven_laws.proofs.SlotLemmas.{batch-Brought, served}
 use Rattle.raven_laws.proofs.WorldLemmas.{past_test, same_change, taken_out, unchanged_slots}
 
@@ -54,21 +54,21 @@ serving-filter p (x ∷ slots) name s h is =
 
 -- WHAT IS LEFT AS IT WAS
 
-abbrev Stays : Machine → Machine → Type 0
-Stays M N = (name : List ℕ) (s : Slot) → serving M.world.slots name ≡ Some s → StillServes N name s
+abbrev Stays : World → World → Type 0
+Stays W V = (name : List ℕ) (s : Slot) → serving W.slots name ≡ Some s → StillServes V name s
 
-itself : (N : Machine) (name : List ℕ) (s : Slot) → serving N.world.slots name ≡ Some s → StillServes N name s
-itself N name s h = record { slot = s; serves = h; continues = record { number = refl; definition = refl; onward = omega arith } }
+itself : (W : World) (name : List ℕ) (s : Slot) → serving W.slots name ≡ Some s → StillServes W name s
+itself W name s h = record { slot = s; serves = h; continues = record { number = refl; definition = refl; onward = omega arith } }
 
-settled-Stays : (M : Machine) (k : Keeping) (c : Change) → Stays M c.machine → Stays M (settled M k c).machine
-settled-Stays M k c h = elim (is_taken k c.rows) as (λ b. Stays M (cond b (record { reply = c.reply; machine = c.machine }) (same_machine M (Reply.KeeperFault k.before k.after))).machine) [
-  | true ↦ h
-  | false ↦ itself M
-]
+settled-Stays : (M : Machine) (k : Keeping) (c : Course) → AllLeave (Stays M.world) c.changes → Stays M.world (settled M k c).machine.world
+settled-Stays M k c all = settled-leaves (Stays M.world) M k c (itself M.world) all
 
-wrote-Stays : (M : Machine) (reply : List Done → Reply) (now : ℕ) (commands : List Command) (o : Result Written Refused) → Stays M (wrote M reply now commands o).machine
-wrote-Stays M reply now commands (Err refused) = itself M
-wrote-Stays M reply now commands (Ok w) = λ name s h. itself (wrote M reply now commands (Ok w)).machine name s h
+wrote-Stays : (W : World) (reply : List Done → Reply) (now : ℕ) (commands : List Command) (o : Result Written Refused) → AllLeave (Stays W) (wrote W reply now commands o).changes
+wrote-Stays W reply now commands (Err refused) = tt
+wrote-Stays W reply now commands (Ok w) = (λ name s h. itself (in_world W w.store W.slots) name s h, tt)
+
+write-Stays : (M : Machine) (k : Keeping) (reply : List Done → Reply) (now : ℕ) (commands : List Command) → Stays M.world (settled M k (write M.world reply now commands)).machine.world
+write-Stays M k reply now commands = settled-Stays M k (write M.world reply now commands) (wrote-Stays M.world reply now commands (commit M.world.setting Client now commands M.world.store))
 
 -- NEW INDEXES
 
@@ -76,14 +76,14 @@ wrote-Stays M reply now commands (Ok w) = λ name s h. itself (wrote M reply now
 abbrev HasServed : World → SlotChange → Type 0
 HasServed W c = (name : List ℕ) (s : Slot) → serving W.slots name ≡ Some s → serving c.slots name ≡ Some s
 
-rewrote-Stays : (M : Machine) (reply : Reply) (c : SlotChange) (o : Result Written Refused) → HasServed M.world c → Stays M (rewrote M reply c.slots o).machine
-rewrote-Stays M reply c (Err refused) has = itself M
-rewrote-Stays M reply c (Ok w) has = λ name s h. itself (rewrote M reply c.slots (Ok w)).machine name s (has name s h)
+rewrote-Stays : (W : World) (reply : Reply) (c : SlotChange) (o : Result Written Refused) → HasServed W c → AllLeave (Stays W) (rewrote W reply c.slots o).changes
+rewrote-Stays W reply c (Err refused) has = tt
+rewrote-Stays W reply c (Ok w) has = (λ name s h. itself (in_world W w.store c.slots) name s (has name s h), tt)
 
-reslotted-Stays : (M : Machine) (now : ℕ) (reply : List ℕ → Reply) (name : List ℕ) (r : Result SlotChange SlotRefusal) → ((c : SlotChange) → r ≡ Ok c → HasServed M.world c)
-    → Stays M (change_of_slots M now reply name r).machine
-reslotted-Stays M now reply name (Err refusal) has = itself M
-reslotted-Stays M now reply name (Ok c) has = rewrote-Stays M (reply c.name) c (commit M.world.setting Server now c.commands M.world.store) (has c refl)
+reslotted-Stays : (W : World) (now : ℕ) (reply : List ℕ → Reply) (name : List ℕ) (r : Result SlotChange SlotRefusal) → ((c : SlotChange) → r ≡ Ok c → HasServed W c)
+    → AllLeave (Stays W) (change_of_slots W now reply name r).changes
+reslotted-Stays W now reply name (Err refusal) has = tt
+reslotted-Stays W now reply name (Ok c) has = rewrote-Stays W (reply c.name) c (commit W.setting Server now c.commands W.store) (has c refl)
 
 added-has : (W : World) (name : List ℕ) (d : Definition) → HasServed W (added W name d)
 added-has W name d = λ n s h. serving-append W.slots _ n s h
@@ -112,13 +112,13 @@ define_named-has W name d c = elim (name_refusal name) as (λ r. unless_refused 
   | Some refusal ↦ λ h. absurd cc
 ]
 
-auto-Stays : (M : Machine) (now : ℕ) (c : Choice) → Stays M (use_or_make M now c).machine
-auto-Stays M now (Use s) = itself M
-auto-Stays M now (Make shape) =
-    let name = name_of M.world.slots (last M.world.store + 1) shape in
+auto-Stays : (W : World) (now : ℕ) (c : Choice) → AllLeave (Stays W) (use_or_make W now c).changes
+auto-Stays W now (Use s) = tt
+auto-Stays W now (Make shape) =
+    let name = name_of W.slots (last W.store + 1) shape in
     let d = Definition.Auto shape.collection shape.fields in
-    reslotted-Stays M now replies.Index name (define M.world name d) (define-has M.world name d)
-auto-Stays M now Merge = itself M
+    reslotted-Stays W now replies.Index name (define W name d) (define-has W name d)
+auto-Stays W now Merge = tt
 
 -- BATCHES
 
@@ -129,11 +129,11 @@ brought-Continues W x max o h =
       | Some v ↦ λ e. let b = batch-Brought W.store x.version v max o.store (o.fits x h) e in record { number = refl; definition = b.definition; onward = b.onward }
     ] refl
 
-pump-Stays : (M : Machine) (max : ℕ) → Sound M.world → Stays M (pump M max).machine
-pump-Stays M max o name s h = record {
-  slot = after_batch M.world.store max s;
-  serves = serving-map (after_batch M.world.store max) M.world.slots name s (λ x. (brought-Keeps M.world.store max x).name) h;
-  continues = brought-Continues M.world s max o (served M.world.slots name s h).0;
+pump-Stays : (W : World) (max : ℕ) → Sound W → Stays W (with_slots W (map (after_batch W.store max) W.slots))
+pump-Stays W max o name s h = record {
+  slot = after_batch W.store max s;
+  serves = serving-map (after_batch W.store max) W.slots name s (λ x. (brought-Keeps W.store max x).name) h;
+  continues = brought-Continues W s max o (served W.slots name s h).0;
 }
 
 if_named-name : (S : Store) (max : ℕ) (name : List ℕ) (x : Slot) → (after_batch_if_named S max name x).name ≡ x.name
@@ -145,13 +145,20 @@ if_named-Continues W x max name o h = elim (is_named name x) as (λ b. Continues
   | false ↦ record { number = refl; definition = refl; onward = omega arith }
 ]
 
-pump_at-Stays : (M : Machine) (max : ℕ) (name : List ℕ) (there : Option Slot) → Sound M.world → Stays M (pump_at M max name there).machine
-pump_at-Stays M max name None o n s h = itself M n s h
-pump_at-Stays M max name (Some t) o n s h = record {
-  slot = after_batch_if_named M.world.store max name s;
-  serves = serving-map (after_batch_if_named M.world.store max name) M.world.slots n s (if_named-name M.world.store max name) h;
-  continues = if_named-Continues M.world s max name o (served M.world.slots n s h).0;
-}
+pump_at-Stays : (W : World) (max : ℕ) (name : List ℕ) (there : Option Slot) → Sound W → AllLeave (Stays W) (pump_at W max name there).changes
+pump_at-Stays W max name None o = tt
+pump_at-Stays W max name (Some t) o = (
+  λ n s h. record {
+    slot = after_batch_if_named W.store max name s;
+    serves = serving-map (after_batch_if_named W.store max name) W.slots n s (if_named-name W.store max name) h;
+    continues = if_named-Continues W s max name o (served W.slots n s h).0;
+  },
+  tt,
+)
+
+pump_for-Stays : (W : World) (max : ℕ) (index : Option (List ℕ)) → Sound W → AllLeave (Stays W) (pump_for W max index).changes
+pump_for-Stays W max None o = (pump-Stays W max o, tt)
+pump_for-Stays W max (Some name) o = pump_at-Stays W max name (serving W.slots name) o
 
 -- REMOVALS
 
@@ -161,51 +168,46 @@ same_slot slots a b s t e h g =
     let found : (let o : Option Slot = Some s in o) ≡ Some t = sym h ∙ ap (λ q. find (λ x. same_key q (folded x.name)) slots) e ∙ g in cc
 
 taken-removal : (M : Machine) (given : List ℕ) (x : Slot) (S : Store) (name : List ℕ) (s : Slot) → serving M.world.slots given ≡ Some x → serving M.world.slots name ≡ Some s
-    → StaysOrIsRemoved (Remove given) (record { reply = Reply.Removed x.name; machine = record { world = record { setting = M.world.setting; store = S; slots = (taken_out M.world given x).slots; notes = M.world.notes } } }) name s
+    → StaysOrIsRemoved (Do (Remove given)) (record { reply = Reply.Removed x.name; machine = with_world M (in_world M.world S (taken_out M.world given x).slots) }) name s
 taken-removal M given x S name s there h =
     let f = served M.world.slots name s h in
-    elim (is_named given s) as (λ b. is_named given s ≡ b
-    → StaysOrIsRemoved (Remove given) (record { reply = Reply.Removed x.name; machine = record { world = record { setting = M.world.setting; store = S; slots = (taken_out M.world given x).slots; notes = M.world.notes } } }) name s) [
+    let V = in_world M.world S (taken_out M.world given x).slots in
+    elim (is_named given s) as (λ b. is_named given s ≡ b → StaysOrIsRemoved (Do (Remove given)) (record { reply = Reply.Removed x.name; machine = with_world M V }) name s) [
       | true ↦ λ e.
           let same : folded given ≡ folded name = same_means (folded given) (folded s.name) e ∙ sym f.1 in
           inr (record { given = given; asked = refl; same = same; removed = ap (λ (z : Slot). Reply.Removed z.name) (same_slot M.world.slots given name x s same there h) })
-      | false ↦ λ e. inl (itself (record { world = record { setting = M.world.setting; store = S; slots = (taken_out M.world given x).slots; notes = M.world.notes } }) name s
-          (serving-filter (λ t. not (is_named given t)) M.world.slots name s h (ap not e)))
+      | false ↦ λ e. inl (itself V name s (serving-filter (λ t. not (is_named given t)) M.world.slots name s h (ap not e)))
     ] refl
 
-remove-answered : (M : Machine) (k : Keeping) (now : ℕ) (given : List ℕ) (there : Option Slot) → serving M.world.slots given ≡ there
-    → (name : List ℕ) (s : Slot) → serving M.world.slots name ≡ Some s → StaysOrIsRemoved (Remove given) (settled M k (change_of_slots M now Reply.Removed given (removed M.world given there))) name s
-remove-answered M k now given None e name s h = inl (itself M name s h)
+remove-answered : (M : Machine) (k : Keeping) (now : ℕ) (given : List ℕ) (there : Option Slot) → serving M.world.slots given ≡ there → (name : List ℕ) (s : Slot) → serving M.world.slots name ≡ Some s
+    → StaysOrIsRemoved (Do (Remove given)) (settled M k (change_of_slots M.world now Reply.Removed given (removed M.world given there))) name s
+remove-answered M k now given None e name s h = inl (itself M.world name s h)
 remove-answered M k now given (Some x) e name s h = by (commit M.world.setting Server now (taken_out M.world given x).commands M.world.store)
   where
-    by : (o : Result Written Refused) → StaysOrIsRemoved (Remove given) (settled M k (rewrote M (Reply.Removed x.name) (taken_out M.world given x).slots o)) name s
-    by (Err refused) = inl (itself M name s h)
-    by (Ok w) = elim (is_taken k w.rows) as (λ b. StaysOrIsRemoved (Remove given) (cond b (record {
+    by : (o : Result Written Refused) → StaysOrIsRemoved (Do (Remove given)) (settled M k (rewrote M.world (Reply.Removed x.name) (taken_out M.world given x).slots o)) name s
+    by (Err refused) = inl (itself M.world name s h)
+    by (Ok w) = elim (is_taken k.takes w.rows) as (λ b. StaysOrIsRemoved (Do (Remove given)) (cond b (record {
       reply = Reply.Removed x.name;
-      machine = record { world = record { setting = M.world.setting; store = w.store; slots = (taken_out M.world given x).slots; notes = M.world.notes } };
+      machine = with_world M (in_world M.world w.store (taken_out M.world given x).slots);
     }) (same_machine M (Reply.KeeperFault k.before k.after))) name s) [
       | true ↦ taken-removal M given x w.store name s e h
-      | false ↦ inl (itself M name s h)
+      | false ↦ inl (itself M.world name s h)
     ]
 
 -- ONE STEP
 
-pub step-served : (M : Machine) (k : Keeping) (now : ℕ) (request : Request) → Sound M.world → ServedStays M k now request
-step-served M k now (Put id expected body) o name s h =
-    inl (settled-Stays M k (write M single_reply now (Command.Put id expected body ∷ [])) (wrote-Stays M single_reply now (Command.Put id expected body ∷ []) (commit M.world.setting Client now (Command.Put id expected body ∷ []) M.world.store)) name s h)
-step-served M k now (Delete id expected) o name s h =
-    inl (settled-Stays M k (write M single_reply now (Command.Delete id expected ∷ [])) (wrote-Stays M single_reply now (Command.Delete id expected ∷ []) (commit M.world.setting Client now (Command.Delete id expected ∷ []) M.world.store)) name s h)
-step-served M k now (Bulk commands) o name s h =
-    inl (settled-Stays M k (write M replies.Bulk now commands) (wrote-Stays M replies.Bulk now commands (commit M.world.setting Client now commands M.world.store)) name s h)
-step-served M k now (Get id) o name s h = inl (itself M name s h)
-step-served M k now (Define given d) o name s h =
-    inl (settled-Stays M k (change_of M now (Define given d)) (reslotted-Stays M now replies.Index given (define_named M.world given d) (define_named-has M.world given d)) name s h)
-step-served M k now (Remove given) o name s h = remove-answered M k now given (serving M.world.slots given) refl name s h
-step-served M k now (Auto collection field) o name s h =
-    inl (settled-Stays M k (change_of M now (Auto collection field)) (auto-Stays M now (pick (one_field collection field) M.world.store M.world.slots)) name s h)
-step-served M k now (Find index field ws) o name s h = inl (itself M name s h)
-step-served M k now (Pump max None) o name s h = inl (pump-Stays M max o name s h)
-step-served M k now (Pump max (Some index)) o name s h = inl (settled-Stays M k (pump_at M max index (serving M.world.slots index)) (pump_at-Stays M max index (serving M.world.slots index) o) name s h)
-step-served M k now (Stale index cutoff) o name s h = inl (itself M name s h)
-step-served M k now Indexes o name s h = inl (itself M name s h)
-step-served M k now Stats o name s h = inl (itself M name s h)
+pub step-served : (M : Machine) (k : Keeping) (now : ℕ) (line : Line) → Sound M.world → ServedStays M k now line
+step-served M k now (Do (Put id expected body)) o name s h = inl (write-Stays M k single_reply now (Command.Put id expected body ∷ []) name s h)
+step-served M k now (Do (Delete id expected)) o name s h = inl (write-Stays M k single_reply now (Command.Delete id expected ∷ []) name s h)
+step-served M k now (Do (Bulk commands)) o name s h = inl (write-Stays M k replies.Bulk now commands name s h)
+step-served M k now (Do (Get id)) o name s h = inl (itself M.world name s h)
+step-served M k now (Do (Define given d)) o name s h =
+    inl (settled-Stays M k (course_of M.world now (Define given d)) (reslotted-Stays M.world now replies.Index given (define_named M.world given d) (define_named-has M.world given d)) name s h)
+step-served M k now (Do (Remove given)) o name s h = remove-answered M k now given (serving M.world.slots given) refl name s h
+step-served M k now (Do (Auto collection field)) o name s h =
+    inl (settled-Stays M k (course_of M.world now (Auto collection field)) (auto-Stays M.world now (pick (one_field collection field) M.world.store M.world.slots)) name s h)
+step-served M k now (Do (Find index field ws)) o name s h = inl (itself M.world name s h)
+step-served M k now (Do (Pump max index)) o name s h = inl (settled-Stays M k (pump_for M.world max index) (pump_for-Stays M.world max index o) name s h)
+step-served M k now (Do (Stale index cutoff)) o name s h = inl (itself M.world name s h)
+step-served M k now (Do Indexes) o name s h = inl (itself M.world name s h)
+step-served M k now (Do Stats) o name s h = inl (itself M.world name s h)

@@ -84,6 +84,19 @@ pub NumbersRise-push : (low : ℕ) (slots : List Slot) (new : Slot) → NumbersR
 NumbersRise-push low [] new up h below = (h, tt)
 NumbersRise-push low (s ∷ slots) new up h below = (up.0, NumbersRise-push s.number slots new up.1 (below s (inl refl)) (λ x at. below x (inr at)))
 
+pub above : (low : ℕ) (slots : List Slot) (s : Slot) → NumbersRise low slots → Has slots s → low < s.number
+above low [] s up h = absurd h
+above low (x ∷ slots) s up (inl e) = subst (λ (y : Slot). low < y.number) e up.0
+above low (x ∷ slots) s up (inr h) = let a = above x.number slots s up.1 h in let b = up.0 in omega arith
+
+-- one slot at most has a number
+pub same_slot : (low : ℕ) (slots : List Slot) (s t : Slot) → NumbersRise low slots → Has slots s → Has slots t → s.number ≡ t.number → s ≡ t
+same_slot low [] s t up h g e = absurd h
+same_slot low (x ∷ slots) s t up (inl a) (inl b) e = sym a ∙ b
+same_slot low (x ∷ slots) s t up (inl a) (inr b) e = absurd (let f = above x.number slots t up.1 b in let n = ap (λ (y : Slot). y.number) a in omega arith)
+same_slot low (x ∷ slots) s t up (inr a) (inl b) e = absurd (let f = above x.number slots s up.1 a in let n = ap (λ (y : Slot). y.number) b in omega arith)
+same_slot low (x ∷ slots) s t up (inr a) (inr b) e = same_slot x.number slots s t up.1 a b e
+
 NumbersRise-lower : (low high : ℕ) (slots : List Slot) → low ≤ high → NumbersRise high slots → NumbersRise low slots
 NumbersRise-lower low high [] le up = tt
 NumbersRise-lower low high (s ∷ slots) le up = (let a = up.0 in omega arith, up.1)

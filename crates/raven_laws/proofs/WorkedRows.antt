@@ -12,7 +12,7 @@ use Rattle.spec_index.specs.Mapping.{entry_of}
 use Rattle.spec_store.specs.Commit.{Command, AnyVector, Vector}
 use Rattle.spec_index.specs.World.{definition_data}
 use Rattle.spec_server.specs.Replies.{Result as Done, Reply, Index, Indexes, Removed, ReservedName, NameTooLong, Pumped, Pumping, Found, NoIndex, UnknownLine, Stale, Stats, Document, NoDocument, Deleted, CollectionChanged, ReservedId, Conflict, TooLong, KeeperFault, printed}
-use Rattle.spec_server.specs.Machine.{Machine, Request, Put, Delete, Bulk, Get, Define, Remove, Auto, Find, Pump, Stale as AskStale, Stats as AskStats, start, step, takes_all}
+use Rattle.spec_server.specs.Machine.{Machine, Request, Do, Put, Delete, Bulk, Get, Define, Remove, Auto, Find, Pump, Stale as AskStale, Stats as AskStats, start, step, takes_all}
 use Rattle.spec_index.specs.Find.{found}
 use Rattle.spec_store.specs.Limits.{program}
 use Rattle.spec_store.proofs.KeyedLemmas.{values-table_of}
@@ -21,7 +21,7 @@ use Rattle.spec_store.proofs.KeyedLemmas.{values-table_of}
 
 abbrev pub replies_from : Machine → List Request → List Reply
 replies_from M [] = []
-replies_from M (r ∷ rs) = (step M takes_all 0 r).reply ∷ replies_from (step M takes_all 0 r).machine rs
+replies_from M (r ∷ rs) = (step M takes_all 0 (Do r)).reply ∷ replies_from (step M takes_all 0 (Do r)).machine rs
 
 abbrev pub replies : List Request → List Reply
 replies rs = replies_from (start program) rs
@@ -109,7 +109,7 @@ unfolding digits
 shown_document = refl
 
 -- if the keeper fails, nothing changes
-unkept : (step (start program) (record { takes = false ∷ []; before = 3; after = 4 }) 0 (put (codes "Users") (codes "users/1") (codes "Name") (codes "Ada"))) ≡ record { reply = KeeperFault 3 4; machine = start program }
+unkept : (step (start program) (record { takes = false ∷ []; before = 3; after = 4 }) 0 (Do (put (codes "Users") (codes "users/1") (codes "Name") (codes "Ada")))) ≡ record { reply = KeeperFault 3 4; machine = start program }
 unkept = refl
 
 -- a removed name is free, however it was spelled, and may be given again

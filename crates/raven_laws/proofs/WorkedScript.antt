@@ -15,9 +15,9 @@ use Rattle.spec_data.specs.Json.{JsonRefusal, not_json, too_deep, reading, whole
 use Rattle.spec_data.specs.Scan.{is_too_deep, outside}
 use Rattle.spec_store.specs.Commit.{AnyVector, Vector}
 use Rattle.spec_server.specs.Replies.{Found, printed}
-use Rattle.spec_server.specs.Machine.{Machine, Request, Delete, Get, Remove, Auto, Find, Pump, Stale, Indexes, Stats, start, takes_all}
+use Rattle.spec_server.specs.Machine.{Machine, Request, Do, Delete, Get, Remove, Auto, Find, Pump, Stale, Indexes, Stats, start, takes_all}
 use Rattle.spec_server.specs.Lines.{lines}
-use Rattle.spec_server.specs.Script.{Do, ReadRefusal, UnknownLine, BadJson, BadId, BadName, BadMember, Given, then_read, put_read, json_read, request_of, line_of, LineRead, Plain, Defining, texts_of_body, index_of, asked_to_define, asked_of, written_for, left_by, reply_to, after_line, replies_to}
+use Rattle.spec_server.specs.Script.{ReadRefusal, UnknownLine, BadJson, BadId, BadName, BadMember, Given, then_read, put_read, json_read, request_of, line_of, LineRead, Plain, Defining, texts_of_body, index_of, asked_to_define, asked_of, written_for, left_by, reply_to, after_line, replies_to}
 use Rattle.spec_store.specs.Limits.{program}
 use Rattle.spec_store.proofs.StoreLemmas.{both_true}
 use Rattle.spec_store.proofs.KeyedLemmas.{values-table_of}

@@ -12,11 +12,12 @@ use Rattle.spec_server.specs.Replies.{Reply, Result as Done}
 use Rattle.spec_server.specs.Replies as replies
 use Rattle.spec_index.specs.World.{Slot, World, SlotChange, SlotRefusal, added, added_if_room, define, define_at, define_named, name_refusal, remove, removed, serving, unless_refused}
 use Rattle.spec_index.specs.Optimiser.{Choice, Use, Make, Merge, name_of, pick}
-use Rattle.spec_server.specs.Machine.{Machine, Change, Event, Keeping, Replied, Request, Put, Delete, Bulk, Get, Define, Remove, Auto, Find, Pump, Stale, Indexes, Stats, after, change_of, commands_in, is_first_taken, is_taken, one_field, pump_at, change_of_slots, rewrote, run, same_machine, settled, single_reply, start, step, use_or_make, write, wrote, results_of}
+use Rattle.spec_server.specs.Machine.{Machine, Course, Event, Keeping, Replied, Line, Do, Put, Delete, Bulk, Get, Define, Remove, Auto, Find, Pump, Stale, Indexes, Stats, after, commands_on, course_of, in_world, is_first_taken, is_taken, one_change, one_field, pump_at, change_of_slots, rewrote, run, same_machine, settled, single_reply, start, step, use_or_make, with_world, write, wrote, results_of}
 use Rattle.raven_laws.specs.Writes.{row_given, AreWritten, BulkIsAnswered, DeleteIsAnswered, IsCommanded, IsDeleted, IsNotThere, IsPut, IsRefused, IsKeeperFault, IsWritten, OnlyReads, PutIsAnswered}
 use Rattle.spec_store.proofs.StoreLemmas.{found_key, row_at-put, same_itself, same_row}
 use Rattle.spec_store.proofs.CommitLemmas.{document_found, put_key}
 use Rattle.raven_laws.proofs.ListedLemmas.{commit_from-applied}
+use Rattle.raven_laws.proofs.MachineLemmas.{AllLeave, settled-leaves}
 use Rattle.raven_laws.proofs.WorldLemmas.{same_change, past_test, unchanged_slots, taken_out}
 
 -- A FURTHER ROW
@@ -65,13 +66,13 @@ put-answered M k now id expected body =
     let under = put_key id rows in
     let kept : Replied = record {
       reply = Reply.Put (vector_of M.world.setting.base (last M.world.store + 1)) (row_spelling id (row_at (folded id) N.rows));
-      machine = record { world = record { setting = M.world.setting; store = N; slots = M.world.slots; notes = M.world.notes } };
+      machine = with_world M (in_world M.world N M.world.slots);
     } in
     elim (refusal_of M.world.setting Client M.world.store c) as (λ o.
     refusal_of M.world.setting Client M.world.store c ≡ o
-    → let replied = settled M k (wrote M single_reply now (c ∷ []) (or_refused o 0 (Ok done))) in
+    → let replied = settled M k (wrote M.world single_reply now (c ∷ []) (or_refused o 0 (Ok done))) in
     IsRefused M now (c ∷ []) replied ⊎ (IsKeeperFault M k replied ⊎ IsPut M k now id expected body replied)) [
-      | None ↦ λ e. inr (elim (first_or_not k.takes) as (λ _. let replied = settled M k (wrote M single_reply now (c ∷ []) (Ok done)) in IsKeeperFault M k replied ⊎ IsPut M k now id expected body replied) [
+      | None ↦ λ e. inr (elim (first_or_not k.takes) as (λ _. let replied = settled M k (wrote M.world single_reply now (c ∷ []) (Ok done)) in IsKeeperFault M k replied ⊎ IsPut M k now id expected body replied) [
         | inl taken ↦ inr (subst (λ b. IsPut M k now id expected body (cond b kept (same_machine M (Reply.KeeperFault k.before k.after)))) (sym taken) (record {
           allowed = record { unrefused = e; taken = taken };
           reply = ap (λ o. Reply.Put (vector_of M.world.setting.base (last M.world.store + 1)) (row_spelling id o)) (found_again (folded id) r rows under);
@@ -86,15 +87,11 @@ put-answered M k now id expected body =
 -- DELETIONS
 
 -- the deletion of the document at the id
-abbrev deletion : Machine → ℕ → List ℕ → Expect → Option Row → Change
+abbrev deletion : Machine → ℕ → List ℕ → Expect → Option Row → Course
 deletion M now id expected d =
     let row = option_map (tombstone (last M.world.store + 1) now) d in
     let w = with_written row (record { store = M.world.store; rows = [] }) in
-    record {
-      reply = single_reply (results_of M.world.setting.base w.store (Command.Delete id expected ∷ []) (option_map (λ r. r.etag) row ∷ []));
-      machine = record { world = record { setting = M.world.setting; store = w.store; slots = M.world.slots; notes = M.world.notes } };
-      rows = w.rows;
-    }
+    one_change (single_reply (results_of M.world.setting.base w.store (Command.Delete id expected ∷ []) (option_map (λ r. r.etag) row ∷ []))) w.rows (in_world M.world w.store M.world.slots)
 
 taken-deletion : (M : Machine) (k : Keeping) (now : ℕ) (id : List ℕ) (expected : Expect) (d : Option Row)
     → refusal_of M.world.setting Client M.world.store (Command.Delete id expected) ≡ None → document_at M.world.store (folded id) ≡ d
@@ -106,7 +103,7 @@ taken-deletion M k now id expected (Some d) allowed e =
     let under : key r ≡ folded id = sym (found_key (folded id) rows d (document_found M.world.store (folded id) d e)) in
     let kept : Replied = record {
       reply = Reply.Deleted true (row_spelling id (row_at (folded id) (put r rows)));
-      machine = record { world = record { setting = M.world.setting; store = record { rows = put r rows }; slots = M.world.slots; notes = M.world.notes } };
+      machine = with_world M (in_world M.world (record { rows = put r rows }) M.world.slots);
     } in
     elim (first_or_not k.takes) as (λ _. let replied = settled M k (deletion M now id expected (Some d)) in IsKeeperFault M k replied ⊎ (IsNotThere M id expected replied ⊎ IsDeleted M k now id expected replied)) [
       | inl taken ↦ inr (inr (subst (λ b. IsDeleted M k now id expected (cond b kept (same_machine M (Reply.KeeperFault k.before k.after)))) (sym taken) (record {
@@ -126,7 +123,7 @@ delete-answered M k now id expected =
     let done = with_written (row_of now M.world.store c) (record { store = M.world.store; rows = [] }) in
     elim (refusal_of M.world.setting Client M.world.store c) as (λ o.
     refusal_of M.world.setting Client M.world.store c ≡ o
-    → let replied = settled M k (wrote M single_reply now (c ∷ []) (or_refused o 0 (Ok done))) in
+    → let replied = settled M k (wrote M.world single_reply now (c ∷ []) (or_refused o 0 (Ok done))) in
     IsRefused M now (c ∷ []) replied ⊎ (IsKeeperFault M k replied ⊎ (IsNotThere M id expected replied ⊎ IsDeleted M k now id expected replied))) [
       | None ↦ λ e. inr (taken-deletion M k now id expected (document_at M.world.store (folded id)) e refl)
       | Some kind ↦ λ e. inl (record { refused = record { at = 0; kind = kind }; cause = ap (λ o. or_refused o 0 (Ok done)) e; reply = refl })
@@ -137,11 +134,11 @@ delete-answered M k now id expected =
 abbrev written : Machine → (List Done → Reply) → ℕ → List Command → Written → Replied
 written M reply now commands w = record {
   reply = reply (results_of M.world.setting.base w.store commands (etags_taken now commands M.world.store));
-  machine = record { world = record { setting = M.world.setting; store = w.store; slots = M.world.slots; notes = M.world.notes } };
+  machine = with_world M (in_world M.world w.store M.world.slots);
 }
 
 bulk-kept : (M : Machine) (k : Keeping) (now : ℕ) (commands : List Command) (w : Written) → commit M.world.setting Client now commands M.world.store ≡ Ok w
-    → is_taken k w.rows ≡ true → AreWritten M k now commands (written M Reply.Bulk now commands w)
+    → is_taken k.takes w.rows ≡ true → AreWritten M k now commands (written M Reply.Bulk now commands w)
 bulk-kept M k now commands w e taken = record {
   wrote = w;
   unrefused = e;
@@ -152,16 +149,16 @@ bulk-kept M k now commands w e taken = record {
 }
 
 bulk-answered-of : (M : Machine) (k : Keeping) (now : ℕ) (commands : List Command) (o : Result Written Refused) → commit M.world.setting Client now commands M.world.store ≡ o
-    → let replied = settled M k (wrote M Reply.Bulk now commands o) in IsRefused M now commands replied ⊎ (IsKeeperFault M k replied ⊎ AreWritten M k now commands replied)
+    → let replied = settled M k (wrote M.world Reply.Bulk now commands o) in IsRefused M now commands replied ⊎ (IsKeeperFault M k replied ⊎ AreWritten M k now commands replied)
 bulk-answered-of M k now commands (Err refused) e = inl (record { refused = refused; cause = e; reply = refl })
 bulk-answered-of M k now commands (Ok w) e =
     inr (elim w.rows as (λ rows. w.rows ≡ rows
-    → let replied = settled M k (record { reply = (written M Reply.Bulk now commands w).reply; machine = (written M Reply.Bulk now commands w).machine; rows = rows }) in
+    → let replied = settled M k (one_change (written M Reply.Bulk now commands w).reply rows (in_world M.world w.store M.world.slots)) in
     IsKeeperFault M k replied ⊎ AreWritten M k now commands replied) [
-      | [] ↦ λ g. inr (bulk-kept M k now commands w e (ap (is_taken k) g))
+      | [] ↦ λ g. inr (bulk-kept M k now commands w e (ap (is_taken k.takes) g))
       | r ∷ rows ↦ λ g. elim (first_or_not k.takes) as (λ _. let replied = cond (is_first_taken k.takes) (written M Reply.Bulk now commands w) (same_machine M (Reply.KeeperFault k.before k.after)) in
           IsKeeperFault M k replied ⊎ AreWritten M k now commands replied) [
-            | inl taken ↦ inr (subst (λ b. AreWritten M k now commands (cond b (written M Reply.Bulk now commands w) (same_machine M (Reply.KeeperFault k.before k.after)))) (sym taken) (bulk-kept M k now commands w e (ap (is_taken k) g ∙ taken)))
+            | inl taken ↦ inr (subst (λ b. AreWritten M k now commands (cond b (written M Reply.Bulk now commands w) (same_machine M (Reply.KeeperFault k.before k.after)))) (sym taken) (bulk-kept M k now commands w e (ap (is_taken k.takes) g ∙ taken)))
             | inr failed ↦ inl (unkept M k (written M Reply.Bulk now commands w) failed.0 failed.1)
           ]
     ] refl)
@@ -171,25 +168,25 @@ bulk-answered M k now commands = bulk-answered-of M k now commands (commit M.wor
 
 -- QUESTIONS AND BATCHES
 
-pub reads-change-nothing : (M : Machine) (k : Keeping) (now : ℕ) (request : Request) → OnlyReads request → (step M k now request).machine ≡ M
-reads-change-nothing M k now (Put id expected body) h = absurd h
-reads-change-nothing M k now (Delete id expected) h = absurd h
-reads-change-nothing M k now (Bulk commands) h = absurd h
-reads-change-nothing M k now (Get id) h = refl
-reads-change-nothing M k now (Define name d) h = absurd h
-reads-change-nothing M k now (Remove name) h = absurd h
-reads-change-nothing M k now (Auto collection field) h = absurd h
-reads-change-nothing M k now (Find index field ws) h = refl
-reads-change-nothing M k now (Pump max index) h = absurd h
-reads-change-nothing M k now (Stale name cutoff) h = refl
-reads-change-nothing M k now Indexes h = refl
-reads-change-nothing M k now Stats h = refl
+pub reads-change-nothing : (M : Machine) (k : Keeping) (now : ℕ) (line : Line) → OnlyReads line → (step M k now line).machine ≡ M
+reads-change-nothing M k now (Do (Put id expected body)) h = absurd h
+reads-change-nothing M k now (Do (Delete id expected)) h = absurd h
+reads-change-nothing M k now (Do (Bulk commands)) h = absurd h
+reads-change-nothing M k now (Do (Get id)) h = refl
+reads-change-nothing M k now (Do (Define name d)) h = absurd h
+reads-change-nothing M k now (Do (Remove name)) h = absurd h
+reads-change-nothing M k now (Do (Auto collection field)) h = absurd h
+reads-change-nothing M k now (Do (Find index field ws)) h = refl
+reads-change-nothing M k now (Do (Pump max index)) h = absurd h
+reads-change-nothing M k now (Do (Stale name cutoff)) h = refl
+reads-change-nothing M k now (Do Indexes) h = refl
+reads-change-nothing M k now (Do Stats) h = refl
 
-pub batches-change-no-row : (M : Machine) (k : Keeping) (now max : ℕ) (index : Option (List ℕ)) → (step M k now (Pump max index)).machine.world.store ≡ M.world.store
+pub batches-change-no-row : (M : Machine) (k : Keeping) (now max : ℕ) (index : Option (List ℕ)) → (step M k now (Do (Pump max index))).machine.world.store ≡ M.world.store
 batches-change-no-row M k now max None = refl
 batches-change-no-row M k now max (Some name) = by (serving M.world.slots name)
   where
-    by : (there : Option Slot) → (settled M k (pump_at M max name there)).machine.world.store ≡ M.world.store
+    by : (there : Option Slot) → (settled M k (pump_at M.world max name there)).machine.world.store ≡ M.world.store
     by None = refl
     by (Some s) = refl
 
@@ -213,8 +210,8 @@ either_row q r x rows h =
     ] (sym (row_at-put q r rows) ∙ h)
 
 -- a request that writes nothing of its own leaves the rows of documents as they were
-abbrev Stays : Machine → Machine → Type 0
-Stays M N = (q : List ℕ) (x : Row) → row_at q N.world.store.rows ≡ Some x → is_index_id x.id ≡ false → row_at q M.world.store.rows ≡ Some x
+abbrev Stays : World → World → Type 0
+Stays W V = (q : List ℕ) (x : Row) → row_at q V.store.rows ≡ Some x → is_index_id x.id ≡ false → row_at q W.store.rows ≡ Some x
 
 -- what the store has after one command was there, or is what it wrote
 after-one : (now : ℕ) (c : Command) (S : Store) (q : List ℕ) (x : Row) → row_at q (after_command now S c).rows ≡ Some x
@@ -250,20 +247,23 @@ commanded-indexed now cs S x h g =
     ap (λ q. starts_with nat_eq q (codes "@index/")) (written_key now (after_commands now g.earlier S) g.command x g.given)
     ∙ among-indexed g.earlier g.command g.later (subst AreIndexed g.among h)
 
-rewrote-Stays : (now : ℕ) (M : Machine) (reply : Reply) (slots : List Slot) (cs : List Command) (o : Result Written Refused) → AreIndexed cs
-    → commit M.world.setting Server now cs M.world.store ≡ o → Stays M (rewrote M reply slots o).machine
-rewrote-Stays now M reply slots cs (Err refused) h e = λ q x at not_index. at
-rewrote-Stays now M reply slots cs (Ok w) h e = λ q x at not_index.
-    let all = commit_from-applied 0 M.world.setting Server now cs (record { store = M.world.store; rows = [] }) w e in
-    elim (after-commanded now cs M.world.store q x (subst (λ (S : Store). row_at q S.rows ≡ Some x) all at)) as (λ _. row_at q M.world.store.rows ≡ Some x) [
-      | inl there ↦ there
-      | inr given ↦ absurd (let t = commanded-indexed now cs M.world.store x h given in cc)
-    ]
+rewrote-Stays : (now : ℕ) (W : World) (reply : Reply) (slots : List Slot) (cs : List Command) (o : Result Written Refused) → AreIndexed cs
+    → commit W.setting Server now cs W.store ≡ o → AllLeave (Stays W) (rewrote W reply slots o).changes
+rewrote-Stays now W reply slots cs (Err refused) h e = tt
+rewrote-Stays now W reply slots cs (Ok w) h e = (stays, tt)
+  where
+    stays : Stays W (in_world W w.store slots)
+    stays q x at not_index =
+        let all = commit_from-applied 0 W.setting Server now cs (record { store = W.store; rows = [] }) w e in
+        elim (after-commanded now cs W.store q x (subst (λ (S : Store). row_at q S.rows ≡ Some x) all at)) as (λ _. row_at q W.store.rows ≡ Some x) [
+          | inl there ↦ there
+          | inr given ↦ absurd (let t = commanded-indexed now cs W.store x h given in cc)
+        ]
 
-reslotted-Stays : (now : ℕ) (M : Machine) (reply : List ℕ → Reply) (name : List ℕ) (r : Result SlotChange SlotRefusal) → ((c : SlotChange) → r ≡ Ok c → AreIndexed c.commands)
-    → Stays M (change_of_slots M now reply name r).machine
-reslotted-Stays now M reply name (Err refusal) h = λ q x at not_index. at
-reslotted-Stays now M reply name (Ok c) h = rewrote-Stays now M (reply c.name) c.slots c.commands (commit M.world.setting Server now c.commands M.world.store) (h c refl) refl
+reslotted-Stays : (now : ℕ) (W : World) (reply : List ℕ → Reply) (name : List ℕ) (r : Result SlotChange SlotRefusal) → ((c : SlotChange) → r ≡ Ok c → AreIndexed c.commands)
+    → AllLeave (Stays W) (change_of_slots W now reply name r).changes
+reslotted-Stays now W reply name (Err refusal) h = tt
+reslotted-Stays now W reply name (Ok c) h = rewrote-Stays now W (reply c.name) c.slots c.commands (commit W.setting Server now c.commands W.store) (h c refl) refl
 
 -- the commands of each change of the indexes are of that kind
 added-indexed : (W : World) (name : List ℕ) (d : Definition) (c : SlotChange) → added_if_room W name d ≡ Ok c → AreIndexed c.commands
@@ -296,73 +296,70 @@ remove-indexed W name c = elim (serving W.slots name) as (λ o. removed W name o
   | Some s ↦ λ h. subst (λ (x : SlotChange). AreIndexed x.commands) (same_change (taken_out W name s) c h) (refl, tt)
 ]
 
-auto-Stays : (now : ℕ) (M : Machine) (c : Choice) → Stays M (use_or_make M now c).machine
-auto-Stays now M (Use s) = λ q x h not_index. h
-auto-Stays now M (Make shape) =
-    let name = name_of M.world.slots (last M.world.store + 1) shape in
+auto-Stays : (now : ℕ) (W : World) (c : Choice) → AllLeave (Stays W) (use_or_make W now c).changes
+auto-Stays now W (Use s) = tt
+auto-Stays now W (Make shape) =
+    let name = name_of W.slots (last W.store + 1) shape in
     let d = Definition.Auto shape.collection shape.fields in
-    reslotted-Stays now M replies.Index name (define M.world name d) (define-indexed M.world name d)
-auto-Stays now M Merge = λ q x h not_index. h
+    reslotted-Stays now W replies.Index name (define W name d) (define-indexed W name d)
+auto-Stays now W Merge = tt
 
 -- a row of the store that a request leaves was there, or the request wrote it
-abbrev Comes : Machine → ℕ → List Command → Machine → Type 0
-Comes M now commands N = (q : List ℕ) (x : Row) → row_at q N.world.store.rows ≡ Some x
-    → (row_at q M.world.store.rows ≡ Some x) ⊎ (IsCommanded now commands M.world.store x × (N.world.store ≡ after_commands now commands M.world.store))
+abbrev Comes : World → ℕ → List Command → World → Type 0
+Comes W now commands V = (q : List ℕ) (x : Row) → row_at q V.store.rows ≡ Some x
+    → (row_at q W.store.rows ≡ Some x) ⊎ (IsCommanded now commands W.store x × (V.store ≡ after_commands now commands W.store))
 
-wrote-Comes : (M : Machine) (k : Keeping) (reply : List Done → Reply) (now : ℕ) (commands : List Command) (o : Result Written Refused) → commit M.world.setting Client now commands M.world.store ≡ o
-    → Comes M now commands (settled M k (wrote M reply now commands o)).machine
-wrote-Comes M k reply now commands (Err refused) e = λ q x h. inl h
-wrote-Comes M k reply now commands (Ok w) e =
-    elim (is_taken k w.rows) as (λ b. Comes M now commands (cond b (written M reply now commands w) (same_machine M (Reply.KeeperFault k.before k.after))).machine) [
-      | true ↦ λ q x h.
-          let all = commit_from-applied 0 M.world.setting Client now commands (record { store = M.world.store; rows = [] }) w e in
-          elim (after-commanded now commands M.world.store q x (subst (λ (S : Store). row_at q S.rows ≡ Some x) all h)) as (λ _.
-          (row_at q M.world.store.rows ≡ Some x) ⊎ (IsCommanded now commands M.world.store x × (w.store ≡ after_commands now commands M.world.store))) [
-            | inl there ↦ inl there
-            | inr given ↦ inr (given, all)
-          ]
-      | false ↦ λ q x h. inl h
-    ]
+wrote-Comes : (W : World) (reply : List Done → Reply) (now : ℕ) (commands : List Command) (o : Result Written Refused) → commit W.setting Client now commands W.store ≡ o
+    → AllLeave (Comes W now commands) (wrote W reply now commands o).changes
+wrote-Comes W reply now commands (Err refused) e = tt
+wrote-Comes W reply now commands (Ok w) e = (comes, tt)
+  where
+    comes : Comes W now commands (in_world W w.store W.slots)
+    comes q x h =
+        let all = commit_from-applied 0 W.setting Client now commands (record { store = W.store; rows = [] }) w e in
+        elim (after-commanded now commands W.store q x (subst (λ (S : Store). row_at q S.rows ≡ Some x) all h)) as (λ _.
+        (row_at q W.store.rows ≡ Some x) ⊎ (IsCommanded now commands W.store x × (w.store ≡ after_commands now commands W.store))) [
+          | inl there ↦ inl there
+          | inr given ↦ inr (given, all)
+        ]
 
-write-Comes : (M : Machine) (k : Keeping) (reply : List Done → Reply) (now : ℕ) (commands : List Command) → Comes M now commands (settled M k (write M reply now commands)).machine
-write-Comes M k reply now commands = wrote-Comes M k reply now commands (commit M.world.setting Client now commands M.world.store) refl
+write-Comes : (M : Machine) (k : Keeping) (reply : List Done → Reply) (now : ℕ) (commands : List Command) → Comes M.world now commands (settled M k (write M.world reply now commands)).machine.world
+write-Comes M k reply now commands =
+    settled-leaves (Comes M.world now commands) M k (write M.world reply now commands) (λ q x h. inl h) (wrote-Comes M.world reply now commands (commit M.world.setting Client now commands M.world.store) refl)
 
 -- a change that the keeper does not take leaves all as it was
-settled-Stays : (M : Machine) (k : Keeping) (c : Change) → Stays M c.machine → Stays M (settled M k c).machine
-settled-Stays M k c h = elim (is_taken k c.rows) as (λ b. Stays M (cond b (record { reply = c.reply; machine = c.machine }) (same_machine M (Reply.KeeperFault k.before k.after))).machine) [
-  | true ↦ h
-  | false ↦ λ q x at not_index. at
-]
+settled-Stays : (M : Machine) (k : Keeping) (c : Course) → AllLeave (Stays M.world) c.changes → Stays M.world (settled M k c).machine.world
+settled-Stays M k c all = settled-leaves (Stays M.world) M k c (λ q x at not_index. at) all
 
 step-written : (M : Machine) (e : Event) (more : List Event) (q : List ℕ) (x : Row)
-    → Comes M e.now (commands_in e.request) (after M e) → row_at q (after M e).world.store.rows ≡ Some x
+    → Comes M.world e.now (commands_on e.line) (after M e).world → row_at q (after M e).world.store.rows ≡ Some x
     → (row_at q M.world.store.rows ≡ Some x) ⊎ IsWritten M (e ∷ more) x
 step-written M e more q x comes h = elim (comes q x h) as (λ _. (row_at q M.world.store.rows ≡ Some x) ⊎ IsWritten M (e ∷ more) x) [
   | inl there ↦ inl there
   | inr given ↦ inr (record { before = []; event = e; more = more; asked = refl; given = given.0; taken = given.1 })
 ]
 
-step-given : (M : Machine) (k : Keeping) (now : ℕ) (request : Request) (more : List Event) (q : List ℕ) (x : Row)
-    → row_at q (step M k now request).machine.world.store.rows ≡ Some x → is_index_id x.id ≡ false
-    → (row_at q M.world.store.rows ≡ Some x) ⊎ IsWritten M (record { request = request; now = now; keeping = k } ∷ more) x
-step-given M k now (Put id expected body) more q x h not_index =
-    step-written M (record { request = Put id expected body; now = now; keeping = k }) more q x (write-Comes M k single_reply now (Command.Put id expected body ∷ [])) h
-step-given M k now (Delete id expected) more q x h not_index =
-    step-written M (record { request = Delete id expected; now = now; keeping = k }) more q x (write-Comes M k single_reply now (Command.Delete id expected ∷ [])) h
-step-given M k now (Bulk commands) more q x h not_index =
-    step-written M (record { request = Bulk commands; now = now; keeping = k }) more q x (write-Comes M k Reply.Bulk now commands) h
-step-given M k now (Get id) more q x h not_index = inl h
-step-given M k now (Define name d) more q x h not_index =
-    inl (settled-Stays M k (change_of M now (Define name d)) (reslotted-Stays now M replies.Index name (define_named M.world name d) (define_named-indexed M.world name d)) q x h not_index)
-step-given M k now (Remove name) more q x h not_index =
-    inl (settled-Stays M k (change_of M now (Remove name)) (reslotted-Stays now M replies.Removed name (remove M.world name) (remove-indexed M.world name)) q x h not_index)
-step-given M k now (Auto collection field) more q x h not_index =
-    inl (settled-Stays M k (change_of M now (Auto collection field)) (auto-Stays now M (pick (one_field collection field) M.world.store M.world.slots)) q x h not_index)
-step-given M k now (Find index field ws) more q x h not_index = inl h
-step-given M k now (Pump max index) more q x h not_index = inl (subst (λ (S : Store). row_at q S.rows ≡ Some x) (batches-change-no-row M k now max index) h)
-step-given M k now (Stale name cutoff) more q x h not_index = inl h
-step-given M k now Indexes more q x h not_index = inl h
-step-given M k now Stats more q x h not_index = inl h
+step-given : (M : Machine) (k : Keeping) (now : ℕ) (line : Line) (more : List Event) (q : List ℕ) (x : Row)
+    → row_at q (step M k now line).machine.world.store.rows ≡ Some x → is_index_id x.id ≡ false
+    → (row_at q M.world.store.rows ≡ Some x) ⊎ IsWritten M (record { line = line; now = now; keeping = k } ∷ more) x
+step-given M k now (Do (Put id expected body)) more q x h not_index =
+    step-written M (record { line = Do (Put id expected body); now = now; keeping = k }) more q x (write-Comes M k single_reply now (Command.Put id expected body ∷ [])) h
+step-given M k now (Do (Delete id expected)) more q x h not_index =
+    step-written M (record { line = Do (Delete id expected); now = now; keeping = k }) more q x (write-Comes M k single_reply now (Command.Delete id expected ∷ [])) h
+step-given M k now (Do (Bulk commands)) more q x h not_index =
+    step-written M (record { line = Do (Bulk commands); now = now; keeping = k }) more q x (write-Comes M k Reply.Bulk now commands) h
+step-given M k now (Do (Get id)) more q x h not_index = inl h
+step-given M k now (Do (Define name d)) more q x h not_index =
+    inl (settled-Stays M k (course_of M.world now (Define name d)) (reslotted-Stays now M.world replies.Index name (define_named M.world name d) (define_named-indexed M.world name d)) q x h not_index)
+step-given M k now (Do (Remove name)) more q x h not_index =
+    inl (settled-Stays M k (course_of M.world now (Remove name)) (reslotted-Stays now M.world replies.Removed name (remove M.world name) (remove-indexed M.world name)) q x h not_index)
+step-given M k now (Do (Auto collection field)) more q x h not_index =
+    inl (settled-Stays M k (course_of M.world now (Auto collection field)) (auto-Stays now M.world (pick (one_field collection field) M.world.store M.world.slots)) q x h not_index)
+step-given M k now (Do (Find index field ws)) more q x h not_index = inl h
+step-given M k now (Do (Pump max index)) more q x h not_index = inl (subst (λ (S : Store). row_at q S.rows ≡ Some x) (batches-change-no-row M k now max index) h)
+step-given M k now (Do (Stale name cutoff)) more q x h not_index = inl h
+step-given M k now (Do Indexes) more q x h not_index = inl h
+step-given M k now (Do Stats) more q x h not_index = inl h
 
 given-later : (M : Machine) (e : Event) (es : List Event) (x : Row) → IsWritten (after M e) es x → IsWritten M (e ∷ es) x
 given-later M e es x g = record {
@@ -379,7 +376,7 @@ pub run-given : (es : List Event) (M : Machine) (q : List ℕ) (x : Row) → row
 run-given [] M q x h not_index = inl h
 run-given (e ∷ es) M q x h not_index =
     elim (run-given es (after M e) q x h not_index) as (λ o. (row_at q M.world.store.rows ≡ Some x) ⊎ IsWritten M (e ∷ es) x) [
-      | inl there ↦ step-given M e.keeping e.now e.request es q x there not_index
+      | inl there ↦ step-given M e.keeping e.now e.line es q x there not_index
       | inr given ↦ inr (given-later M e es x given)
     ]
 

@@ -6,7 +6,7 @@ use Rattle.spec_store.specs.Commit.{AnyVector, Put}
 use Rattle.spec_store.specs.Store.{Store, last}
 use Rattle.spec_index.specs.Optimiser.{Choice, Make, Merge, Shape, Use, covers, is_fresh, is_of, name_of, slot_shape, width}
 use Rattle.spec_index.specs.World.{Slot, index_id, row_body, serving}
-use Rattle.spec_server.specs.Machine.{Auto, Keeping, Machine, Replied, one_field, same_machine, step}
+use Rattle.spec_server.specs.Machine.{Auto, Keeping, Machine, Replied, one_field, same_machine, step, Do}
 use Rattle.spec_server.specs.Replies.{Reply}
 use Rattle.spec_server.specs.Sound.{Has}
 use Rattle.raven_laws.specs.Definitions.{IsNewIndex, IsRowRefused}
@@ -57,7 +57,7 @@ FollowsChoice M k now replied Merge = replied ≡ same_machine M Reply.UnknownLi
 pub record AutoIsAnswered (M : Machine) (k : Keeping) (now : ℕ) (collection field : List ℕ) : Type 0 where
   pub choice : Choice
   pub chosen : IsChosen M.world.store M.world.slots (one_field collection field) choice
-  pub follows : FollowsChoice M k now (step M k now (Auto collection field)) choice
+  pub follows : FollowsChoice M k now (step M k now (Do (Auto collection field))) choice
 
 -- NAMES
 

@@ -10,7 +10,7 @@ use Rattle.index_tree.specs.Mapper.{mapper_of, scope_of, is_mapped}
 use Rattle.spec_index.specs.World.{Slot, reads, serving}
 use Rattle.spec_server.specs.Replies.{Reply, Listing, Found}
 use Rattle.spec_server.specs.Replies as replies
-use Rattle.spec_server.specs.Machine.{Machine, Request, Find, Stale, Indexes, Keeping, step, takes_all, is_stale}
+use Rattle.spec_server.specs.Machine.{Machine, Line, Do, Find, Stale, Indexes, Keeping, step, takes_all, is_stale}
 use Rattle.spec_index.specs.Find.{field_is_text, found_in}
 use Rattle.spec_server.specs.Sound.{Has}
 use Rattle.spec_store.specs.Stale.{Unseen}
@@ -38,7 +38,7 @@ ids_in (Found ids etag is_stale) = ids
 ids_in other = []
 
 abbrev pub find_reply : Machine → List ℕ → List ℕ → List ℕ → Reply
-find_reply M index field words = (step M takes_all 0 (Find index field words)).reply
+find_reply M index field words = (step M takes_all 0 (Do (Find index field words))).reply
 
 -- an index that is not stale answers what its map gives for all documents of the store
 abbrev pub FreshIsFromScratch : Machine → Type 0
@@ -64,11 +64,11 @@ flag index cutoff is_stale = record { index = index; cutoff = cutoff; is_stale =
 abbrev pub listed_flag : Listing → Flag
 listed_flag l = flag l.name None l.is_stale
 
--- all flags that the reply to a request shows: every request that reads an index is here
-abbrev pub flags_in : Request → Reply → List Flag
-flags_in (Find index field words) (Found ids etag is_stale) = flag index None is_stale ∷ []
-flags_in (Stale name cutoff) (replies.Stale etag is_stale newest) = flag name cutoff is_stale ∷ []
-flags_in Indexes (replies.Indexes listings) = map listed_flag listings
+-- all flags that the reply to a line shows: everything that reads an index is here
+abbrev pub flags_in : Line → Reply → List Flag
+flags_in (Do (Find index field words)) (Found ids etag is_stale) = flag index None is_stale ∷ []
+flags_in (Do (Stale name cutoff)) (replies.Stale etag is_stale newest) = flag name cutoff is_stale ∷ []
+flags_in (Do Indexes) (replies.Indexes listings) = map listed_flag listings
 flags_in other reply = []
 
 -- An index serves the name, and the flag is true exactly if the store has a row that the index reads and has not seen, no newer than the cutoff.
@@ -78,16 +78,16 @@ pub record FlagIsExact (M : Machine) (f : Flag) : Type 0 where
   pub stale : (f.is_stale ≡ true) ↔ Unseen M.world.store (reads slot.version) slot.version.etag f.cutoff
   pub fresh : (f.is_stale ≡ false) ↔ (Unseen M.world.store (reads slot.version) slot.version.etag f.cutoff → ⊥)
 
--- the reply to the request shows a flag of this index, up to this cutoff
-abbrev pub ShowsFlag : Machine → Request → List ℕ → Option ℕ → Type 0
-ShowsFlag M request index cutoff = (is_stale : Bool) × Has (flags_in request (step M takes_all 0 request).reply) (flag index cutoff is_stale)
+-- the reply to the line shows a flag of this index, up to this cutoff
+abbrev pub ShowsFlag : Machine → Line → List ℕ → Option ℕ → Type 0
+ShowsFlag M line index cutoff = (is_stale : Bool) × Has (flags_in line (step M takes_all 0 line).reply) (flag index cutoff is_stale)
 
 -- each flag that a reply shows is exact, and each question about an index shows one
 pub record FlagsAreExact (M : Machine) : Type 0 where
-  pub exact : (k : Keeping) (now : ℕ) (request : Request) (f : Flag) → Has (flags_in request (step M k now request).reply) f → FlagIsExact M f
-  pub find : (index field words : List ℕ) (s : Slot) → serving M.world.slots index ≡ Some s → ShowsFlag M (Find index field words) index None
-  pub cutoff : (name : List ℕ) (cutoff : Option ℕ) (s : Slot) → serving M.world.slots name ≡ Some s → ShowsFlag M (Stale name cutoff) name cutoff
-  pub listed : (s : Slot) → Has M.world.slots s → ShowsFlag M Indexes s.name None
+  pub exact : (k : Keeping) (now : ℕ) (line : Line) (f : Flag) → Has (flags_in line (step M k now line).reply) f → FlagIsExact M f
+  pub find : (index field words : List ℕ) (s : Slot) → serving M.world.slots index ≡ Some s → ShowsFlag M (Do (Find index field words)) index None
+  pub cutoff : (name : List ℕ) (cutoff : Option ℕ) (s : Slot) → serving M.world.slots name ≡ Some s → ShowsFlag M (Do (Stale name cutoff)) name cutoff
+  pub listed : (s : Slot) → Has M.world.slots s → ShowsFlag M (Do Indexes) s.name None
 
 -- IDS
 

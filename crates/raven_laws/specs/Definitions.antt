@@ -12,7 +12,7 @@ use Rattle.spec_store.specs.Commit.{Command, AnyVector, Server, Refused, commit,
 use Rattle.spec_index.specs.World.{Slot, index_id, is_named, is_reserved_name, max_index_name, row_body, serving}
 use Rattle.spec_server.specs.Sound.{Has, IsListed}
 use Rattle.spec_server.specs.Replies.{Reply}
-use Rattle.spec_server.specs.Machine.{Machine, Keeping, Replied, Define, Remove, Pump, after_batch, is_first_taken, pumping, same_machine, step, write_refused}
+use Rattle.spec_server.specs.Machine.{Machine, Keeping, Replied, Define, Remove, Pump, after_batch, is_first_taken, pumping, same_machine, step, write_refused, Do}
 use Rattle.raven_laws.specs.Writes.{IsKeeperFault}
 
 -- WHEN TWO DEFINITIONS SAY THE SAME
@@ -146,7 +146,7 @@ IsDefineAnswer M k now name d replied =
     ⊎ (DefinitionIsRefused M now name d replied ⊎ (IsKeeperFault M k replied ⊎ IsDefined M k name d replied))))))
 
 abbrev pub DefineIsAnswered : Machine → Keeping → ℕ → List ℕ → Definition → Type 0
-DefineIsAnswered M k now name d = IsDefineAnswer M k now name d (step M k now (Define name d))
+DefineIsAnswered M k now name d = IsDefineAnswer M k now name d (step M k now (Do (Define name d)))
 
 -- REMOVING AN INDEX
 
@@ -173,7 +173,7 @@ IsRemoveAnswer M k now name replied =
     IsNoIndex M name replied ⊎ (RemovalIsRefused M now name replied ⊎ (IsKeeperFault M k replied ⊎ IsRemoved M k now name replied))
 
 abbrev pub RemoveIsAnswered : Machine → Keeping → ℕ → List ℕ → Type 0
-RemoveIsAnswered M k now name = IsRemoveAnswer M k now name (step M k now (Remove name))
+RemoveIsAnswered M k now name = IsRemoveAnswer M k now name (step M k now (Do (Remove name)))
 
 -- A BATCH FOR ONE INDEX
 
@@ -187,4 +187,4 @@ pub record IsAdvanced (M : Machine) (max : ℕ) (name : List ℕ) (replied : Rep
   pub store : replied.machine.world.store ≡ M.world.store
 
 abbrev pub BatchIsAnswered : Machine → Keeping → ℕ → ℕ → List ℕ → Type 0
-BatchIsAnswered M k now max name = let replied = step M k now (Pump max (Some name)) in IsNoIndex M name replied ⊎ IsAdvanced M max name replied
+BatchIsAnswered M k now max name = let replied = step M k now (Do (Pump max (Some name))) in IsNoIndex M name replied ⊎ IsAdvanced M max name replied

@@ -6,7 +6,7 @@ use Rattle.spec_data.specs.Rows.{Row, doc}
 use Rattle.spec_store.specs.Store.{Store, row_at, last}
 use Rattle.spec_store.specs.Commit.{Command, Expect, Client, Refused, Written, after_commands, collection_of, commit, document_at, etags_taken, refusal_of, row_of, stored_body, tombstone, vector_of}
 use Rattle.spec_server.specs.Replies.{Reply}
-use Rattle.spec_server.specs.Machine.{Machine, Event, Keeping, Replied, Request, Put, Delete, Bulk, Get, Find, Stale, Indexes, Stats, after, commands_in, is_first_taken, is_taken, results_of, run, same_machine, spelling, step, write_refused}
+use Rattle.spec_server.specs.Machine.{Machine, Event, Keeping, Replied, Line, Do, Put, Delete, Bulk, Get, Find, Stale, Indexes, Stats, after, commands_on, is_first_taken, is_taken, results_of, run, same_machine, spelling, step, write_refused}
 
 -- the row that a Put writes: the stored body under the next etag
 abbrev pub row_given : Store → ℕ → List ℕ → Data → Row
@@ -43,7 +43,7 @@ pub record IsPut (M : Machine) (k : Keeping) (now : ℕ) (id : List ℕ) (expect
 
 abbrev pub PutIsAnswered : Machine → Keeping → ℕ → List ℕ → Expect → Data → Type 0
 PutIsAnswered M k now id expected body =
-    let replied = step M k now (Put id expected body) in
+    let replied = step M k now (Do (Put id expected body)) in
     IsRefused M now (Command.Put id expected body ∷ []) replied ⊎ (IsKeeperFault M k replied ⊎ IsPut M k now id expected body replied)
 
 -- No test refuses. There was no document to delete, which the reply says, and nothing is changed.
@@ -63,7 +63,7 @@ pub record IsDeleted (M : Machine) (k : Keeping) (now : ℕ) (id : List ℕ) (ex
 
 abbrev pub DeleteIsAnswered : Machine → Keeping → ℕ → List ℕ → Expect → Type 0
 DeleteIsAnswered M k now id expected =
-    let replied = step M k now (Delete id expected) in
+    let replied = step M k now (Do (Delete id expected)) in
     IsRefused M now (Command.Delete id expected ∷ []) replied
     ⊎ (IsKeeperFault M k replied ⊎ (IsNotThere M id expected replied ⊎ IsDeleted M k now id expected replied))
 
@@ -71,14 +71,14 @@ DeleteIsAnswered M k now id expected =
 pub record AreWritten (M : Machine) (k : Keeping) (now : ℕ) (commands : List Command) (replied : Replied) : Type 0 where
   pub wrote : Written
   pub unrefused : commit M.world.setting Client now commands M.world.store ≡ Ok wrote
-  pub taken : is_taken k wrote.rows ≡ true
+  pub taken : is_taken k.takes wrote.rows ≡ true
   pub reply : replied.reply ≡ Reply.Bulk (results_of M.world.setting.base replied.machine.world.store commands (etags_taken now commands M.world.store))
   pub written : replied.machine.world.store ≡ after_commands now commands M.world.store
   pub indexes : replied.machine.world.slots ≡ M.world.slots
 
 abbrev pub BulkIsAnswered : Machine → Keeping → ℕ → List Command → Type 0
 BulkIsAnswered M k now commands =
-    let replied = step M k now (Bulk commands) in
+    let replied = step M k now (Do (Bulk commands)) in
     IsRefused M now commands replied ⊎ (IsKeeperFault M k replied ⊎ AreWritten M k now commands replied)
 
 -- the row is what one of the commands writes to the store that those before it leave
@@ -89,20 +89,20 @@ pub record IsCommanded (now : ℕ) (commands : List Command) (S : Store) (r : Ro
   pub among : commands ≡ earlier ++ command ∷ later
   pub given : row_of now (after_commands now earlier S) command ≡ Some r
 
--- a command of one of the requests wrote this row, and all commands of that request were taken
+-- a command that one of the events asks for wrote this row, and all commands of that event were taken
 pub record IsWritten (M : Machine) (events : List Event) (r : Row) : Type 0 where
   pub before : List Event
   pub event : Event
   pub more : List Event
   pub asked : events ≡ before ++ event ∷ more
-  pub given : IsCommanded event.now (commands_in event.request) (run before M).world.store r
-  pub taken : (after (run before M) event).world.store ≡ after_commands event.now (commands_in event.request) (run before M).world.store
+  pub given : IsCommanded event.now (commands_on event.line) (run before M).world.store r
+  pub taken : (after (run before M) event).world.store ≡ after_commands event.now (commands_on event.line) (run before M).world.store
 
--- the request asks, and writes nothing
-abbrev pub OnlyReads : Request → Type 0
-OnlyReads (Get id) = Unit {0}
-OnlyReads (Find index field words) = Unit {0}
-OnlyReads (Stale name cutoff) = Unit {0}
-OnlyReads Indexes = Unit {0}
-OnlyReads Stats = Unit {0}
+-- the line asks, and writes nothing
+abbrev pub OnlyReads : Line → Type 0
+OnlyReads (Do (Get id)) = Unit {0}
+OnlyReads (Do (Find index field words)) = Unit {0}
+OnlyReads (Do (Stale name cutoff)) = Unit {0}
+OnlyReads (Do Indexes) = Unit {0}
+OnlyReads (Do Stats) = Unit {0}
 OnlyReads other = ⊥

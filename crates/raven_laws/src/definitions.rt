@@ -2,7 +2,7 @@
 
 ghost use Rattle.std.specs.Prelude.{◌≡◌, ◌↔◌, ◌<◌, ◌^◌, ℕ, List, Some, true};
 ghost use Rattle.index_tree.specs.Definitions.{same_definition, Definition};
-ghost use Rattle.spec_server.specs.Machine.{Keeping, Machine, Pump, step};
+ghost use Rattle.spec_server.specs.Machine.{Do, Keeping, Machine, Pump, step};
 ghost use Rattle.spec_server.specs.Sound.{Sound};
 ghost use Rattle.raven_laws.specs.Choices.{AutoIsAnswered};
 ghost use Rattle.raven_laws.specs.Definitions.{BatchIsAnswered, DefineIsAnswered, OtherSlotsStay, RemoveIsAnswered, SaysTheSame};
@@ -37,5 +37,5 @@ pub fn autos_are_answered()
 /// A batch for one name advances the index that serves it, and leaves every index of another name as it was.
 pub fn batches_for_one_leave_the_others()
     ensures answered { (M : Machine) (k : Keeping) (now max : ℕ) (name : List ℕ) → BatchIsAnswered M k now max name }
-    ensures others { (M : Machine) (k : Keeping) (now max : ℕ) (name : List ℕ) → OtherSlotsStay M name (step M k now (Pump max (Some name))).machine }
+    ensures others { (M : Machine) (k : Keeping) (now max : ℕ) (name : List ℕ) → OtherSlotsStay M name (step M k now (Do (Pump max (Some name)))).machine }
 {}

@@ -4,10 +4,11 @@ ghost use Rattle.std.specs.Prelude.{◌≡◌, ℕ, List, None};
 ghost use Rattle.spec_data.specs.Rows.{Row};
 ghost use Rattle.spec_data.specs.Kept.{EtagsRise, all_kept, keep_all, last_kept};
 ghost use Rattle.spec_store.specs.Commit.{AreNext};
-ghost use Rattle.spec_server.specs.Machine.{Event, Machine, Request, change_of, run};
+ghost use Rattle.spec_server.specs.Machine.{Event, Line, Machine, changes_of, run};
 ghost use Rattle.spec_server.specs.Script.{Given, after_lines, events_of};
 ghost use Rattle.spec_store.specs.Store.{IsStore, Store, last, with_rows};
-ghost use Rattle.raven_laws.specs.Keeping.{stored_after};
+ghost use Rattle.spec_index.specs.World.{World};
+ghost use Rattle.raven_laws.specs.Keeping.{AreTheirRows, stored_after};
 
 /// A keeper that stores the rows of a store and is given further rows stores those of the store with them. If the etags of the further rows
 /// go on from the store's last, they are in order after what it stores.
@@ -18,12 +19,10 @@ pub fn keepers_follow_stores()
     ensures whole { (S : Store) → IsStore S → EtagsRise None (all_kept S.rows) }
 {}
 
-/// The store of a request's change is the one before it with the rows of the change, whose etags go on from the store's last.
+/// The store of each change that a line makes is the one before it with the rows of the change, whose etags go on from the store's last.
 /// If there are none, the store is as it was.
 pub fn changes_are_their_rows()
-    ensures store { (M : Machine) (now : ℕ) (request : Request) →
-        let c = change_of M now request in c.machine.world.store ≡ with_rows M.world.store c.rows }
-    ensures next { (M : Machine) (now : ℕ) (request : Request) → AreNext (last M.world.store) (change_of M now request).rows }
+    ensures { (W : World) (now : ℕ) (line : Line) → AreTheirRows W.store (changes_of W now line) }
 {}
 
 /// A keeper that stores the rows of a machine's store, and is given those of each change that it takes, stores those of the last store: after

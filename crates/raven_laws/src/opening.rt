@@ -7,7 +7,7 @@ ghost use Rattle.spec_store.specs.Commit.{Setting, is_index_id};
 ghost use Rattle.spec_server.specs.Opening.{OpenedFrom};
 ghost use Rattle.spec_server.specs.Machine.{Event, Machine, run};
 ghost use Rattle.spec_server.specs.Script.{Given, after_lines};
-ghost use Rattle.spec_server.specs.Sound.{Has, LaterW, Sound};
+ghost use Rattle.spec_server.specs.Sound.{Has, IsMachine, LaterW, Sound};
 ghost use Rattle.spec_store.specs.Store.{row_at};
 ghost use Rattle.spec_index.specs.World.{Slot, new_version};
 ghost use Rattle.raven_laws.specs.Claims.{FlagsAreExact, FreshIsExact, FreshIsFromScratch, IdsAreSpelledAsStored};
@@ -15,20 +15,21 @@ ghost use Rattle.raven_laws.specs.Opened.{OpenedFaithfully};
 ghost use Rattle.raven_laws.specs.Writes.{IsWritten};
 
 /// The database that stored rows open is sound, if each definition that was read of a row agrees with the row's body. Whatever was read,
-/// its rows are stored as those rows, it has the setting under which it was opened, and its indexes have recorded nothing yet.
+/// its rows are stored as those rows, it has the setting under which it was opened, its indexes have recorded nothing yet, and no worker holds anything.
 pub fn opened_is_sound()
-    ensures sound { (setting : Setting) (held : List KeptRow) (M : Machine) → OpenedFaithfully setting held M → Sound M.world }
+    ensures sound { (setting : Setting) (held : List KeptRow) (M : Machine) → OpenedFaithfully setting held M → IsMachine M }
     ensures kept { (setting : Setting) (held : List KeptRow) (M : Machine) → OpenedFrom setting held M → all_kept M.world.store.rows ≡ held }
     ensures setting { (setting : Setting) (held : List KeptRow) (M : Machine) → OpenedFrom setting held M → M.world.setting ≡ setting }
     ensures notes { (setting : Setting) (held : List KeptRow) (M : Machine) → OpenedFrom setting held M → M.world.notes ≡ [] }
+    ensures idle { (setting : Setting) (held : List KeptRow) (M : Machine) → OpenedFrom setting held M → M.held ≡ [] }
     ensures fresh { (setting : Setting) (held : List KeptRow) (M : Machine) → OpenedFrom setting held M →
         (s : Slot) → Has M.world.slots s → s.version ≡ new_version s.version.definition }
 {}
 
 /// From a sound state each run leads to a sound one, which is later.
 pub fn sound_states_go_on()
-    ensures sound { (M : Machine) (events : List Event) → Sound M.world → Sound (run events M).world }
-    ensures later { (M : Machine) (events : List Event) → Sound M.world → LaterW M.world (run events M).world }
+    ensures sound { (M : Machine) (events : List Event) → IsMachine M → IsMachine (run events M) }
+    ensures later { (M : Machine) (events : List Event) → IsMachine M → LaterW M.world (run events M).world }
 {}
 
 /// In a sound state answers are true.

@@ -6,18 +6,25 @@ ghost use Rattle.index_tree.specs.Meaning.{Fields};
 ghost use Rattle.index_tree.specs.Mapper.{mapper_of};
 ghost use Rattle.spec_index.specs.Mapping.{scratch};
 ghost use Rattle.spec_store.specs.Commit.{Setting};
-ghost use Rattle.spec_index.specs.World.{Slot, World, serving};
+ghost use Rattle.spec_index.specs.World.{Slot, Version, World, batch, serving};
 ghost use Rattle.spec_index.specs.Optimiser.{Choice, Shape, first_free, name_of, pick};
-ghost use Rattle.spec_server.specs.Machine.{Event, Keeping, Machine, Request, is_stale, pump, pumping, run, start};
-ghost use Rattle.spec_server.specs.Sound.{Has, LaterW, NumbersRise, Sound};
+ghost use Rattle.spec_server.specs.Machine.{Do, Event, Held, Keeping, Line, Machine, Pump, is_stale, pumping, run, start, step, takes_all};
+ghost use Rattle.spec_server.specs.Sound.{Has, IsHeld, IsMachine, LaterW, NumbersRise, Sound};
 ghost use Rattle.raven_laws.specs.Choices.{IsChosen, IsFirstFree};
 ghost use Rattle.raven_laws.specs.Served.{ServedStays};
 ghost use Rattle.raven_laws.specs.Claims.{FlagsAreExact, FreshIsExact, FreshIsFromScratch, IdsAreSpelledAsStored, IsSpelledAsStored};
 
 /// Each index has recorded what the store has up to its etag, has its row among the indexes' rows, and shares its number and its name
-/// with no other. No limit is passed.
+/// with no other. No limit is passed. Each batch that a worker holds may be published.
 pub fn every_run_is_sound()
-    ensures { (setting : Setting) (events : List Event) → Sound (run events (start setting)).world }
+    ensures { (setting : Setting) (events : List Event) → IsMachine (run events (start setting)) }
+{}
+
+/// A batch that a worker reads may be published, in the world in which it was read and in every later one.
+pub fn batches_may_wait()
+    ensures read { (W : World) (worker max : ℕ) (s : Slot) (v : Version) → Sound W → Has W.slots s → batch s.version W.store max ≡ Some v →
+        IsHeld W (record { worker = worker; number = s.number; version = v }) }
+    ensures later { (W N : World) (h : Held) → IsHeld W h → LaterW W N → IsHeld N h }
 {}
 
 /// Each state is later than those before: rows stay or are replaced, indexes go forward, and a name keeps its index until that is removed.
@@ -63,7 +70,7 @@ pub fn ids_are_spelled_as_stored()
 
 /// The index that serves a name goes on to serve it, with its number and its definition, in every step but its own removal.
 pub fn served_names_stay()
-    ensures { (M : Machine) (k : Keeping) (now : ℕ) (request : Request) → Sound M.world → ServedStays M k now request }
+    ensures { (M : Machine) (k : Keeping) (now : ℕ) (line : Line) → Sound M.world → ServedStays M k now line }
 {}
 
 /// The name that is chosen for a new index is free, so no new index is refused for its name.
@@ -95,6 +102,6 @@ pub fn batches_move_what_is_stale()
 /// A batch as large as the store leaves no index stale.
 pub fn large_batches_are_enough()
     ensures { (setting : Setting) (events : List Event) (s : Slot) (max : ℕ) → 1 ≤ max →
-        let M = run events (start setting) in let N = (pump M max).machine in
+        let M = run events (start setting) in let N = (step M takes_all 0 (Do (Pump max None))).machine in
         length M.world.store.rows ≤ max → Has N.world.slots s → is_stale N.world.store s ≡ false }
 {}

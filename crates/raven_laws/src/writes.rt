@@ -5,7 +5,7 @@ ghost use Rattle.spec_data.specs.Data.{Data};
 ghost use Rattle.spec_data.specs.Rows.{Row};
 ghost use Rattle.spec_store.specs.Store.{row_at};
 ghost use Rattle.spec_store.specs.Commit.{Command, Expect, Setting, is_index_id};
-ghost use Rattle.spec_server.specs.Machine.{Auto, Event, Keeping, Machine, Request, Pump, commands_in, run, start, step};
+ghost use Rattle.spec_server.specs.Machine.{Do, Event, Keeping, Line, Machine, Pump, run, start, step};
 ghost use Rattle.raven_laws.specs.Writes.{BulkIsAnswered, DeleteIsAnswered, IsWritten, PutIsAnswered, OnlyReads};
 
 /// A Put is refused for a stated cause and changes nothing; or the keeper failed and nothing changes; or the store has the given document,
@@ -27,13 +27,13 @@ pub fn transactions_are_whole()
     ensures { (M : Machine) (k : Keeping) (now : ℕ) (commands : List Command) → BulkIsAnswered M k now commands }
 {}
 
-/// A request that only asks changes nothing, and batches change no row.
+/// A line that only asks changes nothing, and batches change no row.
 pub fn only_writes_write()
-    ensures questions { (M : Machine) (k : Keeping) (now : ℕ) (request : Request) → OnlyReads request → (step M k now request).machine ≡ M }
-    ensures batches { (M : Machine) (k : Keeping) (now max : ℕ) (index : Option (List ℕ)) → (step M k now (Pump max index)).machine.world.store ≡ M.world.store }
+    ensures questions { (M : Machine) (k : Keeping) (now : ℕ) (line : Line) → OnlyReads line → (step M k now line).machine ≡ M }
+    ensures batches { (M : Machine) (k : Keeping) (now max : ℕ) (index : Option (List ℕ)) → (step M k now (Do (Pump max index))).machine.world.store ≡ M.world.store }
 {}
 
-/// No row is invented: each, except those of definitions, was written by a command of one of the requests, all of whose commands
+/// No row is invented: each, except those of definitions, was written by a command of one of the lines, all of whose commands
 /// were taken.
 pub fn rows_were_written()
     ensures { (setting : Setting) (events : List Event) (id : List ℕ) (r : Row) →

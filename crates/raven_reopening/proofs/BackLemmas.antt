@@ -18,8 +18,8 @@ use Rattle.spec_index.specs.World.{Slot, new_version, index_id, row_body}
 use Rattle.spec_store.proofs.StoreLemmas.{both_true, found_key, same_row}
 use Rattle.raven_laws.proofs.MatchLemmas.{into-filter_map}
 use Rattle.raven_laws.proofs.AnswerLemmas.{Has-filter_map}
-use Rattle.raven_laws.proofs.OpenedRuns.{go-Sound, go-LaterW}
-use Rattle.raven_laws.proofs.OpenLemmas.{Has-found, opened_from-rows, opened_from-Sound}
+use Rattle.raven_laws.proofs.OpenedRuns.{go-IsMachine, go-LaterW}
+use Rattle.raven_laws.proofs.OpenLemmas.{Has-found, opened_from-rows, opened_from-IsMachine}
 use Rattle.raven_laws.proofs.SlotLemmas.{Has-map, Has-mapped, find-Has}
 use Rattle.index_lang.specs.Openings.{AreReadRows, IsInBody, IsOpened, IsOpenedBy, IsReadIf, IsReadRow}
 use Rattle.raven_reading.proofs.Once.{body_once}
@@ -70,7 +70,7 @@ record IsOneRead (r : Row) : Type 0 where
   pub row : read.row ≡ r
   pub lasting : Lasting read
 
-one-read : (M : Machine) (r : Row) → Sound M.world → Again M → Has M.world.store.rows r → IsOneRead r
+one-read : (M : Machine) (r : Row) → Sound M.world → Again M.world → Has M.world.store.rows r → IsOneRead r
 one-read M r o a at = elim (is_defining r) as (λ b. is_defining r ≡ b → IsOneRead r) [
   | true ↦ λ e.
       let i = indexed-row M r o at e in
@@ -101,7 +101,7 @@ record AreAllRead (all : List Row) : Type 0 where
   pub rows : rows_of read ≡ all
   pub lasting : AreLasting read
 
-all-read : (M : Machine) (rows : List Row) → Sound M.world → Again M → ((r : Row) → Has rows r → Has M.world.store.rows r) → AreAllRead rows
+all-read : (M : Machine) (rows : List Row) → Sound M.world → Again M.world → ((r : Row) → Has rows r → Has M.world.store.rows r) → AreAllRead rows
 all-read M [] o a among = record { read = []; rows = refl; lasting = tt }
 all-read M (r ∷ rows) o a among =
     let one = one-read M r o a (among r (inl refl)) in
@@ -185,7 +185,7 @@ all-back : (rows : List Row) → AllLast rows → AreBack rows
 all-back [] all = tt
 all-back (r ∷ rows) all = ((all r (inl refl)).back, all-back rows (λ x at. all x (inr at)))
 
-opens-again : (s : Setting) (M : Machine) (all : AreAllRead M.world.store.rows) → M.world.setting ≡ s → Sound M.world → Again M
+opens-again : (s : Setting) (M : Machine) (all : AreAllRead M.world.store.rows) → M.world.setting ≡ s → Sound M.world → Again M.world
     → IsOpened s (all_kept M.world.store.rows) (Ok (machine_of s M.world.store.rows (slots_in all.read)))
 opens-again s M all same o a =
     let rows = M.world.store.rows in
@@ -206,7 +206,7 @@ same_definition : (a b : Definition) → Some a ≡ Some b → a ≡ b
 same_definition a b h = cc
 
 -- what is read of the row of an index is its definition
-own-definition : (M : Machine) (x : ReadRow) (s : Slot) (d : Definition) → Again M → Has M.world.slots s → x.row.body ≡ doc (stored_body (row_body s.version.definition)) → IsReadRow x → is_defining x.row ≡ true → x.definition ≡ Some d
+own-definition : (M : Machine) (x : ReadRow) (s : Slot) (d : Definition) → Again M.world → Has M.world.slots s → x.row.body ≡ doc (stored_body (row_body s.version.definition)) → IsReadRow x → is_defining x.row ≡ true → x.definition ≡ Some d
     → d ≡ s.version.definition
 own-definition M x s d a h body right is read =
     let mine : IsInBody x.row.body (Some d) = subst (IsInBody x.row.body) read (subst (λ b. IsReadIf b x.row x.definition) is right) in
@@ -216,7 +216,7 @@ own-definition M x s d a h body right is read =
 abbrev is_live : Body → Bool
 is_live b = elim b as (λ x. Bool) [ doc v ↦ true | gone ↦ false ]
 
-there-again : (M : Machine) (s : Slot) (all : AreAllRead M.world.store.rows) → Sound M.world → Again M → Has M.world.slots s → IsThereAgain (slots_in all.read) s
+there-again : (M : Machine) (s : Slot) (all : AreAllRead M.world.store.rows) → Sound M.world → Again M.world → Has M.world.slots s → IsThereAgain (slots_in all.read) s
 there-again M s all o a h =
     let i = o.listed.each s h in
     let r = i.row in
@@ -246,7 +246,7 @@ there-again M s all o a h =
 same_slot : (a b : Slot) → Some a ≡ Some b → a ≡ b
 same_slot a b h = cc
 
-came-from : (M : Machine) (s : Slot) (all : AreAllRead M.world.store.rows) → Sound M.world → Again M → Has (slots_in all.read) s → WasThere M.world.slots s
+came-from : (M : Machine) (s : Slot) (all : AreAllRead M.world.store.rows) → Sound M.world → Again M.world → Has (slots_in all.read) s → WasThere M.world.slots s
 came-from M s all o a h = let x = Has-filter_map slot_in all.read s h in by x.0 x.1 x.2
   where
     by : (x : ReadRow) → Has all.read x → slot_in x ≡ Some s → WasThere M.world.slots s
@@ -270,7 +270,7 @@ came-from M s all o a h = let x = Has-filter_map slot_in all.read s h in by x.0 
 
 -- AFTER A RUN
 
-again-opens : (s : Setting) (M : Machine) → M.world.setting ≡ s → Sound M.world → Again M → OpensAgain s M.world
+again-opens : (s : Setting) (M : Machine) → M.world.setting ≡ s → Sound M.world → Again M.world → OpensAgain s M.world
 again-opens s M same o a =
     let all = all-read M M.world.store.rows o a (λ r at. at) in
     record {
@@ -286,5 +286,5 @@ again-opens s M same o a =
 pub run-opens : (s : Setting) (held : List KeptRow) (M : Machine) (es : List Event) → IsOpened s held (Ok M) → AreEvents es → OpensAgain s (run es M).world
 run-opens s held M es h fits =
     let from = opened-told s held M h in
-    let o = opened_from-Sound s held M from in
-    again-opens s (run es M) ((go-LaterW M es o).setting ∙ (opened_from-rows s held M from.opened).setting) (go-Sound M es o) (run-Again es M fits o (opened-Again s held M h))
+    let i = opened_from-IsMachine s held M from in
+    again-opens s (run es M) ((go-LaterW M es i).setting ∙ (opened_from-rows s held M from.opened).setting) (go-IsMachine M es i).world (run-Again es M fits i (opened-Again s held M h))

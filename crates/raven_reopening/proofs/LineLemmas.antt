@@ -15,12 +15,12 @@ use Rattle.spec_data.specs.Sound.{AreSound}
 use Rattle.spec_store.specs.Commit.{Command, Expect, AnyVector, Vector, Setting}
 use Rattle.index_tree.specs.Language.{LangRefusal}
 use Rattle.index_tree.specs.Definitions.{Definition}
-use Rattle.spec_server.specs.Machine.{Event, Machine, Request, Put, Delete, Bulk, Get, Remove, Auto, Find, Pump, Stale, Indexes, Stats, commands_in}
+use Rattle.spec_server.specs.Machine.{Do, Event, Machine, Request, Put, Delete, Bulk, Get, Remove, Auto, Find, Pump, Stale, Indexes, Stats, commands_in}
 use Rattle.spec_server.specs.Opening.{is_part}
-use Rattle.spec_server.specs.Script.{Do, LineRead, ReadRefusal, Plain, asked_by, asked_to_define, defined_by, index_of, map_member, name_member, reduce_member, texts_in, texts_of_body, unless_name_fault, UnknownLine, BadMember, Circumstance, Given, then_read, before_space, after_space, both_parts, argument_and_rest, has_byte, unless_fault, id_read, json_read, object_read, put_read, delete_read, id_member, vector_member, put_command, delete_command, typed_command, command_read, commands_read, list_member, commands_of, bulk_read, or_unknown, parts_read, put_of, put_if_of, delete_if_of, get_of, is_collection, is_field, auto_of, drop_of, max_read, pump_of, pump_read, name_read, find_of, stale_of, by_command, request_of, line_of, event_of, events_of, after_lines}
+use Rattle.spec_server.specs.Script.{LineRead, ReadRefusal, Plain, asked_by, asked_to_define, defined_by, index_of, map_member, name_member, reduce_member, texts_in, texts_of_body, unless_name_fault, UnknownLine, BadMember, Circumstance, Given, then_read, before_space, after_space, both_parts, argument_and_rest, has_byte, unless_fault, id_read, json_read, object_read, put_read, delete_read, id_member, vector_member, put_command, delete_command, typed_command, command_read, commands_read, list_member, commands_of, bulk_read, or_unknown, parts_read, put_of, put_if_of, delete_if_of, get_of, is_collection, is_field, auto_of, drop_of, max_read, pump_of, pump_read, name_read, find_of, stale_of, by_command, request_of, line_of, event_of, events_of, after_lines}
 use Rattle.raven_laws.proofs.ScriptLemmas.{lines-run}
 use Rattle.spec_store.proofs.StoreLemmas.{both_true, either_false}
-use Rattle.raven_reopening.specs.Form.{IsRequestBody, IsCommand, AreCommands, IsIndexing, AreEvents, AreTimely}
+use Rattle.raven_reopening.specs.Form.{IsRequestBody, IsCommand, AreCommands, IsValidLine, IsValidRequest, AreEvents, AreTimely}
 use Rattle.index_lang.specs.Lines.{AreLines, Comes}
 use Rattle.index_lang.specs.Openings.{IsOpened}
 use Rattle.index_lang.specs.Says.{Says}
@@ -111,13 +111,8 @@ parts-utf8 words p u h = let w = words-of words u in both-parts (before_space wo
 
 -- REQUESTS
 
--- what a request asks to write can be stored
-record IsAsked (request : Request) : Type 0 where
-  pub commands : AreCommands (commands_in request)
-  pub indexing : IsIndexing request
-
-asked : (a b : Request) → (let r : Result Request ReadRefusal = Ok a in r) ≡ Ok b → IsAsked a → IsAsked b
-asked a b h f = subst IsAsked (same_ok a b h) f
+asked : (a b : Request) → (let r : Result Request ReadRefusal = Ok a in r) ≡ Ok b → IsValidRequest a → IsValidRequest b
+asked a b h f = subst IsValidRequest (same_ok a b h) f
 
 id-fit : (id out : List ℕ) → id_read id ≡ Ok out → is_fit max_id out ≡ true
 id-fit id out h = elim (fault_of max_id id) as (λ o. fault_of max_id id ≡ o → unless_fault o id ≡ Ok out → is_fit max_id out ≡ true) [
@@ -144,7 +139,7 @@ object-body name (Some (object ms)) d h f =
 same_value : (a b : Data) → Some a ≡ Some b → a ≡ b
 same_value a b h = cc
 
-put-asked : (id words : List ℕ) (expected : Expect) (request : Request) → put_read id expected (reading words) ≡ Ok request → IsAsked request
+put-asked : (id words : List ℕ) (expected : Expect) (request : Request) → put_read id expected (reading words) ≡ Ok request → IsValidRequest request
 put-asked id words expected request h =
     let v = then-ok (json_read (reading words)) (λ value. then_read (id_read id) (λ id. then_read (object_read (codes "body") (Some value)) (λ body. Ok (Put id expected body)))) request h in
     let i = then-ok (id_read id) (λ id. then_read (object_read (codes "body") (Some v.0)) (λ body. Ok (Put id expected body))) request v.2 in
@@ -155,7 +150,7 @@ put-asked id words expected request h =
       indexing = tt;
     })
 
-delete-asked : (expected : Expect) (id : List ℕ) (request : Request) → delete_read expected id ≡ Ok request → IsAsked request
+delete-asked : (expected : Expect) (id : List ℕ) (request : Request) → delete_read expected id ≡ Ok request → IsValidRequest request
 delete-asked expected id request h = let i = then-ok (id_read id) (λ id. Ok (Delete id expected)) request h in asked (Delete i.0 expected) request i.2 (record { commands = (tt, tt); indexing = tt })
 
 -- TRANSACTIONS
@@ -243,7 +238,7 @@ commands_of-asked (text s) cs f h = absurd cc
 commands_of-asked (array ds) cs f h = absurd cc
 commands_of-asked (object ms) cs f h = list-asked (member (codes "Commands") ms) cs (λ d e. member-fine (codes "Commands") ms d f e) h
 
-bulk-asked : (words : List ℕ) (request : Request) → bulk_read words ≡ Ok request → IsAsked request
+bulk-asked : (words : List ℕ) (request : Request) → bulk_read words ≡ Ok request → IsValidRequest request
 bulk-asked words request h =
     let v = then-ok (json_read (reading words)) (λ value. then_read (commands_of value) (λ commands. Ok (Bulk commands))) request h in
     let c = then-ok (commands_of v.0) (λ commands. Ok (Bulk commands)) request v.2 in
@@ -274,60 +269,60 @@ field-part words h =
     no true e = absurd cc
     no false e = refl
 
-auto-asked : (words : List ℕ) (request : Request) → IsUtf8 words → auto_of words ≡ Ok request → IsAsked request
+auto-asked : (words : List ℕ) (request : Request) → IsUtf8 words → auto_of words ≡ Ok request → IsValidRequest request
 auto-asked words request u h =
     let p = then-ok (parts_read words) (λ parts. cond (is_collection parts.0 && is_field parts.1) (Ok (Auto parts.0 parts.1)) (Err UnknownLine)) request h in
     let w = parts-utf8 words p.0 u p.1 in
-    elim (is_collection p.0.0 && is_field p.0.1) as (λ b. is_collection p.0.0 && is_field p.0.1 ≡ b → cond b (Ok (Auto p.0.0 p.0.1)) (Err UnknownLine) ≡ Ok request → IsAsked request) [
+    elim (is_collection p.0.0 && is_field p.0.1) as (λ b. is_collection p.0.0 && is_field p.0.1 ≡ b → cond b (Ok (Auto p.0.0 p.0.1)) (Err UnknownLine) ≡ Ok request → IsValidRequest request) [
       | true ↦ λ e g. asked (Auto p.0.0 p.0.1) request g (record { commands = tt; indexing = (w.first, (w.second, field-part p.0.1 (both_true (is_collection p.0.0) (is_field p.0.1) e).1)) })
       | false ↦ λ e g. absurd cc
     ] refl p.2
 
 -- THE OTHER LINES
 
-put_of-asked : (words : List ℕ) (request : Request) → put_of words ≡ Ok request → IsAsked request
+put_of-asked : (words : List ℕ) (request : Request) → put_of words ≡ Ok request → IsValidRequest request
 put_of-asked words request h = let p = then-ok (parts_read words) (λ parts. put_read parts.0 AnyVector (reading parts.1)) request h in put-asked p.0.0 p.0.1 AnyVector request p.2
 
-put_if_of-asked : (words : List ℕ) (request : Request) → put_if_of words ≡ Ok request → IsAsked request
+put_if_of-asked : (words : List ℕ) (request : Request) → put_if_of words ≡ Ok request → IsValidRequest request
 put_if_of-asked words request h =
     let p = then-ok (parts_read words) (λ parts. then_read (parts_read parts.1) (λ rest. put_read parts.0 (Vector rest.0) (reading rest.1))) request h in
     let q = then-ok (parts_read p.0.1) (λ rest. put_read p.0.0 (Vector rest.0) (reading rest.1)) request p.2 in
     put-asked p.0.0 q.0.1 (Vector q.0.0) request q.2
 
-delete_if_of-asked : (words : List ℕ) (request : Request) → delete_if_of words ≡ Ok request → IsAsked request
+delete_if_of-asked : (words : List ℕ) (request : Request) → delete_if_of words ≡ Ok request → IsValidRequest request
 delete_if_of-asked words request h = let p = then-ok (parts_read words) (λ parts. delete_read (Vector parts.0) parts.1) request h in delete-asked (Vector p.0.0) p.0.1 request p.2
 
-get-asked : (words : List ℕ) (request : Request) → get_of words ≡ Ok request → IsAsked request
+get-asked : (words : List ℕ) (request : Request) → get_of words ≡ Ok request → IsValidRequest request
 get-asked words request h = let i = then-ok (id_read words) (λ id. Ok (Get id)) request h in asked (Get i.0) request i.2 (record { commands = tt; indexing = tt })
 
-pump-asked : (words : List ℕ) (request : Request) → pump_of words ≡ Ok request → IsAsked request
+pump-asked : (words : List ℕ) (request : Request) → pump_of words ≡ Ok request → IsValidRequest request
 pump-asked words request h = by (argument_and_rest words) h
   where
-    by : (parts : Option (List ℕ × List ℕ)) → pump_read words parts ≡ Ok request → IsAsked request
+    by : (parts : Option (List ℕ × List ℕ)) → pump_read words parts ≡ Ok request → IsValidRequest request
     by None g = let m = then-ok (max_read words) (λ max. Ok (Pump max None)) request g in asked (Pump m.0 None) request m.2 (record { commands = tt; indexing = tt })
     by (Some parts) g =
         let m = then-ok (max_read parts.0) (λ max. then_read (name_read parts.1) (λ name. Ok (Pump max (Some name)))) request g in
         let n = then-ok (name_read parts.1) (λ name. Ok (Pump m.0 (Some name))) request m.2 in
         asked (Pump m.0 (Some n.0)) request n.2 (record { commands = tt; indexing = tt })
 
-drop-asked : (words : List ℕ) (request : Request) → drop_of words ≡ Ok request → IsAsked request
+drop-asked : (words : List ℕ) (request : Request) → drop_of words ≡ Ok request → IsValidRequest request
 drop-asked words request h = let n = then-ok (name_read words) (λ name. Ok (Remove name)) request h in asked (Remove n.0) request n.2 (record { commands = tt; indexing = tt })
 
-find-asked : (words : List ℕ) (request : Request) → find_of words ≡ Ok request → IsAsked request
+find-asked : (words : List ℕ) (request : Request) → find_of words ≡ Ok request → IsValidRequest request
 find-asked words request h =
     let p = then-ok (parts_read words) (λ parts. then_read (parts_read parts.1) (λ rest. then_read (name_read parts.0) (λ index. Ok (Find index rest.0 rest.1)))) request h in
     let q = then-ok (parts_read p.0.1) (λ rest. then_read (name_read p.0.0) (λ index. Ok (Find index rest.0 rest.1))) request p.2 in
     let n = then-ok (name_read p.0.0) (λ index. Ok (Find index q.0.0 q.0.1)) request q.2 in
     asked (Find n.0 q.0.0 q.0.1) request n.2 (record { commands = tt; indexing = tt })
 
-stale-asked : (words : List ℕ) (request : Request) → stale_of words ≡ Ok request → IsAsked request
+stale-asked : (words : List ℕ) (request : Request) → stale_of words ≡ Ok request → IsValidRequest request
 stale-asked words request h = let n = then-ok (name_read words) (λ name. Ok (Stale name None)) request h in asked (Stale n.0 None) request n.2 (record { commands = tt; indexing = tt })
 
-either : (b : Bool) (x y : Result Request ReadRefusal) (request : Request) → cond b x y ≡ Ok request → (x ≡ Ok request → IsAsked request) → (y ≡ Ok request → IsAsked request) → IsAsked request
+either : (b : Bool) (x y : Result Request ReadRefusal) (request : Request) → cond b x y ≡ Ok request → (x ≡ Ok request → IsValidRequest request) → (y ≡ Ok request → IsValidRequest request) → IsValidRequest request
 either true x y request h f g = f h
 either false x y request h f g = g h
 
-word-asked : (word more : List ℕ) (request : Request) → IsUtf8 more → by_command word more ≡ Ok request → IsAsked request
+word-asked : (word more : List ℕ) (request : Request) → IsUtf8 more → by_command word more ≡ Ok request → IsValidRequest request
 word-asked word more request u h =
     either (bytes_eq word (codes "PUT")) (put_of more) _ request h (λ e. put_of-asked more request e) (λ h.
     either (bytes_eq word (codes "PUTIF")) (put_if_of more) _ request h (λ e. put_if_of-asked more request e) (λ h.
@@ -341,7 +336,7 @@ word-asked word more request u h =
     either (bytes_eq word (codes "FIND")) (find_of more) _ request h (λ e. find-asked more request e) (λ h.
     either (bytes_eq word (codes "STALE")) (stale_of more) (Err UnknownLine) request h (λ e. stale-asked more request e) (λ h. absurd cc)))))))))))
 
-request-asked : (line : List ℕ) (request : Request) → IsUtf8 line → request_of line ≡ Ok request → IsAsked request
+request-asked : (line : List ℕ) (request : Request) → IsUtf8 line → request_of line ≡ Ok request → IsValidRequest request
 request-asked line request u h =
     either (bytes_eq line (codes "STATS")) (Ok Stats) _ request h (λ e. asked Stats request e (record { commands = tt; indexing = tt })) (λ h.
     either (bytes_eq line (codes "INDEXES")) (Ok Indexes) (then_read (parts_read line) (λ parts. by_command parts.0 parts.1)) request h (λ e. asked Indexes request e (record { commands = tt; indexing = tt }))
@@ -353,9 +348,9 @@ request-asked line request u h =
 abbrev CanBeKept : LineRead → Type 0
 CanBeKept (Err refusal) = Unit {0}
 CanBeKept (Ok None) = Unit {0}
-CanBeKept (Ok (Some (Do request))) = IsAsked request
+CanBeKept (Ok (Some line)) = IsValidLine line
 
-done : (r : Result Request ReadRefusal) → ((request : Request) → r ≡ Ok request → IsAsked request) → CanBeKept (then_read r (λ request. Ok (Some (Do request))))
+done : (r : Result Request ReadRefusal) → ((request : Request) → r ≡ Ok request → IsValidRequest request) → CanBeKept (then_read r (λ request. Ok (Some (Do request))))
 done (Err refusal) f = tt
 done (Ok request) f = f request refl
 
@@ -474,7 +469,7 @@ asked-by line (Some parts) read is =
 event-asked : (c : Circumstance) (r : LineRead) (es : List Event) → CanBeKept r → c.now < moments_end → AreEvents es → AreEvents (cons_option (event_of c r) es)
 event-asked c (Err refusal) es l soon f = f
 event-asked c (Ok None) es l soon f = f
-event-asked c (Ok (Some (Do request))) es l soon f = (record { moment = soon; commands = l.commands; indexing = l.indexing }, f)
+event-asked c (Ok (Some line)) es l soon f = (record { moment = soon; valid = l }, f)
 
 lines-asked : (lines : List Given) → AreLines lines → AreTimely lines → AreEvents (events_of lines)
 lines-asked [] read t = tt

@@ -176,24 +176,24 @@ same_opened : (a b : Machine) → (let r : Result Machine ℕ = Ok a in r) ≡ O
 same_opened a b h = cc
 
 abbrev pub machine_of : Setting → List Row → List Slot → Machine
-machine_of s rows slots = record { world = record { setting = s; store = record { rows = rows }; slots = slots; notes = [] } }
+machine_of s rows slots = record { world = record { setting = s; store = record { rows = rows }; slots = slots; notes = [] }; held = [] }
 
 opened-slots : (s : Setting) (held : List KeptRow) (M : Machine) (xs : List ReadRow) → rows_in s.max_rows held ≡ Ok (rows_of xs) → AreReadRows xs
-    → (r : Result (List Slot) ℕ) → slots_from s 0 [] xs ≡ r → opened_with s (rows_of xs) r ≡ Ok M → Again M
+    → (r : Result (List Slot) ℕ) → slots_from s 0 [] xs ≡ r → opened_with s (rows_of xs) r ≡ Ok M → Again M.world
 opened-slots s held M xs e right (Err etag) k g = absurd cc
 opened-slots s held M xs e right (Ok slots) k g =
     let rows = rows_of xs in
     let back = rows-read s.max_rows [] held rows (λ r at. absurd at) e in
     let stand = (rows_in-AreRowsOf s.max_rows held rows e).stand in
     let f = all-shown s 0 [] xs slots right k in
-    subst Again (same_opened (machine_of s rows slots) M g) (record {
+    subst (λ (N : Machine). Again N.world) (same_opened (machine_of s rows slots) M g) (record {
       all = λ r at. record { back = back r at; filed = f.filed r at };
       slots = λ y at. elim (f.each y at) [ inl none ↦ absurd none | inr from ↦ from-right rows y stand.rises from ];
     })
 
-opened-by : (s : Setting) (held : List KeptRow) (M : Machine) (r : Result (List Row) ℕ) → rows_in s.max_rows held ≡ r → IsOpenedBy s r (Ok M) → Again M
+opened-by : (s : Setting) (held : List KeptRow) (M : Machine) (r : Result (List Row) ℕ) → rows_in s.max_rows held ≡ r → IsOpenedBy s r (Ok M) → Again M.world
 opened-by s held M (Err etag) e x = absurd cc
 opened-by s held M (Ok rows) e x = opened-slots s held M x.read (e ∙ ap Ok (sym x.rows)) x.right (slots_from s 0 [] x.read) refl x.opened
 
-pub opened-Again : (s : Setting) (held : List KeptRow) (M : Machine) → IsOpened s held (Ok M) → Again M
+pub opened-Again : (s : Setting) (held : List KeptRow) (M : Machine) → IsOpened s held (Ok M) → Again M.world
 opened-Again s held M x = opened-by s held M (rows_in s.max_rows held) refl x

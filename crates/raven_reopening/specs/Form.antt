@@ -9,7 +9,7 @@ use Rattle.spec_data.specs.Sound.{IsSound}
 use Rattle.spec_data.specs.Written.{text_of}
 use Rattle.spec_store.specs.Commit.{Command, Put, Delete}
 use Rattle.spec_store.specs.Kept.{is_etag, is_stored, max_body}
-use Rattle.spec_server.specs.Machine.{Event, Request, Define, Auto, commands_in}
+use Rattle.spec_server.specs.Machine.{Event, Line, Do, Request, Define, Auto, commands_in}
 use Rattle.index_tree.specs.Definitions.{Definition, Static}
 use Rattle.spec_server.specs.Opening.{is_part}
 use Rattle.spec_server.specs.Script.{Given}
@@ -71,10 +71,17 @@ IsIndexing (Auto collection field) = IsUtf8 collection × (IsUtf8 field × IsTru
 IsIndexing (Define name definition) = IsByText name definition
 IsIndexing other = Unit {0}
 
+-- what the request asks to write can be stored and read again
+pub record IsValidRequest (request : Request) : Type 0 where
+  pub commands : AreCommands (commands_in request)
+  pub indexing : IsIndexing request
+
+abbrev pub IsValidLine : Line → Type 0
+IsValidLine (Do request) = IsValidRequest request
+
 pub record IsEvent (e : Event) : Type 0 where
   pub moment : e.now < moments_end
-  pub commands : AreCommands (commands_in e.request)
-  pub indexing : IsIndexing e.request
+  pub valid : IsValidLine e.line
 
 abbrev pub AreEvents : List Event → Type 0
 AreEvents [] = Unit {0}

@@ -8,8 +8,8 @@ use Rattle.index_definition.specs.declared.definition.Definition as program
 use Rattle.index_definition.specs.declared.refusal.Part.{Part}
 use Rattle.index_definition.specs.declared.refusal.LangKind.{LangKind}
 use Rattle.index_definition.specs.declared.refusal.LangRefusal.TheVariants.{At}
-use Rattle.spec_server.specs.Machine.{Define}
-use Rattle.spec_server.specs.Script.{Asked, Defining, Do, LineRead, Plain, asked_of, asked_to_define, defined_by}
+use Rattle.spec_server.specs.Machine.{Define, Do}
+use Rattle.spec_server.specs.Script.{Asked, Defining, LineRead, Plain, asked_of, asked_to_define, defined_by}
 use Rattle.spec_server.specs.Script as read
 use Rattle.index_lang.specs.Lines.{Comes}
 use Rattle.raven_script.specs.LineView.{Answers, IsReading}

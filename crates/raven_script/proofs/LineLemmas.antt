@@ -4,7 +4,8 @@ use Rattle.std.specs.Prelude.{◌==◌, if◌then◌else◌}
 use Rattle.std.specs.Str.{IsUtf8, is_utf8}
 use Rattle.std.proofs.lemmas.Str.{IsUtf8-from_is_utf8, is_utf8-from_IsUtf8}
 use Rattle.std.proofs.lemmas.Bool.{false_from_ne_true}
-use Rattle.spec_server.specs.Script.{Do, line_of, request_of, then_read, UnknownLine}
+use Rattle.spec_server.specs.Machine.{Do}
+use Rattle.spec_server.specs.Script.{line_of, request_of, then_read, UnknownLine}
 
 -- a line that is text, and the text
 pub line_of-text : (bs text : List ℕ) → (length bs == 0) ≡ false → (text ≡ bs) × IsUtf8 bs → then_read (request_of text) (λ request. Ok (Some (Do request))) ≡ line_of bs

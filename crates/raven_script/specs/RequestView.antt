@@ -30,8 +30,8 @@ request_view (r.Stale name cutoff) = is.Stale name cutoff
 request_view r.Indexes = is.Indexes
 request_view r.Stats = is.Stats
 
-abbrev pub line_view : Line → read.Line
-line_view (l.Do request) = read.Do (request_view request)
+abbrev pub line_view : Line → is.Line
+line_view (l.Do request) = is.Do (request_view request)
 
 -- the text has this fault; out of memory is none
 abbrev pub IsBadId : {A : Type 0} → Option Fault → Result A read.ReadRefusal → Type 0

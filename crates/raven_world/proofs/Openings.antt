@@ -12,7 +12,7 @@ use Rattle.spec_data.specs.Limits.{max_name}
 use Rattle.spec_data.specs.Folding.{folded}
 use Rattle.spec_data.specs.Rows.{Row, is_document}
 use Rattle.spec_store.specs.Commit.{Setting, is_index_id}
-use Rattle.spec_server.specs.Machine.{Machine}
+use Rattle.spec_server.specs.Machine.{Machine, machine_of}
 use Rattle.index_tree.specs.Definitions.{Definition, Static, Auto}
 use Rattle.spec_server.specs.Opening.{ReadRow, and_then, is_defining, is_filed, is_too_many, may_be_named, name_in, opened_with, or_bad, rows_of, slot_of, slots_after, slots_from, slots_with, with_slot}
 use Rattle.spec_store.specs.Store.{Store}
@@ -23,7 +23,6 @@ use Rattle.doc_store.specs.declared.opening.OpenFault.{OpenFault}
 use Rattle.doc_store.specs.declared.opening.OpenFault.TheVariants.{KeptBad, NoMemory}
 use Rattle.raven_world.specs.Kinds.{begins_as}
 use Rattle.raven_world.specs.Opened.{HasRead, TellsBadRow}
-use Rattle.raven_world.specs.WorldView.{machine_of}
 
 -- NAMES
 

@@ -10,35 +10,34 @@ use Rattle.spec_server.specs.Replies as replies
 use Rattle.index_tree.specs.Definitions.{Definition, same_definition}
 use Rattle.spec_index.specs.Optimiser.{Make, pick, name_of}
 use Rattle.spec_index.specs.World.{World, Slot, NameServes, NameTooLong, ReservedName, TooManyIndexes, added, added_if_room, define_at, index_id, is_named, is_reserved_name, removed, serving, unless_refused}
-use Rattle.spec_server.specs.Machine.{Change, Define, Remove, Auto as AutoOne, in_world, no_change, one_field, refused_at, change_of_slots, results_of, rewrote, use_or_make, wrote, write, change_of}
-use Rattle.raven_world.specs.WorldView.{machine_of}
+use Rattle.spec_server.specs.Machine.{Course, Define, Remove, Auto as AutoOne, in_world, one_change, only_reply, one_field, refused_at, change_of_slots, results_of, rewrote, use_or_make, wrote, write, course_of}
 
 -- WRITES
 
 pub write-refused : (W : World) (reply : List Done → Reply) (now : ℕ) (commands : List Command) (refused : Refused) (told : Reply) → commit W.setting Client now commands W.store ≡ Err refused
-    → told ≡ refused_at refused.at refused.kind → no_change (machine_of W) told ≡ write (machine_of W) reply now commands
-write-refused W reply now commands refused told is tells = ap (no_change (machine_of W)) tells ∙ ap (wrote (machine_of W) reply now commands) (sym is)
+    → told ≡ refused_at refused.at refused.kind → only_reply told ≡ write W reply now commands
+write-refused W reply now commands refused told is tells = ap only_reply tells ∙ ap (wrote W reply now commands) (sym is)
 
 pub write-done : (W : World) (reply : List Done → Reply) (now : ℕ) (commands : List Command) (w : Written) (told : Reply) (etags : List (Option ℕ)) → commit W.setting Client now commands W.store ≡ Ok w
     → etags ≡ etags_taken now commands W.store → told ≡ reply (results_of W.setting.base w.store commands etags)
-    → (let c : Change = record { reply = told; machine = machine_of (in_world W w.store W.slots); rows = w.rows } in c) ≡ write (machine_of W) reply now commands
+    → one_change told w.rows (in_world W w.store W.slots) ≡ write W reply now commands
 write-done W reply now commands w told etags is taken tells =
-    ap change_with (tells ∙ ap (λ e. reply (results_of W.setting.base w.store commands e)) taken) ∙ ap (wrote (machine_of W) reply now commands) (sym is)
+    ap change_with (tells ∙ ap (λ e. reply (results_of W.setting.base w.store commands e)) taken) ∙ ap (wrote W reply now commands) (sym is)
   where
-    change_with : Reply → Change
-    change_with r = record { reply = r; machine = machine_of (in_world W w.store W.slots); rows = w.rows }
+    change_with : Reply → Course
+    change_with r = one_change r w.rows (in_world W w.store W.slots)
 
 pub ruleset writes = (write-refused, write-done)
 
 -- CHANGES OF SLOTS
 
 pub rewrote-refused : (W : World) (now : ℕ) (reply : Reply) (slots : List Slot) (commands : List Command) (refused : Refused) (told : Reply) → commit W.setting Server now commands W.store ≡ Err refused
-    → told ≡ refused_at refused.at refused.kind → no_change (machine_of W) told ≡ rewrote (machine_of W) reply slots (commit W.setting Server now commands W.store)
-rewrote-refused W now reply slots commands refused told is tells = ap (no_change (machine_of W)) tells ∙ ap (rewrote (machine_of W) reply slots) (sym is)
+    → told ≡ refused_at refused.at refused.kind → only_reply told ≡ rewrote W reply slots (commit W.setting Server now commands W.store)
+rewrote-refused W now reply slots commands refused told is tells = ap only_reply tells ∙ ap (rewrote W reply slots) (sym is)
 
 pub rewrote-done : (W : World) (now : ℕ) (reply : Reply) (slots : List Slot) (commands : List Command) (store : Store) (rows : List Row) → (let w : Written = record { store = store; rows = rows } in commit W.setting Server now commands W.store ≡ Ok w)
-    → (let c : Change = record { reply = reply; machine = machine_of (in_world W store slots); rows = rows } in c) ≡ rewrote (machine_of W) reply slots (commit W.setting Server now commands W.store)
-rewrote-done W now reply slots commands store rows is = ap (rewrote (machine_of W) reply slots) (sym is)
+    → one_change reply rows (in_world W store slots) ≡ rewrote W reply slots (commit W.setting Server now commands W.store)
+rewrote-done W now reply slots commands store rows is = ap (rewrote W reply slots) (sym is)
 
 pub ruleset definitions = (rewrote-refused, rewrote-done)
 
@@ -52,74 +51,74 @@ module _ (W : World) (now : ℕ) (collection field : List ℕ) where
   own = Definition.Auto collection ((field ∷ []) ∷ [])
 
   -- what is answered where there are as many indexes as may be, or not, and where the name serves, or not
-  abbrev made : Bool → Bool → Change
-  made many serves = change_of_slots (machine_of W) now Index name (cond many (Err TooManyIndexes) (cond serves (Err NameServes) (Ok (added W name own))))
+  abbrev made : Bool → Bool → Course
+  made many serves = change_of_slots W now Index name (cond many (Err TooManyIndexes) (cond serves (Err NameServes) (Ok (added W name own))))
 
   picked : pick (one_field collection field) W.store W.slots ≡ Make (one_field collection field)
-      → made (nat_le W.setting.max_slots (length W.slots)) (is_some (serving W.slots name)) ≡ change_of (machine_of W) now (AutoOne collection field)
-  picked p = ap (use_or_make (machine_of W) now) (sym p)
+      → made (nat_le W.setting.max_slots (length W.slots)) (is_some (serving W.slots name)) ≡ course_of W now (AutoOne collection field)
+  picked p = ap (use_or_make W now) (sym p)
 
   pub make-many : pick (one_field collection field) W.store W.slots ≡ Make (one_field collection field) → nat_le W.setting.max_slots (length W.slots) ≡ true
-      → no_change (machine_of W) TooMany ≡ change_of (machine_of W) now (AutoOne collection field)
+      → only_reply TooMany ≡ course_of W now (AutoOne collection field)
   make-many p many = ap (λ b. made b (is_some (serving W.slots name))) (sym many) ∙ picked p
 
   pub make-serves : pick (one_field collection field) W.store W.slots ≡ Make (one_field collection field) → nat_le W.setting.max_slots (length W.slots) ≡ false
-      → is_some (serving W.slots name) ≡ true → no_change (machine_of W) UnknownLine ≡ change_of (machine_of W) now (AutoOne collection field)
+      → is_some (serving W.slots name) ≡ true → only_reply UnknownLine ≡ course_of W now (AutoOne collection field)
   make-serves p few serves = (λ i. made ((sym few) i) ((sym serves) i)) ∙ picked p
 
   pub make-added : pick (one_field collection field) W.store W.slots ≡ Make (one_field collection field) → nat_le W.setting.max_slots (length W.slots) ≡ false
-      → is_some (serving W.slots name) ≡ false → change_of_slots (machine_of W) now Index name (Ok (added W name own)) ≡ change_of (machine_of W) now (AutoOne collection field)
+      → is_some (serving W.slots name) ≡ false → change_of_slots W now Index name (Ok (added W name own)) ≡ course_of W now (AutoOne collection field)
   make-added p few free = (λ i. made ((sym few) i) ((sym free) i)) ∙ picked p
 
 -- an index that is told the name and the definition
 pub make-told : (W : World) (now : ℕ) (collection field told : List ℕ) (d : Definition) → pick (one_field collection field) W.store W.slots ≡ Make (one_field collection field)
     → nat_le W.setting.max_slots (length W.slots) ≡ false → told ≡ name_of W.slots (last W.store + 1) (one_field collection field) → is_some (serving W.slots told) ≡ false
-    → d ≡ Definition.Auto collection ((field ∷ []) ∷ []) → change_of_slots (machine_of W) now Index told (Ok (added W told d)) ≡ change_of (machine_of W) now (AutoOne collection field)
+    → d ≡ Definition.Auto collection ((field ∷ []) ∷ []) → change_of_slots W now Index told (Ok (added W told d)) ≡ course_of W now (AutoOne collection field)
 make-told W now collection field told d p few is free own =
-    (λ i. change_of_slots (machine_of W) now Index (is i) (Ok (added W (is i) (own i))))
+    (λ i. change_of_slots W now Index (is i) (Ok (added W (is i) (own i))))
     ∙ make-added W now collection field p few (ap (λ n. is_some (serving W.slots n)) (sym is) ∙ free)
 
 -- AN INDEX THAT A CLIENT DEFINES
 
 module _ (W : World) (now : ℕ) (name : List ℕ) (d : Definition) where
-  abbrev asked : Bool → Bool → Option Slot → Change
+  abbrev asked : Bool → Bool → Option Slot → Course
   asked reserved long found =
-      change_of_slots (machine_of W) now Index name (unless_refused (cond reserved (Some ReservedName) (cond long (Some (NameTooLong (length name))) None)) (define_at W name d found))
+      change_of_slots W now Index name (unless_refused (cond reserved (Some ReservedName) (cond long (Some (NameTooLong (length name))) None)) (define_at W name d found))
 
-  pub define-reserved : is_reserved_name name ≡ true → no_change (machine_of W) replies.ReservedName ≡ change_of (machine_of W) now (Define name d)
+  pub define-reserved : is_reserved_name name ≡ true → only_reply replies.ReservedName ≡ course_of W now (Define name d)
   define-reserved h = λ i. asked ((sym h) i) (nat_lt 200 (length name)) (serving W.slots name)
 
-  pub define-long : is_reserved_name name ≡ false → nat_lt 200 (length name) ≡ true → no_change (machine_of W) (replies.NameTooLong (length name)) ≡ change_of (machine_of W) now (Define name d)
+  pub define-long : is_reserved_name name ≡ false → nat_lt 200 (length name) ≡ true → only_reply (replies.NameTooLong (length name)) ≡ course_of W now (Define name d)
   define-long h long = λ i. asked ((sym h) i) ((sym long) i) (serving W.slots name)
 
   pub define-new : is_reserved_name name ≡ false → nat_lt 200 (length name) ≡ false → serving W.slots name ≡ None
-      → change_of_slots (machine_of W) now Index name (added_if_room W name d) ≡ change_of (machine_of W) now (Define name d)
+      → change_of_slots W now Index name (added_if_room W name d) ≡ course_of W now (Define name d)
   define-new h short none = λ i. asked ((sym h) i) ((sym short) i) ((sym none) i)
 
   served : (s : Slot) → is_reserved_name name ≡ false → nat_lt 200 (length name) ≡ false → serving W.slots name ≡ Some s
-      → change_of_slots (machine_of W) now Index name (define_at W name d (Some s)) ≡ change_of (machine_of W) now (Define name d)
+      → change_of_slots W now Index name (define_at W name d (Some s)) ≡ course_of W now (Define name d)
   served s h short found = λ i. asked ((sym h) i) ((sym short) i) ((sym found) i)
 
   pub define-again : (s : Slot) → is_reserved_name name ≡ false → nat_lt 200 (length name) ≡ false → serving W.slots name ≡ Some s → same_definition d s.version.definition ≡ true
-      → no_change (machine_of W) (Index s.name) ≡ change_of (machine_of W) now (Define name d)
+      → one_change (Index s.name) [] W ≡ course_of W now (Define name d)
   define-again s h short found same =
-      ap (λ b. change_of_slots (machine_of W) now Index name (cond b (Ok (record { slots = W.slots; commands = []; name = s.name })) (Err NameServes))) (sym same)
+      ap (λ b. change_of_slots W now Index name (cond b (Ok (record { slots = W.slots; commands = []; name = s.name })) (Err NameServes))) (sym same)
       ∙ served s h short found
 
   pub define-other : (s : Slot) → is_reserved_name name ≡ false → nat_lt 200 (length name) ≡ false → serving W.slots name ≡ Some s → same_definition d s.version.definition ≡ false
-      → no_change (machine_of W) UnknownLine ≡ change_of (machine_of W) now (Define name d)
+      → only_reply UnknownLine ≡ course_of W now (Define name d)
   define-other s h short found other =
-      ap (λ b. change_of_slots (machine_of W) now Index name (cond b (Ok (record { slots = W.slots; commands = []; name = s.name })) (Err NameServes))) (sym other)
+      ap (λ b. change_of_slots W now Index name (cond b (Ok (record { slots = W.slots; commands = []; name = s.name })) (Err NameServes))) (sym other)
       ∙ served s h short found
 
 -- AN INDEX THAT IS REMOVED
 
-pub remove-none : (W : World) (now : ℕ) (name : List ℕ) → serving W.slots name ≡ None → no_change (machine_of W) (NoIndex name) ≡ change_of (machine_of W) now (Remove name)
-remove-none W now name none = ap (λ o. change_of_slots (machine_of W) now Removed name (removed W name o)) (sym none)
+pub remove-none : (W : World) (now : ℕ) (name : List ℕ) → serving W.slots name ≡ None → only_reply (NoIndex name) ≡ course_of W now (Remove name)
+remove-none W now name none = ap (λ o. change_of_slots W now Removed name (removed W name o)) (sym none)
 
 pub remove-some : (W : World) (now : ℕ) (name : List ℕ) (s : Slot) → serving W.slots name ≡ Some s
-    → rewrote (machine_of W) (Removed s.name) (filter (λ t. not (is_named name t)) W.slots) (commit W.setting Server now (Delete (index_id s.name) AnyVector ∷ []) W.store) ≡ change_of (machine_of W) now (Remove name)
-remove-some W now name s found = ap (λ o. change_of_slots (machine_of W) now Removed name (removed W name o)) (sym found)
+    → rewrote W (Removed s.name) (filter (λ t. not (is_named name t)) W.slots) (commit W.setting Server now (Delete (index_id s.name) AnyVector ∷ []) W.store) ≡ course_of W now (Remove name)
+remove-some W now name s found = ap (λ o. change_of_slots W now Removed name (removed W name o)) (sym found)
 
 -- THE NAME OF A NEW INDEX
 

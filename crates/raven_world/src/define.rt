@@ -1,14 +1,14 @@
 //! Indexes that are defined and removed, and the rows of their definitions.
 ghost use Rattle.std.specs.Prelude.{◌≡◌, ◌+◌, ◌++◌, ◌∷◌, [], IfOk, IfSome, Ok, length, map, nat_le};
 ghost use Rattle.spec_store.specs.Commit.{AnyVector, Delete, Put, Server, commit as spec_commit};
-ghost use Rattle.spec_server.specs.Machine.{Remove, change_of, change_of_slots, rewrote};
+ghost use Rattle.spec_server.specs.Machine.{Remove, course_of, change_of_slots, rewrote};
 ghost use Rattle.spec_server.specs.Replies.{Index as IndexOf, Removed as RemovedOf};
 ghost use Rattle.spec_store.specs.Store.{last};
 ghost use Rattle.spec_index.specs.World.{added, added_if_room, new_version, index_id as spec_index_id, row_body as spec_row_body};
 ghost use Rattle.doc_txn.specs.CommandView.{command_view};
 ghost use Rattle.index_definition.specs.DefinitionView.{definition_view};
 ghost use Rattle.raven_reply.specs.ReplyView.{reply_view};
-ghost use Rattle.raven_world.specs.WorldView.{define_as, machine_of, answer_view};
+ghost use Rattle.raven_world.specs.WorldView.{define_as, answer_view};
 
 use crate::answer::no_index;
 use crate::naming::{index_id, is_reserved_name};
@@ -100,7 +100,7 @@ impl World {
         reply: Reply,
         now: u64,
     ) -> Result<Change, WorldFault>
-        ensures { IfSome (answer_view self.now result) (λ change. change ≡ rewrote (machine_of self.now) (reply_view reply) slots.items (spec_commit self.now.setting Server now (map command_view commands.now) self.now.store)) }
+        ensures { IfSome (answer_view result) (λ course. course ≡ rewrote self.now (reply_view reply) slots.items (spec_commit self.now.setting Server now (map command_view commands.now) self.now.store)) }
     {
         match commit(
             alloc,
@@ -138,7 +138,7 @@ impl World {
         definition: Arc<Definition>,
         now: u64,
     ) -> Result<Change, WorldFault>
-        ensures { IfSome (answer_view self.now result) (λ change. change ≡ change_of_slots (machine_of self.now) now IndexOf definition.value.name (Ok (added self.now definition.value.name (definition_view definition.value.body)))) }
+        ensures { IfSome (answer_view result) (λ course. course ≡ change_of_slots self.now now IndexOf definition.value.name (Ok (added self.now definition.value.name (definition_view definition.value.body)))) }
     {
         let commands = putting(alloc, &definition)?;
         let reply = index_reply(&definition.name)?;
@@ -153,7 +153,7 @@ impl World {
         definition: Arc<Definition>,
         now: u64,
     ) -> Result<Change, WorldFault>
-        ensures { IfSome (answer_view self.now result) (λ change. change ≡ change_of (machine_of self.now) now (define_as definition.value)) }
+        ensures { IfSome (answer_view result) (λ course. course ≡ course_of self.now now (define_as definition.value)) }
     {
         let name = definition.name.as_str();
         if is_reserved_name(name) {
@@ -179,7 +179,7 @@ impl World {
         definition: Arc<Definition>,
         now: u64,
     ) -> Result<Change, WorldFault>
-        ensures { IfSome (answer_view self.now result) (λ change. change ≡ change_of_slots (machine_of self.now) now IndexOf definition.value.name (added_if_room self.now definition.value.name (definition_view definition.value.body))) }
+        ensures { IfSome (answer_view result) (λ course. course ≡ change_of_slots self.now now IndexOf definition.value.name (added_if_room self.now definition.value.name (definition_view definition.value.body))) }
     {
         if self.is_crowded() {
             return Err(WorldFault::Refused(Reply::TooManyIndexes));
@@ -189,7 +189,7 @@ impl World {
 
     /// Removes the index of a name. The row of its definition is deleted.
     pub fn remove(&self, alloc: Global, name: &Name, now: u64) -> Result<Change, WorldFault>
-        ensures { IfSome (answer_view self.now result) (λ change. change ≡ change_of (machine_of self.now) now (Remove name.now)) }
+        ensures { IfSome (answer_view result) (λ course. course ≡ course_of self.now now (Remove name.now)) }
     {
         let Some(slot) = serving(&self.slots, name.as_str()) else {
             return Err(WorldFault::Refused(no_index(alloc, name)?));

@@ -1,9 +1,9 @@
 //! Automatic indexes: the one that serves a query, or a new one.
 ghost use Rattle.std.specs.Prelude.{◌≡◌, ◌+◌, IfOk, IfSome, false, length, nat_le};
-ghost use Rattle.spec_server.specs.Machine.{Auto as AutoOne, change_of, one_field};
+ghost use Rattle.spec_server.specs.Machine.{Auto as AutoOne, course_of, one_field};
 ghost use Rattle.spec_index.specs.Optimiser.{Make, name_of, pick as spec_pick};
 ghost use Rattle.spec_store.specs.Store.{last};
-ghost use Rattle.raven_world.specs.WorldView.{AnswersQuery, machine_of, answer_view};
+ghost use Rattle.raven_world.specs.WorldView.{AnswersQuery, answer_view};
 
 use crate::choice::{Choice, pick};
 use crate::define::{index_reply, shared};
@@ -34,7 +34,7 @@ impl World {
         now: u64,
     ) -> Result<Change, WorldFault>
         requires { spec_pick (one_field collection.now field.now) self.now.store self.now.slots ≡ Make (one_field collection.now field.now) }
-        ensures { IfSome (answer_view self.now result) (λ change. change ≡ change_of (machine_of self.now) now (AutoOne collection.now field.now)) }
+        ensures { IfSome (answer_view result) (λ course. course ≡ course_of self.now now (AutoOne collection.now field.now)) }
     {
         if self.is_crowded() {
             return Err(WorldFault::Refused(Reply::TooManyIndexes));

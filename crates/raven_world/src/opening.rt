@@ -7,7 +7,7 @@ ghost use Rattle.spec_server.specs.Opening.{is_defining as spec_is_defining, is_
 ghost use Rattle.index_definition.specs.DefinitionView.{definition_view};
 ghost use Rattle.index_lang.specs.Openings.{IsReadRow, OpensAs};
 ghost use Rattle.raven_world.specs.Opened.{TakesRow, TellsBadRow, read_as};
-ghost use Rattle.raven_world.specs.WorldView.{machine_of};
+ghost use Rattle.spec_server.specs.Machine.{machine_of};
 
 use crate::naming::read_name;
 use crate::slot::{Slot, fresh_slot};

@@ -2,7 +2,7 @@
 ghost use Rattle.std.specs.Prelude.{◌≡◌, ◌≤◌, ◌∷◌, [], IfOk, IfSome, map};
 ghost use Rattle.spec_server.specs.Machine.{after_batch as spec_brought_on, after_batch_if_named as spec_brought_on_if, pump, pump_at, pumping};
 ghost use Rattle.spec_index.specs.World.{batch, serving as spec_serving};
-ghost use Rattle.raven_world.specs.WorldView.{change_view, machine_of, answer_view};
+ghost use Rattle.raven_world.specs.WorldView.{change_view, answer_view};
 
 use crate::answer::no_index;
 use crate::slot::{Slot, is_named, serving};
@@ -134,7 +134,7 @@ fn pumping_alone(alloc: Global, store: &Store, max: u32, slot: &Slot) -> Result<
 impl World {
     /// Each index catches up by one batch of at most `max` rows.
     pub fn pump(&self, alloc: Global, max: u32) -> Result<Change, NoMemory>
-        ensures { IfOk result (λ change. change_view change ≡ pump (machine_of self.now) max) }
+        ensures { IfOk result (λ change. change_view change ≡ pump self.now max) }
     {
         let (slots, pumped) = all_brought_on(alloc, &self.store, max, &self.slots)?;
         let world = self.with_slots(slots)?;
@@ -147,7 +147,7 @@ impl World {
 
     /// The index of this name catches up by one batch of at most `max` rows.
     pub fn pump_one(&self, alloc: Global, max: u32, name: &Name) -> Result<Change, WorldFault>
-        ensures { IfSome (answer_view self.now result) (λ change. change ≡ pump_at (machine_of self.now) max name.now (spec_serving self.now.slots name.now)) }
+        ensures { IfSome (answer_view result) (λ course. course ≡ pump_at self.now max name.now (spec_serving self.now.slots name.now)) }
     {
         let Some(slot) = serving(&self.slots, name.as_str()) else {
             return Err(WorldFault::Refused(no_index(alloc, name)?));

@@ -1,8 +1,8 @@
 //! The world.
-ghost use Rattle.std.specs.Prelude.{◌≡◌, IfOk};
-ghost use Rattle.spec_server.specs.Machine.{in_world, no_change};
+ghost use Rattle.std.specs.Prelude.{◌≡◌, [], IfOk};
+ghost use Rattle.spec_server.specs.Machine.{in_world, one_change};
 ghost use Rattle.raven_reply.specs.ReplyView.{reply_view};
-ghost use Rattle.raven_world.specs.WorldView.{change_view, machine_of};
+ghost use Rattle.raven_world.specs.WorldView.{change_view};
 ghost use Rattle.raven_world.specs.declared.world.WorldFault.TheVariants.{NoMemory as OutOfMemory};
 
 use crate::slot::{Slot, copies};
@@ -98,7 +98,7 @@ impl World {
 
     /// The same world, with a reply.
     pub(crate) fn unchanged(&self, alloc: Global, reply: Reply) -> Result<Change, NoMemory>
-        ensures { IfOk result (λ change. change_view change ≡ no_change (machine_of self.now) (reply_view reply)) }
+        ensures { IfOk result (λ change. change_view change ≡ one_change (reply_view reply) [] self.now) }
     {
         let world = self.with_slots(copies(alloc, &self.slots)?)?;
         let rows = Rows::new(alloc);

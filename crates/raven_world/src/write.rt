@@ -1,12 +1,12 @@
 //! Writes of clients.
 ghost use Rattle.std.specs.Prelude.{◌≡◌, ◌∷◌, [], IfOk, IfSome, map, string_bytes};
 ghost use Rattle.spec_data.specs.Folding.{folded};
-ghost use Rattle.spec_server.specs.Machine.{refused_at as spec_refused_at, result_of as spec_result_of, results_of as spec_results_of, in_world, single_reply, write};
+ghost use Rattle.spec_server.specs.Machine.{refused_at as spec_refused_at, result_of as spec_result_of, results_of as spec_results_of, in_world, one_change, single_reply, write};
 ghost use Rattle.spec_server.specs.Replies.{Bulk};
 ghost use Rattle.doc_txn.specs.CommandView.{command_view};
 ghost use Rattle.doc_txn.specs.FaultView.{kind_view};
 ghost use Rattle.raven_reply.specs.ReplyView.{reply_view, result_view};
-ghost use Rattle.raven_world.specs.WorldView.{change_view, machine_of, answer_view};
+ghost use Rattle.raven_world.specs.WorldView.{change_view, answer_view};
 ghost use Rattle.raven_world.specs.Transacts.{Transacts};
 
 use crate::slot::copies;
@@ -141,7 +141,7 @@ impl World {
     }
 
     fn changed(&self, alloc: Global, done: Transaction, reply: Reply) -> Result<Change, NoMemory>
-        ensures { IfOk result (λ change. change_view change ≡ record { reply = reply_view reply; machine = machine_of (in_world self.now done.store self.now.slots); rows = done.rows }) }
+        ensures { IfOk result (λ change. change_view change ≡ one_change (reply_view reply) done.rows (in_world self.now done.store self.now.slots)) }
     {
         let world = self.with(done.store, copies(alloc, &self.slots)?)?;
         Ok(Change {
@@ -159,7 +159,7 @@ impl World {
         command: Command,
         now: u64,
     ) -> Result<Change, WorldFault>
-        ensures { IfSome (answer_view self.now result) (λ change. change ≡ write (machine_of self.now) single_reply now (command_view command ∷ [])) }
+        ensures { IfSome (answer_view result) (λ course. course ≡ write self.now single_reply now (command_view command ∷ [])) }
     {
         let mut commands = Commands::new(alloc);
         commands.push(command)?;
@@ -171,7 +171,7 @@ impl World {
     /// Takes commands in order, all of them or none, and replies to each.
     #[tactic(auto, using(crate::proofs::Steps::writes))]
     pub fn commit(&self, alloc: Global, commands: &Commands, now: u64) -> Result<Change, WorldFault>
-        ensures { IfSome (answer_view self.now result) (λ change. change ≡ write (machine_of self.now) Bulk now (map command_view commands.now)) }
+        ensures { IfSome (answer_view result) (λ course. course ≡ write self.now Bulk now (map command_view commands.now)) }
     {
         let done = self.transact(alloc, commands, now)?;
         let results = BulkResults::of(self.results(alloc, commands, &done)?);

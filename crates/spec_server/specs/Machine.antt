@@ -20,8 +20,19 @@ use Rattle.spec_server.specs.Replies as replies
 use Rattle.spec_index.specs.World.{Version, Slot, World, reads, batch, serving, SlotChange, SlotRefusal, define, define_named, remove, is_named, definition_data}
 use Rattle.spec_index.specs.Find.{found, found_in}
 
+-- a batch that a worker has read and not yet published: the number of its index, and the version after the batch
+pub record Held : Type 0 where
+  pub worker : ℕ
+  pub number : ℕ
+  pub version : Version
+
+-- the world, and what workers hold
 pub record Machine : Type 0 where
   pub world : World
+  pub held : List Held
+
+abbrev pub with_world : Machine → World → Machine
+with_world M W = record { world = W; held = M.held }
 
 pub data Request : Type 0 where
   Put : (id : List ℕ) (expected : Expect) (body : Data) → Request
@@ -37,6 +48,10 @@ pub data Request : Type 0 where
   Stale : (name : List ℕ) (cutoff : Option ℕ) → Request
   Indexes Stats : Request
 
+-- what one line asks
+pub data Line : Type 0 where
+  Do : Request → Line
+
 -- the commands that a client's request asks to write
 abbrev pub commands_in : Request → List Command
 commands_in (Put id expected body) = Command.Put id expected body ∷ []
@@ -44,8 +59,12 @@ commands_in (Delete id expected) = Command.Delete id expected ∷ []
 commands_in (Bulk commands) = commands
 commands_in other = []
 
+-- the commands that a line asks to write
+abbrev pub commands_on : Line → List Command
+commands_on (Do request) = commands_in request
+
 -- What the keeper does in one step: for each call that stores rows, in order, whether it takes them, and its counts of faults before and after.
--- A change that has rows makes one call, and a call past the end of the list takes its rows.
+-- A call past the end of the list takes its rows.
 pub record Keeping : Type 0 where
   pub takes : List Bool
   pub before : ℕ
@@ -55,9 +74,9 @@ pub record Keeping : Type 0 where
 abbrev pub takes_all : Keeping
 takes_all = record { takes = []; before = 0; after = 0 }
 
--- a request, the moment at which it comes, and what the keeper does
+-- what a line asks, the moment at which it comes, and what the keeper does
 pub record Event : Type 0 where
-  pub request : Request
+  pub line : Line
   pub now : ℕ
   pub keeping : Keeping
 
@@ -68,27 +87,56 @@ pub record Replied : Type 0 where
 abbrev pub same_machine : Machine → Reply → Replied
 same_machine M reply = record { reply = reply; machine = M }
 
--- a change before the keeper is called: the rows to store, and the reply and the machine if it takes them
-pub record Change : Type 0 where
-  pub reply : Reply
-  pub machine : Machine
-  pub rows : List Row
+-- COURSES
 
-abbrev pub no_change : Machine → Reply → Change
-no_change M reply = record { reply = reply; machine = M; rows = [] }
+-- a change of a world: the rows that the keeper is to store, and the world once it has
+pub record Change : Type 0 where
+  pub rows : List Row
+  pub world : World
+
+-- What a request does: changes, each of the world that the one before it leaves, and the reply if all of them are made.
+pub record Course : Type 0 where
+  pub changes : List Change
+  pub reply : Reply
+
+-- nothing is changed
+abbrev pub only_reply : Reply → Course
+only_reply reply = record { changes = []; reply = reply }
+
+abbrev pub one_change : Reply → List Row → World → Course
+one_change reply rows W = record { changes = record { rows = rows; world = W } ∷ []; reply = reply }
 
 abbrev pub is_first_taken : List Bool → Bool
 is_first_taken [] = true
 is_first_taken (taken ∷ more) = taken
 
 -- a change without rows needs no call of the keeper
-abbrev pub is_taken : Keeping → List Row → Bool
-is_taken k [] = true
-is_taken k (r ∷ rows) = is_first_taken k.takes
+abbrev pub is_taken : List Bool → List Row → Bool
+is_taken takes [] = true
+is_taken takes (r ∷ rows) = is_first_taken takes
 
--- if the keeper does not take the rows, nothing changes and the reply is KeeperFault
-abbrev pub settled : Machine → Keeping → Change → Replied
-settled M k c = if is_taken k c.rows then record { reply = c.reply; machine = c.machine } else same_machine M (replies.KeeperFault k.before k.after)
+abbrev pub without_first : List Bool → List Bool
+without_first [] = []
+without_first (taken ∷ more) = more
+
+-- what the keeper does at the calls after that for these rows
+abbrev pub takes_after : List Row → List Bool → List Bool
+takes_after [] takes = takes
+takes_after (r ∷ rows) takes = without_first takes
+
+-- The changes are made one after another. The first whose rows the keeper does not take is not made, and ends the course with the reply
+-- KeeperFault; those before it stand.
+abbrev pub made : Keeping → Machine → List Bool → List Change → Reply → Replied
+made k M takes [] reply = record { reply = reply; machine = M }
+made k M takes (c ∷ more) reply =
+    if is_taken takes c.rows
+    then made k (with_world M c.world) (takes_after c.rows takes) more reply
+    else same_machine M (replies.KeeperFault k.before k.after)
+
+abbrev pub settled : Machine → Keeping → Course → Replied
+settled M k course = made k M k.takes course.changes course.reply
+
+-- THE PARTS OF A WORLD
 
 abbrev pub in_world : World → Store → List Slot → World
 in_world W store slots = record { setting = W.setting; store = store; slots = slots; notes = W.notes }
@@ -140,35 +188,32 @@ single_reply (replies.Result.Put vector id ∷ more) = replies.Put vector id
 single_reply (replies.Result.Deleted deleted id ∷ more) = replies.Deleted deleted id
 
 -- the change that the commands of a client make: all of them, or none
-abbrev pub wrote : Machine → (List replies.Result → Reply) → ℕ → List Command → Result Written Refused → Change
-wrote M reply now commands (Err refused) = no_change M (write_refused refused)
-wrote M reply now commands (Ok w) = record {
-  reply = reply (results_of M.world.setting.base w.store commands (etags_taken now commands M.world.store));
-  machine = record { world = in_world M.world w.store M.world.slots };
-  rows = w.rows;
-}
+abbrev pub wrote : World → (List replies.Result → Reply) → ℕ → List Command → Result Written Refused → Course
+wrote W reply now commands (Err refused) = only_reply (write_refused refused)
+wrote W reply now commands (Ok w) =
+    one_change (reply (results_of W.setting.base w.store commands (etags_taken now commands W.store))) w.rows (in_world W w.store W.slots)
 
-abbrev pub write : Machine → (List replies.Result → Reply) → ℕ → List Command → Change
-write M reply now commands = wrote M reply now commands (commit M.world.setting Client now commands M.world.store)
+abbrev pub write : World → (List replies.Result → Reply) → ℕ → List Command → Course
+write W reply now commands = wrote W reply now commands (commit W.setting Client now commands W.store)
 
 -- INDEXES, whose rows are written by the server
 
-abbrev pub rewrote : Machine → Reply → List Slot → Result Written Refused → Change
-rewrote M reply slots (Err refused) = no_change M (write_refused refused)
-rewrote M reply slots (Ok w) = record { reply = reply; machine = record { world = in_world M.world w.store slots }; rows = w.rows }
+abbrev pub rewrote : World → Reply → List Slot → Result Written Refused → Course
+rewrote W reply slots (Err refused) = only_reply (write_refused refused)
+rewrote W reply slots (Ok w) = one_change reply w.rows (in_world W w.store slots)
 
 -- the reply has the name as the slot spells it, which may differ from the request
-abbrev pub change_of_slots : Machine → ℕ → (List ℕ → Reply) → List ℕ → Result SlotChange SlotRefusal → Change
-change_of_slots M now reply name (Err refusal) = no_change M (slot_refused name refusal)
-change_of_slots M now reply name (Ok c) = rewrote M (reply c.name) c.slots (commit M.world.setting Server now c.commands M.world.store)
+abbrev pub change_of_slots : World → ℕ → (List ℕ → Reply) → List ℕ → Result SlotChange SlotRefusal → Course
+change_of_slots W now reply name (Err refusal) = only_reply (slot_refused name refusal)
+change_of_slots W now reply name (Ok c) = rewrote W (reply c.name) c.slots (commit W.setting Server now c.commands W.store)
 
 -- the index that was picked, or a new one of the shape
-abbrev pub use_or_make : Machine → ℕ → Choice → Change
-use_or_make M now (Use s) = no_change M (Index s.name)
-use_or_make M now (Make shape) =
-    let name = name_of M.world.slots (last M.world.store + 1) shape in
-    change_of_slots M now Index name (define M.world name (Definition.Auto shape.collection shape.fields))
-use_or_make M now Merge = no_change M UnknownLine
+abbrev pub use_or_make : World → ℕ → Choice → Course
+use_or_make W now (Use s) = only_reply (Index s.name)
+use_or_make W now (Make shape) =
+    let name = name_of W.slots (last W.store + 1) shape in
+    change_of_slots W now Index name (define W name (Definition.Auto shape.collection shape.fields))
+use_or_make W now Merge = only_reply UnknownLine
 
 -- the shape of a query for one field
 abbrev pub one_field : List ℕ → List ℕ → Shape
@@ -188,28 +233,21 @@ abbrev pub pumping : Store → ℕ → Slot → Pumping
 pumping S max s = record { from = s.version.etag; index = s.name; to = (after_batch S max s).version.etag }
 
 -- one batch for each slot, in order of number
-abbrev pub pump : Machine → ℕ → Change
-pump M max = record {
-  reply = Pumped (map (pumping M.world.store max) M.world.slots);
-  machine = record { world = with_slots M.world (map (after_batch M.world.store max) M.world.slots) };
-  rows = [];
-}
+abbrev pub pump : World → ℕ → Course
+pump W max = one_change (Pumped (map (pumping W.store max) W.slots)) [] (with_slots W (map (after_batch W.store max) W.slots))
 
 abbrev pub after_batch_if_named : Store → ℕ → List ℕ → Slot → Slot
 after_batch_if_named S max name s = if is_named name s then after_batch S max s else s
 
 -- one batch for the slot that serves the name
-abbrev pub pump_at : Machine → ℕ → List ℕ → Option Slot → Change
-pump_at M max name None = no_change M (NoIndex name)
-pump_at M max name (Some s) = record {
-  reply = Pumped (pumping M.world.store max s ∷ []);
-  machine = record { world = with_slots M.world (map (after_batch_if_named M.world.store max name) M.world.slots) };
-  rows = [];
-}
+abbrev pub pump_at : World → ℕ → List ℕ → Option Slot → Course
+pump_at W max name None = only_reply (NoIndex name)
+pump_at W max name (Some s) =
+    one_change (Pumped (pumping W.store max s ∷ [])) [] (with_slots W (map (after_batch_if_named W.store max name) W.slots))
 
-abbrev pub pump_for : Machine → ℕ → Option (List ℕ) → Change
-pump_for M max None = pump M max
-pump_for M max (Some name) = pump_at M max name (serving M.world.slots name)
+abbrev pub pump_for : World → ℕ → Option (List ℕ) → Course
+pump_for W max None = pump W max
+pump_for W max (Some name) = pump_at W max name (serving W.slots name)
 
 -- ANSWERS, which change nothing
 
@@ -277,29 +315,37 @@ answer_stats W = replies.Stats (count_documents W.store) (length W.slots) (count
 
 -- THE STEP
 
--- what a request changes if the keeper takes it
-abbrev pub change_of : Machine → ℕ → Request → Change
-change_of M now (Put id expected body) = write M single_reply now (Command.Put id expected body ∷ [])
-change_of M now (Delete id expected) = write M single_reply now (Command.Delete id expected ∷ [])
-change_of M now (Bulk commands) = write M replies.Bulk now commands
-change_of M now (Get id) = no_change M (answer_get M.world id)
-change_of M now (Define name definition) = change_of_slots M now Index name (define_named M.world name definition)
-change_of M now (Remove name) = change_of_slots M now Removed name (remove M.world name)
-change_of M now (Auto collection field) = use_or_make M now (pick (one_field collection field) M.world.store M.world.slots)
-change_of M now (Find index field ws) = no_change M (answer_find M.world index field ws (serving M.world.slots index))
-change_of M now (Pump max index) = pump_for M max index
-change_of M now (Stale name cutoff) = no_change M (answer_stale M.world name cutoff (serving M.world.slots name))
-change_of M now Indexes = no_change M (answer_indexes M.world)
-change_of M now Stats = no_change M (answer_stats M.world)
+-- what a request does to a world
+abbrev pub course_of : World → ℕ → Request → Course
+course_of W now (Put id expected body) = write W single_reply now (Command.Put id expected body ∷ [])
+course_of W now (Delete id expected) = write W single_reply now (Command.Delete id expected ∷ [])
+course_of W now (Bulk commands) = write W replies.Bulk now commands
+course_of W now (Get id) = only_reply (answer_get W id)
+course_of W now (Define name definition) = change_of_slots W now Index name (define_named W name definition)
+course_of W now (Remove name) = change_of_slots W now Removed name (remove W name)
+course_of W now (Auto collection field) = use_or_make W now (pick (one_field collection field) W.store W.slots)
+course_of W now (Find index field ws) = only_reply (answer_find W index field ws (serving W.slots index))
+course_of W now (Pump max index) = pump_for W max index
+course_of W now (Stale name cutoff) = only_reply (answer_stale W name cutoff (serving W.slots name))
+course_of W now Indexes = only_reply (answer_indexes W)
+course_of W now Stats = only_reply (answer_stats W)
 
-abbrev pub step : Machine → Keeping → ℕ → Request → Replied
-step M k now request = settled M k (change_of M now request)
+-- the changes that a line makes, if the keeper takes the rows of all
+abbrev pub changes_of : World → ℕ → Line → List Change
+changes_of W now (Do request) = (course_of W now request).changes
+
+abbrev pub step : Machine → Keeping → ℕ → Line → Replied
+step M k now (Do request) = settled M k (course_of M.world now request)
+
+-- a world of which no worker holds anything
+abbrev pub machine_of : World → Machine
+machine_of W = record { world = W; held = [] }
 
 abbrev pub start : Setting → Machine
-start setting = record { world = record { setting = setting; store = empty_store; slots = []; notes = [] } }
+start setting = machine_of (record { setting = setting; store = empty_store; slots = []; notes = [] })
 
 abbrev pub after : Machine → Event → Machine
-after M e = (step M e.keeping e.now e.request).machine
+after M e = (step M e.keeping e.now e.line).machine
 
 -- the state after a list of events
 abbrev pub run : List Event → Machine → Machine

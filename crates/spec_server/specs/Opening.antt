@@ -10,7 +10,7 @@ use Rattle.spec_data.specs.Rows.{Row, is_document}
 use Rattle.spec_store.specs.Commit.{Setting, is_index_id}
 use Rattle.index_tree.specs.Definitions.{Definition, Static, Auto}
 use Rattle.spec_index.specs.World.{Slot, new_version, is_reserved_name, max_index_name}
-use Rattle.spec_server.specs.Machine.{Machine}
+use Rattle.spec_server.specs.Machine.{Machine, machine_of}
 use Rattle.spec_data.specs.Kept.{KeptRow}
 use Rattle.spec_store.specs.Kept.{rows_in}
 
@@ -116,7 +116,7 @@ slots_from s count slots (x ∷ xs) = and_then (or_bad x.row.etag (slots_after s
 
 abbrev pub opened_with : Setting → List Row → Result (List Slot) ℕ → Result Machine ℕ
 opened_with s rows (Err etag) = Err etag
-opened_with s rows (Ok slots) = Ok (record { world = record { setting = s; store = record { rows = rows }; slots = slots; notes = [] } })
+opened_with s rows (Ok slots) = Ok (machine_of (record { setting = s; store = record { rows = rows }; slots = slots; notes = [] }))
 
 abbrev pub rows_of : List ReadRow → List Row
 rows_of xs = map (λ x. x.row) xs

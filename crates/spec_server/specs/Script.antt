@@ -12,12 +12,8 @@ use Rattle.index_tree.specs.Language.{LangRefusal}
 use Rattle.index_tree.specs.Definitions.{Definition}
 use Rattle.spec_server.specs.Replies.{Reply, printed}
 use Rattle.spec_server.specs.Replies as replies
-use Rattle.spec_server.specs.Machine.{Machine, Request, Put, Delete, Bulk, Get, Define, Remove, Auto, Find, Pump, Stale, Indexes, Stats, Keeping, Event, step}
+use Rattle.spec_server.specs.Machine.{Machine, Request, Put, Delete, Bulk, Get, Define, Remove, Auto, Find, Pump, Stale, Indexes, Stats, Line, Do, Keeping, Event, step}
 use Rattle.spec_server.specs.Lines.{begins_with}
-
--- what one line asks
-pub data Line : Type 0 where
-  Do : Request → Line
 
 -- why a line is refused
 pub data ReadRefusal : Type 0 where
@@ -332,12 +328,12 @@ pub record Circumstance : Type 0 where
 abbrev pub written_for : Machine → Circumstance → LineRead → List ℕ
 written_for M c (Err refusal) = printed (refusal_reply refusal)
 written_for M c (Ok None) = []
-written_for M c (Ok (Some (Do request))) = printed (step M c.keeping c.now request).reply
+written_for M c (Ok (Some line)) = printed (step M c.keeping c.now line).reply
 
 abbrev pub left_by : Machine → Circumstance → LineRead → Machine
 left_by M c (Err refusal) = M
 left_by M c (Ok None) = M
-left_by M c (Ok (Some (Do request))) = (step M c.keeping c.now request).machine
+left_by M c (Ok (Some line)) = (step M c.keeping c.now line).machine
 
 -- a line, what it is read as, and its circumstance
 pub record Given : Type 0 where
@@ -365,7 +361,7 @@ after_lines (g ∷ more) M = after_lines more (after_line g M)
 abbrev pub event_of : Circumstance → LineRead → Option Event
 event_of c (Err refusal) = None
 event_of c (Ok None) = None
-event_of c (Ok (Some (Do request))) = Some (record { request = request; now = c.now; keeping = c.keeping })
+event_of c (Ok (Some line)) = Some (record { line = line; now = c.now; keeping = c.keeping })
 
 abbrev pub events_of : List Given → List Event
 events_of all = filter_map (λ g. event_of g.circumstance g.read) all

@@ -8,6 +8,7 @@ use Rattle.spec_store.specs.Later.{Later}
 use Rattle.spec_index.specs.Index.{Agrees}
 use Rattle.spec_index.specs.World.{Version, Slot, Note, World, reads, index_id, row_body}
 use Rattle.spec_store.specs.Commit.{stored_body}
+use Rattle.spec_server.specs.Machine.{Held, Machine}
 
 -- the list has the element
 abbrev pub Has : {X : Type 0} → List X → X → Type 0
@@ -58,6 +59,18 @@ pub record Sound (W : World) : Type 0 where
   pub listed : AreListed W.store W.slots
   pub notes : (n : Note) → Has W.notes n → (n.newest ≤ n.index_etag) × (n.etag ≤ last W.store)
   pub limits : IsWithinLimits W
+
+-- A batch that a worker holds may be published: its version fits the store, its number was given to an index, and if that index is still there
+-- its definition is that of the version.
+pub record IsHeld (W : World) (h : Held) : Type 0 where
+  pub fits : Fits W.store h.version
+  pub within : h.number ≤ last W.store
+  pub same : (s : Slot) → Has W.slots s → s.number ≡ h.number → s.version.definition ≡ h.version.definition
+
+-- the invariants of a machine
+pub record IsMachine (M : Machine) : Type 0 where
+  pub world : Sound M.world
+  pub held : (h : Held) → Has M.held h → IsHeld M.world h
 
 -- s is the earlier slot w: the same number and definition, and an etag that is no less
 pub record Continues (w s : Slot) : Type 0 where

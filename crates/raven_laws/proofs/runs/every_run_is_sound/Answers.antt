@@ -1,5 +1,5 @@
-use Rattle.raven_laws.proofs.MachineLemmas.{run-Sound}
+use Rattle.raven_laws.proofs.MachineLemmas.{run-IsMachine}
 use Rattle.raven_laws.proofs.runs.every_run_is_sound.Goals as goal
 
 pub returns : goal.returns
-returns c = run-Sound
+returns c = run-IsMachine

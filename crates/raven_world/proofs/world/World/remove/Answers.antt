@@ -4,7 +4,7 @@ use Rattle.spec_store.specs.Commit.{AnyVector, Delete, Server, commit}
 use Rattle.spec_server.specs.Machine.{rewrote}
 use Rattle.spec_server.specs.Replies.{Removed}
 use Rattle.spec_index.specs.World.{Slot, World, index_id, is_named, serving}
-use Rattle.raven_world.specs.WorldView.{machine_of, answer_view}
+use Rattle.raven_world.specs.WorldView.{answer_view}
 use Rattle.raven_world.proofs.Steps.{remove-some}
 use Rattle.raven_world.proofs.world.World.remove.Goals as goal
 
@@ -18,6 +18,6 @@ returns c =
     let reply = c.in_ok-reply.ensures ∙ ap Removed named in
     let slots = c.in_ok-slots.ensures ∙ ap (filter (λ (x : Slot). not (is_named name x))) (c.deref-2.ensures.value ∙ own) in
     let commands = c.in_ok-commands.ensures ∙ ap (λ n. Delete (index_id n) AnyVector ∷ []) named in
-    subst (λ x. IfSome (answer_view W c.rewrite.result) (λ change. change ≡ x))
-    ((λ i. rewrote (machine_of W) (reply i) (slots i) (commit W.setting Server c.args.now (commands i) W.store)) ∙ remove-some W c.args.now name c.in-Some.slot.now found)
+    subst (λ x. IfSome (answer_view c.rewrite.result) (λ course. course ≡ x))
+    ((λ i. rewrote W (reply i) (slots i) (commit W.setting Server c.args.now (commands i) W.store)) ∙ remove-some W c.args.now name c.in-Some.slot.now found)
     c.rewrite.ensures
