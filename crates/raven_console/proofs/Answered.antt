@@ -1,14 +1,13 @@
 -- What is written for a line, and what it leaves, by what it means.
-use Rattle.std.proofs.Common.{◌≡◌, ℕ, List, [], Bool, true, Option, Some, None, Result, Ok, Err, IfOk, refl, sym, ap, ◌∙◌, subst}
+use Rattle.std.proofs.Common.{◌≡◌, ℕ, List, [], Option, Some, None, Result, Ok, Err, IfOk, refl, ap, ◌∙◌, subst}
 use Rattle.std.specs.Prelude.{option_map}
 use Rattle.spec_data.specs.Faults.{Fault}
-use Rattle.spec_data.specs.Rows.{Row}
 use Rattle.spec_server.specs.Machine as is
 use Rattle.spec_server.specs.Machine.{Machine}
 use Rattle.spec_server.specs.Replies.{Reply, printed}
-use Rattle.spec_server.specs.Script.{BadId, BadName, LineRead, ReadRefusal, asked_of, after_line, fault_reply, left_by, refusal_reply, reply_to, written_for}
+use Rattle.spec_server.specs.Script.{BadId, BadName, LineRead, ReadRefusal, asked_of, fault_reply, left_by, refusal_reply, written_for}
 use Rattle.index_lang.specs.Lines.{IsLine}
-use Rattle.raven_script.specs.LineView.{Answers, IsReading}
+use Rattle.raven_script.specs.LineView.{Answers}
 use Rattle.raven_script.specs.RequestView.{IsBadId, IsBadName, line_view}
 use Rattle.raven_script.specs.declared.request.Line.{Line}
 use Rattle.raven_console.specs.Answering.{IsAnswered, IsPerformed, IsRefusedLine}

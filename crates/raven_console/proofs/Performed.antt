@@ -1,8 +1,7 @@
 -- What a request leaves once the keeper was asked.
 use Rattle.std.proofs.Common.{◌≡◌, ℕ, List, [], ◌∷◌, Bool, true, false, cond, map, refl, sym, ap, ◌∙◌, subst}
-use Rattle.spec_data.specs.Rows.{Row}
-use Rattle.spec_server.specs.Machine.{Machine, Change, Course, Do, Replied, Request, course_of, is_taken, same_machine, settled, with_world}
-use Rattle.spec_server.specs.Replies.{KeeperFault, Reply, printed}
+use Rattle.spec_server.specs.Machine.{Machine, Change, Course, Do, Replied, Request, course_of, same_machine, settled, with_world}
+use Rattle.spec_server.specs.Replies.{KeeperFault, printed}
 use Rattle.raven_ports.specs.Asking.{Asked}
 use Rattle.raven_ports.specs.States.{KeeperState}
 use Rattle.raven_console.specs.Answering.{IsKept, IsPerformed}

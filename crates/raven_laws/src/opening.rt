@@ -1,6 +1,6 @@
 //! What stored rows open, and what holds after every run from there.
 
-ghost use Rattle.std.specs.Prelude.{◌≡◌, ◌⊎◌, ◌++◌, ℕ, List, [], Ok, Some, false};
+ghost use Rattle.std.specs.Prelude.{◌≡◌, ◌⊎◌, ◌++◌, ℕ, List, [], Some, false};
 ghost use Rattle.spec_data.specs.Kept.{KeptRow, all_kept};
 ghost use Rattle.spec_data.specs.Rows.{Row};
 ghost use Rattle.spec_store.specs.Commit.{Setting, is_index_id};

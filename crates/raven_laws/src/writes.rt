@@ -1,6 +1,6 @@
 //! What a request writes, and what it leaves alone.
 
-ghost use Rattle.std.specs.Prelude.{◌≡◌, ℕ, List, [], Option, Some, false};
+ghost use Rattle.std.specs.Prelude.{◌≡◌, ℕ, List, Option, Some, false};
 ghost use Rattle.spec_data.specs.Data.{Data};
 ghost use Rattle.spec_data.specs.Rows.{Row};
 ghost use Rattle.spec_store.specs.Store.{row_at};

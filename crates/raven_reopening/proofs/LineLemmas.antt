@@ -15,7 +15,7 @@ use Rattle.spec_data.specs.Sound.{AreSound}
 use Rattle.spec_store.specs.Commit.{Command, Expect, AnyVector, Vector, Setting}
 use Rattle.index_tree.specs.Language.{LangRefusal}
 use Rattle.index_tree.specs.Definitions.{Definition}
-use Rattle.spec_server.specs.Machine.{Do, Event, Machine, Request, Put, Delete, Bulk, Get, Remove, Auto, Find, Pump, Stale, Indexes, Stats, commands_in}
+use Rattle.spec_server.specs.Machine.{Do, Event, Machine, Request, Put, Delete, Bulk, Get, Remove, Auto, Find, Pump, Stale, Indexes, Stats}
 use Rattle.spec_server.specs.Opening.{is_part}
 use Rattle.spec_server.specs.Script.{LineRead, ReadRefusal, Plain, asked_by, asked_to_define, defined_by, index_of, map_member, name_member, reduce_member, texts_in, texts_of_body, unless_name_fault, UnknownLine, BadMember, Circumstance, Given, then_read, before_space, after_space, both_parts, argument_and_rest, has_byte, unless_fault, id_read, json_read, object_read, put_read, delete_read, id_member, vector_member, put_command, delete_command, typed_command, command_read, commands_read, list_member, commands_of, bulk_read, or_unknown, parts_read, put_of, put_if_of, delete_if_of, get_of, is_collection, is_field, auto_of, drop_of, max_read, pump_of, pump_read, name_read, find_of, stale_of, by_command, request_of, line_of, event_of, events_of, after_lines}
 use Rattle.raven_laws.proofs.ScriptLemmas.{lines-run}

@@ -1,5 +1,5 @@
 -- What is answered of lines.
-use Rattle.std.proofs.Common.{◌≡◌, ℕ, List, Option, Some, None, Result, Ok, Err, refl, sym, ap, ◌∙◌, subst}
+use Rattle.std.proofs.Common.{◌≡◌, ℕ, List, Option, Some, None, Result, Ok, Err, refl, sym, ap, subst}
 use Rattle.std.specs.Prelude.{option_map}
 use Rattle.index_definition.specs.DefinitionView.{definition_view}
 use Rattle.index_lang.specs.Parse.{IsParsed}
@@ -11,7 +11,6 @@ use Rattle.index_definition.specs.declared.refusal.LangRefusal.TheVariants.{At}
 use Rattle.spec_server.specs.Machine.{Define, Do}
 use Rattle.spec_server.specs.Script.{Asked, Defining, LineRead, Plain, asked_of, asked_to_define, defined_by}
 use Rattle.spec_server.specs.Script as read
-use Rattle.index_lang.specs.Lines.{Comes}
 use Rattle.raven_script.specs.LineView.{Answers, IsReading}
 use Rattle.raven_value.specs.Refusal.{fault_in}
 use Rattle.raven_value.specs.declared.fault.IdRefusal.{IdRefusal}
