@@ -1,13 +1,10 @@
 //! Batches: how an index catches up.
-ghost use Rattle.std.specs.Prelude.{◌≡◌, IfOk, cond, length};
-ghost use Rattle.spec_data.specs.Tables.{note_rows};
+ghost use Rattle.std.specs.Prelude.{◌≡◌, ◌+◌, ◌≤◌, IfOk, cond, length};
 ghost use Rattle.spec_store.specs.Stale.{batch_rows};
-ghost use Rattle.index_tree.specs.Mapper.{mapper_of};
-ghost use Rattle.spec_index.specs.Mapping.{touched};
 ghost use Rattle.spec_store.specs.Store.{last, last_of};
 ghost use Rattle.spec_index.specs.World.{batch, reads};
 ghost use Rattle.index_version.specs.Meaning.{Means};
-ghost use Rattle.index_version.specs.Renewed.{MapsAtMost, documents_among};
+ghost use Rattle.index_version.specs.Renewed.{touched_documents};
 
 use doc_store::{Store, last_etag};
 use index_version::IndexVersion;
@@ -37,7 +34,9 @@ pub fn next<M: Mapper, L: Ledger>(
 ) -> Result<Option<IndexVersion>, NoMemory>
     requires means { Means (M.meaning mapper.now) version.now.definition }
     ensures next { IfOk result (λ next. next ≡ batch version.now store.now max) }
-    ensures maps { let rows = batch_rows (reads version.now) version.now.etag store.now max in MapsAtMost (length (documents_among (note_rows version.now.table rows) (touched (mapper_of version.now.definition) version.now.table rows))) steps.old steps.new }
+    ensures maps { steps.new.maps ≤ steps.old.maps + length (touched_documents version.now (batch_rows (reads version.now) version.now.etag store.now max)) }
+    ensures merges { steps.new.merges ≡ steps.old.merges }
+    ensures reads { steps.new.reads ≡ steps.old.reads }
 {
     let scope = version.scope(alloc)?;
     let (taken, more) = store.rows_after(alloc, version.etag(), &scope, max)?;

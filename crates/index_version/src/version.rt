@@ -1,5 +1,5 @@
 //! How far an index has come.
-ghost use Rattle.std.specs.Prelude.{◌≡◌, IfOk, length};
+ghost use Rattle.std.specs.Prelude.{◌≡◌, ◌+◌, ◌≤◌, IfOk, length};
 ghost use Rattle.spec_data.specs.Tables.{note_rows};
 ghost use Rattle.spec_index.specs.Find.{found_in};
 ghost use Rattle.spec_index.specs.Mapping.{failures, scratch};
@@ -7,7 +7,7 @@ ghost use Rattle.index_tree.specs.Mapper.{mapper_of};
 ghost use Rattle.spec_index.specs.World.{new_version, reads};
 ghost use Rattle.index_definition.specs.DefinitionView.{definition_view};
 ghost use Rattle.index_version.specs.Meaning.{Means};
-ghost use Rattle.index_version.specs.Renewed.{MapsAtMost, touched_documents};
+ghost use Rattle.index_version.specs.Renewed.{touched_documents};
 
 use crate::kept::Kept;
 use crate::renewal::renewed;
@@ -85,7 +85,9 @@ impl IndexVersion {
     ) -> Result<IndexVersion, NoMemory>
         requires means { Means (M.meaning mapper.now) self.now.definition }
         ensures version { IfOk result (λ version. version ≡ record self.now { etag = etag; table = note_rows self.now.table taken.now }) }
-        ensures maps { MapsAtMost (length (touched_documents self.now taken.now)) steps.old steps.new }
+        ensures maps { steps.new.maps ≤ steps.old.maps + length (touched_documents self.now taken.now) }
+        ensures merges { steps.new.merges ≡ steps.old.merges }
+        ensures reads { steps.new.reads ≡ steps.old.reads }
     {
         let definition = &self.definition;
         let ids = touched_ids(alloc, &self.kept.referrers, taken)?;
