@@ -58,12 +58,12 @@ pub enum TxnFault {
     #[error("command {at} is refused: {kind}")]
     Refused {
         /// The place of the first command that is refused, counted from 0.
-        at: u32,
+        at: u64,
         /// Why it is.
         kind: TxnKind,
     },
 
-    /// Out of memory. A refusal at a place from 2^32 on, which `at` cannot hold, is reported so too.
+    /// Out of memory.
     #[error("no memory was found")]
     NoMemory,
 }

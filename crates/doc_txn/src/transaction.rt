@@ -1,5 +1,5 @@
 //! Transactions: commands that are all taken, or none of them.
-ghost use Rattle.std.specs.Prelude.{◌≡◌, ◌∷◌, ◌++◌, [], IfOk, IfErr, None, OnOk, Some, Ok, Err, map, option_map};
+ghost use Rattle.std.specs.Prelude.{◌≡◌, ◌∷◌, ◌++◌, [], IfOk, IfErr, None, OnOk, Some, Ok, map, option_map};
 ghost use Rattle.std.specs.Option.{ForSome};
 ghost use Rattle.spec_store.specs.Store.{IsStore, with_row};
 ghost use Rattle.spec_store.specs.Later.{MayFollow};
@@ -94,15 +94,6 @@ impl Transaction {
     }
 }
 
-fn refused(at: usize, kind: TxnKind) -> TxnFault
-    ensures { Refuses result (Err (record { at = at; kind = kind_view kind })) }
-{
-    match u32::try_from(at) {
-        Ok(at) => TxnFault::Refused { at, kind },
-        Err(_) => TxnFault::NoMemory,
-    }
-}
-
 /// Takes the commands in order, each on the store that those before it leave. The first that is refused refuses all of them.
 pub fn transact(
     alloc: Global,
@@ -127,7 +118,8 @@ pub fn transact(
     let mut done = Transaction::start(alloc, store)?;
     for (at, command) in commands.as_slice().iter().enumerate() {
         if let Some(kind) = done.take(alloc, command, &terms)? {
-            return Err(refused(at, kind));
+            let at = at as u64;
+            return Err(TxnFault::Refused { at, kind });
         }
     }
     Ok(done)

@@ -1,13 +1,10 @@
 //! Batches: how an index catches up.
-ghost use Rattle.std.specs.Prelude.{◌≡◌, IfOk, cond, length};
-ghost use Rattle.spec_data.specs.Tables.{note_rows};
+ghost use Rattle.std.specs.Prelude.{◌≡◌, ◌+◌, ◌≤◌, IfOk, IfSome, cond, length, option_map};
 ghost use Rattle.spec_store.specs.Stale.{batch_rows};
-ghost use Rattle.index_tree.specs.Mapper.{mapper_of};
-ghost use Rattle.spec_index.specs.Mapping.{touched};
 ghost use Rattle.spec_store.specs.Store.{last, last_of};
 ghost use Rattle.spec_index.specs.World.{batch, reads};
 ghost use Rattle.index_version.specs.Meaning.{Means};
-ghost use Rattle.index_version.specs.Renewed.{MapsAtMost, documents_among};
+ghost use Rattle.index_version.specs.Renewed.{touched_documents};
 
 use doc_store::{Store, last_etag};
 use index_version::IndexVersion;
@@ -23,28 +20,31 @@ fn etag_after(taken: &[Row], more: bool, store: &Store) -> u64
     if more { last_etag(taken) } else { store.last() }
 }
 
-/// The version after the first `max` rows that it has not seen, or nothing if there are none.
+/// The index after the first `max` rows that it has not seen, or nothing if there are none.
 /// Its etag is that of the last of them if more remain, else the store's last.
 ///
 /// The mapper maps the documents that these rows touch, each at most once, and no others.
 pub fn next<M: Mapper, L: Ledger>(
     alloc: Global,
-    version: &IndexVersion,
+    index: &IndexVersion,
     store: &Store,
     mapper: &M,
     max: u32,
     steps: &mut Steps<L>,
 ) -> Result<Option<IndexVersion>, NoMemory>
-    requires means { Means (M.meaning mapper.now) version.now.definition }
-    ensures next { IfOk result (λ next. next ≡ batch version.now store.now max) }
-    ensures maps { let rows = batch_rows (reads version.now) version.now.etag store.now max in MapsAtMost (length (documents_among (note_rows version.now.table rows) (touched (mapper_of version.now.definition) version.now.table rows))) steps.old steps.new }
+    requires means { Means (M.meaning mapper.now) index.now.version.definition }
+    ensures name { IfOk result (λ next. IfSome next (λ new. new.name ≡ index.now.name)) }
+    ensures next { IfOk result (λ next. option_map (λ new. new.version) next ≡ batch index.now.version store.now max) }
+    ensures maps { let v = index.now.version in steps.new.maps ≤ steps.old.maps + length (touched_documents v (batch_rows (reads v) v.etag store.now max)) }
+    ensures merges { steps.new.merges ≡ steps.old.merges }
+    ensures reads { steps.new.reads ≡ steps.old.reads }
 {
-    let scope = version.scope(alloc)?;
-    let (taken, more) = store.rows_after(alloc, version.etag(), &scope, max)?;
+    let scope = index.scope(alloc)?;
+    let (taken, more) = store.rows_after(alloc, index.etag(), &scope, max)?;
     if taken.is_empty() {
         return Ok(None);
     }
     let etag = etag_after(taken.as_slice(), more, store);
-    let next = version.after(alloc, taken.as_slice(), etag, mapper, steps)?;
+    let next = index.after(alloc, taken.as_slice(), etag, mapper, steps)?;
     Ok(Some(next))
 }

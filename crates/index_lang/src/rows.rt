@@ -13,22 +13,11 @@ use raven_base::NoMemory;
 use raven_value::{Members, Path, Text, Value, Values};
 use std::alloc::Global;
 
-fn put_member(
-    alloc: Global,
-    members: &mut Members,
-    name: &str,
-    value: Value,
-) -> Result<(), NoMemory>
-    ensures { OnOk result (members.new ≡ put name.now (data_of value) members.old) }
-{
-    members.put(Text::of(alloc, name)?, value)
-}
-
 fn put_text(alloc: Global, members: &mut Members, name: &str, text: &str) -> Result<(), NoMemory>
     ensures { OnOk result (members.new ≡ put name.now (spec_text text.now) members.old) }
 {
     let value = Value::Text(Text::of(alloc, text)?);
-    put_member(alloc, members, name, value)
+    members.put_at(alloc, name, value)
 }
 
 fn texts_value(alloc: Global, texts: &[Text]) -> Result<Value, NoMemory>
@@ -78,7 +67,7 @@ fn put_static(
 {
     put_text(alloc, members, "Kind", "static")?;
     put_text(alloc, members, "Map", map.as_str())?;
-    put_member(alloc, members, "Reduce", text_or_null(reduce)?)
+    members.put_at(alloc, "Reduce", text_or_null(reduce)?)
 }
 
 fn put_auto(
@@ -90,7 +79,7 @@ fn put_auto(
     ensures { OnOk result (members.new ≡ put (codes "Kind") (spec_text (codes "auto")) (put (codes "Fields") (world.path_list fields.now) (put (codes "Collection") (spec_text collection.now) members.old))) }
 {
     put_text(alloc, members, "Collection", collection.as_str())?;
-    put_member(alloc, members, "Fields", paths_value(alloc, fields)?)?;
+    members.put_at(alloc, "Fields", paths_value(alloc, fields)?)?;
     put_text(alloc, members, "Kind", "auto")
 }
 
@@ -123,7 +112,7 @@ pub fn row_body(alloc: Global, definition: &Definition) -> Result<Value, NoMemor
     ensures { IfOk result (λ value. data_of value ≡ world.row_body (definition_view definition.now.body)) }
 {
     let mut members = Members::new(alloc);
-    put_member(alloc, &mut members, "@metadata", metadata_value(alloc)?)?;
+    members.put_at(alloc, "@metadata", metadata_value(alloc)?)?;
     put_body(alloc, &mut members, &definition.body)?;
     Ok(Value::Map(members))
 }

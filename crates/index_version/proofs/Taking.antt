@@ -1,5 +1,5 @@
 -- A version that takes rows.
-use Rattle.std.proofs.Common.{◌≡◌, ℕ, List, false, map, length, sym, ap, ◌∙◌, subst, arith}
+use Rattle.std.proofs.Common.{◌≡◌, ◌≤◌, ◌+◌, ℕ, List, false, map, length, sym, ap, ◌∙◌, subst, arith}
 use Rattle.std.specs.FinMap.{FinMap}
 use Rattle.std.specs.List.{list_any}
 use Rattle.spec_data.specs.Folding.{folded, key_cmp, same_key}
@@ -7,28 +7,25 @@ use Rattle.spec_data.specs.Rows.{Row}
 use Rattle.spec_data.specs.Tables.{Table, note_rows}
 use Rattle.index_tree.specs.Definitions.{Definition}
 use Rattle.index_tree.specs.Mapper.{mapper_of}
-use Rattle.spec_index.specs.Mapping.{touched}
 use Rattle.spec_index.specs.World.{Version}
-use Rattle.raven_base.specs.Counts.{Counts}
 use Rattle.reference_track.specs.Sets.{AreInOrder}
 use Rattle.reference_track.specs.Tracks.{Track}
 use Rattle.index_version.specs.Kept.{AreKept, Given, IsFiled, given_at}
-use Rattle.index_version.specs.Renewed.{ArePaired, AreRenewed, MapsAtMost, documents_among, mapped_among}
+use Rattle.index_version.specs.Renewed.{ArePaired, AreRenewed, mapped_among, touched_documents}
 use Rattle.index_version.proofs.Keeping.{filed_rows, kept_again}
 use Rattle.index_version.proofs.Touching.{AreTouched, few_mapped, others_same}
 
-pub maps_taken : (v w : Version) (G : FinMap key_cmp Given) (L : Track) (rows : List Row) (ids items : List (List ℕ)) (N : Table) (asked : Definition) (before after : Counts) → v ≡ w
+pub maps_taken : (v w : Version) (G : FinMap key_cmp Given) (L : Track) (rows : List Row) (ids items : List (List ℕ)) (N : Table) (asked : Definition) (before after : ℕ) → v ≡ w
     → AreKept (mapper_of v.definition) v.table G L → AreTouched L rows ids → AreInOrder ids → items ≡ ids → N ≡ note_rows v.table rows → asked ≡ v.definition
-    → MapsAtMost (length (mapped_among (mapper_of asked) N (map folded items))) before after
-    → MapsAtMost (length (documents_among (note_rows w.table rows) (touched (mapper_of w.definition) w.table rows))) before after
+    → after ≤ before + length (mapped_among (mapper_of asked) N (map folded items)) → after ≤ before + length (touched_documents w rows)
 maps_taken v w G L rows ids items N asked before after same kept are order listed noted asked_is most =
-    let few = few_mapped (mapper_of v.definition) v.table G L rows ids kept are order in
+    let few : length (mapped_among (mapper_of v.definition) (note_rows v.table rows) (map folded ids)) ≤ length (touched_documents v rows) =
+    few_mapped (mapper_of v.definition) v.table G L rows ids kept are order in
     let asked_of : length (mapped_among (mapper_of asked) N (map folded items)) ≡ length (mapped_among (mapper_of v.definition) (note_rows v.table rows) (map folded ids)) =
     ap (λ d. length (mapped_among (mapper_of d) N (map folded items))) asked_is
     ∙ ap (λ (M : Table). length (mapped_among (mapper_of v.definition) M (map folded items))) noted
     ∙ ap (λ xs. length (mapped_among (mapper_of v.definition) (note_rows v.table rows) (map folded xs))) listed in
-    subst (λ (u : Version). MapsAtMost (length (documents_among (note_rows u.table rows) (touched (mapper_of u.definition) u.table rows))) before after) same
-    (record { maps = omega (arith, most.maps, few, asked_of); merges = most.merges; reads = most.reads })
+    subst (λ (u : Version). after ≤ before + length (touched_documents u rows)) same (omega (arith, most, few, asked_of))
 
 pub kept_taken : (d : Definition) (T : Table) (G H : FinMap key_cmp Given) (L M : Track) (rows : List Row) (ids items : List (List ℕ)) (N : Table) (asked shared : Definition)
     → AreKept (mapper_of d) T G L → AreTouched L rows ids → items ≡ ids → N ≡ note_rows T rows

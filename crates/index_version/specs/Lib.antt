@@ -1,5 +1,6 @@
 pub mod Folded
 pub mod Codes
 pub mod Meaning
+pub mod Named
 pub mod Kept
 pub mod Renewed

@@ -1,12 +1,12 @@
 //! What is mapped again.
-ghost use Rattle.std.specs.Prelude.{◌≡◌, IfOk, cond, is_some, length, map};
+ghost use Rattle.std.specs.Prelude.{◌≡◌, ◌+◌, ◌≤◌, IfOk, cond, is_some, length, map};
 ghost use Rattle.spec_data.specs.Folding.{folded};
 ghost use Rattle.index_tree.specs.Mapper.{mapper_of};
 ghost use Rattle.index_definition.specs.DefinitionView.{definition_view};
 ghost use Rattle.index_version.specs.Folded.{by_folded};
 ghost use Rattle.index_version.specs.Kept.{given_at};
 ghost use Rattle.index_version.specs.Meaning.{Means};
-ghost use Rattle.index_version.specs.Renewed.{ArePaired, AreRenewed, MapsAtMost, mapped_among};
+ghost use Rattle.index_version.specs.Renewed.{ArePaired, AreRenewed, mapped_among};
 
 use crate::given::Given;
 use crate::kept::Kept;
@@ -30,7 +30,9 @@ fn given_at<M: Mapper, L: Ledger>(
 ) -> Result<Option<Given>, NoMemory>
     requires means { Means (M.meaning mapper.now) (definition_view definition.now.body) }
     ensures given { IfOk result (λ given. given ≡ given_at (mapper_of (definition_view definition.now.body)) table.now (folded id.now)) }
-    ensures maps { MapsAtMost (cond (is_some (given_at (mapper_of (definition_view definition.now.body)) table.now (folded id.now))) 1 0) steps.old steps.new }
+    ensures maps { steps.new.maps ≤ steps.old.maps + cond (is_some (given_at (mapper_of (definition_view definition.now.body)) table.now (folded id.now))) 1 0 }
+    ensures merges { steps.new.merges ≡ steps.old.merges }
+    ensures reads { steps.new.reads ≡ steps.old.reads }
 {
     let Some(row) = table.find(id) else {
         return Ok(None);
@@ -56,7 +58,9 @@ pub fn renewed<M: Mapper, L: Ledger>(
     requires means { Means (M.meaning mapper.now) (definition_view definition.now.body) }
     ensures results { IfOk result (λ new. AreRenewed (mapper_of (definition_view definition.now.body)) table.now (map folded ids.now) (by_folded kept.now.given) (by_folded new.given)) }
     ensures pairs { IfOk result (λ new. ArePaired (mapper_of (definition_view definition.now.body)) table.now (map folded ids.now) kept.now.referrers new.referrers) }
-    ensures maps { MapsAtMost (length (mapped_among (mapper_of (definition_view definition.now.body)) table.now (map folded ids.now))) steps.old steps.new }
+    ensures maps { steps.new.maps ≤ steps.old.maps + length (mapped_among (mapper_of (definition_view definition.now.body)) table.now (map folded ids.now)) }
+    ensures merges { steps.new.merges ≡ steps.old.merges }
+    ensures reads { steps.new.reads ≡ steps.old.reads }
 {
     let mut new = kept.copy()?;
     for id in ids {

@@ -1,5 +1,5 @@
 //! How far an index has come.
-ghost use Rattle.std.specs.Prelude.{◌≡◌, IfOk, length};
+ghost use Rattle.std.specs.Prelude.{◌≡◌, ◌+◌, ◌≤◌, IfOk, length};
 ghost use Rattle.spec_data.specs.Tables.{note_rows};
 ghost use Rattle.spec_index.specs.Find.{found_in};
 ghost use Rattle.spec_index.specs.Mapping.{failures, scratch};
@@ -7,7 +7,7 @@ ghost use Rattle.index_tree.specs.Mapper.{mapper_of};
 ghost use Rattle.spec_index.specs.World.{new_version, reads};
 ghost use Rattle.index_definition.specs.DefinitionView.{definition_view};
 ghost use Rattle.index_version.specs.Meaning.{Means};
-ghost use Rattle.index_version.specs.Renewed.{MapsAtMost, touched_documents};
+ghost use Rattle.index_version.specs.Renewed.{touched_documents};
 
 use crate::kept::Kept;
 use crate::renewal::renewed;
@@ -29,7 +29,8 @@ fn share(definition: &Arc<Definition>) -> Result<Arc<Definition>, NoMemory>
     Ok(definition.clone()?)
 }
 
-/// An index as far as it has come, seen by contracts as its definition, its etag and the documents that it has recorded.
+/// An index as far as it has come, seen by contracts as its definition with its name, its etag and the documents that it has
+/// recorded.
 /// Its entries are those that its map gives over these documents from scratch, and its errors those that fail there.
 #[derive(Drop)]
 pub struct IndexVersion {
@@ -40,19 +41,21 @@ pub struct IndexVersion {
 }
 
 impl Model for IndexVersion {
-    ghost use Rattle.spec_index.specs.World as world;
-    ghost use Rattle.spec_index.specs.Codes.{version_code};
+    ghost use Rattle.index_version.specs.Named.{NamedVersion, named_version_code};
     ghost use Rattle.index_tree.specs.Mapper.{mapper_of};
     ghost use Rattle.index_version.specs.Folded.{by_folded};
     ghost use Rattle.index_version.specs.Kept.{AreKept};
 
-    ghost Value = { world.Version };
+    ghost Value = { NamedVersion };
 
-    ghost coded = { version_code };
+    ghost coded = { named_version_code };
 
     ghost use Rattle.index_definition.specs.DefinitionView.{definition_view};
 
-    ghost view = { λ a. record { definition = definition_view a.definition.value.body; etag = a.etag; table = a.table } };
+    ghost view = { λ a. record {
+      name = a.definition.value.name;
+      version = record { definition = definition_view a.definition.value.body; etag = a.etag; table = a.table };
+    } };
 
     ghost invariant = { λ a. AreKept (mapper_of (definition_view a.definition.value.body)) a.table (by_folded a.kept.given) a.kept.referrers };
 }
@@ -60,7 +63,8 @@ impl Model for IndexVersion {
 impl IndexVersion {
     /// An index that has recorded nothing yet.
     pub fn fresh(alloc: Global, definition: Arc<Definition>) -> Result<IndexVersion, NoMemory>
-        ensures { IfOk result (λ version. version ≡ new_version (definition_view definition.value.body)) }
+        ensures name { IfOk result (λ index. index.name ≡ definition.value.name) }
+        ensures version { IfOk result (λ index. index.version ≡ new_version (definition_view definition.value.body)) }
     {
         Ok(IndexVersion {
             definition,
@@ -83,9 +87,12 @@ impl IndexVersion {
         mapper: &M,
         steps: &mut Steps<L>,
     ) -> Result<IndexVersion, NoMemory>
-        requires means { Means (M.meaning mapper.now) self.now.definition }
-        ensures version { IfOk result (λ version. version ≡ record self.now { etag = etag; table = note_rows self.now.table taken.now }) }
-        ensures maps { MapsAtMost (length (touched_documents self.now taken.now)) steps.old steps.new }
+        requires means { Means (M.meaning mapper.now) self.now.version.definition }
+        ensures name { IfOk result (λ index. index.name ≡ self.now.name) }
+        ensures version { IfOk result (λ index. index.version ≡ record self.now.version { etag = etag; table = note_rows self.now.version.table taken.now }) }
+        ensures maps { steps.new.maps ≤ steps.old.maps + length (touched_documents self.now.version taken.now) }
+        ensures merges { steps.new.merges ≡ steps.old.merges }
+        ensures reads { steps.new.reads ≡ steps.old.reads }
     {
         let definition = &self.definition;
         let ids = touched_ids(alloc, &self.kept.referrers, taken)?;
@@ -102,49 +109,50 @@ impl IndexVersion {
 
     /// The etag up to which it has recorded what it reads.
     pub fn etag(&self) -> u64
-        ensures { result ≡ self.now.etag }
+        ensures { result ≡ self.now.version.etag }
     {
         self.etag
     }
 
     /// The definition.
     pub fn definition(&self) -> &Arc<Definition>
-        ensures { definition_view result.now.value.body ≡ self.now.definition }
+        ensures name { result.now.value.name ≡ self.now.name }
+        ensures body { definition_view result.now.value.body ≡ self.now.version.definition }
     {
         &self.definition
     }
 
     /// The documents that it has recorded.
     pub fn table(&self) -> &Table
-        ensures { result.now ≡ self.now.table }
+        ensures { result.now ≡ self.now.version.table }
     {
         &self.table
     }
 
     /// The collections that it reads.
     pub fn scope(&self, alloc: Global) -> Result<Scope, NoMemory>
-        ensures { IfOk result (λ scope. scope ≡ reads self.now) }
+        ensures { IfOk result (λ scope. scope ≡ reads self.now.version) }
     {
         scope(alloc, &self.definition)
     }
 
     /// How many entries it has. It walks over what the map has given.
     pub fn entries(&self) -> u64
-        ensures { result ≡ length (scratch (mapper_of self.now.definition) self.now.table) }
+        ensures { result ≡ length (scratch (mapper_of self.now.version.definition) self.now.version.table) }
     {
         self.kept.entries()
     }
 
     /// How many of its documents have no entry because their map failed. It walks over what the map has given.
     pub fn errors(&self) -> u64
-        ensures { result ≡ failures (mapper_of self.now.definition) self.now.table }
+        ensures { result ≡ failures (mapper_of self.now.version.definition) self.now.version.table }
     {
         self.kept.errors()
     }
 
     /// The ids of the entries whose field of that name is that text, without regard to case. It walks over what the map has given.
     pub fn find(&self, alloc: Global, field: &str, words: &str) -> Result<Ids, NoMemory>
-        ensures { IfOk result (λ ids. ids ≡ found_in (mapper_of self.now.definition) self.now.table field.now words.now) }
+        ensures { IfOk result (λ ids. ids ≡ found_in (mapper_of self.now.version.definition) self.now.version.table field.now words.now) }
     {
         Ok(self.kept.find(alloc, field, words)?)
     }

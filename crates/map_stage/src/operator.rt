@@ -1,7 +1,5 @@
 //! What the operators give.
-ghost use Rattle.std.specs.Prelude.{◌≡◌, ◌++◌, IfOk, false, option_map};
-ghost use Rattle.std.specs.Option.{option_map_or};
-ghost use Rattle.std.specs.Ordering.{is_ge, is_gt, is_le, is_lt};
+ghost use Rattle.std.specs.Prelude.{◌≡◌, ◌++◌, IfOk, option_map};
 ghost use Rattle.spec_data.specs.Data.{entries_of, items_of, num};
 ghost use Rattle.raven_value.specs.DataEq.{data_eq, entries_eq, items_eq};
 ghost use Rattle.index_tree.specs.Numbers.{difference, product, quotient, remainder, sum};
@@ -13,7 +11,7 @@ use crate::held::Held;
 use crate::number;
 use index_tree::{BinaryOp, UnaryOp};
 use raven_base::NoMemory;
-use raven_value::{Members, Text, Values};
+use raven_value::{Members, Text, Values, is_above, is_at_least, is_at_most, is_below};
 use std::alloc::Global;
 use std::borrow::Cow;
 use std::cmp::Ordering;
@@ -108,30 +106,6 @@ fn standing(left: &Held, right: &Held) -> Option<Ordering>
         (Held::Text(s), Held::Text(t)) => Some(s.as_ref().cmp(t.as_ref())),
         _ => None,
     }
-}
-
-fn is_below(order: Option<Ordering>) -> bool
-    ensures { result ≡ option_map_or is_lt order false }
-{
-    order == Some(Ordering::Less)
-}
-
-fn is_at_most(order: Option<Ordering>) -> bool
-    ensures { result ≡ option_map_or is_le order false }
-{
-    matches!(order, Some(Ordering::Less | Ordering::Equal))
-}
-
-fn is_above(order: Option<Ordering>) -> bool
-    ensures { result ≡ option_map_or is_gt order false }
-{
-    order == Some(Ordering::Greater)
-}
-
-fn is_at_least(order: Option<Ordering>) -> bool
-    ensures { result ≡ option_map_or is_ge order false }
-{
-    matches!(order, Some(Ordering::Greater | Ordering::Equal))
 }
 
 fn joined(alloc: Global, left: &Text, right: &Text) -> Result<Text, NoMemory>

@@ -203,37 +203,37 @@ pub enum Reply {
 
     /// The id or the collection is the server's.
     ReservedId {
-        at: u32,
+        at: u64,
     },
 
     /// The body has so many bytes.
     TooLarge {
-        at: u32,
+        at: u64,
         len: u64,
     },
 
     /// The id is in this other collection, in which it stays.
     CollectionChanged {
-        at: u32,
+        at: u64,
         from: Text,
     },
 
     /// Another vector was expected than that of the document.
     Conflict {
-        at: u32,
+        at: u64,
         expected: Text,
         found: Text,
     },
 
     /// There are as many rows as may be.
     StoreFull {
-        at: u32,
+        at: u64,
         rows: u32,
     },
 
     /// There is no further etag.
     EtagsSpent {
-        at: u32,
+        at: u64,
         last: u64,
     },
 

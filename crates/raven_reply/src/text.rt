@@ -322,7 +322,7 @@ fn write_error_at(alloc: Global, out: &mut Vec<u8>, at: u64, name: &str) -> Resu
 fn write_error_at_with<'a>(
     alloc: Global,
     out: &mut Vec<u8>,
-    at: u32,
+    at: u64,
     name: &'a str,
     member: &'a str,
     piece: Piece<'a>,
@@ -333,7 +333,7 @@ fn write_error_at_with<'a>(
         alloc,
         out,
         &[
-            ("At", Piece::Number(u64::from(at))),
+            ("At", Piece::Number(at)),
             ("Error", Piece::Text(name)),
             (member, piece),
         ],
@@ -343,7 +343,7 @@ fn write_error_at_with<'a>(
 fn write_conflict<'a>(
     alloc: Global,
     out: &mut Vec<u8>,
-    at: u32,
+    at: u64,
     expected: &'a str,
     found: &'a str,
 ) -> Result<(), NoMemory>
@@ -353,7 +353,7 @@ fn write_conflict<'a>(
         alloc,
         out,
         &[
-            ("At", Piece::Number(u64::from(at))),
+            ("At", Piece::Number(at)),
             ("Error", Piece::Text("Conflict")),
             ("Expected", Piece::Text(expected)),
             ("Found", Piece::Text(found)),
@@ -507,7 +507,7 @@ fn write_reply(alloc: Global, out: &mut Vec<u8>, reply: &Reply) -> Result<(), No
             write_error_with(alloc, out, "NameTooLong", "Len", Piece::Number(*len))
         }
         Reply::TooManyIndexes => write_error(alloc, out, "TooManyIndexes"),
-        Reply::ReservedId { at } => write_error_at(alloc, out, u64::from(*at), "ReservedId"),
+        Reply::ReservedId { at } => write_error_at(alloc, out, *at, "ReservedId"),
         Reply::TooLarge { at, len } => {
             write_error_at_with(alloc, out, *at, "TooLarge", "Len", Piece::Number(*len))
         }

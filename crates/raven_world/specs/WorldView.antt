@@ -26,7 +26,12 @@ answer_view (Ok c) = Some (change_view c)
 answer_view (Err (Refused reply)) = Some (only_reply (reply_view reply))
 answer_view (Err NoMemory) = None
 
--- either the reply to the query, which changes nothing, or that an index is to be made for it
+-- an index has to be made for the query
+abbrev pub NeedsIndex : is.World → (collection field : List ℕ) → Type 0
+NeedsIndex W collection field = pick (one_field collection field) W.store W.slots ≡ Make (one_field collection field)
+
+-- that an index has to be made, exactly where it has to; else the reply, which changes nothing
 abbrev pub AnswersQuery : is.World → (collection field : List ℕ) → Answered → Type 0
-AnswersQuery W collection field (Reply reply) = (now : ℕ) → course_of W now (Auto collection field) ≡ only_reply (reply_view reply)
-AnswersQuery W collection field MustMake = pick (one_field collection field) W.store W.slots ≡ Make (one_field collection field)
+AnswersQuery W collection field (Reply reply) =
+    (NeedsIndex W collection field → ⊥) × ((now : ℕ) → course_of W now (Auto collection field) ≡ only_reply (reply_view reply))
+AnswersQuery W collection field MustMake = NeedsIndex W collection field

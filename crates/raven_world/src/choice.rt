@@ -32,7 +32,7 @@ pub enum Choice<'a> {
 
 /// Whether the store holds something that the index reads and has not seen.
 pub fn is_stale(alloc: Global, store: &Store, version: &IndexVersion) -> Result<bool, NoMemory>
-    ensures { IfOk result (λ flag. flag ≡ stale store.now (reads version.now) version.now.etag None) }
+    ensures { IfOk result (λ flag. flag ≡ stale store.now (reads version.now.version) version.now.version.etag None) }
 {
     let scope = version.scope(alloc)?;
     Ok(version.etag() < store.newest(&scope, None))

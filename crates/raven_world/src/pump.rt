@@ -1,5 +1,5 @@
 //! One batch for each index, or for one.
-ghost use Rattle.std.specs.Prelude.{◌≡◌, ◌≤◌, ◌∷◌, [], IfOk, IfSome, map};
+ghost use Rattle.std.specs.Prelude.{◌≡◌, ◌≤◌, ◌∷◌, [], IfOk, IfSome, map, option_map};
 ghost use Rattle.spec_server.specs.Machine.{after_batch as spec_brought_on, after_batch_if_named as spec_brought_on_if, pump, pump_at, pumping};
 ghost use Rattle.spec_index.specs.World.{batch, serving as spec_serving};
 ghost use Rattle.raven_world.specs.WorldView.{change_view, answer_view};
@@ -29,7 +29,7 @@ fn next_batch<L: Ledger>(
     requires name { blank.name ≡ L.name }
     requires parts { blank.parts ≡ L.parts }
     requires enough { 3 ≤ blank.parts }
-    ensures { IfOk result (λ next. next ≡ batch slot.now.version store.now max) }
+    ensures { IfOk result (λ next. option_map (λ index. index.version) next ≡ batch slot.now.version store.now max) }
 {
     let version = &slot.version;
     let mapper = DefinitionMapper {
@@ -50,7 +50,7 @@ fn brought_on(alloc: Global, store: &Store, max: u32, slot: &Slot) -> Result<Slo
 }
 
 fn with_version(slot: &Slot, version: Arc<IndexVersion>) -> Result<Slot, NoMemory>
-    ensures { IfOk result (λ new. new ≡ record { number = slot.now.number; name = slot.now.name; version = version.value; row = slot.now.row }) }
+    ensures { IfOk result (λ new. new ≡ record { number = slot.now.number; name = slot.now.name; version = version.value.version; row = slot.now.row }) }
 {
     Ok(Slot {
         number: slot.number,

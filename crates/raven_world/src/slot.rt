@@ -35,7 +35,7 @@ impl Model for Slot {
 
     ghost coded = { slot_code };
 
-    ghost view = { λ a. record { number = a.number; name = a.name; version = a.version.value; row = a.row } };
+    ghost view = { λ a. record { number = a.number; name = a.name; version = a.version.value.version; row = a.row } };
 }
 
 impl Clone for Slot {

@@ -20,7 +20,7 @@ use raven_value::Text;
 use std::alloc::Global;
 
 /// The reply to a transaction whose command at this place is refused.
-pub(crate) fn refused_at(at: u32, kind: TxnKind) -> Reply
+pub(crate) fn refused_at(at: u64, kind: TxnKind) -> Reply
     ensures { reply_view result ≡ spec_refused_at at (kind_view kind) }
 {
     match kind {

@@ -1,22 +1,20 @@
-use Rattle.std.proofs.Common.{cond, length, ◌∙◌, ap, subst, Some}
+use Rattle.std.proofs.Common.{◌+◌, ◌≤◌, cond, length, ◌∙◌, ap, subst, Some}
 use Rattle.spec_store.specs.Stale.{batch_rows}
 use Rattle.spec_data.specs.Tables.{note_rows}
-use Rattle.index_tree.specs.Mapper.{mapper_of}
-use Rattle.spec_index.specs.Mapping.{touched}
 use Rattle.spec_store.specs.Store.{last, last_of}
-use Rattle.index_version.specs.Renewed.{MapsAtMost, documents_among}
+use Rattle.index_version.specs.Renewed.{touched_documents}
 use Rattle.index_batch.proofs.Batches.{batch-none, batch-some}
 use Rattle.index_batch.proofs.batch.next.Goals as goal
 
 pub returns-then-is_empty-clause-next : goal.returns-then-is_empty-clause-next
 returns-then-is_empty-clause-next g c =
-    let v = c.args.version.now in
+    let v = c.args.index.now.version in
     let S = c.args.store.now in
     batch-none v S c.args.max c.in_ok-taken.taken (c.in_ok-taken.ensures.rows ∙ λ i. batch_rows (c.in_ok-scope.ensures i) (c.etag.ensures i) S c.args.max) (c.is_empty.ensures.0 c.if-is_empty.true)
 
 pub returns-clause-next : goal.returns-clause-next
 returns-clause-next g c =
-    let v = c.args.version.now in
+    let v = c.args.index.now.version in
     let S = c.args.store.now in
     ap Some (c.in_ok-next.ensures.version ∙ λ i. record v { etag = c.etag_after-etag.result; table = note_rows v.table (c.as_slice-2.ensures i) })
     ∙ batch-some v S c.args.max c.in_ok-taken.taken c.in_ok-taken.more c.etag_after-etag.result
@@ -27,7 +25,7 @@ returns-clause-next g c =
 
 pub returns-clause-maps : goal.returns-clause-maps
 returns-clause-maps g c =
-    let v = c.args.version.now in
-    subst (λ rows. MapsAtMost (length (documents_among (note_rows v.table rows) (touched (mapper_of v.definition) v.table rows))) c.args.steps.now c.after.new.steps)
+    let v = c.args.index.now.version in
+    subst (λ rows. c.after.new.steps.maps ≤ c.args.steps.now.maps + length (touched_documents v rows))
     (c.as_slice-2.ensures ∙ c.in_ok-taken.ensures.rows ∙ λ i. batch_rows (c.in_ok-scope.ensures i) (c.etag.ensures i) c.args.store.now c.args.max)
     c.in_ok-next.ensures.maps

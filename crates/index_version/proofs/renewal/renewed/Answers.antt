@@ -20,7 +20,7 @@ loop-id-preserved g c =
     let more = folded_more c.args.ids.now i id c.loop-id-test.true ∙ ap (λ k. map folded (take i c.args.ids.now) ++ folded k ∷ []) (sym c.id-item.is) in
     let left = mapped_left m T c.args.ids.now i id c.loop-id-test.true ∙ ap (λ k. cond (is_some (given_at m T (folded k))) 1 0 + length (mapped_among m T (map folded (drop (i + 1) c.args.ids.now)))) (sym c.id-item.is) in
     let so_far = c.loop-id.invariant.maps in
-    let here = c.in_ok-given.ensures.maps.maps in
+    let here = c.in_ok-given.ensures.maps in
     record {
       results = subst (λ ids. AreRenewed m T ids (by_folded c.args.kept.now.given) (by_folded c.in_ok-new-2.new.given)) (sym more)
           (renewed_more m T (map folded (take i c.args.ids.now)) (folded id) _ (by_folded c.loop-id.new.given) _ c.loop-id.invariant.results
@@ -29,6 +29,6 @@ loop-id-preserved g c =
           (paired_more m T (map folded (take i c.args.ids.now)) id c.args.kept.now.referrers c.loop-id.new.referrers c.in_ok-new-2.new.referrers c.loop-id.invariant.pairs
           (λ x y. c.in_ok-new-2.ensures.pairs x y ∙ ap (λ o. cond (is_id x id) (is_loaded (folded y) o) (is_pair x y c.loop-id.new.referrers)) c.in_ok-given.ensures.given));
       maps = omega (arith, left, so_far, here);
-      merges = c.in_ok-given.ensures.maps.merges ∙ c.loop-id.invariant.merges;
-      reads = c.in_ok-given.ensures.maps.reads ∙ c.loop-id.invariant.reads;
+      merges = c.in_ok-given.ensures.merges ∙ c.loop-id.invariant.merges;
+      reads = c.in_ok-given.ensures.reads ∙ c.loop-id.invariant.reads;
     }

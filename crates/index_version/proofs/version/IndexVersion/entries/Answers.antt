@@ -2,8 +2,8 @@ use Rattle.std.proofs.Common.{◌∙◌, ap, sym, length}
 use Rattle.std.specs.List.{filter_map}
 use Rattle.index_tree.specs.Mapper.{mapper_of}
 use Rattle.spec_index.specs.Mapping.{scratch}
-use Rattle.spec_index.specs.World.{Version}
 use Rattle.index_version.specs.Kept.{entry_given}
+use Rattle.index_version.specs.Named.{NamedVersion}
 use Rattle.index_version.proofs.FoldedMaps.{values-by_folded}
 use Rattle.index_version.proofs.Keeping.{entries_kept}
 use Rattle.index_version.proofs.version.IndexVersion.entries.Goals as goal
@@ -13,4 +13,4 @@ returns c =
     c.entries.ensures.count
     ∙ ap (λ gs. length (filter_map entry_given gs)) (sym (values-by_folded c.self.inside.kept.given c.entries.ensures.rising))
     ∙ ap length (entries_kept _ _ _ c.self.inside.kept.referrers c.self.invariant)
-    ∙ ap (λ (v : Version). length (scratch (mapper_of v.definition) v.table)) c.self.view_is
+    ∙ ap (λ (v : NamedVersion). length (scratch (mapper_of v.version.definition) v.version.table)) c.self.view_is

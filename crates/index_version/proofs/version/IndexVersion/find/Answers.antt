@@ -2,8 +2,8 @@ use Rattle.std.proofs.Common.{◌∙◌, ap, sym}
 use Rattle.std.specs.List.{filter_map}
 use Rattle.spec_index.specs.Find.{found, found_in}
 use Rattle.index_tree.specs.Mapper.{mapper_of}
-use Rattle.spec_index.specs.World.{Version}
 use Rattle.index_version.specs.Kept.{entry_given}
+use Rattle.index_version.specs.Named.{NamedVersion}
 use Rattle.index_version.proofs.FoldedMaps.{values-by_folded}
 use Rattle.index_version.proofs.Keeping.{entries_kept}
 use Rattle.index_version.proofs.version.IndexVersion.find.Goals as goal
@@ -13,4 +13,4 @@ returns c =
     c.in_ok-find.ensures.ids
     ∙ ap (λ gs. found (filter_map entry_given gs) c.args.field.now c.args.words.now) (sym (values-by_folded c.self.inside.kept.given c.in_ok-find.ensures.rising))
     ∙ ap (λ es. found es c.args.field.now c.args.words.now) (entries_kept _ _ _ c.self.inside.kept.referrers c.self.invariant)
-    ∙ ap (λ (v : Version). found_in (mapper_of v.definition) v.table c.args.field.now c.args.words.now) c.self.view_is
+    ∙ ap (λ (v : NamedVersion). found_in (mapper_of v.version.definition) v.version.table c.args.field.now c.args.words.now) c.self.view_is
