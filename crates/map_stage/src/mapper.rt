@@ -31,7 +31,7 @@ pub enum Outcome {
 pub struct Mapped {
     pub outcome: Outcome,
 
-    /// The ids that were looked up, in order, as they were spelled; also those before a failure.
+    /// The ids that were looked up, in order, also those before a failure; in which spelling is not promised.
     pub loads: Ids,
 }
 

@@ -4,7 +4,7 @@ use Rattle.std.specs.Prelude.{◌&&◌, if◌then◌else◌, codes}
 use Rattle.std.specs.Option.{is_some, option_map}
 use Rattle.std.specs.Str.{bytes_eq}
 use Rattle.std.proofs.lemmas.Slice.Eq.{bytes_eq-Decides}
-use Rattle.spec_server.specs.Options.{Options, Pairs, are_known, are_once, base_in, has_name, is_value, options_in, pairs_in, run_names, run_options, value_named}
+use Rattle.spec_server.specs.Options.{Invocation, Options, Pairs, are_known, are_once, asked_in, base_in, has_name, is_value, pairs_in, run_names, run_options, value_named}
 use Rattle.raven_console.specs.ArgumentsView.{Texts, bytes_of, texts_in}
 
 -- the first of them that is there
@@ -145,10 +145,7 @@ pub arguments_refused : (ws after_name more : List (String Global)) (n v : Strin
 arguments_refused ws after_name more n v file base e f h p q =
     pair_step ws after_name more n v (bytes_of file) (bytes_of base) e f h ∙ pair_refused (string_bytes n) (string_bytes v) file base (pairs_in (map string_bytes more)) p q
 
--- THE OPTIONS
-
-abbrev run_name : List ℕ
-run_name = codes "run"
+-- THE OPTIONS OF `run`
 
 abbrev pub options_of : Option (List ℕ) → Option (List ℕ) → Option Options
 options_of file base = option_map (λ id. record { file = file; base = id }) base
@@ -165,15 +162,22 @@ run_texts : (o : Option Pairs) → run_options o ≡ run_from (texts_in o)
 run_texts None = refl
 run_texts (Some ps) = run_chosen (are_known run_names ps && are_once ps) (value_named data_name ps) (value_named id_name ps)
 
+pub run_read : (o : Option Pairs) (texts : Option Texts) → texts ≡ texts_in o → run_options o ≡ run_from texts
+run_read o texts t = run_texts o ∙ ap run_from (sym t)
+
+-- THE COMMAND
+
+abbrev run_name : List ℕ
+run_name = codes "run"
+
 pub not_refused : (b : Bool) → false ≡ not b → b ≡ true
 not_refused b h = grind arith
 
-pub run_read : (ws more : List (String Global)) (command : String Global) (texts : Option Texts) → ws ≡ command ∷ more → bytes_eq (string_bytes command) run_name ≡ true
-    → texts ≡ texts_in (pairs_in (map string_bytes more)) → options_in (map string_bytes ws) ≡ run_from texts
-run_read ws more command texts e h t =
-    ap (λ z. options_in (map string_bytes z)) e
-    ∙ ap (λ b. if b then run_options (pairs_in (map string_bytes more)) else None) h
-    ∙ run_texts (pairs_in (map string_bytes more))
-    ∙ ap run_from (sym t)
+pub run_asked : (ws more : List (String Global)) (command : String Global) (options : Option Options) → ws ≡ command ∷ more → bytes_eq (string_bytes command) run_name ≡ true
+    → options ≡ run_options (pairs_in (map string_bytes more)) → asked_in (map string_bytes ws) ≡ option_map Invocation.Run options
+run_asked ws more command options e h o =
+    ap (λ z. asked_in (map string_bytes z)) e
+    ∙ ap (λ b. if b then option_map Invocation.Run (run_options (pairs_in (map string_bytes more))) else None) h
+    ∙ ap (option_map Invocation.Run) (sym o)
 
 pub ruleset pairs = (begins, ends)

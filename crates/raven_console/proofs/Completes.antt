@@ -5,19 +5,19 @@ use Rattle.spec_data.specs.Kept.{KeptRow}
 use Rattle.raven_ports.specs.Reported.{preceded}
 use Rattle.raven_reading.proofs.Once.{held_once}
 use Rattle.index_lang.specs.Openings.{IsOpened}
-use Rattle.spec_server.specs.Options.{Options, options_in, setting_with}
+use Rattle.spec_server.specs.Options.{Invocation, Options, asked_in, setting_with}
 use Rattle.raven_console.specs.Input.{TakesMore}
 use Rattle.raven_console.specs.Openings.{IsBad}
 use Rattle.raven_console.specs.Runs.{IsKeptBad, IsValid, Run}
 
-same : (o : Option Options) (a b : Options) → o ≡ Some a → o ≡ Some b → a ≡ b
+same : (o : Option Invocation) (a b : Options) → o ≡ Some (Invocation.Run a) → o ≡ Some (Invocation.Run b) → a ≡ b
 same o a b e f = cc
 
-pub not_none : (o : Option Options) (a : Options) → o ≡ Some a → o ≡ None → ⊥
+pub not_none : (o : Option Invocation) (a : Options) → o ≡ Some (Invocation.Run a) → o ≡ None → ⊥
 not_none o a e f = absurd cc
 
-pub no_options : (run : Run) → IsValid run → options_in run.arguments ≡ None → ⊥
-no_options run v e = not_none (options_in run.arguments) v.options v.ordered e
+pub no_options : (run : Run) → IsValid run → asked_in run.arguments ≡ None → ⊥
+no_options run v e = not_none (asked_in run.arguments) v.options v.ordered e
 
 length_of : (taken script : List ℕ) (after : Option (List ℕ)) → Some script ≡ preceded taken after → length taken ≤ length script
 length_of taken script None e = absurd cc
@@ -33,7 +33,7 @@ not_more run v t =
 
 pub not_bad : (run : Run) (etag : ℕ) → IsValid run → IsKeptBad run etag → ⊥
 not_bad run etag v b =
-    let o : v.options ≡ b.options = same (options_in run.arguments) v.options b.options v.ordered b.ordered in
+    let o : v.options ≡ b.options = same (asked_in run.arguments) v.options b.options v.ordered b.ordered in
     let bad = subst (λ (h : Option (List KeptRow)). IsBad (setting_with b.options.base) h etag) v.kept b.bad in
     let good = subst (λ (x : Options). IsOpened (setting_with x.base) v.rows (Ok v.machine)) o v.opens in
     absurd (let once = held_once (setting_with b.options.base) v.rows (Ok v.machine) (Err etag) good bad in cc)

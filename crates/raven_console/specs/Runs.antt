@@ -1,13 +1,13 @@
 -- A whole run of the program.
-use Rattle.std.specs.Prelude.{◌≡◌, ℕ, ◌≤◌, List, length, Option, Some, Ok}
+use Rattle.std.specs.Prelude.{◌≡◌, ℕ, ◌≤◌, List, length, Option, Some, IfSome, Ok}
 use Rattle.spec_data.specs.Kept.{KeptRow}
 use Rattle.raven_ports.specs.Faults.{Rose}
 use Rattle.raven_ports.specs.States.{KeeperState, SinkState, SourceState}
 use Rattle.spec_server.specs.Lines.{max_input}
 use Rattle.spec_server.specs.Machine.{Machine}
-use Rattle.spec_server.specs.Options.{Options, options_in, setting_with}
+use Rattle.spec_server.specs.Options.{Invocation, Options, asked_in, setting_with}
 use Rattle.index_lang.specs.Openings.{IsOpened}
-use Rattle.raven_console.specs.Answers.{Answers, StopsBefore, StopsIn, state_of}
+use Rattle.raven_console.specs.Answers.{Answers, ServerState, StopsBefore, StopsIn, state_of}
 use Rattle.raven_console.specs.Devices.{Holds}
 use Rattle.raven_console.specs.Openings.{IsBad, Loads, Opens}
 
@@ -32,55 +32,53 @@ pub record Run : Type 0 where
 -- the arguments are valid, and the database of the stored rows was opened
 pub record Begins (run : Run) (begun : KeeperState) (M : Machine) : Type 0 where
   pub options : Options
-  pub ordered : options_in run.arguments ≡ Some options
+  pub ordered : asked_in run.arguments ≡ Some (Invocation.Run options)
   pub opens : Opens (setting_with options.base) run.before.keeper.held M
   pub loads : Loads run.before.keeper begun
 
 -- the arguments are valid, and the row of this etag is the first invalid one that the keeper holds
 pub record IsKeptBad (run : Run) (etag : ℕ) : Type 0 where
   pub options : Options
-  pub ordered : options_in run.arguments ≡ Some options
+  pub ordered : asked_in run.arguments ≡ Some (Invocation.Run options)
   pub bad : IsBad (setting_with options.base) run.before.keeper.held etag
 
 -- the output and the keeper hold what they held
 abbrev pub HoldsSame : Run → Type 0
 HoldsSame run = (run.after.output.held ≡ run.before.output.held) × (run.after.keeper.held ≡ run.before.keeper.held)
 
--- THE END, OF A RUN WITH THIS INPUT
+-- THE END, AFTER THE INPUT WAS READ
 
--- all lines were executed and all replies were written, and the keeper holds the rows of the last store
-pub record Finished (run : Run) (script : List ℕ) : Type 0 where
+-- This happened to the lines of the script that was read, from the opened database to its last state, and the keeper holds the rows of the last
+-- store. The script is all of the input, if the input reports it.
+pub record Ran (run : Run) (Happened : Option ℕ → List ℕ → ServerState → ServerState → Type 0) : Type 0 where
+  pub script : List ℕ
+  pub input : IfSome run.before.input.left (λ left. left ≡ script)
+  pub within : length script ≤ max_input
   pub begun : KeeperState
   pub first : Machine
   pub last : Machine
   pub begins : Begins run begun first
-  pub answers : Answers run.clock script (state_of first begun run.before.output) (state_of last run.after.keeper run.after.output)
+  pub happened : Happened run.clock script (state_of first begun run.before.output) (state_of last run.after.keeper run.after.output)
   pub holds : Holds run.after.keeper.held last
 
--- it stopped at the reply to one of the lines, and the keeper holds the rows of the store after this line
-pub record Stopped (run : Run) (script : List ℕ) : Type 0 where
-  pub begun : KeeperState
-  pub first : Machine
-  pub last : Machine
-  pub begins : Begins run begun first
-  pub stops : StopsIn run.clock script (state_of first begun run.before.output) (state_of last run.after.keeper run.after.output)
-  pub holds : Holds run.after.keeper.held last
+-- all lines were executed and all replies were written
+abbrev pub Finished : Run → Type 0
+Finished run = Ran run Answers
 
--- it stopped before one of the lines, and the keeper holds the rows of the store before this line
-pub record StoppedEarly (run : Run) (script : List ℕ) : Type 0 where
-  pub begun : KeeperState
-  pub first : Machine
-  pub last : Machine
-  pub begins : Begins run begun first
-  pub stops : StopsBefore run.clock script (state_of first begun run.before.output) (state_of last run.after.keeper run.after.output)
-  pub holds : Holds run.after.keeper.held last
+-- it stopped at the reply to one of the lines, after which no line was executed
+abbrev pub Stopped : Run → Type 0
+Stopped run = Ran run StopsIn
+
+-- it stopped before one of the lines
+abbrev pub StoppedEarly : Run → Type 0
+StoppedEarly run = Ran run StopsBefore
 
 -- COMPLETENESS
 
 -- the arguments are valid, the input is no longer than may be read, and the stored rows open; both devices report these
 pub record IsValid (run : Run) : Type 0 where
   pub options : Options
-  pub ordered : options_in run.arguments ≡ Some options
+  pub ordered : asked_in run.arguments ≡ Some (Invocation.Run options)
   pub script : List ℕ
   pub input : run.before.input.left ≡ Some script
   pub within : length script ≤ max_input

@@ -1,9 +1,9 @@
 //! The arguments of the program: a command, and then pairs of a name and a value.
-ghost use Rattle.std.specs.Prelude.{◌≡◌, ◌↔◌, IfOk, IfSome, None, map, option_map, string_bytes};
-ghost use Rattle.spec_server.specs.Options.{base_in, is_value as spec_is_value, options_in, pairs_in};
-ghost use Rattle.raven_console.specs.ArgumentsView.{bytes_of, file_named, options_view, texts_in, texts_view};
+ghost use Rattle.std.specs.Prelude.{◌≡◌, IfOk, map, option_map, string_bytes};
+ghost use Rattle.spec_server.specs.Options.{asked_in, base_in, is_value as spec_is_value, pairs_in, run_options as spec_run_options};
+ghost use Rattle.raven_console.specs.ArgumentsView.{bytes_of, invocation_view, options_view, outside_of, texts_in, texts_view};
 
-use crate::options::{Outside, RunOptions};
+use crate::options::{Invocation, Outside, RunOptions};
 use doc_txn::BaseId;
 use raven_base::NoMemory;
 use raven_value::Text;
@@ -64,17 +64,11 @@ fn base_of(alloc: Global, text: Option<&str>) -> Result<Option<BaseId>, NoMemory
     }
 }
 
-/// The options in the arguments; none exactly if they are malformed.
-pub(crate) fn options(alloc: Global, arguments: &[String]) -> Result<Option<RunOptions>, NoMemory>
-    ensures { IfOk result (λ found. option_map options_view found ≡ options_in (map string_bytes arguments.now)) }
+// The options of `run` in the arguments after it; none exactly if they are malformed.
+fn run_options(alloc: Global, arguments: &[String]) -> Result<Option<RunOptions>, NoMemory>
+    ensures { IfOk result (λ found. option_map options_view found ≡ spec_run_options (pairs_in (map string_bytes arguments.now))) }
 {
-    let Some((command, more)) = arguments.split_first() else {
-        return Ok(None);
-    };
-    if command.as_str() != "run" {
-        return Ok(None);
-    }
-    let Some((file, base)) = texts(more) else {
+    let Some((file, base)) = texts(arguments) else {
         return Ok(None);
     };
     match base_of(alloc, base)? {
@@ -86,15 +80,28 @@ pub(crate) fn options(alloc: Global, arguments: &[String]) -> Result<Option<RunO
     }
 }
 
-/// What the arguments ask the caller to make; none exactly if they are malformed, so that the program would return `Usage`. `run` does
-/// not listen.
-pub fn outside(alloc: Global, arguments: &[String]) -> Result<Option<Outside>, NoMemory>
-    ensures form { IfOk result (λ found. (found ≡ None) ↔ (options_in (map string_bytes arguments.now) ≡ None)) }
-    ensures file { IfOk result (λ found. option_map (λ o. o.file) found ≡ option_map file_named (options_in (map string_bytes arguments.now))) }
-    ensures unheard { IfOk result (λ found. IfSome found (λ o. (o.port ≡ 0) × (o.workers ≡ 0) × (o.connections ≡ None))) }
+/// What the arguments ask the program to do; none exactly if they are malformed.
+pub(crate) fn asked(alloc: Global, arguments: &[String]) -> Result<Option<Invocation>, NoMemory>
+    ensures { IfOk result (λ found. option_map invocation_view found ≡ asked_in (map string_bytes arguments.now)) }
 {
-    match options(alloc, arguments)? {
-        Some(options) => {
+    let Some((command, more)) = arguments.split_first() else {
+        return Ok(None);
+    };
+    if command.as_str() != "run" {
+        return Ok(None);
+    }
+    match run_options(alloc, more)? {
+        Some(options) => Ok(Some(Invocation::Run(options))),
+        None => Ok(None),
+    }
+}
+
+/// What the arguments ask the caller to make; none exactly if they are malformed, so that the program would return `Usage`.
+pub fn outside(alloc: Global, arguments: &[String]) -> Result<Option<Outside>, NoMemory>
+    ensures { IfOk result (λ found. found ≡ option_map outside_of (asked_in (map string_bytes arguments.now))) }
+{
+    match asked(alloc, arguments)? {
+        Some(Invocation::Run(options)) => {
             let RunOptions { file, .. } = options;
             Ok(Some(Outside {
                 file,

@@ -6,11 +6,12 @@ ghost use Rattle.raven_console.specs.Devices.{Keeps};
 ghost use Rattle.raven_console.specs.Ends.{EndsRightly, IsUnopened};
 ghost use Rattle.raven_console.specs.Runs.{devices_of};
 
-use crate::arguments::options;
+use crate::arguments::asked;
 use crate::give::give_all;
 use crate::lines::next_line;
 use crate::machine::Machine;
 use crate::opening::open_from;
+use crate::options::Invocation;
 use crate::read::{ReadEnd, read_all};
 use crate::status::Status;
 use doc_keeper::LoadFault;
@@ -86,8 +87,8 @@ fn run<S: Source, O: Sink, K: Keeper, C: Clock>(
     ensures unwritten { (result ≡ Status.ReadFault) ⊎ (result ≡ Status.InputTooLarge) → (output.new ≡ output.old) × (keeper.new ≡ keeper.old) }
     ensures unopened { IsUnopened result → (output.new ≡ output.old) × ((K.state keeper.new).held ≡ (K.state keeper.old).held) }
 {
-    let asked = match options(alloc, arguments) {
-        Ok(Some(asked)) => asked,
+    let options = match asked(alloc, arguments) {
+        Ok(Some(Invocation::Run(options))) => options,
         Ok(None) => return Status::Usage,
         Err(NoMemory) => return Status::NoMemory,
     };
@@ -97,7 +98,7 @@ fn run<S: Source, O: Sink, K: Keeper, C: Clock>(
         Err(ReadEnd::TooLarge) => return Status::InputTooLarge,
         Err(ReadEnd::NoMemory) => return Status::NoMemory,
     };
-    let mut machine = match open_from(alloc, keeper, asked.base) {
+    let mut machine = match open_from(alloc, keeper, options.base) {
         Ok(machine) => machine,
         Err(LoadFault::Failed) => return Status::KeptFault,
         Err(LoadFault::KeptBad { etag }) => return Status::KeptBad { etag },

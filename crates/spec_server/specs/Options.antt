@@ -61,10 +61,18 @@ run_options (Some pairs) =
     then option_map (λ base. record { file = value_named (codes "--data") pairs; base = base }) (base_in (value_named (codes "--id") pairs))
     else None
 
--- the options that the arguments give, if they are valid
-abbrev pub options_in : List (List ℕ) → Option Options
-options_in [] = None
-options_in (command ∷ more) = if bytes_eq command (codes "run") then run_options (pairs_in more) else None
+-- THE COMMAND LINE
+
+-- what the arguments ask the program to do
+pub data Invocation : Type 0 where
+  Run : Options → Invocation
+
+-- what these arguments ask, if they are valid
+abbrev pub asked_in : List (List ℕ) → Option Invocation
+asked_in [] = None
+asked_in (command ∷ more) = if bytes_eq command (codes "run") then option_map Invocation.Run (run_options (pairs_in more)) else None
+
+-- THE SETTING
 
 -- the setting of the program with this base id
 abbrev pub setting_with : List ℕ → Setting
