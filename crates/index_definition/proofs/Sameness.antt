@@ -1,16 +1,15 @@
 -- Values with the same code are the same, so a comparison of codes is one of values.
-use Rattle.std.proofs.Common.{◌≡◌, ◌↔◌, Bool, ◌&&◌, Option, Some, None, IsTrue, refl, ap}
+use Rattle.std.proofs.Common.{◌≡◌, ◌↔◌, Bool, ◌&&◌, IsTrue, refl, ap}
 use Rattle.std.specs.Bool.{Decides}
 use Rattle.std.proofs.lemmas.Bool.Decides.{Decides-eqb, Decides-and, Decides-like, same_from_decides}
-use Rattle.std.specs.Coded.{Coded, coded_list}
+use Rattle.std.specs.Coded.{Coded, coded_list, coded_option}
 use base.Stored.{Gv, gnil, gnum, gcons}
-use Rattle.index_tree.specs.declared.reduce_query.ReduceQuery.{ReduceQuery}
 use Rattle.spec_data.specs.Codes.{text_code}
-use Rattle.index_tree.specs.Definitions.{same_codes, is_same, map_code, said_code, reduce_said, same_reduce, path_code, same_definition}
+use Rattle.index_tree.specs.Definitions.{same_codes, is_same, map_code, reduce_code, path_code, same_definition}
 use Rattle.index_definition.specs.declared.definition.DefBody.{DefBody}
 use Rattle.index_definition.specs.declared.definition.DefBody.TheVariants.{Static, Auto}
 use Rattle.index_definition.specs.DefinitionView.{definition_view}
-use Rattle.index_definition.specs.Shape.{Same, SameReduce}
+use Rattle.index_definition.specs.Shape.{Same}
 
 conses : (a b c d : Gv) → (a ≡ c) × (b ≡ d) → gcons a b ≡ gcons c d
 conses a b c d p = λ i. gcons (p.0 i) (p.1 i)
@@ -28,20 +27,9 @@ codes_decide _ _ = (λ e. cc, λ e. cc)
 decided : {A : Type 0} (code : Coded A) (a b : A) → Decides (is_same code a b) (a ≡ b)
 decided code a b = Decides-like (is_same code a b) (code.inj a b) (λ e. ap code.code e) (codes_decide (code.code a) (code.code b))
 
-said_alike : (a b : ReduceQuery) → (a.var ≡ b.var) × (a.key ≡ b.key) × (a.members ≡ b.members) → reduce_said a ≡ reduce_said b
-said_alike a b p = λ i. (p.0 i, (p.1 i, p.2 i))
-
-alike_said : (a b : ReduceQuery) → reduce_said a ≡ reduce_said b → (a.var ≡ b.var) × (a.key ≡ b.key) × (a.members ≡ b.members)
-alike_said a b p = (ap (λ s. s.0) p, ap (λ s. s.1.0) p, ap (λ s. s.1.1) p)
-
-reduces_decided : (r s : Option ReduceQuery) → Decides (same_reduce r s) (SameReduce r s)
-reduces_decided None None = (λ e. tt, λ e. refl)
-reduces_decided (Some a) (Some b) = Decides-like (same_reduce (Some a) (Some b)) (alike_said a b) (said_alike a b) (decided said_code (reduce_said a) (reduce_said b))
-reduces_decided None (Some b) = (λ e. cc, λ e. absurd e)
-reduces_decided (Some a) None = (λ e. cc, λ e. absurd e)
-
 definitions_decided : (a b : DefBody) → Decides (same_definition (definition_view a) (definition_view b)) (Same a b)
-definitions_decided (Static m r t u) (Static n s v w) = Decides-and (is_same map_code m n) (same_reduce r s) (decided map_code m n) (reduces_decided r s)
+definitions_decided (Static m r t u) (Static n s v w) =
+    Decides-and (is_same map_code m n) (is_same (coded_option reduce_code) r s) (decided map_code m n) (decided (coded_option reduce_code) r s)
 definitions_decided (Auto c fields) (Auto d others) =
     Decides-and (is_same text_code c d) (is_same (coded_list path_code) fields others) (decided text_code c d) (decided (coded_list path_code) fields others)
 definitions_decided (Static m r t u) (Auto d others) = (λ e. cc, λ e. absurd e)

@@ -1,8 +1,7 @@
 -- What is known of a definition.
-use Rattle.std.specs.Prelude.{◌≡◌, ℕ, List, [], ◌∷◌, map, Option, Some, None}
+use Rattle.std.specs.Prelude.{◌≡◌, ℕ, List, [], ◌∷◌, map}
 use Rattle.spec_data.specs.Data.{null}
 use Rattle.spec_data.specs.Rising.{Pairs, put}
-use Rattle.index_tree.specs.declared.reduce_query.ReduceQuery.{ReduceQuery}
 use Rattle.index_tree.specs.Scope as meaning
 use Rattle.index_tree.specs.Mapper.{joined}
 use Rattle.index_definition.specs.declared.definition.DefBody.{DefBody}
@@ -10,14 +9,8 @@ use Rattle.index_definition.specs.declared.definition.DefBody.TheVariants.{Stati
 
 -- ---- the same definition, whatever its name and its texts
 
--- but for the names that they give a group
-abbrev pub SameReduce : Option ReduceQuery → Option ReduceQuery → Type 0
-SameReduce None None = Unit {0}
-SameReduce (Some a) (Some b) = (a.var ≡ b.var) × (a.key ≡ b.key) × (a.members ≡ b.members)
-SameReduce _ _ = ⊥
-
 abbrev pub Same : DefBody → DefBody → Type 0
-Same (Static a reduce text reduce_text) (Static b other other_text other_reduce_text) = (a ≡ b) × SameReduce reduce other
+Same (Static a reduce text reduce_text) (Static b other other_text other_reduce_text) = (a ≡ b) × (reduce ≡ other)
 Same (Auto collection fields) (Auto other others) = (collection ≡ other) × (fields ≡ others)
 Same _ _ = ⊥
 

@@ -18,7 +18,7 @@ use raven_value::{Members, Scope, Text, Value};
 use std::alloc::Global;
 
 fn same_reduces(a: &Option<ReduceQuery>, b: &Option<ReduceQuery>) -> bool
-    ensures { IsTrue result ↔ spec.SameReduce a.now b.now }
+    ensures { IsTrue result ↔ (a.now ≡ b.now) }
 {
     match (a, b) {
         (Some(reduce), Some(other)) => same_reduce(reduce, other),
@@ -51,7 +51,7 @@ fn same_bodies(a: &DefBody, b: &DefBody) -> bool
     }
 }
 
-/// Whether two definitions are the same, whatever their names, their texts and the name that a reduce gives a group.
+/// Whether two definitions are the same, whatever their names and their texts.
 pub fn same(a: &Definition, b: &Definition) -> bool
     ensures says { IsTrue result ↔ spec.Same a.now.body b.now.body }
     ensures definition { result ≡ same_definition (definition_view a.now.body) (definition_view b.now.body) }

@@ -1,5 +1,5 @@
 -- Definitions of indexes, their codes, and whether two say the same, by these codes.
-use Rattle.std.specs.Prelude.{◌≡◌, ℕ, zero, suc, List, Bool, true, false, ◌&&◌, ◌==◌, Option, Some, None, ◌⊎◌, refl}
+use Rattle.std.specs.Prelude.{◌≡◌, ℕ, zero, suc, List, Bool, true, false, ◌&&◌, ◌==◌, Option, ◌⊎◌, refl}
 use Rattle.std.specs.Coded.{Coded, coded_ℕ, coded_list, coded×, coded⊎, coded_option, code_by}
 use Rattle.std.proofs.Common.{inl, inr}
 use base.Stored.{Gv, gnil, gnum, gcons}
@@ -131,20 +131,8 @@ same_codes a b = false
 abbrev pub is_same : {A : Type 0} → Coded A → A → A → Bool
 is_same code a b = same_codes (code.code a) (code.code b)
 
--- the name that a reduce gives a group says nothing
-abbrev pub reduce_said : ReduceQuery → List ℕ × (List (List ℕ) × List FoldMember)
-reduce_said r = (r.var, (r.key, r.members))
-
-abbrev pub said_code : Coded (List ℕ × (List (List ℕ) × List FoldMember))
-said_code = coded× text_code (coded× (coded_list text_code) (coded_list fold_code))
-
-abbrev pub same_reduce : Option ReduceQuery → Option ReduceQuery → Bool
-same_reduce None None = true
-same_reduce (Some a) (Some b) = is_same said_code (reduce_said a) (reduce_said b)
-same_reduce a b = false
-
 -- they say the same, however their texts are spelled
 abbrev pub same_definition : Definition → Definition → Bool
-same_definition (Static m r t u) (Static n s v w) = is_same map_code m n && same_reduce r s
+same_definition (Static m r t u) (Static n s v w) = is_same map_code m n && is_same (coded_option reduce_code) r s
 same_definition (Auto c fields) (Auto d others) = is_same text_code c d && is_same (coded_list path_code) fields others
 same_definition d e = false

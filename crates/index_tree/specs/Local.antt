@@ -2,6 +2,7 @@
 use Rattle.std.specs.Prelude.{◌≡◌, ℕ, List, [], ◌∷◌, ◌++◌, Bool, true, false, Option, Some, None, if◌then◌else◌, refl}
 use Rattle.std.proofs.Common.{ap, sym, ◌∙◌}
 use Rattle.spec_data.specs.Data.{Data, null, flag, num, text, array, object}
+use Rattle.spec_data.specs.Rising.{put}
 use Rattle.spec_data.specs.Scalars.{scalar_of}
 use Rattle.spec_data.specs.Faults.{is_fit, max_id}
 use Rattle.spec_data.specs.Folding.{folded}
@@ -114,8 +115,8 @@ bound_local (c ∷ more) bound =
 with_local : (bound : Bindings) (members : List MapMember) (found : Fields) → IsLocal (λ find. fields_with find bound found members)
 with_local bound [] found = λ find other h. refl
 with_local bound (m ∷ more) found =
-    then_local (λ find. evaluate find bound m.value) (λ find v. fields_with find bound (found ++ (m.name, scalar_of v) ∷ []) more) (evaluate_local bound m.value)
-    (λ v. with_local bound more (found ++ (m.name, scalar_of v) ∷ []))
+    then_local (λ find. evaluate find bound m.value) (λ find v. fields_with find bound (put m.name (scalar_of v) found) more) (evaluate_local bound m.value)
+    (λ v. with_local bound more (put m.name (scalar_of v) found))
 
 fields_local : (members : List MapMember) (bound : Bindings) → IsLocal (λ find. fields_under find members bound)
 fields_local members bound =

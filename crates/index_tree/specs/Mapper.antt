@@ -1,14 +1,16 @@
 -- The meaning of a definition: what its map gives for a document, over the documents that are recorded.
-use Rattle.std.specs.Prelude.{◌≡◌, ℕ, List, [], ◌∷◌, ◌++◌, Bool, Option, Some, None, map, codes, refl}
+use Rattle.std.specs.Prelude.{◌≡◌, ℕ, List, [], ◌∷◌, ◌++◌, Bool, Option, Some, None, codes, refl}
 use Rattle.std.specs.Str.{bytes_eq}
 use Rattle.std.specs.FinMap.{get}
 use Rattle.spec_data.specs.Data.{Data}
 use Rattle.spec_data.specs.Members.{Path, value_at}
+use Rattle.spec_data.specs.Rising.{put}
 use Rattle.spec_data.specs.Scalars.{Scalar, nothing, scalar_of}
 use Rattle.spec_data.specs.Rows.{Row, Body, doc, gone}
 use Rattle.index_tree.specs.declared.map_query.MapQuery.{MapQuery}
 use Rattle.index_tree.specs.Asking.{AgreeAt}
 use Rattle.index_tree.specs.Local.{meaning_local}
+use Rattle.index_tree.specs.Meaning.{Fields}
 use Rattle.index_tree.specs.Meaning as query
 use Rattle.index_tree.specs.Scope.{loaded_of}
 use Rattle.spec_data.specs.Tables.{Table, Scope}
@@ -49,9 +51,14 @@ abbrev pub field_of : Body → Path → Scalar
 field_of (doc d) path = scalar_at path d
 field_of gone path = nothing
 
+-- each field that a path leads to goes in at its name
+abbrev pub fields_at : Body → Fields → List Path → Fields
+fields_at body found [] = found
+fields_at body found (path ∷ more) = fields_at body (put (joined path) (field_of body path) found) more
+
 -- an automatic index gives an entry for each document, and loads nothing
 abbrev pub auto_meaning : List Path → Row → Table → Mapped
-auto_meaning fields d T = record { outcome = Entry (map (λ path. (joined path, field_of d.body path)) fields); loads = [] }
+auto_meaning fields d T = record { outcome = Entry (fields_at d.body [] fields); loads = [] }
 
 -- a map looks documents up in the table alone
 abbrev pub static_meaning : MapQuery → Row → Table → Mapped

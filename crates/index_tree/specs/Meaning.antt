@@ -1,6 +1,8 @@
 -- What a map gives for a document: its entry, no entry, or a failure, and what it asked for.
-use Rattle.std.specs.Prelude.{ℕ, List, [], ◌∷◌, ◌++◌, Option, Some, None, if◌then◌else◌}
+use Rattle.std.specs.Prelude.{ℕ, List, [], ◌∷◌, Option, Some, None, if◌then◌else◌}
+use Rattle.std.specs.Str.{bytes_eq}
 use Rattle.spec_data.specs.Data.{Data}
+use Rattle.spec_data.specs.Rising.{put}
 use Rattle.spec_data.specs.Rows.{Row}
 use Rattle.spec_data.specs.Scalars.{Scalar, scalar_of}
 use Rattle.index_tree.specs.declared.map_query.Clause.{Clause}
@@ -11,9 +13,14 @@ use Rattle.index_tree.specs.Asking.{Lookup, Asking, gives, ◌>>=◌}
 use Rattle.index_tree.specs.Operators.{is_true}
 use Rattle.index_tree.specs.Evaluate.{Bindings, document_of, evaluate}
 
--- names of fields and their values
+-- names of fields and their values, rising by the bytes of the names, so that each name is there once
 abbrev pub Fields : Type 0
 Fields = List (List ℕ × Scalar)
+
+-- the value of the field of that name, if there is one
+abbrev pub field_named : List ℕ → Fields → Option Scalar
+field_named name [] = None
+field_named name (f ∷ fields) = if bytes_eq name f.0 then Some f.1 else field_named name fields
 
 pub data Outcome : Type 0 where
   Entry : Fields → Outcome
@@ -40,10 +47,10 @@ abbrev pub bound_after : Lookup → Bindings → List Clause → Asking (Option 
 bound_after find bound [] = gives (Some bound)
 bound_after find bound (c ∷ more) = bound_by find bound c >>= λ next. where_some next (λ names. bound_after find names more)
 
--- the fields of the members go in one after another; a list or an object counts as null
+-- the members are computed in their order, and each field goes in at its name; a list or an object counts as null
 abbrev pub fields_with : Lookup → Bindings → Fields → List MapMember → Asking Fields
 fields_with find bound found [] = gives found
-fields_with find bound found (m ∷ more) = evaluate find bound m.value >>= λ v. fields_with find bound (found ++ (m.name, scalar_of v) ∷ []) more
+fields_with find bound found (m ∷ more) = evaluate find bound m.value >>= λ v. fields_with find bound (put m.name (scalar_of v) found) more
 
 abbrev pub fields_under : Lookup → List MapMember → Bindings → Asking (Option Fields)
 fields_under find members bound = fields_with find bound [] members >>= λ fields. gives (Some fields)

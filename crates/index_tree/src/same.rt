@@ -136,9 +136,12 @@ impl SameAs for FoldMember {
     }
 }
 
-/// Whether two reduces are the same, but for the names that they give a group.
+/// Whether two reduces are the same, the names in them and all.
 pub fn same_reduce(a: &ReduceQuery, b: &ReduceQuery) -> bool
-    ensures { IsTrue result ↔ ((a.now.var ≡ b.now.var) × (a.now.key ≡ b.now.key) × (a.now.members ≡ b.now.members)) }
+    ensures { IsTrue result ↔ (a.now ≡ b.now) }
 {
-    a.var == b.var && a.key.same_as(&b.key) && a.members.same_as(&b.members)
+    a.var == b.var
+        && a.group == b.group
+        && a.key.same_as(&b.key)
+        && a.members.same_as(&b.members)
 }

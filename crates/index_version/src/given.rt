@@ -5,11 +5,11 @@ ghost use Rattle.spec_data.specs.Scalars.{holds, Is, words as spec_words};
 ghost use Rattle.spec_index.specs.Find.{field_is_text};
 ghost use Rattle.spec_index.specs.Mapping.{has_failed};
 ghost use Rattle.raven_value.specs.ScalarView.{scalar_view};
-ghost use Rattle.map_stage.specs.MappedView.{fields_of, mapped_view, outcome_view};
+ghost use Rattle.map_stage.specs.MappedView.{mapped_view, outcome_view};
 ghost use Rattle.index_version.specs.Kept.{has_entry, outcome_has_words};
 
-use map_stage::{Mapped, Outcome};
-use raven_value::{Id, Ids, Scalar, Text};
+use map_stage::{Entry, Mapped, Outcome};
+use raven_value::{Id, Ids, Scalar};
 use std::marker::Model;
 
 /// The id of a document, and what the map gave for it.
@@ -83,20 +83,18 @@ fn outcome_has_words(outcome: &Outcome, field: &str, words: &str) -> bool
     ensures { result ≡ outcome_has_words field.now words.now (outcome_view outcome.now) }
 {
     match outcome {
-        Outcome::Entry(fields) => has_words_in(fields.as_slice(), field, words),
+        Outcome::Entry(entry) => has_words_in(entry, field, words),
         _ => false,
     }
 }
 
-fn has_words_in(fields: &[(Text, Scalar)], name: &str, words: &str) -> bool
-    ensures { result ≡ field_is_text name.now words.now (fields_of fields.now) }
+fn has_words_in(entry: &Entry, name: &str, words: &str) -> bool
+    ensures { result ≡ field_is_text name.now words.now entry.now }
 {
-    for field in fields {
-        if name == field.0.as_str() {
-            return is_words(&field.1, words);
-        }
+    match entry.get(name) {
+        Some(value) => is_words(value, words),
+        None => false,
     }
-    false
 }
 
 fn is_words(value: &Scalar, words: &str) -> bool

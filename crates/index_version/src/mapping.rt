@@ -1,10 +1,10 @@
 //! The map of a definition.
-ghost use Rattle.std.specs.Prelude.{◌≡◌, IfOk, map};
+ghost use Rattle.std.specs.Prelude.{◌≡◌, IfOk, []};
 ghost use Rattle.std.specs.FinMap.{empty};
-ghost use Rattle.map_stage.specs.MappedView.{fields_of, mapped_view};
+ghost use Rattle.map_stage.specs.MappedView.{mapped_view};
 ghost use Rattle.raven_value.specs.RowView.{body_of};
 ghost use Rattle.raven_value.specs.ScalarView.{scalar_view};
-ghost use Rattle.index_tree.specs.Mapper.{auto_meaning, field_of, joined, mapper_of};
+ghost use Rattle.index_tree.specs.Mapper.{auto_meaning, field_of, fields_at, mapper_of};
 ghost use Rattle.index_definition.specs.DefinitionView.{definition_view};
 ghost use Rattle.index_version.specs.Meaning.{found_local, found_meaning};
 
@@ -59,21 +59,21 @@ pub fn mapped_collection(definition: &Definition) -> &Text
 fn auto_mapped(alloc: Global, paths: &[Path], row: &Row) -> Result<Mapped, NoMemory>
     ensures { IfOk result (λ mapped. mapped_view mapped ≡ auto_meaning paths.now row.now empty) }
 {
-    let fields = auto_fields(alloc, paths, &row.body)?;
+    let entry = auto_entry(alloc, paths, &row.body)?;
     Ok(Mapped {
-        outcome: Outcome::Entry(fields),
+        outcome: Outcome::Entry(entry),
         loads: Ids::new(alloc),
     })
 }
 
-fn auto_fields(alloc: Global, paths: &[Path], body: &Body) -> Result<Entry, NoMemory>
-    ensures { IfOk result (λ fields. fields_of fields ≡ map (λ path. (joined path, field_of (body_of body.now) path)) paths.now) }
+fn auto_entry(alloc: Global, paths: &[Path], body: &Body) -> Result<Entry, NoMemory>
+    ensures { IfOk result (λ entry. entry ≡ fields_at (body_of body.now) [] paths.now) }
 {
-    let mut fields = Entry::new(alloc);
+    let mut entry = Entry::new(alloc);
     for path in paths {
-        fields.push((joined_name(alloc, path)?, field_at(alloc, body, path)?))?;
+        entry.put(joined_name(alloc, path)?, field_at(alloc, body, path)?)?;
     }
-    Ok(fields)
+    Ok(entry)
 }
 
 fn field_at(alloc: Global, body: &Body, path: &Path) -> Result<Scalar, NoMemory>

@@ -143,9 +143,25 @@ strict : (result (query (clause.Let (codes "x") fails ∷ []) []) ≡ record { o
     × (result (query (clause.Let (codes "c") (load (codes "Companies")) ∷ clause.Let (codes "x") fails ∷ []) []) ≡ record { outcome = Failed; loads = company })
 strict = (refl, refl, refl, refl)
 
--- lists and objects are no values of fields
-fields : result (query [] (member (codes "A") (Var (codes "o")) ∷ member (codes "B") (Num (pos 7)) ∷ [])) ≡ record { outcome = Entry ((codes "A", nothing) ∷ (codes "B", number (pos 7)) ∷ []); loads = [] }
-fields = refl
+-- lists and objects are no values of fields; fields rise by the bytes of their names, in whatever order the members are
+abbrev a_and_b : Mapped
+a_and_b = record { outcome = Entry ((codes "A", nothing) ∷ (codes "B", number (pos 7)) ∷ []); loads = [] }
+
+fields : (result (query [] (member (codes "A") (Var (codes "o")) ∷ member (codes "B") (Num (pos 7)) ∷ [])) ≡ a_and_b)
+    × (result (query [] (member (codes "B") (Num (pos 7)) ∷ member (codes "A") (Var (codes "o")) ∷ [])) ≡ a_and_b)
+fields = (refl, refl)
+
+-- bytes, and not letters: `Z` before `a`, and a name before those that it begins
+abbrev three : Mapped
+three = record { outcome = Entry ((codes "Z", number (pos 2)) ∷ (codes "a", number (pos 3)) ∷ (codes "aB", number (pos 1)) ∷ []); loads = [] }
+
+rising : result (query [] (member (codes "aB") (Num (pos 1)) ∷ member (codes "Z") (Num (pos 2)) ∷ member (codes "a") (Num (pos 3)) ∷ [])) ≡ three
+rising = refl
+
+-- the members are still computed in their order: what is loaded before a failure, and after it nothing
+in_turn : (result (query [] (member (codes "B") (load (codes "Companies")) ∷ member (codes "A") fails ∷ [])) ≡ record { outcome = Failed; loads = company })
+    × (result (query [] (member (codes "B") fails ∷ member (codes "A") (load (codes "Companies")) ∷ [])) ≡ record { outcome = Failed; loads = [] })
+in_turn = (refl, refl)
 
 reads : (scope_of (by_company (codes "Companies")) ≡ codes "Orders" ∷ codes "Companies" ∷ []) × (scope_of (by_company (codes "Orders")) ≡ codes "Orders" ∷ []) × (fields_of (by_company (codes "Orders")) ≡ codes "Name" ∷ [])
 reads = (refl, refl, refl)

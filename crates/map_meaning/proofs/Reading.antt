@@ -7,6 +7,7 @@ use Rattle.std.proofs.lemmas.Slice.Eq.{bytes_eq-Decides}
 use Rattle.spec_data.specs.Data.{Data, null, flag, num, text, array, object}
 use Rattle.spec_data.specs.Faults.{is_fit, max_id}
 use Rattle.spec_data.specs.Folding.{folded}
+use Rattle.spec_data.specs.Rising.{put}
 use Rattle.spec_data.specs.Rows.{Row}
 use Rattle.spec_data.specs.Scalars.{scalar_of}
 use Rattle.index_tree.specs.declared.expression.BinaryOp.{BinaryOp}
@@ -212,9 +213,9 @@ member_names members = flat_map (λ m. named_in m.value) members
 with_blind : (scope : List (List ℕ)) (bound : Bindings) (members : List MapMember) (found : Fields) → Covers scope (member_names members) → IsBlind scope (λ find. fields_with find bound found members)
 with_blind scope bound [] found h = λ find. refl
 with_blind scope bound (m ∷ more) found h =
-    then_blind scope (λ find. evaluate find bound m.value) (λ find v. fields_with find bound (found ++ (m.name, scalar_of v) ∷ []) more)
+    then_blind scope (λ find. evaluate find bound m.value) (λ find v. fields_with find bound (put m.name (scalar_of v) found) more)
     (evaluate_blind scope bound m.value (covers_left scope (named_in m.value) (member_names more) h))
-    (λ v. with_blind scope bound more (found ++ (m.name, scalar_of v) ∷ []) (covers_right scope (named_in m.value) (member_names more) h))
+    (λ v. with_blind scope bound more (put m.name (scalar_of v) found) (covers_right scope (named_in m.value) (member_names more) h))
 
 fields_blind : (scope : List (List ℕ)) (members : List MapMember) (bound : Bindings) → Covers scope (member_names members) → IsBlind scope (λ find. fields_under find members bound)
 fields_blind scope members bound h =

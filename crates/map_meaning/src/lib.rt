@@ -4,5 +4,6 @@
 mod laws;
 
 pub use laws::{
-    dates_are_read_alike, maps_are_local, maps_read_their_scope, numbers_are_of_64_bits,
+    dates_are_read_alike, entries_rise, fields_make_an_entry, maps_are_local,
+    maps_read_their_scope, numbers_are_of_64_bits,
 };

@@ -1,3 +1,4 @@
 pub mod HeldView
 pub mod Reached
+pub mod FieldView
 pub mod MappedView

@@ -4,12 +4,13 @@ ghost use Rattle.spec_data.specs.Folding.{folded};
 ghost use Rattle.raven_value.specs.RowView.{body_of};
 ghost use Rattle.index_tree.specs.Evaluate.{document_of};
 ghost use Rattle.index_tree.specs.Meaning.{bound_after, bound_by, entry_of, fields_with, mapped};
-ghost use Rattle.map_stage.specs.MappedView.{fields_of, outcome_view};
+ghost use Rattle.map_stage.specs.MappedView.{outcome_view};
 ghost use Rattle.map_stage.specs.Reached.{bindings_of, bound_if, from_there};
 
+use crate::fields::Entry;
 use crate::load::document_of;
 use crate::lookup::Lookup;
-use crate::mapper::{Entry, Outcome};
+use crate::mapper::Outcome;
 use crate::scene::{Binding, Scene};
 use index_tree::{Clause, MapMember, MapQuery};
 use raven_base::NoMemory;
@@ -52,16 +53,16 @@ impl<'a, T: Lookup> Scene<'a, T> {
         Ok(Some(true))
     }
 
-    /// The fields of the members, or nothing if the document fails.
+    /// The fields of the members, which are computed in their order; or nothing if the document fails.
     fn entry(&self, members: &'a [MapMember], asked: &mut Ids) -> Result<Option<Entry>, NoMemory>
-        ensures { IfOk result (λ entry. record { outcome = option_map fields_of entry; loads = map folded asked.new } ≡ from_there asked.old (fields_with (T.rows self.now.rows.now) (bindings_of self.now.bound.items) [] members.now)) }
+        ensures { IfOk result (λ entry. record { outcome = entry; loads = map folded asked.new } ≡ from_there asked.old (fields_with (T.rows self.now.rows.now) (bindings_of self.now.bound.items) [] members.now)) }
     {
         let mut entry = Entry::new(self.alloc);
         for member in members {
             let Some(held) = self.evaluate(&member.value, asked)? else {
                 return Ok(None);
             };
-            entry.push((member.name.clone()?, held.scalar(self.alloc)?))?;
+            entry.put(member.name.clone()?, held.scalar(self.alloc)?)?;
         }
         Ok(Some(entry))
     }

@@ -4,6 +4,7 @@
 mod date;
 mod entry;
 mod evaluate;
+mod fields;
 mod held;
 mod lang_mapper;
 mod load;
@@ -13,6 +14,7 @@ mod number;
 mod operator;
 mod scene;
 
+pub use fields::Entry;
 pub use lang_mapper::LangMapper;
 pub use lookup::Lookup;
-pub use mapper::{Entry, Mapped, Mapper, Outcome};
+pub use mapper::{Mapped, Mapper, Outcome};

@@ -6,14 +6,12 @@ ghost use Rattle.index_tree.specs.Meaning as meaning;
 ghost use Rattle.raven_base.specs.Counts.{one_map_more};
 ghost use Rattle.map_stage.specs.MappedView.{mapped_view};
 
+use crate::fields::Entry;
 use crate::lookup::Lookup;
-use raven_base::{NoMemory, Sequence, Steps};
-use raven_value::{Ids, Row, Scalar, Text};
+use raven_base::{NoMemory, Steps};
+use raven_value::{Ids, Row};
 use std::alloc::Global;
 use std::sync::ledger::Ledger;
-
-/// The fields of an entry with their names, in the order of the map's members.
-pub type Entry = Sequence<(Text, Scalar)>;
 
 /// What the map gives for a document.
 #[derive(Debug, Drop)]

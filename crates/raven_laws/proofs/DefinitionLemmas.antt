@@ -1,21 +1,19 @@
 -- Definitions that say the same, and the answers to a Define, a Remove and a batch for one index.
 use Rattle.std.proofs.Common.{◌≡◌, ℕ, ◌+◌, List, [], ◌∷◌, ◌++◌, Bool, true, false, not, cond, ◌&&◌, nat_lt, nat_le, length, map, Option, Some, None, option_map, Ok, Err, refl, sym, ap, ◌∙◌, subst, ◌⊎◌, inl, inr, ◌↔◌}
 use Rattle.std.proofs.lemmas.Bool.{eqb-true, eq-eqb, leb-true, leb-false, ltb-true, ltb-false}
-use Rattle.std.specs.Coded.{Coded, coded_list}
+use Rattle.std.specs.Coded.{Coded, coded_list, coded_option}
 use base.Stored.{Gv, gnil, gnum, gcons}
 use Rattle.spec_data.specs.Folding.{folded, same_key}
 use Rattle.spec_data.specs.Rows.{Row, key}
 use Rattle.spec_data.specs.Codes.{text_code}
-use Rattle.index_tree.specs.declared.reduce_query.FoldMember.{FoldMember}
-use Rattle.index_tree.specs.declared.reduce_query.ReduceQuery.{ReduceQuery}
 use Rattle.spec_store.specs.Store.{last, put}
-use Rattle.index_tree.specs.Definitions.{Definition, Static, Auto, map_code, path_code, said_code, reduce_said, is_same, same_codes, same_definition, same_reduce}
+use Rattle.index_tree.specs.Definitions.{Definition, Static, Auto, map_code, path_code, reduce_code, is_same, same_codes, same_definition}
 use Rattle.spec_store.specs.Commit.{Command, AnyVector, Server, Written, document_at, refusal_of, tombstone, or_refused, with_written}
 use Rattle.spec_index.specs.World.{Slot, SlotRefusal, added, define_at, index_id, is_named, is_reserved_name, max_index_name, removed, row_body, serving, unless_refused}
 use Rattle.spec_server.specs.Sound.{Has, IsListed, Sound}
 use Rattle.spec_server.specs.Replies.{Reply}
 use Rattle.spec_server.specs.Machine.{Machine, Keeping, Replied, Pump, after_batch, after_batch_if_named, pump_at, change_of_slots, rewrote, same_machine, settled, step, Do, in_world, with_world}
-use Rattle.raven_laws.specs.Definitions.{BatchIsAnswered, DefineIsAnswered, IsAdvanced, IsDefineAnswer, IsNewIndex, IsNoIndex, IsRemoveAnswer, IsRemoved, IsRowRefused, MayBeGiven, OtherSlotsStay, RemoveIsAnswered, SameReduces, SaysTheSame, new_slot}
+use Rattle.raven_laws.specs.Definitions.{BatchIsAnswered, DefineIsAnswered, IsAdvanced, IsDefineAnswer, IsNewIndex, IsNoIndex, IsRemoveAnswer, IsRemoved, IsRowRefused, MayBeGiven, OtherSlotsStay, RemoveIsAnswered, SaysTheSame, new_slot}
 use Rattle.raven_laws.specs.Writes.{IsKeeperFault}
 use Rattle.spec_store.proofs.StoreLemmas.{both_true, found_key, same_itself}
 use Rattle.spec_store.proofs.CommitLemmas.{put_key}
@@ -50,26 +48,14 @@ told-apart code a b = (
   λ e. subst (λ x. same_codes (code.code a) (code.code x) ≡ true) e (same_codes-itself (code.code a)),
 )
 
-reduces-told : (r s : Option ReduceQuery) → (same_reduce r s ≡ true) ↔ SameReduces r s
-reduces-told None None = (λ h. tt, λ h. refl)
-reduces-told None (Some s) = (λ h. absurd cc, λ h. absurd h)
-reduces-told (Some r) None = (λ h. absurd cc, λ h. absurd h)
-reduces-told (Some r) (Some s) = (
-  λ h. let e = (told-apart said_code (reduce_said r) (reduce_said s)).0 h in record {
-    var = ap (λ (x : List ℕ × (List (List ℕ) × List FoldMember)). x.0) e;
-    key = ap (λ (x : List ℕ × (List (List ℕ) × List FoldMember)). x.1.0) e;
-    members = ap (λ (x : List ℕ × (List (List ℕ) × List FoldMember)). x.1.1) e;
-  },
-  λ h. (told-apart said_code (reduce_said r) (reduce_said s)).1 (λ i. (h.var i, (h.key i, h.members i))),
-)
-
 both_are : (a b : Bool) → a ≡ true → b ≡ true → a && b ≡ true
 both_are a b h g = λ i. h i && g i
 
 pub definitions-told : (d e : Definition) → (same_definition d e ≡ true) ↔ SaysTheSame d e
 definitions-told (Static m r t u) (Static n s v w) = (
-  λ h. let both = both_true (is_same map_code m n) (same_reduce r s) h in record { map = (told-apart map_code m n).0 both.0; reduce = (reduces-told r s).0 both.1 },
-  λ h. both_are (is_same map_code m n) (same_reduce r s) ((told-apart map_code m n).1 h.map) ((reduces-told r s).1 h.reduce),
+  λ h. let both = both_true (is_same map_code m n) (is_same (coded_option reduce_code) r s) h in
+      record { map = (told-apart map_code m n).0 both.0; reduce = (told-apart (coded_option reduce_code) r s).0 both.1 },
+  λ h. both_are (is_same map_code m n) (is_same (coded_option reduce_code) r s) ((told-apart map_code m n).1 h.map) ((told-apart (coded_option reduce_code) r s).1 h.reduce),
 )
 definitions-told (Static m r t u) (Auto d others) = (λ h. absurd cc, λ h. absurd h)
 definitions-told (Auto c fields) (Static n s v w) = (λ h. absurd cc, λ h. absurd h)

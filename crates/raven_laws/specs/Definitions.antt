@@ -17,20 +17,9 @@ use Rattle.raven_laws.specs.Writes.{IsKeeperFault}
 
 -- WHEN TWO DEFINITIONS SAY THE SAME
 
--- the name that a reduce gives a group does not matter
-pub record SameReduce (r s : ReduceQuery) : Type 0 where
-  pub var : r.var ≡ s.var
-  pub key : r.key ≡ s.key
-  pub members : r.members ≡ s.members
-
-abbrev pub SameReduces : Option ReduceQuery → Option ReduceQuery → Type 0
-SameReduces None None = Unit {0}
-SameReduces (Some r) (Some s) = SameReduce r s
-SameReduces r s = ⊥
-
 pub record SameStatic (m n : MapQuery) (r s : Option ReduceQuery) : Type 0 where
   pub map : m ≡ n
-  pub reduce : SameReduces r s
+  pub reduce : r ≡ s
 
 pub record SameAuto (c d : List ℕ) (ps qs : List Path) : Type 0 where
   pub collection : c ≡ d

@@ -7,8 +7,8 @@ ghost use Rattle.spec_server.specs.Sound.{Sound};
 ghost use Rattle.raven_laws.specs.Choices.{AutoIsAnswered};
 ghost use Rattle.raven_laws.specs.Definitions.{BatchIsAnswered, DefineIsAnswered, OtherSlotsStay, RemoveIsAnswered, SaysTheSame};
 
-/// Two definitions are found to be the same exactly if their maps and reduces are equal, except for the name of a group, or their
-/// collections and fields are. Their texts do not matter.
+/// Two definitions are found to be the same exactly if their maps and reduces are equal, or their collections and fields are. Their
+/// texts do not matter.
 pub fn same_definition_is_exact()
     ensures { (d e : Definition) → (same_definition d e ≡ true) ↔ SaysTheSame d e }
 {}

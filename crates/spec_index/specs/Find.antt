@@ -1,15 +1,10 @@
 -- What a query finds over the documents that an index has recorded.
-use Rattle.std.specs.Prelude.{ℕ, List, [], ◌∷◌, Bool, false, if◌then◌else◌, Option, Some, None, filter, map}
-use Rattle.std.specs.Str.{bytes_eq}
+use Rattle.std.specs.Prelude.{ℕ, List, Bool, false, Option, Some, None, filter, map}
 use Rattle.spec_data.specs.Scalars.{Scalar, words, Is, holds}
 use Rattle.spec_data.specs.Tables.{Table}
 use Rattle.index_tree.specs.Mapper.{Mapper}
-use Rattle.index_tree.specs.Meaning.{Fields}
+use Rattle.index_tree.specs.Meaning.{Fields, field_named}
 use Rattle.spec_index.specs.Mapping.{scratch}
-
-abbrev pub field_named : List ℕ → Fields → Option Scalar
-field_named name [] = None
-field_named name (f ∷ fields) = if bytes_eq name f.0 then Some f.1 else field_named name fields
 
 -- the value is this text, without regard to case; a field that an entry lacks meets no test
 abbrev pub is_text : List ℕ → Option Scalar → Bool

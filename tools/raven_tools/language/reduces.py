@@ -11,7 +11,7 @@ FOLDS = ("Sum", "Min", "Max")
 @dataclasses.dataclass(frozen=True)
 class Reduce:
     var: str
-    group: str = dataclasses.field(compare=False)  # the name behind `into` does not distinguish reduces
+    group: str  # the name behind `into`
     key: tuple[str, ...]
     members: tuple  # of (name, value); a value is ("key", part) or ("fold", kind, variable, field)
 

@@ -7,4 +7,4 @@ use Rattle.doc_txn.proofs.document.clean_members.Goals as goal
 pub of-requires : goal.of-requires
 of-requires c =
     let kept = c.in_ok-kept.ensures ∙ ap (λ (ms : Pairs). filter (λ m. not (is_server_member m.0)) ms) c.as_slice.ensures.members in
-    subst IsRising (sym kept) (IsRising-filter (λ m. not (is_server_member m.0)) c.args.members.now c.as_slice.ensures.rising)
+    subst (λ (ms : Pairs). IsRising ms) (sym kept) (IsRising-filter (λ m. not (is_server_member m.0)) c.args.members.now c.as_slice.ensures.rising)
