@@ -8,7 +8,7 @@ use Rattle.raven_value.specs.View.{data_of, pair_of}
 use Rattle.raven_value.specs.declared.text.Text.{Text}
 use Rattle.raven_value.specs.declared.value.Value.{Value}
 use Rattle.index_tree.specs.Language as is
-use Rattle.index_tree.specs.Definitions.{Definition}
+use Rattle.index_tree.specs.Definitions.{Definition, Texts}
 use Rattle.spec_server.specs.Opening.{BodyForm, NoForm, body_form, form_of}
 use Rattle.index_definition.specs.DefinitionView.{definition_view}
 use Rattle.index_lang.specs.Parse.{IsParsed}
@@ -50,15 +50,15 @@ pub ruleset bodies = (bare-members, fewer-items, more-items)
 
 -- TEXTS
 
-pub says-definition : (name map : List ℕ) (definition : program.Definition) → IsParsed name map None (Ok definition) → IsSaid map (Some (definition_view definition.body))
-says-definition name map definition h = record {
+pub says-definition : (name map : List ℕ) (reduce : Option (List ℕ)) (definition : program.Definition) → IsParsed name map reduce (Ok definition) → IsSaid (map, reduce) (Some (definition_view definition.body))
+says-definition name map reduce definition h = record {
   answer = Ok (definition_view definition.body);
   says = record { name = name; definition = definition; given = h; seen = refl };
   told = refl;
 }
 
-pub says-nothing : (name map : List ℕ) (part : Part) (at : ℕ) (kind : LangKind) → IsParsed name map None (Err (At part at kind)) → IsSaid map None
-says-nothing name map part at kind h = record {
+pub says-nothing : (name map : List ℕ) (reduce : Option (List ℕ)) (part : Part) (at : ℕ) (kind : LangKind) → IsParsed name map reduce (Err (At part at kind)) → IsSaid (map, reduce) None
+says-nothing name map reduce part at kind h = record {
   answer = Err (refusal_view part at kind);
   says = record { name = name; part = part; at = at; kind = kind; given = h; seen = refl };
   told = refl;
@@ -68,14 +68,14 @@ pub ruleset sayings = (says-definition, says-nothing)
 
 -- FORMS
 
-pub form-auto : (auto : Option Definition) (map : Option (List ℕ)) (d : Definition) → Some d ≡ auto → IsOfForm (form_of auto map) (Some d)
-form-auto auto map d h = subst (λ o. IsOfForm (form_of o map) (Some d)) h refl
+pub form-auto : (auto : Option Definition) (read : Option Texts) (d : Definition) → Some d ≡ auto → IsOfForm (form_of auto read) (Some d)
+form-auto auto read d h = subst (λ o. IsOfForm (form_of o read) (Some d)) h refl
 
-pub form-text : (auto : Option Definition) (map : Option (List ℕ)) (text : List ℕ) (d : Option Definition) → None ≡ auto → Some text ≡ map → IsSaid text d → IsOfForm (form_of auto map) d
-form-text auto map text d h g said = subst (λ o. IsOfForm (form_of o map) d) h (subst (λ m. IsOfForm (form_of None m) d) g said)
+pub form-texts : (auto : Option Definition) (read : Option Texts) (texts : Texts) (d : Option Definition) → None ≡ auto → Some texts ≡ read → IsSaid texts d → IsOfForm (form_of auto read) d
+form-texts auto read texts d h g said = subst (λ o. IsOfForm (form_of o read) d) h (subst (λ r. IsOfForm (form_of None r) d) g said)
 
-pub form-none : (auto : Option Definition) (map : Option (List ℕ)) → None ≡ auto → None ≡ map → IsOfForm (form_of auto map) None
-form-none auto map h g = subst (λ o. IsOfForm (form_of o map) None) h (subst (λ m. IsOfForm (form_of None m) None) g refl)
+pub form-none : (auto : Option Definition) (read : Option Texts) → None ≡ auto → None ≡ read → IsOfForm (form_of auto read) None
+form-none auto read h g = subst (λ o. IsOfForm (form_of o read) None) h (subst (λ r. IsOfForm (form_of None r) None) g refl)
 
 members_in : (ps : List (Text × Value)) (ms : Pairs) → map pair_of ps ≡ ms → (if length ps == 4 then form_in (entries_of ms) else NoForm) ≡ body_form (object (entries_of ms))
 members_in ps ms is = ap (λ n. if n == 4 then form_in (entries_of ms) else NoForm) (sym (as_many ps) ∙ ap (λ xs. length (pairs_of (entries_of xs))) is)
@@ -89,4 +89,4 @@ pub body-four : (ps : List (Text × Value)) (ms : Pairs) (d : Option Definition)
 body-four ps ms d is h said =
     subst (λ form. IsOfForm form d) (ap (λ n. if n == 4 then form_in (entries_of ms) else NoForm) (sym h) ∙ members_in ps ms is) said
 
-pub ruleset forms = (form-auto, form-text, form-none, body-other, body-four)
+pub ruleset forms = (form-auto, form-texts, form-none, body-other, body-four)

@@ -1,19 +1,19 @@
 -- What a line of a script is read as.
 use Rattle.std.specs.Prelude.{◌≡◌, ℕ, List, [], ◌∷◌, Result}
 use Rattle.index_tree.specs.Language.{LangRefusal}
-use Rattle.index_tree.specs.Definitions.{Definition}
+use Rattle.index_tree.specs.Definitions.{Definition, Texts}
 use Rattle.spec_server.specs.Script.{Asked, Plain, Defining, Given, LineRead, asked_of, defined_by}
 use Rattle.index_lang.specs.Says.{Says}
 
--- what is asked to be defined is what the text says
-pub record IsDefining (name map : List ℕ) (line : LineRead) : Type 0 where
+-- what is asked to be defined is what the texts say
+pub record IsDefining (name : List ℕ) (texts : Texts) (line : LineRead) : Type 0 where
   pub answer : Result Definition LangRefusal
-  pub says : Says map answer
+  pub says : Says texts answer
   pub read : line ≡ defined_by name answer
 
 abbrev pub Comes : Asked → LineRead → Type 0
 Comes (Plain line) read = read ≡ line
-Comes (Defining name map) read = IsDefining name map read
+Comes (Defining name texts) read = IsDefining name texts read
 
 abbrev pub IsLine : List ℕ → LineRead → Type 0
 IsLine line read = Comes (asked_of line) read

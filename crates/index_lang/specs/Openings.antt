@@ -6,7 +6,7 @@ use Rattle.spec_store.specs.Commit.{Setting}
 use Rattle.spec_store.specs.Kept.{rows_in}
 use Rattle.index_tree.specs.Language.{LangRefusal}
 use Rattle.spec_server.specs.Machine.{Machine}
-use Rattle.index_tree.specs.Definitions.{Definition}
+use Rattle.index_tree.specs.Definitions.{Definition, Texts}
 use Rattle.spec_server.specs.Opening.{BodyForm, NoForm, AutoForm, StaticForm, ReadRow, body_form, is_defining, opened, rows_of}
 use Rattle.index_lang.specs.Says.{Says}
 
@@ -14,16 +14,16 @@ abbrev pub without_refusal : Result Definition LangRefusal → Option Definition
 without_refusal (Ok d) = Some d
 without_refusal (Err refusal) = None
 
--- what the text of a map says; if it is refused, there is no definition
-pub record IsSaid (map : List ℕ) (d : Option Definition) : Type 0 where
+-- what the texts say; if they are refused, there is no definition
+pub record IsSaid (texts : Texts) (d : Option Definition) : Type 0 where
   pub answer : Result Definition LangRefusal
-  pub says : Says map answer
+  pub says : Says texts answer
   pub told : d ≡ without_refusal answer
 
 abbrev pub IsOfForm : BodyForm → Option Definition → Type 0
 IsOfForm NoForm d = d ≡ None
 IsOfForm (AutoForm definition) d = d ≡ Some definition
-IsOfForm (StaticForm map) d = IsSaid map d
+IsOfForm (StaticForm texts) d = IsSaid texts d
 
 abbrev pub IsInBody : Body → Option Definition → Type 0
 IsInBody (doc body) d = IsOfForm (body_form body) d

@@ -3,10 +3,10 @@ ghost use Rattle.std.specs.Prelude.{◌≡◌, ◌==◌, ◌||◌, IfOk, option_
 ghost use Rattle.std.specs.List.{list_any};
 ghost use Rattle.spec_data.specs.Data.{entries_of};
 ghost use Rattle.raven_value.specs.View.{data_of};
-ghost use Rattle.spec_server.specs.Opening.{auto_read, body_form, is_part as spec_is_part, map_read};
+ghost use Rattle.spec_server.specs.Opening.{auto_read, body_form, is_part as spec_is_part, texts_read};
 ghost use Rattle.index_lang.specs.Openings.{IsOfForm, IsSaid};
 ghost use Rattle.index_definition.specs.DefinitionView.{definition_view};
-ghost use Rattle.index_lang.specs.Bodies.{form_in, is_bare as spec_is_bare, only_item as spec_only_item, text_in as spec_text_in};
+ghost use Rattle.index_lang.specs.Bodies.{form_in, is_bare as spec_is_bare, only_item as spec_only_item, text_in as spec_text_in, texts_behind};
 
 use crate::parsing::parse;
 use index_definition::{DefBody, LangRefusal, auto_body};
@@ -96,14 +96,14 @@ fn auto_of(
     Ok(Some(auto_body(alloc, collection, field)?))
 }
 
-// The text of a map that these four members hold, if they do.
-fn map_of<'a>(
+// The texts of a map and of a reduce that these four members hold, if they do. For now they hold none of a reduce.
+fn texts_of<'a>(
     metadata: Option<&'a Value>,
     kind: Option<&'a Value>,
     map: Option<&'a Value>,
     reduce: Option<&'a Value>,
-) -> Option<&'a Text>
-    ensures { option_map (λ t. t.now) result ≡ map_read (option_map (λ v. data_of v.now) metadata.entry) (option_map (λ v. data_of v.now) kind.entry) (option_map (λ v. data_of v.now) map.entry) (option_map (λ v. data_of v.now) reduce.entry) }
+) -> Option<(&'a str, Option<&'a str>)>
+    ensures { option_map texts_behind result ≡ texts_read (option_map (λ v. data_of v.now) metadata.entry) (option_map (λ v. data_of v.now) kind.entry) (option_map (λ v. data_of v.now) map.entry) (option_map (λ v. data_of v.now) reduce.entry) }
 {
     if !is_bare(metadata) {
         return None;
@@ -113,21 +113,21 @@ fn map_of<'a>(
     };
     let map = text_in(map)?;
     match reduce {
-        Some(Value::Null) if kind.as_str() == "static" => Some(map),
+        Some(Value::Null) if kind.as_str() == "static" => Some((map.as_str(), None)),
         _ => None,
     }
 }
 
-// What the text of a map says, and nothing if it is refused. It says the same under each name.
+// What the texts say, and nothing if they are refused. They say the same under each name.
 #[tactic(auto, using(crate::proofs::Forms::sayings))]
-fn said(alloc: Global, map: &Text) -> Result<Option<DefBody>, NoMemory>
-    ensures { IfOk result (λ body. IsSaid map.now (option_map definition_view body)) }
+fn said(alloc: Global, map: &str, reduce: Option<&str>) -> Result<Option<DefBody>, NoMemory>
+    ensures { IfOk result (λ body. IsSaid (map.now, option_map (λ t. t.now) reduce.entry) (option_map definition_view body)) }
 {
     let name = match Name::new(alloc, "map") {
         Ok(name) => name,
         Err(_) => return Err(NoMemory),
     };
-    match parse(alloc, name, map.as_str(), None) {
+    match parse(alloc, name, map, reduce) {
         Ok(definition) => Ok(Some(definition.body)),
         Err(LangRefusal::At { .. }) => Ok(None),
         Err(LangRefusal::NoMemory) => Err(NoMemory),
@@ -147,8 +147,8 @@ fn definition_in(alloc: Global, members: &Members) -> Result<Option<DefBody>, No
     }
     let map = members.get("Map");
     let reduce = members.get("Reduce");
-    match map_of(metadata, kind, map, reduce) {
-        Some(map) => said(alloc, map),
+    match texts_of(metadata, kind, map, reduce) {
+        Some((map, reduce)) => said(alloc, map, reduce),
         None => Ok(None),
     }
 }

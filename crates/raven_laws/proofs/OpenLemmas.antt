@@ -17,11 +17,11 @@ use Rattle.spec_data.specs.Rising.{Pairs, IsRising}
 use Rattle.spec_data.specs.Rows.{Row, Body, doc, gone, key, is_document}
 use Rattle.spec_data.specs.Written.{text_of}
 use Rattle.spec_store.specs.Store.{row_at, last_of, AreRising, AreApart, IsStore}
-use Rattle.index_tree.specs.Definitions.{Definition, Auto}
+use Rattle.index_tree.specs.Definitions.{Definition, Auto, Texts}
 use Rattle.spec_store.specs.Commit.{Setting, is_index_id, stored_body}
-use Rattle.spec_index.specs.World.{Slot, new_version, index_id, row_body}
+use Rattle.spec_index.specs.World.{Slot, new_version, index_id, row_body, text_or_null}
 use Rattle.spec_server.specs.Machine.{Machine}
-use Rattle.spec_server.specs.Opening.{OpenedFrom, is_part, auto_read, map_read, form_of, body_form, NoForm, ReadRow, is_defining, name_in, may_be_named, is_filed, is_too_many, slot_of, with_slot, slots_with, slots_after, or_bad, and_then, slots_from, opened_with, rows_of}
+use Rattle.spec_server.specs.Opening.{OpenedFrom, is_part, auto_read, texts_read, form_of, body_form, NoForm, ReadRow, is_defining, name_in, may_be_named, is_filed, is_too_many, slot_of, with_slot, slots_with, slots_after, or_bad, and_then, slots_from, opened_with, rows_of}
 use Rattle.spec_store.specs.Kept.{max_body, max_etag, is_stored, document_of, document_in, body_in, is_etag, row_in, can_follow, row_if_it_follows, or_bad_row, rows_after, rows_in}
 use Rattle.spec_server.specs.Sound.{Has, Fits, NumbersRise, NamesApart, AreListed, IsMachine, Sound}
 use Rattle.raven_laws.specs.Opened.{AgreesWithForm, AgreesWithBody, HasOwnDefinition, HaveOwnDefinitions, OpenedFaithfully}
@@ -295,88 +295,88 @@ four c f = (codes "@metadata", object no_entries) ∷ (codes "Collection", text 
 four-rise : (c f : List ℕ) → IsRising (four c f)
 four-rise c f = ((refl, (refl, (refl, tt))), ((refl, (refl, tt)), ((refl, tt), (tt, tt))))
 
--- the four members of the body of a definition by a text
-record IsStatic (metadata kind map reduce : Option Data) (words : List ℕ) : Type 0 where
+-- the four members of the body of a definition by texts
+record IsStatic (metadata kind map reduce : Option Data) (texts : Texts) : Type 0 where
   pub metadata_is : metadata ≡ Some (object no_entries)
   pub kind_is : kind ≡ Some (text (codes "static"))
-  pub map_is : map ≡ Some (text words)
-  pub reduce_is : reduce ≡ Some null
+  pub map_is : map ≡ Some (text texts.0)
+  pub reduce_is : reduce ≡ Some (text_or_null texts.1)
 
-same_words : (a b : List ℕ) → Some a ≡ Some b → a ≡ b
-same_words a b h = cc
+same_texts : (a b : Texts) → Some a ≡ Some b → a ≡ b
+same_texts a b h = cc
 
-by_words : (k s words : List ℕ) → map_read (Some (object no_entries)) (Some (text k)) (Some (text s)) (Some null) ≡ Some words
-    → IsStatic (Some (object no_entries)) (Some (text k)) (Some (text s)) (Some null) words
-by_words k s words h =
-    elim (bytes_eq k (codes "static")) as (λ b. bytes_eq k (codes "static") ≡ b → cond b (Some s) None ≡ Some words
-    → IsStatic (Some (object no_entries)) (Some (text k)) (Some (text s)) (Some null) words) [
+by_texts : (k s : List ℕ) (texts : Texts) → texts_read (Some (object no_entries)) (Some (text k)) (Some (text s)) (Some null) ≡ Some texts
+    → IsStatic (Some (object no_entries)) (Some (text k)) (Some (text s)) (Some null) texts
+by_texts k s texts h =
+    elim (bytes_eq k (codes "static")) as (λ b. bytes_eq k (codes "static") ≡ b → cond {A = Option Texts} b (Some (s, None)) None ≡ Some texts
+    → IsStatic (Some (object no_entries)) (Some (text k)) (Some (text s)) (Some null) texts) [
       | true ↦ λ e g. record {
         metadata_is = refl;
         kind_is = ap (λ x. Some (text x)) ((bytes_eq-Decides k (codes "static")).0 e);
-        map_is = ap (λ x. Some (text x)) (same_words s words g);
-        reduce_is = refl;
+        map_is = ap (λ (t : Texts). Some (text t.0)) (same_texts (s, None) texts g);
+        reduce_is = ap (λ (t : Texts). Some (text_or_null t.1)) (same_texts (s, None) texts g);
       }
       | false ↦ λ e g. absurd cc
     ] refl h
 
-by_reduce : (k s : List ℕ) (r : Option Data) (words : List ℕ) → map_read (Some (object no_entries)) (Some (text k)) (Some (text s)) r ≡ Some words
-    → IsStatic (Some (object no_entries)) (Some (text k)) (Some (text s)) r words
-by_reduce k s None words h = absurd cc
-by_reduce k s (Some null) words h = by_words k s words h
-by_reduce k s (Some (flag b)) words h = absurd cc
-by_reduce k s (Some (num n)) words h = absurd cc
-by_reduce k s (Some (text x)) words h = absurd cc
-by_reduce k s (Some (array ds)) words h = absurd cc
-by_reduce k s (Some (object ms)) words h = absurd cc
+by_reduce : (k s : List ℕ) (r : Option Data) (texts : Texts) → texts_read (Some (object no_entries)) (Some (text k)) (Some (text s)) r ≡ Some texts
+    → IsStatic (Some (object no_entries)) (Some (text k)) (Some (text s)) r texts
+by_reduce k s None texts h = absurd cc
+by_reduce k s (Some null) texts h = by_texts k s texts h
+by_reduce k s (Some (flag b)) texts h = absurd cc
+by_reduce k s (Some (num n)) texts h = absurd cc
+by_reduce k s (Some (text x)) texts h = absurd cc
+by_reduce k s (Some (array ds)) texts h = absurd cc
+by_reduce k s (Some (object ms)) texts h = absurd cc
 
-by_map : (k : List ℕ) (m r : Option Data) (words : List ℕ) → map_read (Some (object no_entries)) (Some (text k)) m r ≡ Some words → IsStatic (Some (object no_entries)) (Some (text k)) m r words
-by_map k None r words h = absurd cc
-by_map k (Some null) r words h = absurd cc
-by_map k (Some (flag b)) r words h = absurd cc
-by_map k (Some (num n)) r words h = absurd cc
-by_map k (Some (array ds)) r words h = absurd cc
-by_map k (Some (object ms)) r words h = absurd cc
-by_map k (Some (text s)) r words h = by_reduce k s r words h
+by_map : (k : List ℕ) (m r : Option Data) (texts : Texts) → texts_read (Some (object no_entries)) (Some (text k)) m r ≡ Some texts → IsStatic (Some (object no_entries)) (Some (text k)) m r texts
+by_map k None r texts h = absurd cc
+by_map k (Some null) r texts h = absurd cc
+by_map k (Some (flag b)) r texts h = absurd cc
+by_map k (Some (num n)) r texts h = absurd cc
+by_map k (Some (array ds)) r texts h = absurd cc
+by_map k (Some (object ms)) r texts h = absurd cc
+by_map k (Some (text s)) r texts h = by_reduce k s r texts h
 
-by_static : (k m r : Option Data) (words : List ℕ) → map_read (Some (object no_entries)) k m r ≡ Some words → IsStatic (Some (object no_entries)) k m r words
-by_static None m r words h = absurd cc
-by_static (Some null) m r words h = absurd cc
-by_static (Some (flag b)) m r words h = absurd cc
-by_static (Some (num n)) m r words h = absurd cc
-by_static (Some (array ds)) m r words h = absurd cc
-by_static (Some (object ms)) m r words h = absurd cc
-by_static (Some (text k)) m r words h = by_map k m r words h
+by_static : (k m r : Option Data) (texts : Texts) → texts_read (Some (object no_entries)) k m r ≡ Some texts → IsStatic (Some (object no_entries)) k m r texts
+by_static None m r texts h = absurd cc
+by_static (Some null) m r texts h = absurd cc
+by_static (Some (flag b)) m r texts h = absurd cc
+by_static (Some (num n)) m r texts h = absurd cc
+by_static (Some (array ds)) m r texts h = absurd cc
+by_static (Some (object ms)) m r texts h = absurd cc
+by_static (Some (text k)) m r texts h = by_map k m r texts h
 
-map_read-IsStatic : (d k m r : Option Data) (words : List ℕ) → map_read d k m r ≡ Some words → IsStatic d k m r words
-map_read-IsStatic None k m r words h = absurd cc
-map_read-IsStatic (Some null) k m r words h = absurd cc
-map_read-IsStatic (Some (flag b)) k m r words h = absurd cc
-map_read-IsStatic (Some (num n)) k m r words h = absurd cc
-map_read-IsStatic (Some (text s)) k m r words h = absurd cc
-map_read-IsStatic (Some (array ds)) k m r words h = absurd cc
-map_read-IsStatic (Some (object (entry n v ms))) k m r words h = absurd cc
-map_read-IsStatic (Some (object no_entries)) k m r words h = by_static k m r words h
+texts_read-IsStatic : (d k m r : Option Data) (texts : Texts) → texts_read d k m r ≡ Some texts → IsStatic d k m r texts
+texts_read-IsStatic None k m r texts h = absurd cc
+texts_read-IsStatic (Some null) k m r texts h = absurd cc
+texts_read-IsStatic (Some (flag b)) k m r texts h = absurd cc
+texts_read-IsStatic (Some (num n)) k m r texts h = absurd cc
+texts_read-IsStatic (Some (text s)) k m r texts h = absurd cc
+texts_read-IsStatic (Some (array ds)) k m r texts h = absurd cc
+texts_read-IsStatic (Some (object (entry n v ms))) k m r texts h = absurd cc
+texts_read-IsStatic (Some (object no_entries)) k m r texts h = by_static k m r texts h
 
--- the members of the body of a definition by a text, in order
-abbrev four_of : List ℕ → Pairs
-four_of words = (codes "@metadata", object no_entries) ∷ (codes "Kind", text (codes "static")) ∷ (codes "Map", text words) ∷ (codes "Reduce", null) ∷ []
+-- the members of the body of a definition by texts, in order
+abbrev four_of : Texts → Pairs
+four_of texts = (codes "@metadata", object no_entries) ∷ (codes "Kind", text (codes "static")) ∷ (codes "Map", text texts.0) ∷ (codes "Reduce", text_or_null texts.1) ∷ []
 
-four_of-rise : (words : List ℕ) → IsRising (four_of words)
-four_of-rise words = ((refl, (refl, (refl, tt))), ((refl, (refl, tt)), ((refl, tt), (tt, tt))))
+four_of-rise : (texts : Texts) → IsRising (four_of texts)
+four_of-rise texts = ((refl, (refl, (refl, tt))), ((refl, (refl, tt)), ((refl, tt), (tt, tt))))
 
 -- the body of a definition is the one that the server writes for it
 members-told : (ms : Entries) (d : Definition) → Rises (object ms) → length (pairs_of ms) ≡ 4
     → (auto : Option Definition) → auto_read (member (codes "@metadata") ms) (member (codes "Collection") ms) (member (codes "Fields") ms) (member (codes "Kind") ms) ≡ auto
-    → (words : Option (List ℕ)) → map_read (member (codes "@metadata") ms) (member (codes "Kind") ms) (member (codes "Map") ms) (member (codes "Reduce") ms) ≡ words
-    → AgreesWithForm (form_of auto words) d → object ms ≡ stored_body (row_body d)
-members-told ms d up n (Some told) e words k h =
+    → (read : Option Texts) → texts_read (member (codes "@metadata") ms) (member (codes "Kind") ms) (member (codes "Map") ms) (member (codes "Reduce") ms) ≡ read
+    → AgreesWithForm (form_of auto read) d → object ms ≡ stored_body (row_body d)
+members-told ms d up n (Some told) e read k h =
     let a = auto_read-IsAuto (member (codes "@metadata") ms) (member (codes "Collection") ms) (member (codes "Fields") ms) (member (codes "Kind") ms) told e in
     let they = they_are (four a.name a.field) ms (four-rise a.name a.field) up (a.metadata_is, (a.collection_is, (a.fields_are, (a.kind_is, tt)))) (omega arith) in
     ap object they ∙ ap (λ x. stored_body (row_body x)) (a.definition_is ∙ sym h)
-members-told ms d up n None e (Some words) k h =
-    let a = map_read-IsStatic (member (codes "@metadata") ms) (member (codes "Kind") ms) (member (codes "Map") ms) (member (codes "Reduce") ms) words k in
-    let they = they_are (four_of words) ms (four_of-rise words) up (a.metadata_is, (a.kind_is, (a.map_is, (a.reduce_is, tt)))) (omega arith) in
-    ap object they ∙ ap (λ x. stored_body (row_body x)) (sym h.1)
+members-told ms d up n None e (Some texts) k h =
+    let a = texts_read-IsStatic (member (codes "@metadata") ms) (member (codes "Kind") ms) (member (codes "Map") ms) (member (codes "Reduce") ms) texts k in
+    let they = they_are (four_of texts) ms (four_of-rise texts) up (a.metadata_is, (a.kind_is, (a.map_is, (a.reduce_is, tt)))) (omega arith) in
+    ap object they ∙ ap (λ x. stored_body (row_body x)) (sym h.by_texts)
 members-told ms d up n None e None k h = absurd h
 
 told-is : (v : Data) (d : Definition) → Rises v → AgreesWithForm (body_form v) d → v ≡ stored_body (row_body d)
@@ -387,9 +387,9 @@ told-is (text s) d up h = absurd h
 told-is (array ds) d up h = absurd h
 told-is (object ms) d up h =
     let auto = auto_read (member (codes "@metadata") ms) (member (codes "Collection") ms) (member (codes "Fields") ms) (member (codes "Kind") ms) in
-    let words = map_read (member (codes "@metadata") ms) (member (codes "Kind") ms) (member (codes "Map") ms) (member (codes "Reduce") ms) in
-    elim (length (pairs_of ms) == 4) as (λ b. length (pairs_of ms) == 4 ≡ b → AgreesWithForm (cond b (form_of auto words) NoForm) d → object ms ≡ stored_body (row_body d)) [
-      | true ↦ λ e g. members-told ms d up (eqb-true (length (pairs_of ms)) 4 e) auto refl words refl g
+    let read = texts_read (member (codes "@metadata") ms) (member (codes "Kind") ms) (member (codes "Map") ms) (member (codes "Reduce") ms) in
+    elim (length (pairs_of ms) == 4) as (λ b. length (pairs_of ms) == 4 ≡ b → AgreesWithForm (cond b (form_of auto read) NoForm) d → object ms ≡ stored_body (row_body d)) [
+      | true ↦ λ e g. members-told ms d up (eqb-true (length (pairs_of ms)) 4 e) auto refl read refl g
       | false ↦ λ e g. absurd g
     ] refl h
 

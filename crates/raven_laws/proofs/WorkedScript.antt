@@ -199,7 +199,7 @@ defining_by line rest value h e = ap (λ u. if u then asked_to_define (index_of 
 abbrev one_map : List ℕ
 one_map = codes "{\"Maps\":[\"m\"],\"Name\":\"N\"}"
 
-index_of_one_map : asked_of (codes "INDEX " ++ one_map) ≡ Defining (codes "N") (codes "m")
+index_of_one_map : asked_of (codes "INDEX " ++ one_map) ≡ Defining (codes "N") (codes "m", None)
 unfolding value punctuate lex content
 index_of_one_map = defining_by (codes "INDEX " ++ one_map) one_map (json_of one_map) refl (read_as one_map refl refl)
 

@@ -1,18 +1,26 @@
 -- What stored rows open, if each definition that was read of a row agrees with the row's body.
-use Rattle.std.specs.Prelude.{◌≡◌, List, [], ◌∷◌, Some, None, IsTrue}
+use Rattle.std.specs.Prelude.{◌≡◌, List, [], ◌∷◌, Option, Some, IsTrue, is_some}
 use Rattle.spec_data.specs.Kept.{KeptRow}
 use Rattle.spec_data.specs.Rows.{Body, doc, gone}
 use Rattle.spec_store.specs.Commit.{Setting}
 use Rattle.spec_server.specs.Opening.{OpenedFrom, BodyForm, NoForm, AutoForm, StaticForm, ReadRow, body_form, is_defining}
 use Rattle.spec_server.specs.Machine.{Machine}
-use Rattle.index_tree.specs.Definitions.{Definition, Static}
+use Rattle.index_tree.specs.Definitions.{Definition, Static, Texts}
 use Rattle.index_tree.specs.declared.map_query.MapQuery.{MapQuery}
+use Rattle.index_tree.specs.declared.reduce_query.ReduceQuery.{ReduceQuery}
 
--- the definition agrees with what the body says; of a text it need only be some definition by that text
+-- it is some definition by these texts, and has a reduce exactly if there is the text of one
+pub record AgreesWithTexts (texts : Texts) (d : Definition) : Type 0 where
+  pub query : MapQuery
+  pub reduce : Option ReduceQuery
+  pub both : is_some reduce ≡ is_some texts.1
+  pub by_texts : d ≡ Static query reduce texts.0 texts.1
+
+-- the definition agrees with what the body says; of texts it need only be some definition by these
 abbrev pub AgreesWithForm : BodyForm → Definition → Type 0
 AgreesWithForm NoForm d = ⊥
 AgreesWithForm (AutoForm told) d = d ≡ told
-AgreesWithForm (StaticForm map) d = (query : MapQuery) × (d ≡ Static query None map None)
+AgreesWithForm (StaticForm texts) d = AgreesWithTexts texts d
 
 abbrev pub AgreesWithBody : Body → Definition → Type 0
 AgreesWithBody (doc body) d = AgreesWithForm (body_form body) d

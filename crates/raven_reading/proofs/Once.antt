@@ -7,7 +7,7 @@ use Rattle.spec_server.specs.Opening.{OpenedFrom, BodyForm, NoForm, AutoForm, St
 use Rattle.spec_store.specs.Kept.{rows_in}
 use Rattle.index_tree.specs.Language as is
 use Rattle.spec_server.specs.Machine.{Machine}
-use Rattle.index_tree.specs.Definitions.{Definition}
+use Rattle.index_tree.specs.Definitions.{Definition, Texts}
 use Rattle.spec_index.specs.World.{Slot}
 use Rattle.spec_server.specs.Script.{Asked, Plain, Defining, LineRead, asked_of, defined_by}
 use Rattle.index_definition.specs.DefinitionView.{definition_view}
@@ -50,15 +50,15 @@ long_renamed n m text reduce answer None h = (h.0, h.1, ap (renamed m) h.2 ∙ j
 parsed_renamed : (n m text : List ℕ) (reduce : Option (List ℕ)) (answer : Result program.Definition LangRefusal) → IsParsed n text reduce answer → IsParsed m text reduce (renamed m answer)
 parsed_renamed n m text reduce answer h = long_renamed n m text reduce answer (first_cause (lengths text reduce)) h
 
-pub says_once : (map : List ℕ) (a b : Result Definition is.LangRefusal) → Says map a → Says map b → a ≡ b
-says_once map (Ok d) (Ok e) x y =
-    let told = parsed_once y.name map None _ _ (parsed_renamed x.name y.name map None (Ok x.definition) x.given) y.given in
+pub says_once : (texts : Texts) (a b : Result Definition is.LangRefusal) → Says texts a → Says texts b → a ≡ b
+says_once texts (Ok d) (Ok e) x y =
+    let told = parsed_once y.name texts.0 texts.1 _ _ (parsed_renamed x.name y.name texts.0 texts.1 (Ok x.definition) x.given) y.given in
     let own : under y.name x.definition ≡ y.definition = cc in
     ap Ok (x.seen ∙ ap (λ (p : program.Definition). definition_view p.body) own ∙ sym y.seen)
-says_once map (Ok d) (Err f) x y = absurd (let told = parsed_once y.name map None _ _ (parsed_renamed x.name y.name map None (Ok x.definition) x.given) y.given in cc)
-says_once map (Err e) (Ok d) x y = absurd (let told = parsed_once y.name map None _ _ (parsed_renamed x.name y.name map None (Err (At x.part x.at x.kind)) x.given) y.given in cc)
-says_once map (Err e) (Err f) x y =
-    let told = parsed_once y.name map None _ _ (parsed_renamed x.name y.name map None (Err (At x.part x.at x.kind)) x.given) y.given in
+says_once texts (Ok d) (Err f) x y = absurd (let told = parsed_once y.name texts.0 texts.1 _ _ (parsed_renamed x.name y.name texts.0 texts.1 (Ok x.definition) x.given) y.given in cc)
+says_once texts (Err e) (Ok d) x y = absurd (let told = parsed_once y.name texts.0 texts.1 _ _ (parsed_renamed x.name y.name texts.0 texts.1 (Err (At x.part x.at x.kind)) x.given) y.given in cc)
+says_once texts (Err e) (Err f) x y =
+    let told = parsed_once y.name texts.0 texts.1 _ _ (parsed_renamed x.name y.name texts.0 texts.1 (Err (At x.part x.at x.kind)) x.given) y.given in
     let parts : x.part ≡ y.part = cc in
     let places : x.at ≡ y.at = cc in
     let kinds : x.kind ≡ y.kind = cc in
@@ -68,7 +68,7 @@ says_once map (Err e) (Err f) x y =
 
 comes_once : (asked : Asked) (a b : LineRead) → Comes asked a → Comes asked b → a ≡ b
 comes_once (Plain told) a b x y = x ∙ sym y
-comes_once (Defining name map) a b x y = x.read ∙ ap (defined_by name) (says_once map x.answer y.answer x.says y.says) ∙ sym y.read
+comes_once (Defining name texts) a b x y = x.read ∙ ap (defined_by name) (says_once texts x.answer y.answer x.says y.says) ∙ sym y.read
 
 pub line_once : (line : List ℕ) (a b : LineRead) → IsLine line a → IsLine line b → a ≡ b
 line_once line a b x y = comes_once (asked_of line) a b x y
@@ -78,7 +78,7 @@ line_once line a b x y = comes_once (asked_of line) a b x y
 form_once : (form : BodyForm) (a b : Option Definition) → IsOfForm form a → IsOfForm form b → a ≡ b
 form_once NoForm a b x y = x ∙ sym y
 form_once (AutoForm d) a b x y = x ∙ sym y
-form_once (StaticForm map) a b x y = x.told ∙ ap without_refusal (says_once map x.answer y.answer x.says y.says) ∙ sym y.told
+form_once (StaticForm texts) a b x y = x.told ∙ ap without_refusal (says_once texts x.answer y.answer x.says y.says) ∙ sym y.told
 
 pub body_once : (body : Body) (a b : Option Definition) → IsInBody body a → IsInBody body b → a ≡ b
 body_once (doc d) a b x y = form_once (body_form d) a b x y

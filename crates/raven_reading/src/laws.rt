@@ -7,15 +7,15 @@ ghost use Rattle.spec_store.specs.Commit.{Setting};
 ghost use Rattle.spec_server.specs.Opening.{OpenedFrom};
 ghost use Rattle.index_tree.specs.Language.{LangRefusal};
 ghost use Rattle.spec_server.specs.Machine.{Machine};
-ghost use Rattle.index_tree.specs.Definitions.{Definition};
+ghost use Rattle.index_tree.specs.Definitions.{Definition, Texts};
 ghost use Rattle.spec_server.specs.Script.{LineRead};
 ghost use Rattle.index_lang.specs.Lines.{IsLine};
 ghost use Rattle.index_lang.specs.Openings.{IsOpened, Opens};
 ghost use Rattle.index_lang.specs.Says.{Says};
 
-/// A text says one definition, or is refused for one cause, and not both.
+/// The texts of a map and of a reduce, if there is one, say one definition, or are refused for one cause, and not both.
 pub fn texts_are_read_one_way()
-    ensures { (map : List ℕ) (a b : Result Definition LangRefusal) → Says map a → Says map b → a ≡ b }
+    ensures { (texts : Texts) (a b : Result Definition LangRefusal) → Says texts a → Says texts b → a ≡ b }
 {}
 
 /// A line is read as one thing.

@@ -14,6 +14,7 @@ use Rattle.spec_data.specs.Written.{text_of}
 use Rattle.spec_store.specs.Commit.{clean_metadata, is_server_member, stored_body}
 use Rattle.spec_store.specs.Kept.{is_clean, max_body}
 use Rattle.index_tree.specs.declared.map_query.MapQuery.{MapQuery}
+use Rattle.index_tree.specs.declared.reduce_query.ReduceQuery.{ReduceQuery}
 use Rattle.index_tree.specs.Definitions.{Auto, Static}
 use Rattle.spec_server.specs.Opening.{AutoForm, StaticForm, body_form, form_of, is_part}
 use Rattle.spec_index.specs.World.{row_body}
@@ -212,8 +213,8 @@ definition-body c f u v = record {
   an_object = refl;
 }
 
-pub static-body : (query : MapQuery) (words : List ℕ) → IsUtf8 words → IsRequestBody (row_body (Static query None words None))
-static-body query words u = record {
+pub static-body : (query : MapQuery) (reduce : Option ReduceQuery) (words : List ℕ) → IsUtf8 words → IsRequestBody (row_body (Static query reduce words None))
+static-body query reduce words u = record {
   sound = (
     ((refl, (refl, (refl, tt))), ((refl, (refl, tt)), ((refl, tt), (tt, tt)))),
     (
@@ -243,5 +244,5 @@ static-body query words u = record {
 pub auto-back : (c f : List ℕ) → is_part f ≡ true → body_form (stored_body (row_body (Auto c ((f ∷ []) ∷ [])))) ≡ AutoForm (Auto c ((f ∷ []) ∷ []))
 auto-back c f h = ap (λ b. form_of (cond b (Some (Auto c ((f ∷ []) ∷ []))) None) None) h
 
-pub static-back : (query : MapQuery) (words : List ℕ) → body_form (stored_body (row_body (Static query None words None))) ≡ StaticForm words
+pub static-back : (query : MapQuery) (words : List ℕ) → body_form (stored_body (row_body (Static query None words None))) ≡ StaticForm (words, None)
 static-back query words = refl

@@ -14,7 +14,7 @@ use Rattle.spec_data.specs.Moments.{moments_end}
 use Rattle.spec_data.specs.Sound.{AreSound}
 use Rattle.spec_store.specs.Commit.{Command, Expect, AnyVector, Vector, Setting}
 use Rattle.index_tree.specs.Language.{LangRefusal}
-use Rattle.index_tree.specs.Definitions.{Definition}
+use Rattle.index_tree.specs.Definitions.{Definition, Texts}
 use Rattle.spec_server.specs.Machine.{Do, Event, Machine, Request, Put, Delete, Bulk, Get, Remove, Auto, Find, Pump, Stale, Indexes, Stats}
 use Rattle.spec_server.specs.Opening.{is_part}
 use Rattle.spec_server.specs.Script.{LineRead, ReadRefusal, Plain, asked_by, asked_to_define, defined_by, index_of, map_member, name_member, reduce_member, texts_in, texts_of_body, unless_name_fault, UnknownLine, BadMember, Circumstance, Given, then_read, before_space, after_space, both_parts, argument_and_rest, has_byte, unless_fault, id_read, json_read, object_read, put_read, delete_read, id_member, vector_member, put_command, delete_command, typed_command, command_read, commands_read, list_member, commands_of, bulk_read, or_unknown, parts_read, put_of, put_if_of, delete_if_of, get_of, is_collection, is_field, auto_of, drop_of, max_read, pump_of, pump_read, name_read, find_of, stale_of, by_command, request_of, line_of, event_of, events_of, after_lines}
@@ -363,10 +363,11 @@ plain-asked (b ∷ bs) = elim (is_utf8 (b ∷ bs)) as (λ t. is_utf8 (b ∷ bs) 
 
 -- LINES WITH ONE
 
--- the name and the text that a line gives
-record AreTexts (texts : List ℕ × List ℕ) : Type 0 where
-  pub fit : is_fit max_name texts.0 ≡ true
-  pub utf8 : IsUtf8 texts.1
+-- the name and the texts that a line gives
+record AreTexts (given : List ℕ × Texts) : Type 0 where
+  pub fit : is_fit max_name given.0 ≡ true
+  pub utf8 : IsUtf8 given.1.0
+  pub no_reduce : given.1.1 ≡ None
 
 name-fit : (name out : List ℕ) → name_read name ≡ Ok out → is_fit max_name out ≡ true
 name-fit name out h = elim (fault_of max_name name) as (λ o. fault_of max_name name ≡ o → unless_name_fault o name ≡ Ok out → is_fit max_name out ≡ true) [
@@ -411,56 +412,57 @@ map-member (Some (object ms)) o out f g h = absurd cc
 map-member (Some (array no_items)) o out f g h = absurd cc
 map-member (Some (array (item d more))) o out f g h = map-first d more o out (f (array (item d more)) refl).0 h
 
-same_texts : (a b : List ℕ × List ℕ) → (let r : Result (List ℕ × List ℕ) ReadRefusal = Ok a in r) ≡ Ok b → a ≡ b
-same_texts a b h = cc
+-- no line has the text of a reduce yet
+reduce-member : (o : Option Data) (out : Option (List ℕ)) → reduce_member o ≡ Ok out → out ≡ None
+reduce-member None out h = sym (same_ok None out h)
+reduce-member (Some null) out h = sym (same_ok None out h)
+reduce-member (Some (flag t)) out h = absurd cc
+reduce-member (Some (num n)) out h = absurd cc
+reduce-member (Some (text s)) out h = absurd cc
+reduce-member (Some (array ds)) out h = absurd cc
+reduce-member (Some (object ms)) out h = absurd cc
 
-reduce-member : (o : Option Data) (a b : List ℕ × List ℕ) → reduce_member o a ≡ Ok b → a ≡ b
-reduce-member None a b h = same_texts a b h
-reduce-member (Some null) a b h = same_texts a b h
-reduce-member (Some (flag t)) a b h = absurd cc
-reduce-member (Some (num n)) a b h = absurd cc
-reduce-member (Some (text s)) a b h = absurd cc
-reduce-member (Some (array ds)) a b h = absurd cc
-reduce-member (Some (object ms)) a b h = absurd cc
-
-texts-in : (ms : Entries) (texts : List ℕ × List ℕ) → IsFine 100 (object ms) → texts_in ms ≡ Ok texts → AreTexts texts
-texts-in ms texts f h =
-    let reduce = member (codes "Reduce") ms in
-    let n = then-ok (name_member (member (codes "Name") ms)) (λ name. then_read (map_member (member (codes "Maps") ms) (member (codes "Map") ms)) (λ map. reduce_member reduce (name, map))) texts h in
-    let m = then-ok (map_member (member (codes "Maps") ms) (member (codes "Map") ms)) (λ map. reduce_member reduce (n.0, map)) texts n.2 in
-    subst AreTexts (reduce-member reduce (n.0, m.0) texts m.2) (record {
+texts-in : (ms : Entries) (given : List ℕ × Texts) → IsFine 100 (object ms) → texts_in ms ≡ Ok given → AreTexts given
+texts-in ms given f h =
+    let maps = map_member (member (codes "Maps") ms) (member (codes "Map") ms) in
+    let reduces = reduce_member (member (codes "Reduce") ms) in
+    let n = then-ok (name_member (member (codes "Name") ms)) (λ name. then_read maps (λ map. then_read reduces (λ reduce. Ok (name, (map, reduce))))) given h in
+    let m = then-ok maps (λ map. then_read reduces (λ reduce. Ok (n.0, (map, reduce)))) given n.2 in
+    let r = then-ok reduces (λ reduce. Ok (n.0, (m.0, reduce))) given m.2 in
+    subst AreTexts (same_ok {A = List ℕ × Texts} (n.0, (m.0, r.0)) given r.2) (record {
       fit = name-member (member (codes "Name") ms) n.0 n.1;
       utf8 = map-member (member (codes "Maps") ms) (member (codes "Map") ms) m.0 (λ d e. member-fine (codes "Maps") ms d f e) (λ d e. member-fine (codes "Map") ms d f e) m.1;
+      no_reduce = reduce-member (member (codes "Reduce") ms) r.0 r.1;
     })
 
-body-texts : (d : Data) (texts : List ℕ × List ℕ) → IsFine 100 d → texts_of_body d ≡ Ok texts → AreTexts texts
-body-texts null texts f h = absurd cc
-body-texts (flag b) texts f h = absurd cc
-body-texts (num n) texts f h = absurd cc
-body-texts (text s) texts f h = absurd cc
-body-texts (array ds) texts f h = absurd cc
-body-texts (object ms) texts f h = texts-in ms texts f h
+body-texts : (d : Data) (given : List ℕ × Texts) → IsFine 100 d → texts_of_body d ≡ Ok given → AreTexts given
+body-texts null given f h = absurd cc
+body-texts (flag b) given f h = absurd cc
+body-texts (num n) given f h = absurd cc
+body-texts (text s) given f h = absurd cc
+body-texts (array ds) given f h = absurd cc
+body-texts (object ms) given f h = texts-in ms given f h
 
-index-texts : (words : List ℕ) (texts : List ℕ × List ℕ) → index_of words ≡ Ok texts → AreTexts texts
-index-texts words texts h =
-    let v = then-ok (json_read (reading words)) texts_of_body texts h in
-    body-texts v.0 texts (reading-fine words v.0 (json-ok (reading words) v.0 v.1)) v.2
+index-texts : (words : List ℕ) (given : List ℕ × Texts) → index_of words ≡ Ok given → AreTexts given
+index-texts words given h =
+    let v = then-ok (json_read (reading words)) texts_of_body given h in
+    body-texts v.0 given (reading-fine words v.0 (json-ok (reading words) v.0 v.1)) v.2
 
--- a line that defines what a text says
-defined-asked : (name map : List ℕ) (answer : Result Definition LangRefusal) → is_fit max_name name ≡ true → IsUtf8 map → Says map answer → CanBeKept (defined_by name answer)
-defined-asked name map (Err refusal) fit u says = tt
-defined-asked name map (Ok d) fit u says =
-    let by = said-by map d says in record { commands = tt; indexing = record { fit = fit; query = by.0; map = map; utf8 = u; by_text = by.1; says = says } }
+-- a line that defines what texts say
+defined-asked : (name : List ℕ) (texts : Texts) (answer : Result Definition LangRefusal) → AreTexts (name, texts) → Says texts answer → CanBeKept (defined_by name answer)
+defined-asked name texts (Err refusal) t says = tt
+defined-asked name texts (Ok d) t says =
+    record { commands = tt; indexing = record { fit = t.fit; texts = texts; utf8 = t.utf8; no_reduce = t.no_reduce; by_texts = said-by texts d says; says = says } }
 
-defining-asked : (r : Result (List ℕ × List ℕ) ReadRefusal) (read : LineRead) → ((texts : List ℕ × List ℕ) → r ≡ Ok texts → AreTexts texts) → Comes (asked_to_define r) read → CanBeKept read
+defining-asked : (r : Result (List ℕ × Texts) ReadRefusal) (read : LineRead) → ((given : List ℕ × Texts) → r ≡ Ok given → AreTexts given) → Comes (asked_to_define r) read → CanBeKept read
 defining-asked (Err refusal) read f is = subst CanBeKept (sym is) tt
-defining-asked (Ok texts) read f is = let t = f texts refl in subst CanBeKept (sym is.read) (defined-asked texts.0 texts.1 is.answer t.fit t.utf8 is.says)
+defining-asked (Ok given) read f is = subst CanBeKept (sym is.read) (defined-asked given.0 given.1 is.answer (f given refl) is.says)
 
 asked-by : (line : List ℕ) (parts : Option (List ℕ × List ℕ)) (read : LineRead) → Comes (asked_by line parts) read → CanBeKept read
 asked-by line None read is = subst CanBeKept (sym is) (plain-asked line)
 asked-by line (Some parts) read is =
     elim (bytes_eq parts.0 (codes "INDEX") && is_utf8 line) as (λ b. Comes (cond b (asked_to_define (index_of parts.1)) (Plain (line_of line))) read → CanBeKept read) [
-      | true ↦ λ g. defining-asked (index_of parts.1) read (λ texts e. index-texts parts.1 texts e) g
+      | true ↦ λ g. defining-asked (index_of parts.1) read (λ given e. index-texts parts.1 given e) g
       | false ↦ λ g. subst CanBeKept (sym g) (plain-asked line)
     ] is
 

@@ -1,10 +1,12 @@
 -- The definitions of indexes are right: each is read again from the body of its row, and may have its name.
-use Rattle.std.proofs.Common.{◌≡◌, ℕ, ◌≤◌, List, [], ◌∷◌, Bool, true, false, if◌then◌else◌, length, filter, map, Some, None, Ok, refl, sym, ◌∙◌, subst, inl, inr}
+use Rattle.std.proofs.Common.{◌≡◌, ℕ, ◌≤◌, List, [], ◌∷◌, Bool, true, false, if◌then◌else◌, length, filter, map, Option, Some, None, Ok, IsUtf8, refl, sym, ◌∙◌, subst, inl, inr}
 use Rattle.spec_data.specs.Faults.{max_name}
 use Rattle.spec_data.specs.Rows.{doc}
 use Rattle.spec_store.specs.Commit.{stored_body}
 use Rattle.index_tree.specs.Definitions.{Definition, Static, Auto}
-use Rattle.spec_server.specs.Opening.{is_auto_name, may_be_named}
+use Rattle.index_tree.specs.declared.map_query.MapQuery.{MapQuery}
+use Rattle.index_tree.specs.declared.reduce_query.ReduceQuery.{ReduceQuery}
+use Rattle.spec_server.specs.Opening.{is_auto_name, is_static_name, may_be_named}
 use Rattle.spec_server.specs.Machine.{Auto as AutoOne, after_batch, after_batch_if_named}
 use Rattle.spec_server.specs.Sound.{Has}
 use Rattle.spec_store.specs.Store.{Store}
@@ -41,14 +43,21 @@ auto-new name c f fits named =
     let d = Auto c ((f ∷ []) ∷ []) in
     record { body = definition-body c f fits.0 fits.1.0; read = subst (λ form. IsOfForm form (Some d)) (sym (auto-back c f fits.1.1)) refl; named = named }
 
+-- a body with the text of a reduce is not read yet
+texts-new : (name : List ℕ) (query : MapQuery) (reduce : Option ReduceQuery) (words : List ℕ) (other : Option (List ℕ)) → other ≡ None → IsUtf8 words
+    → Says (words, other) (Ok (Static query reduce words other)) → is_static_name name ≡ true → IsNew name (Static query reduce words other)
+texts-new name query reduce words None none u says named = record {
+  body = static-body query reduce words u;
+  read = record { answer = Ok (Static query reduce words None); says = says; told = refl };
+  named = named;
+}
+texts-new name query reduce words (Some text) none u says named = absurd cc
+
 pub static-new : (name : List ℕ) (d : Definition) → IsByText name d → is_reserved_name name ≡ false → length name ≤ 200 → IsNew name d
 static-new name d x free few =
-    let own = Static x.query None x.map None in
-    subst (IsNew name) (sym x.by_text) (record {
-      body = static-body x.query x.map x.utf8;
-      read = record { answer = Ok own; says = subst (λ e. Says x.map (Ok e)) x.by_text x.says; told = refl };
-      named = static_name-fit max_name name x.fit free few;
-    })
+    let own = x.by_texts in
+    subst (IsNew name) (sym own.by_texts)
+    (texts-new name own.query own.reduce x.texts.0 x.texts.1 x.no_reduce x.utf8 (subst (λ e. Says x.texts (Ok e)) own.by_texts x.says) (static_name-fit max_name name x.fit free few))
 
 pub added-right : (W : World) (name : List ℕ) (d : Definition) → IsNew name d → AllRight W.slots → AllRight (added W name d).slots
 added-right W name d new all s h = elim (Has-append W.slots _ s h) [

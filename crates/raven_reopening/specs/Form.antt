@@ -1,6 +1,5 @@
 -- Which rows can be stored and read again, and which requests write only such rows.
 use Rattle.std.specs.Prelude.{◌≡◌, ℕ, ◌<◌, ◌≤◌, List, [], ◌∷◌, None, Ok, IsTrue, IsUtf8, length}
-use Rattle.index_tree.specs.declared.map_query.MapQuery.{MapQuery}
 use Rattle.spec_data.specs.Data.{Data, Entries, object, depth}
 use Rattle.spec_data.specs.Faults.{is_fit, max_id, max_name}
 use Rattle.spec_data.specs.Moments.{moments_end}
@@ -10,9 +9,10 @@ use Rattle.spec_data.specs.Written.{text_of}
 use Rattle.spec_store.specs.Commit.{Command, Put, Delete}
 use Rattle.spec_store.specs.Kept.{is_etag, is_stored, max_body}
 use Rattle.spec_server.specs.Machine.{Event, Line, Do, Request, Define, Auto, commands_in}
-use Rattle.index_tree.specs.Definitions.{Definition, Static}
+use Rattle.index_tree.specs.Definitions.{Definition, Texts}
 use Rattle.spec_server.specs.Opening.{is_part}
 use Rattle.spec_server.specs.Script.{Given}
+use Rattle.raven_laws.specs.Opened.{AgreesWithTexts}
 use Rattle.index_lang.specs.Says.{Says}
 
 -- ROWS
@@ -56,16 +56,16 @@ abbrev pub AreCommands : List Command → Type 0
 AreCommands [] = Unit {0}
 AreCommands (c ∷ cs) = IsCommand c × AreCommands cs
 
--- the name is valid, and the definition is what some text of a map says, without a reduce
+-- The name is valid, and the definition is what some texts say. These have none of a reduce, since a body with one is not read yet.
 pub record IsByText (name : List ℕ) (d : Definition) : Type 0 where
   pub fit : IsTrue (is_fit max_name name)
-  pub query : MapQuery
-  pub map : List ℕ
-  pub utf8 : IsUtf8 map
-  pub by_text : d ≡ Static query None map None
-  pub says : Says map (Ok d)
+  pub texts : Texts
+  pub utf8 : IsUtf8 texts.0
+  pub no_reduce : texts.1 ≡ None
+  pub by_texts : AgreesWithTexts texts d
+  pub says : Says texts (Ok d)
 
--- the field of an Auto can be a part of a path; the definition of a Define is by a text
+-- the field of an Auto can be a part of a path; the definition of a Define is by texts
 abbrev pub IsIndexing : Request → Type 0
 IsIndexing (Auto collection field) = IsUtf8 collection × (IsUtf8 field × IsTrue (is_part field))
 IsIndexing (Define name definition) = IsByText name definition

@@ -25,12 +25,12 @@ pub fn stores_open_again()
     ensures { (S : Store) (max : ℕ) → IsStore S → AreValidRows S.rows → length S.rows ≤ max → rows_in max (all_kept S.rows) ≡ Ok S.rows }
 {}
 
-/// The definition of an automatic index of one field is read back from the body that the server stores for it, and so is the text of a
-/// definition by a text without a reduce.
+/// The definition of an automatic index of one field is read back from the body that the server stores for it, and so are the texts of a
+/// definition by texts, if it has no reduce.
 pub fn definitions_are_read_back()
     ensures automatic { (collection field : List ℕ) → IsTrue (is_part field) →
         body_form (stored_body (row_body (Auto collection ((field ∷ []) ∷ [])))) ≡ AutoForm (Auto collection ((field ∷ []) ∷ [])) }
-    ensures by_text { (query : MapQuery) (text : List ℕ) → body_form (stored_body (row_body (Static query None text None))) ≡ StaticForm text }
+    ensures by_text { (query : MapQuery) (text : List ℕ) → body_form (stored_body (row_body (Static query None text None))) ≡ StaticForm (text, None) }
 {}
 
 /// What JSON bytes are read as is sound: its numbers have 64 bits, its texts are UTF-8, its members rise. It is at most a hundred deep.

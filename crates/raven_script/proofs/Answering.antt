@@ -1,6 +1,7 @@
 -- What is answered of lines.
 use Rattle.std.proofs.Common.{◌≡◌, ℕ, List, Option, Some, None, Result, Ok, Err, refl, sym, ap, subst}
 use Rattle.std.specs.Prelude.{option_map}
+use Rattle.index_tree.specs.Definitions.{Texts}
 use Rattle.index_definition.specs.DefinitionView.{definition_view}
 use Rattle.index_lang.specs.Parse.{IsParsed}
 use Rattle.index_definition.specs.RefusalView.{refusal_view}
@@ -34,21 +35,21 @@ reading asked (Err (refusal.BadMember name)) h = h
 reading asked (Err (refusal.BadDefinition part at kind)) h = h
 reading asked (Err refusal.NoMemory) h = tt
 
--- a line in which no text of a definition is read
+-- a line in which no texts of a definition are read
 pub answers-plain : (told : LineRead) (result : Result (Option Line) ReadRefusal) → Reads (option_map line_view) result told → Answers (Plain told) result
 answers-plain told result h = reading (Plain told) result (record { read = told; comes = refl; told = h })
 
 -- what is read is not refused
-module _ (asked : Asked) (texts : List ℕ × List ℕ) where
-  no_id : (why : IdRefusal) (fault : Option Fault) → IsBadId fault (let r : Result (List ℕ × List ℕ) read.ReadRefusal = Ok texts in r) → Answers asked (Err (refusal.BadId why))
+module _ (asked : Asked) (given : List ℕ × Texts) where
+  no_id : (why : IdRefusal) (fault : Option Fault) → IsBadId fault (let r : Result (List ℕ × Texts) read.ReadRefusal = Ok given in r) → Answers asked (Err (refusal.BadId why))
   no_id why None h = absurd h
   no_id why (Some fault) h = absurd cc
 
-  no_name : (why : IdRefusal) (fault : Option Fault) → IsBadName fault (let r : Result (List ℕ × List ℕ) read.ReadRefusal = Ok texts in r) → Answers asked (Err (refusal.BadName why))
+  no_name : (why : IdRefusal) (fault : Option Fault) → IsBadName fault (let r : Result (List ℕ × Texts) read.ReadRefusal = Ok given in r) → Answers asked (Err (refusal.BadName why))
   no_name why None h = absurd h
   no_name why (Some fault) h = absurd cc
 
-  not_refused : (why : ReadRefusal) → Refuses why (let r : Result (List ℕ × List ℕ) read.ReadRefusal = Ok texts in r) → Answers asked (Err why)
+  not_refused : (why : ReadRefusal) → Refuses why (let r : Result (List ℕ × Texts) read.ReadRefusal = Ok given in r) → Answers asked (Err why)
   not_refused refusal.UnknownLine h = absurd cc
   not_refused refusal.NotJson h = absurd cc
   not_refused refusal.NumberNotWhole h = absurd cc
@@ -60,30 +61,32 @@ module _ (asked : Asked) (texts : List ℕ × List ℕ) where
   not_refused refusal.NoMemory h = tt
 
 -- the texts of the definition are not found
-pub answers-unread : (texts : Result (List ℕ × List ℕ) read.ReadRefusal) (why : ReadRefusal) → Refuses why texts → Answers (asked_to_define texts) (Err why)
-answers-unread (Ok texts) why h = not_refused (Defining texts.0 texts.1) texts why h
-answers-unread (Err told) why h = answers-plain (Err told) (Err why) (refused_on why (Err told) (λ texts. Ok None) h)
+pub answers-unread : (given : Result (List ℕ × Texts) read.ReadRefusal) (why : ReadRefusal) → Refuses why given → Answers (asked_to_define given) (Err why)
+answers-unread (Ok given) why h = not_refused (Defining given.0 given.1) given why h
+answers-unread (Err told) why h = answers-plain (Err told) (Err why) (refused_on why (Err told) (λ given. Ok None) h)
 
--- the text says a definition
-pub answers-defined : (name map : List ℕ) (definition : program.Definition) (found : Option Line) → IsParsed name map None (Ok definition) → option_map line_view found ≡ Some (Do (Define name (definition_view definition.body)))
-    → Answers (Defining name map) (Ok found)
-answers-defined name map definition found parsed is = record {
+-- the texts say a definition
+pub answers-defined : (name map : List ℕ) (reduce : Option (List ℕ)) (definition : program.Definition) (found : Option Line) → IsParsed name map reduce (Ok definition)
+    → option_map line_view found ≡ Some (Do (Define name (definition_view definition.body))) → Answers (Defining name (map, reduce)) (Ok found)
+answers-defined name map reduce definition found parsed is = record {
   read = defined_by name (Ok (definition_view definition.body));
   comes = record { answer = Ok (definition_view definition.body); says = record { name = name; definition = definition; given = parsed; seen = refl }; read = refl };
   told = ap Ok (sym is);
 }
 
--- the text is refused
-pub answers-refused : (name map : List ℕ) (part : Part) (at : ℕ) (kind : LangKind) → IsParsed name map None (Err (At part at kind)) → Answers (Defining name map) (Err (refusal.BadDefinition part at kind))
-answers-refused name map part at kind parsed = record {
+-- the texts are refused
+pub answers-refused : (name map : List ℕ) (reduce : Option (List ℕ)) (part : Part) (at : ℕ) (kind : LangKind) → IsParsed name map reduce (Err (At part at kind))
+    → Answers (Defining name (map, reduce)) (Err (refusal.BadDefinition part at kind))
+answers-refused name map reduce part at kind parsed = record {
   read = Err (read.BadDefinition (refusal_view part at kind));
   comes = record { answer = Err (refusal_view part at kind); says = record { name = name; part = part; at = at; kind = kind; given = parsed; seen = refl }; read = refl };
   told = refl;
 }
 
 -- the texts of the definition are found
-pub answers-read : (name map : List ℕ) (texts : Result (List ℕ × List ℕ) read.ReadRefusal) (result : Result (Option Line) ReadRefusal) → texts ≡ Ok (name, map) → Answers (Defining name map) result → Answers (asked_to_define texts) result
-answers-read name map texts result is h = subst (λ t. Answers (asked_to_define t) result) (sym is) h
+pub answers-read : (name : List ℕ) (texts : Texts) (given : Result (List ℕ × Texts) read.ReadRefusal) (result : Result (Option Line) ReadRefusal) → given ≡ Ok (name, texts)
+    → Answers (Defining name texts) result → Answers (asked_to_define given) result
+answers-read name texts given result is h = subst (λ g. Answers (asked_to_define g) result) (sym is) h
 
 -- the line is one whose first word is `INDEX`, or it is none
 pub answers-asked : (line : List ℕ) (asked : Asked) (result : Result (Option Line) ReadRefusal) → asked_of line ≡ asked → Answers asked result → Answers (asked_of line) result

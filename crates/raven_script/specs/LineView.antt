@@ -1,11 +1,17 @@
--- What is answered of a line that may hold the text of a definition.
+-- What is answered of a line that may hold the texts of a definition.
 use Rattle.std.specs.Prelude.{◌≡◌, ℕ, List, Option, Some, None, option_map, Result, Ok, Err}
+use Rattle.index_tree.specs.Definitions as is
 use Rattle.spec_server.specs.Script.{Asked, LineRead, Plain, asked_of, asked_to_define, index_of, line_of}
 use Rattle.index_lang.specs.Lines.{Comes}
 use Rattle.raven_script.specs.RequestView.{Reads, line_view}
+use Rattle.raven_script.specs.declared.definition.Texts.{Texts}
 use Rattle.raven_script.specs.declared.request.Line.{Line}
 use Rattle.raven_script.specs.declared.request.ReadRefusal.{ReadRefusal}
 use Rattle.raven_script.specs.declared.request.ReadRefusal.TheVariants as refusal
+
+-- the texts of a map and of a reduce, as a pair
+abbrev pub texts_view : Texts → is.Texts
+texts_view texts = (texts.map, texts.reduce)
 
 -- one of the things to which the line comes is what was read, or its refusal
 pub record IsReading (asked : Asked) (result : Result (Option Line) ReadRefusal) : Type 0 where

@@ -4,7 +4,7 @@ ghost use Rattle.spec_data.specs.Data.{entries_of};
 ghost use Rattle.raven_value.specs.View.{data_of};
 ghost use Rattle.spec_server.specs.Script.{Defining, asked_to_define, index_of as spec_index_of, map_member as spec_map_member, name_member as spec_name_member, reduce_member as spec_reduce_member, texts_in as spec_texts_in, texts_of_body as spec_texts_of_body};
 ghost use Rattle.spec_data.specs.Members.{member};
-ghost use Rattle.raven_script.specs.LineView.{Answers};
+ghost use Rattle.raven_script.specs.LineView.{Answers, texts_view};
 ghost use Rattle.raven_script.specs.RequestView.{Reads};
 
 use crate::body::{bad_member, json_of, name_of};
@@ -15,6 +15,13 @@ use raven_base::NoMemory;
 use raven_value::{Members, Name, Text, Value};
 use std::alloc::Global;
 use std::sync::Arc;
+
+/// The texts of a definition.
+#[derive(Drop)]
+pub struct Texts {
+    pub map: Text,
+    pub reduce: Option<Text>,
+}
 
 #[tactic(auto, using(crate::proofs::Readings::members))]
 fn name_member(alloc: Global, value: Option<&Value>) -> Result<Name, ReadRefusal>
@@ -57,21 +64,21 @@ fn map_member(alloc: Global, maps: Option<&Value>, map: Option<&Value>) -> Resul
     }
 }
 
-// That there is no reduce. Definitions with one are not built yet.
+// The text of the reduce, if there is one. Definitions with a reduce are not built yet, so for now no line has one.
 #[tactic(auto, using(crate::proofs::Readings::members))]
-fn no_reduce(alloc: Global, reduce: Option<&Value>) -> Result<(), ReadRefusal>
-    ensures { Reads (λ u. u) result (spec_reduce_member (option_map (λ v. data_of v.now) reduce.entry) tt) }
+fn reduce_member(alloc: Global, reduce: Option<&Value>) -> Result<Option<Text>, ReadRefusal>
+    ensures { Reads (λ text. text) result (spec_reduce_member (option_map (λ v. data_of v.now) reduce.entry)) }
 {
     match reduce {
-        None | Some(Value::Null) => Ok(()),
+        None | Some(Value::Null) => Ok(None),
         Some(Value::Text(_)) => Err(ReadRefusal::UnknownLine),
         Some(_) => Err(bad_member(alloc, "Reduce")),
     }
 }
 
 #[tactic(auto, using(crate::proofs::Readings::readings))]
-fn texts_in(alloc: Global, members: &Members) -> Result<(Name, Text), ReadRefusal>
-    ensures { Reads (λ texts. (texts.0, texts.1)) result (spec_texts_in (entries_of members.now)) }
+fn texts_in(alloc: Global, members: &Members) -> Result<(Name, Texts), ReadRefusal>
+    ensures { Reads (λ asked. (asked.0, texts_view asked.1)) result (spec_texts_in (entries_of members.now)) }
 {
     let name = match name_member(alloc, members.get("Name")) {
         Ok(name) => name,
@@ -81,15 +88,15 @@ fn texts_in(alloc: Global, members: &Members) -> Result<(Name, Text), ReadRefusa
         Ok(map) => map,
         Err(refusal) => return Err(refusal),
     };
-    match no_reduce(alloc, members.get("Reduce")) {
-        Ok(()) => Ok((name, map)),
+    match reduce_member(alloc, members.get("Reduce")) {
+        Ok(reduce) => Ok((name, Texts { map, reduce })),
         Err(refusal) => Err(refusal),
     }
 }
 
 #[tactic(auto, using(crate::proofs::Readings::members))]
-fn texts_of_body(alloc: Global, value: &Value) -> Result<(Name, Text), ReadRefusal>
-    ensures { Reads (λ texts. (texts.0, texts.1)) result (spec_texts_of_body (data_of value.now)) }
+fn texts_of_body(alloc: Global, value: &Value) -> Result<(Name, Texts), ReadRefusal>
+    ensures { Reads (λ asked. (asked.0, texts_view asked.1)) result (spec_texts_of_body (data_of value.now)) }
 {
     match value {
         Value::Map(members) => texts_in(alloc, members),
@@ -97,10 +104,10 @@ fn texts_of_body(alloc: Global, value: &Value) -> Result<(Name, Text), ReadRefus
     }
 }
 
-// The name of the index and the text of its map.
+// The name of the index and its texts.
 #[tactic(auto, using(crate::proofs::Readings::readings))]
-fn texts_of(alloc: Global, text: &str) -> Result<(Name, Text), ReadRefusal>
-    ensures { Reads (λ texts. (texts.0, texts.1)) result (spec_index_of text.now) }
+fn texts_of(alloc: Global, text: &str) -> Result<(Name, Texts), ReadRefusal>
+    ensures { Reads (λ asked. (asked.0, texts_view asked.1)) result (spec_index_of text.now) }
 {
     let value = match json_of(alloc, text) {
         Ok(value) => value,
@@ -109,12 +116,22 @@ fn texts_of(alloc: Global, text: &str) -> Result<(Name, Text), ReadRefusal>
     texts_of_body(alloc, &value)
 }
 
-// What the text of a map says.
-#[tactic(auto, using(crate::proofs::Answering::answering))]
-fn defined(alloc: Global, name: Name, map: &Text) -> Result<Option<Line>, ReadRefusal>
-    ensures { Answers (Defining name map.now) result }
+// The text of the reduce, if there is one.
+fn reduce_of(texts: &Texts) -> Option<&str>
+    ensures { option_map (λ t. t.now) result ≡ texts.now.reduce }
 {
-    match parse(alloc, name, map.as_str(), None) {
+    match &texts.reduce {
+        Some(text) => Some(text.as_str()),
+        None => None,
+    }
+}
+
+// What the texts say.
+#[tactic(auto, using(crate::proofs::Answering::answering))]
+fn defined(alloc: Global, name: Name, texts: &Texts) -> Result<Option<Line>, ReadRefusal>
+    ensures { Answers (Defining name (texts_view texts.now)) result }
+{
+    match parse(alloc, name, texts.map.as_str(), reduce_of(texts)) {
         Ok(definition) => {
             let definition = share(alloc, definition)?;
             Ok(Some(Line::Do(Request::Define { definition })))
@@ -132,7 +149,7 @@ pub fn index(alloc: Global, text: &str) -> Result<Option<Line>, ReadRefusal>
     ensures { Answers (asked_to_define (spec_index_of text.now)) result }
 {
     match texts_of(alloc, text) {
-        Ok((name, map)) => defined(alloc, name, &map),
+        Ok((name, texts)) => defined(alloc, name, &texts),
         Err(refusal) => Err(refusal),
     }
 }

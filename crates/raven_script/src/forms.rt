@@ -220,7 +220,7 @@ fn request_of(alloc: Global, text: &str) -> Result<Request, ReadRefusal>
     }
 }
 
-// What a line asks that holds no text of a definition.
+// What a line asks that holds no texts of a definition.
 fn plain_line(alloc: Global, bytes: &[u8]) -> Result<Option<Line>, ReadRefusal>
     ensures { Reads (λ found. option_map line_view found) result (line_of bytes.now) }
 {
@@ -248,8 +248,8 @@ fn behind_index(bytes: &[u8]) -> Option<&str>
     if word == "INDEX" { Some(rest) } else { None }
 }
 
-/// What a line of a script asks: nothing, exactly if it has no bytes. If it defines an index, its definition is what the text of its map says, or it
-/// is refused as the text is.
+/// What a line of a script asks: nothing, exactly if it has no bytes. If it defines an index, its definition is what its texts say, or it is
+/// refused as they are.
 #[tactic(auto, using(crate::proofs::Answering::answering))]
 pub fn line(alloc: Global, bytes: &[u8]) -> Result<Option<Line>, ReadRefusal>
     ensures { Answers (asked_of bytes.now) result }

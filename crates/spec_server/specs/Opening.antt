@@ -8,7 +8,7 @@ use Rattle.spec_data.specs.Folding.{folded}
 use Rattle.spec_data.specs.Members.{member}
 use Rattle.spec_data.specs.Rows.{Row, is_document}
 use Rattle.spec_store.specs.Commit.{Setting, is_index_id}
-use Rattle.index_tree.specs.Definitions.{Definition, Static, Auto}
+use Rattle.index_tree.specs.Definitions.{Definition, Static, Auto, Texts}
 use Rattle.spec_index.specs.World.{Slot, new_version, is_reserved_name, max_index_name}
 use Rattle.spec_server.specs.Machine.{Machine, machine_of}
 use Rattle.spec_data.specs.Kept.{KeptRow}
@@ -26,20 +26,20 @@ auto_read (Some (object no_entries)) (Some (text collection)) (Some (array (item
     if bytes_eq kind (codes "auto") && is_part field then Some (Auto collection ((field ∷ []) ∷ [])) else None
 auto_read metadata collection fields kind = None
 
--- the text of the map of an index without a reduce, from the four members of its body
-abbrev pub map_read : Option Data → Option Data → Option Data → Option Data → Option (List ℕ)
-map_read (Some (object no_entries)) (Some (text kind)) (Some (text map)) (Some null) = if bytes_eq kind (codes "static") then Some map else None
-map_read metadata kind map reduce = None
+-- The texts of an index, from the four members of its body. One with a reduce is not supported yet, so for now no body has the text of one.
+abbrev pub texts_read : Option Data → Option Data → Option Data → Option Data → Option Texts
+texts_read (Some (object no_entries)) (Some (text kind)) (Some (text map)) (Some null) = if bytes_eq kind (codes "static") then Some (map, None) else None
+texts_read metadata kind map reduce = None
 
--- what a body says before the text of a map is read
+-- what a body says before its texts are read
 pub data BodyForm : Type 0 where
   NoForm : BodyForm
   AutoForm : (definition : Definition) → BodyForm
-  StaticForm : (map : List ℕ) → BodyForm
+  StaticForm : (texts : Texts) → BodyForm
 
-abbrev pub form_of : Option Definition → Option (List ℕ) → BodyForm
+abbrev pub form_of : Option Definition → Option Texts → BodyForm
 form_of (Some d) other = AutoForm d
-form_of None (Some map) = StaticForm map
+form_of None (Some texts) = StaticForm texts
 form_of None None = NoForm
 
 -- what the body says; it has exactly four members
@@ -47,7 +47,7 @@ abbrev pub body_form : Data → BodyForm
 body_form (object ms) =
     if length (pairs_of ms) == 4
     then form_of (auto_read (member (codes "@metadata") ms) (member (codes "Collection") ms) (member (codes "Fields") ms) (member (codes "Kind") ms))
-    (map_read (member (codes "@metadata") ms) (member (codes "Kind") ms) (member (codes "Map") ms) (member (codes "Reduce") ms))
+    (texts_read (member (codes "@metadata") ms) (member (codes "Kind") ms) (member (codes "Map") ms) (member (codes "Reduce") ms))
     else NoForm
 body_form other = NoForm
 

@@ -9,7 +9,7 @@ use Rattle.spec_data.specs.Json.{JsonRefusal, not_json, number_not_whole, too_de
 use Rattle.spec_data.specs.Members.{member}
 use Rattle.spec_store.specs.Commit.{Command, Expect, AnyVector, Vector}
 use Rattle.index_tree.specs.Language.{LangRefusal}
-use Rattle.index_tree.specs.Definitions.{Definition}
+use Rattle.index_tree.specs.Definitions.{Definition, Texts}
 use Rattle.spec_server.specs.Replies.{Reply, printed}
 use Rattle.spec_server.specs.Replies as replies
 use Rattle.spec_server.specs.Machine.{Machine, Request, Put, Delete, Bulk, Get, Define, Remove, Auto, Find, Pump, Stale, Indexes, Stats, Line, Do, Keeping, Event, step}
@@ -255,37 +255,37 @@ map_member None (Some (json.text map)) = Ok map
 map_member None (Some other) = Err (BadMember (codes "Map"))
 map_member None None = Err (BadMember (codes "Maps"))
 
--- a definition with a reduce is not supported yet
-abbrev pub reduce_member : {A : Type 0} → Option Data → A → Result A ReadRefusal
-reduce_member None a = Ok a
-reduce_member (Some json.null) a = Ok a
-reduce_member (Some (json.text reduce)) a = Err UnknownLine
-reduce_member other a = Err (BadMember (codes "Reduce"))
+-- The text of the reduce, if there is one. A definition with a reduce is not supported yet, so for now no line has one.
+abbrev pub reduce_member : Option Data → Result (Option (List ℕ)) ReadRefusal
+reduce_member None = Ok None
+reduce_member (Some json.null) = Ok None
+reduce_member (Some (json.text reduce)) = Err UnknownLine
+reduce_member other = Err (BadMember (codes "Reduce"))
 
--- the name and the text of the map
-abbrev pub texts_in : Entries → Result (List ℕ × List ℕ) ReadRefusal
+-- the name and the texts
+abbrev pub texts_in : Entries → Result (List ℕ × Texts) ReadRefusal
 texts_in ms =
     then_read (name_member (member (codes "Name") ms)) (λ name.
     then_read (map_member (member (codes "Maps") ms) (member (codes "Map") ms)) (λ map.
-    reduce_member (member (codes "Reduce") ms) (name, map)))
+    then_read (reduce_member (member (codes "Reduce") ms)) (λ reduce. Ok (name, (map, reduce)))))
 
-abbrev pub texts_of_body : Data → Result (List ℕ × List ℕ) ReadRefusal
+abbrev pub texts_of_body : Data → Result (List ℕ × Texts) ReadRefusal
 texts_of_body (json.object ms) = texts_in ms
 texts_of_body other = Err (BadMember (codes "body"))
 
 -- INDEX <definition>
-abbrev pub index_of : List ℕ → Result (List ℕ × List ℕ) ReadRefusal
+abbrev pub index_of : List ℕ → Result (List ℕ × Texts) ReadRefusal
 index_of rest = then_read (json_read (reading rest)) texts_of_body
 
--- what a line asks before the text of a map is read
+-- what a line asks before the texts of a definition are read
 pub data Asked : Type 0 where
   Plain : LineRead → Asked
-  -- to define an index of this name by the text of a map
-  Defining : (name map : List ℕ) → Asked
+  -- to define an index of this name by these texts
+  Defining : (name : List ℕ) (texts : Texts) → Asked
 
-abbrev pub asked_to_define : Result (List ℕ × List ℕ) ReadRefusal → Asked
+abbrev pub asked_to_define : Result (List ℕ × Texts) ReadRefusal → Asked
 asked_to_define (Err refusal) = Plain (Err refusal)
-asked_to_define (Ok texts) = Defining texts.0 texts.1
+asked_to_define (Ok asked) = Defining asked.0 asked.1
 
 abbrev pub asked_by : List ℕ → Option (List ℕ × List ℕ) → Asked
 asked_by line None = Plain (line_of line)
@@ -294,7 +294,7 @@ asked_by line (Some parts) = if bytes_eq parts.0 (codes "INDEX") && is_utf8 line
 abbrev pub asked_of : List ℕ → Asked
 asked_of line = asked_by line (argument_and_rest line)
 
--- what the line is read as, once the text of its map is read or refused
+-- what the line is read as, once its texts are read or refused
 abbrev pub defined_by : (name : List ℕ) → Result Definition LangRefusal → LineRead
 defined_by name (Ok d) = Ok (Some (Do (Define name d)))
 defined_by name (Err refusal) = Err (BadDefinition refusal)
