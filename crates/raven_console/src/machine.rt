@@ -2,7 +2,7 @@
 ghost use Rattle.std.specs.Prelude.{◌≡◌, ◌<◌, ◌≤◌, IfOk, OnErr};
 ghost use Rattle.spec_data.specs.Moments.{moments_end};
 ghost use Rattle.spec_server.specs.Machine.{Do, course_of, machine_of};
-ghost use Rattle.spec_server.specs.Replies.{printed as spec_printed};
+ghost use Rattle.spec_server.specs.Replies.{KeeperFault, printed as spec_printed};
 ghost use Rattle.raven_reply.specs.ReplyView.{reply_view};
 ghost use Rattle.raven_console.specs.Answering.{IsAnswered, IsPerformed};
 ghost use Rattle.raven_console.specs.Devices.{Keeps};
@@ -63,12 +63,26 @@ fn prepare(alloc: Global, world: &World, now: u64, request: Request) -> Result<P
     })
 }
 
+fn not_taken(alloc: Global, before: u64, after: u64) -> Result<Vec<u8>, NoMemory>
+    ensures { IfOk result (λ text. text.items ≡ spec_printed (KeeperFault before after)) }
+{
+    printed(alloc, &Reply::KeeperFault { before, after })
+}
+
 impl Machine {
     /// The machine of this world, of which no worker holds anything.
     pub fn of(world: World) -> Machine
         ensures { result ≡ machine_of world }
     {
         Machine { world }
+    }
+
+    // Puts the new world in place, which takes no memory.
+    fn take(&mut self, change: Pending)
+        ensures { self.new ≡ machine_of change.world }
+    {
+        let Pending { world, .. } = change;
+        self.world = world;
     }
 
     #[tactic(auto, using(crate::proofs::Performed::performs))]
@@ -87,15 +101,14 @@ impl Machine {
     {
         let before = keeper.faults();
         let Prepared { text, change } = prepare(alloc, &self.world, now, request)?;
-        let Some(Pending { rows, world }) = change else {
+        let Some(change) = change else {
             return Ok(text);
         };
-        if keep(alloc, keeper, &rows)? {
-            self.world = world;
+        if keep(alloc, keeper, &change.rows)? {
+            self.take(change);
             return Ok(text);
         }
-        let after = keeper.faults();
-        printed(alloc, &Reply::KeeperFault { before, after })
+        not_taken(alloc, before, keeper.faults())
     }
 
     /// What is written for a line at this moment, in microseconds since 1970: the reply with its line end, or nothing for a line without
