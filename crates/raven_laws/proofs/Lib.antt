@@ -3,6 +3,7 @@ pub mod MappingLemmas
 pub mod SlotLemmas
 pub mod ListedLemmas
 pub mod LimitLemmas
+pub mod KindLemmas
 pub mod WorldLemmas
 pub mod MachineLemmas
 pub mod AnswerLemmas
