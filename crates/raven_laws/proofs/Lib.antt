@@ -11,6 +11,7 @@ pub mod MatchLemmas
 pub mod NameLemmas
 pub mod PumpLemmas
 pub mod ScriptLemmas
+pub mod ClientLemmas
 pub mod WorkedRows
 pub mod WorkedScript
 pub mod WriteLemmas
