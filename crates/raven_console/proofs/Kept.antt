@@ -10,9 +10,11 @@ use Rattle.spec_store.specs.Store.{Store, with_rows}
 use Rattle.raven_laws.specs.Keeping.{AreTheirRows, IsItsRows}
 use Rattle.raven_laws.proofs.KeepLemmas.{changes-rows}
 use Rattle.spec_store.proofs.KeepLemmas.{kept-with_rows, next-alone, next-behind}
+use Rattle.raven_laws.proofs.ClientLemmas.{IsReadFromClient}
 use Rattle.raven_laws.proofs.MachineLemmas.{step-Steps}
 use Rattle.raven_ports.specs.Asking.{Asked, AskedOnce}
 use Rattle.raven_ports.specs.States.{KeeperState}
+use Rattle.raven_reading.proofs.Clients.{line-client}
 use Rattle.raven_console.specs.Answering.{IsAnswered}
 use Rattle.raven_console.specs.Devices.{Keeps, circumstance, keeping, rows_in, rows_of}
 
@@ -71,14 +73,14 @@ line_holds before after M now takes (Do request) k a =
     let c = course_of M.world now request in
     made_holds (keeping takes before after) before after M takes c.changes c.reply (changes-rows M.world now (Do request)) k.holds a
 
-left_keeps : (before after : KeeperState) (M : Machine) (now : ℕ) (takes : List Bool) (asked : LineRead) → Keeps before.held M → Asked before after takes (rows_in M now asked)
+left_keeps : (before after : KeeperState) (M : Machine) (now : ℕ) (takes : List Bool) (asked : LineRead) → IsReadFromClient asked → Keeps before.held M → Asked before after takes (rows_in M now asked)
     → Keeps after.held (left_by M (circumstance now takes before after) asked)
-left_keeps before after M now takes (Err refusal) k a = subst (λ (x : KeeperState). Keeps x.held M) (sym a.1) k
-left_keeps before after M now takes (Ok None) k a = subst (λ (x : KeeperState). Keeps x.held M) (sym a.1) k
-left_keeps before after M now takes (Ok (Some line)) k a = record {
-  sound = (step-Steps M (keeping takes before after) now line k.sound).machine;
+left_keeps before after M now takes (Err refusal) from k a = subst (λ (x : KeeperState). Keeps x.held M) (sym a.1) k
+left_keeps before after M now takes (Ok None) from k a = subst (λ (x : KeeperState). Keeps x.held M) (sym a.1) k
+left_keeps before after M now takes (Ok (Some line)) from k a = record {
+  sound = (step-Steps M (keeping takes before after) now line from k.sound).machine;
   holds = line_holds before after M now takes line k a;
 }
 
 pub keeps_on : (before after : KeeperState) (M N : Machine) (line : List ℕ) (now : ℕ) (text : List ℕ) → Keeps before.held M → IsAnswered line now before after M N text → Keeps after.held N
-keeps_on before after M N line now text k a = subst (Keeps after.held) (sym a.machine) (left_keeps before after M now a.takes a.read k a.asked)
+keeps_on before after M N line now text k a = subst (Keeps after.held) (sym a.machine) (left_keeps before after M now a.takes a.read (line-client line a.read a.means) k a.asked)

@@ -19,7 +19,7 @@ use Rattle.spec_index.specs.Mapping.{mapped_documents, entry_of, scratch}
 use Rattle.spec_store.specs.Commit.{Setting}
 use Rattle.spec_index.specs.World.{Slot, World, reads, serving}
 use Rattle.spec_server.specs.Replies.{Reply}
-use Rattle.spec_server.specs.Machine.{Machine, Event, Keeping, Put, Delete, Bulk, Get, Define, Remove, Auto, Find, Pump, Stale, Indexes, Stats, start, run, step, answer_find, answer_stale, is_stale, listing, Line, Do}
+use Rattle.spec_server.specs.Machine.{Machine, Event, AreFromClients, Keeping, Put, Delete, Bulk, Get, Define, Remove, Auto, Find, Pump, Stale, Indexes, Stats, start, run, step, answer_find, answer_stale, is_stale, listing, Line, Do}
 use Rattle.spec_index.specs.Find.{field_is_text, found_in}
 use Rattle.spec_server.specs.Sound.{Has, Sound}
 use Rattle.raven_laws.specs.Claims.{Flag, FlagIsExact, IsSpelledAsStored, flag, flags_in, ids_in, find_reply, listed_flag, FreshIsFromScratch, FlagsAreExact, IdsAreSpelledAsStored}
@@ -179,19 +179,19 @@ Sound-ids M o index field ws id = by (serving M.world.slots index) refl
 
 -- AFTER A RUN
 
-pub run-serves : (setting : Setting) (events : List Event) (s : Slot) → let W = (run events (start setting)).world in Has W.slots s → serving W.slots s.name ≡ Some s
-run-serves setting events s =
-    let o = run-Sound setting events in serves (run events (start setting)).world.slots s o.apart
+pub run-serves : (setting : Setting) (events : List Event) (s : Slot) → AreFromClients events → let W = (run events (start setting)).world in Has W.slots s → serving W.slots s.name ≡ Some s
+run-serves setting events s from =
+    let o = run-Sound setting events from in serves (run events (start setting)).world.slots s o.apart
 
-pub run-fresh : (setting : Setting) (events : List Event) → FreshIsFromScratch (run events (start setting))
-run-fresh setting events = Sound-fresh (run events (start setting)) (run-Sound setting events)
+pub run-fresh : (setting : Setting) (events : List Event) → AreFromClients events → FreshIsFromScratch (run events (start setting))
+run-fresh setting events from = Sound-fresh (run events (start setting)) (run-Sound setting events from)
 
-pub run-flags : (setting : Setting) (events : List Event) → FlagsAreExact (run events (start setting))
-run-flags setting events = Sound-flags (run events (start setting)) (run-Sound setting events)
+pub run-flags : (setting : Setting) (events : List Event) → AreFromClients events → FlagsAreExact (run events (start setting))
+run-flags setting events from = Sound-flags (run events (start setting)) (run-Sound setting events from)
 
-pub run-ids : (setting : Setting) (events : List Event) → IdsAreSpelledAsStored (run events (start setting))
-run-ids setting events = Sound-ids (run events (start setting)) (run-Sound setting events)
+pub run-ids : (setting : Setting) (events : List Event) → AreFromClients events → IdsAreSpelledAsStored (run events (start setting))
+run-ids setting events from = Sound-ids (run events (start setting)) (run-Sound setting events from)
 
-pub run-entries : (setting : Setting) (events : List Event) (s : Slot) (e : List ℕ × Fields) → let W = (run events (start setting)).world in
+pub run-entries : (setting : Setting) (events : List Event) (s : Slot) (e : List ℕ × Fields) → AreFromClients events → let W = (run events (start setting)).world in
     Has W.slots s → Has (scratch (mapper_of s.version.definition) s.version.table) e → IsSpelledAsStored W.store e.0
-run-entries setting events s e = entries-IsAsKept (run events (start setting)).world s e (run-Sound setting events)
+run-entries setting events s e from = entries-IsAsKept (run events (start setting)).world s e (run-Sound setting events from)

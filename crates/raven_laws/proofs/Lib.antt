@@ -3,6 +3,7 @@ pub mod MappingLemmas
 pub mod SlotLemmas
 pub mod ListedLemmas
 pub mod LimitLemmas
+pub mod KindLemmas
 pub mod WorldLemmas
 pub mod MachineLemmas
 pub mod AnswerLemmas
@@ -10,6 +11,7 @@ pub mod MatchLemmas
 pub mod NameLemmas
 pub mod PumpLemmas
 pub mod ScriptLemmas
+pub mod ClientLemmas
 pub mod WorkedRows
 pub mod WorkedScript
 pub mod WriteLemmas

@@ -9,13 +9,14 @@ use Rattle.index_tree.specs.Definitions.{Definition}
 use Rattle.spec_index.specs.Optimiser.{Choice, Use, Make, Merge, pick, name_of}
 use Rattle.spec_store.specs.Commit.{Command, Put, Delete, Writer, Client, Server, Setting, Refused, Written, refusal_of, row_of, with_written, or_refused, commit_from, commit}
 use Rattle.spec_server.specs.Replies as replies
-use Rattle.spec_index.specs.World.{Slot, Version, World, reads, advanced, batch, serving, SlotChange, SlotRefusal, define, define_named, is_named, remove}
-use Rattle.spec_server.specs.Machine.{Machine, Request, Put as PutOne, Delete as DeleteOne, Bulk, Get, Define, Remove, Auto, Find, Pump, Stale, Indexes, Stats, Event, Held, Keeping, Line, Do, Change, Course, is_taken, takes_after, with_world, same_machine, made, settled, single_reply, wrote, write, rewrote, change_of_slots, use_or_make, one_field, or_as_before, after_batch, after_batch_if_named, with_slots, pump, pump_at, pump_for, course_of, step, start, after, run}
+use Rattle.spec_index.specs.World.{Slot, Version, World, reads, advanced, batch, serving, SlotChange, SlotRefusal, define, define_named, is_automatic, is_named, remove}
+use Rattle.spec_server.specs.Machine.{Machine, Request, Put as PutOne, Delete as DeleteOne, Bulk, Get, Define, Remove, Auto, Find, Pump, Stale, Indexes, Stats, Event, Held, Keeping, Line, Do, IsFromClient, AreFromClients, Change, Course, is_taken, takes_after, with_world, same_machine, made, settled, single_reply, wrote, write, rewrote, change_of_slots, use_or_make, one_field, or_as_before, after_batch, after_batch_if_named, with_slots, pump, pump_at, pump_for, course_of, step, start, after, run}
 use Rattle.spec_server.specs.Sound.{Has, NumbersRise, NamesApart, AreListed, Sound, IsHeld, IsMachine, LaterW}
 use Rattle.spec_store.proofs.LaterLemmas.{Later-itself, IsStore-with, last-with}
 use Rattle.spec_store.proofs.CommitLemmas.{row_of-follows, commit-Commits}
 use Rattle.raven_laws.proofs.SlotLemmas.{Brought, Fits-later, Has-map, NumbersRise-map, NamesApart-map, batch-Brought, same_slot}
 use Rattle.raven_laws.proofs.ListedLemmas.{commit_from-applied, clients-AreListed, map-AreListed}
+use Rattle.raven_laws.proofs.KindLemmas.{name_of-begins}
 use Rattle.raven_laws.proofs.LimitLemmas.{commit_from-fits, commit_from-last, length_mapped}
 use Rattle.raven_laws.proofs.WorldLemmas.{append-none, LaterW-itself, LaterW-then, Comes, stays, StartsWithPut, Onto, Settles, define-Settles, define_named-Settles, remove-Settles}
 
@@ -50,6 +51,7 @@ Turns-Moves W S slots o t = record {
     numbers = λ s h. let c = t.comes s h in c.within;
     rising = t.rising;
     apart = t.apart;
+    kinds = λ s h. let c = t.comes s h in c.kind;
     listed = t.listed;
     notes = λ n h. let f = o.notes n h in (f.0, let a = f.1 in let b = t.later.grown in omega arith);
     limits = record { rows = t.rows; slots = t.count; notes = o.limits.notes; etags = t.etags };
@@ -156,7 +158,7 @@ auto-Moves now W (Use s) o = tt
 auto-Moves now W (Make shape) o =
     let name = name_of W.slots (last W.store + 1) shape in
     let d = Definition.Auto shape.collection shape.fields in
-    reslotted-Moves now W replies.Index name (define W name d) o (define-Settles W name d)
+    reslotted-Moves now W replies.Index name (define W name d) o (define-Settles W name d (sym (name_of-begins W.slots (last W.store + 1) shape)))
 auto-Moves now W Merge o = tt
 
 -- BATCHES
@@ -170,6 +172,7 @@ brought-Comes W x max o h =
         within = o.numbers x h;
         old = inl (x, h, record { number = refl; definition = b.definition; onward = b.onward });
         named = inl (x, h, refl, refl);
+        kind = ap is_automatic (sym b.definition) ∙ o.kinds x h;
       }
     ] refl
 
@@ -232,19 +235,19 @@ pump_for-Moves W max (Some name) o = pump_at-Moves W max name (serving W.slots n
 write-Moves : (now : ℕ) (W : World) (reply : List replies.Result → replies.Reply) (commands : List Command) → Sound W → CourseMoves W (write W reply now commands)
 write-Moves now W reply commands o = wrote-Moves now W reply commands (commit W.setting Client now commands W.store) o refl
 
-course-Moves : (W : World) (now : ℕ) (r : Request) → Sound W → CourseMoves W (course_of W now r)
-course-Moves W now (PutOne id expected body) o = write-Moves now W single_reply (Command.Put id expected body ∷ []) o
-course-Moves W now (DeleteOne id expected) o = write-Moves now W single_reply (Command.Delete id expected ∷ []) o
-course-Moves W now (Bulk commands) o = write-Moves now W replies.Bulk commands o
-course-Moves W now (Get id) o = tt
-course-Moves W now (Define name d) o = reslotted-Moves now W replies.Index name (define_named W name d) o (define_named-Settles W name d)
-course-Moves W now (Remove name) o = reslotted-Moves now W replies.Removed name (remove W name) o (remove-Settles W name)
-course-Moves W now (Auto collection field) o = auto-Moves now W (pick (one_field collection field) W.store W.slots) o
-course-Moves W now (Find index field ws) o = tt
-course-Moves W now (Pump max index) o = pump_for-Moves W max index o
-course-Moves W now (Stale name cutoff) o = tt
-course-Moves W now Indexes o = tt
-course-Moves W now Stats o = tt
+course-Moves : (W : World) (now : ℕ) (r : Request) → IsFromClient (Do r) → Sound W → CourseMoves W (course_of W now r)
+course-Moves W now (PutOne id expected body) from o = write-Moves now W single_reply (Command.Put id expected body ∷ []) o
+course-Moves W now (DeleteOne id expected) from o = write-Moves now W single_reply (Command.Delete id expected ∷ []) o
+course-Moves W now (Bulk commands) from o = write-Moves now W replies.Bulk commands o
+course-Moves W now (Get id) from o = tt
+course-Moves W now (Define name d) from o = reslotted-Moves now W replies.Index name (define_named W name d) o (define_named-Settles W name d from)
+course-Moves W now (Remove name) from o = reslotted-Moves now W replies.Removed name (remove W name) o (remove-Settles W name)
+course-Moves W now (Auto collection field) from o = auto-Moves now W (pick (one_field collection field) W.store W.slots) o
+course-Moves W now (Find index field ws) from o = tt
+course-Moves W now (Pump max index) from o = pump_for-Moves W max index o
+course-Moves W now (Stale name cutoff) from o = tt
+course-Moves W now Indexes from o = tt
+course-Moves W now Stats from o = tt
 
 -- HELD BATCHES
 
@@ -320,13 +323,14 @@ made-Steps k M takes (c ∷ more) reply i all =
       | false ↦ Steps-itself M i
     ]
 
-pub step-Steps : (M : Machine) (k : Keeping) (now : ℕ) (line : Line) → IsMachine M → Steps M (step M k now line).machine
-step-Steps M k now (Do request) i =
-    let course = course_of M.world now request in made-Steps k M k.takes course.changes course.reply i (course-Moves M.world now request i.world)
+pub step-Steps : (M : Machine) (k : Keeping) (now : ℕ) (line : Line) → IsFromClient line → IsMachine M → Steps M (step M k now line).machine
+step-Steps M k now (Do request) from i =
+    let course = course_of M.world now request in made-Steps k M k.takes course.changes course.reply i (course-Moves M.world now request from i.world)
 
-pub run-Steps : (es : List Event) (M : Machine) → IsMachine M → Steps M (run es M)
-run-Steps [] M i = Steps-itself M i
-run-Steps (e ∷ es) M i = let one = step-Steps M e.keeping e.now e.line i in Steps-then M (after M e) (run es (after M e)) one (run-Steps es (after M e) one.machine)
+pub run-Steps : (es : List Event) (M : Machine) → AreFromClients es → IsMachine M → Steps M (run es M)
+run-Steps [] M from i = Steps-itself M i
+run-Steps (e ∷ es) M from i =
+    let one = step-Steps M e.keeping e.now e.line from.0 i in Steps-then M (after M e) (run es (after M e)) one (run-Steps es (after M e) from.1 one.machine)
 
 pub start-IsMachine : (setting : Setting) → IsMachine (start setting)
 start-IsMachine setting = record { world = start-Sound setting; held = λ h has. absurd has }
@@ -338,22 +342,29 @@ start-IsMachine setting = record { world = start-Sound setting; held = λ h has.
       numbers = λ s h. absurd h;
       rising = tt;
       apart = λ s t h. absurd h;
+      kinds = λ s h. absurd h;
       listed = record { each = λ s h. absurd h; only = λ q r h. absurd (let e = h in cc) };
       notes = λ n h. absurd h;
       limits = record { rows = omega arith; slots = omega arith; notes = omega arith; etags = omega arith };
     }
 
-pub run-IsMachine : (setting : Setting) (es : List Event) → IsMachine (run es (start setting))
-run-IsMachine setting es = let m = run-Steps es (start setting) (start-IsMachine setting) in m.machine
+pub run-IsMachine : (setting : Setting) (es : List Event) → AreFromClients es → IsMachine (run es (start setting))
+run-IsMachine setting es from = let m = run-Steps es (start setting) from (start-IsMachine setting) in m.machine
 
-pub run-Sound : (setting : Setting) (es : List Event) → Sound (run es (start setting)).world
-run-Sound setting es = let m = run-IsMachine setting es in m.world
+pub run-Sound : (setting : Setting) (es : List Event) → AreFromClients es → Sound (run es (start setting)).world
+run-Sound setting es from = let m = run-IsMachine setting es from in m.world
 
 pub run-append : (es fs : List Event) (M : Machine) → run (es ++ fs) M ≡ run fs (run es M)
 run-append [] fs M = refl
 run-append (e ∷ es) fs M = run-append es fs (after M e)
 
-pub run-LaterW : (setting : Setting) (es fs : List Event) → LaterW (run es (start setting)).world (run (es ++ fs) (start setting)).world
-run-LaterW setting es fs =
-    let n = run-Steps fs (run es (start setting)) (run-IsMachine setting es) in
+-- of events from clients, the first ones are from clients, and so are those after them
+pub clients-append : (es fs : List Event) → AreFromClients (es ++ fs) → AreFromClients es × AreFromClients fs
+clients-append [] fs from = (tt, from)
+clients-append (e ∷ es) fs from = let rest = clients-append es fs from.1 in ((from.0, rest.0), rest.1)
+
+pub run-LaterW : (setting : Setting) (es fs : List Event) → AreFromClients (es ++ fs) → LaterW (run es (start setting)).world (run (es ++ fs) (start setting)).world
+run-LaterW setting es fs from =
+    let both = clients-append es fs from in
+    let n = run-Steps fs (run es (start setting)) both.1 (run-IsMachine setting es both.0) in
     subst (λ (N : Machine). LaterW (run es (start setting)).world N.world) (sym (run-append es fs (start setting))) n.later

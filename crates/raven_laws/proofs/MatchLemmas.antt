@@ -15,7 +15,7 @@ use Rattle.index_tree.specs.Meaning.{Fields, Outcome, Entry, NoEntry, Failed}
 use Rattle.index_tree.specs.Mapper.{mapper_of, scope_of, is_mapped}
 use Rattle.spec_index.specs.Mapping.{mapped_documents, entry_of, scratch}
 use Rattle.spec_store.specs.Commit.{Setting}
-use Rattle.spec_server.specs.Machine.{Machine, Event, start, run}
+use Rattle.spec_server.specs.Machine.{Machine, Event, AreFromClients, start, run}
 use Rattle.spec_index.specs.Find.{field_is_text, found_in}
 use Rattle.spec_server.specs.Sound.{Has, Sound}
 use Rattle.raven_laws.specs.Claims.{IsMatch, ids_in, FreshIsExact}
@@ -115,5 +115,5 @@ Sound-exact M o index field ws id s h is_fresh =
       λ x. subst (λ ids. Has ids id) (sym same) (IsMatch-found M.world.store s.version.definition field ws id o.store x),
     )
 
-pub run-exact : (setting : Setting) (events : List Event) → FreshIsExact (run events (start setting))
-run-exact setting events = Sound-exact (run events (start setting)) (run-Sound setting events)
+pub run-exact : (setting : Setting) (events : List Event) → AreFromClients events → FreshIsExact (run events (start setting))
+run-exact setting events from = Sound-exact (run events (start setting)) (run-Sound setting events from)

@@ -9,7 +9,7 @@ use Rattle.std.specs.Fmt.{decimal}
 use Rattle.std.specs.Str.Parse.{AllDigits}
 use Rattle.spec_data.specs.Folding.{folded, same_key}
 use Rattle.spec_store.specs.Commit.{Setting}
-use Rattle.spec_server.specs.Machine.{Event, start, run}
+use Rattle.spec_server.specs.Machine.{Event, AreFromClients, start, run}
 use Rattle.spec_store.specs.Store.{last}
 use Rattle.spec_data.specs.Faults.{is_fit}
 use Rattle.spec_index.specs.World.{Slot, serving}
@@ -121,9 +121,10 @@ name_of-free slots number shape small =
 
 -- AFTER A RUN
 
-pub run-free : (setting : Setting) (events : List Event) (shape : Shape) → setting.max_slots < 2 ^ 32 → let W = (run events (start setting)).world in serving W.slots (name_of W.slots (last W.store + 1) shape) ≡ None
-run-free setting events shape few =
+pub run-free : (setting : Setting) (events : List Event) (shape : Shape) → AreFromClients events → setting.max_slots < 2 ^ 32
+    → let W = (run events (start setting)).world in serving W.slots (name_of W.slots (last W.store + 1) shape) ≡ None
+run-free setting events shape from few =
     let W = (run events (start setting)).world in
-    let o = run-Sound setting events in
-    let l = run-LaterW setting [] events in
+    let o = run-Sound setting events from in
+    let l = run-LaterW setting [] events from in
     name_of-free W.slots (last W.store + 1) shape (let a = o.limits.slots in let b : W.setting.max_slots ≡ setting.max_slots = ap (λ (s : Setting). s.max_slots) l.setting in omega arith)

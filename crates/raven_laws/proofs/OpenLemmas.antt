@@ -19,13 +19,14 @@ use Rattle.spec_data.specs.Written.{text_of}
 use Rattle.spec_store.specs.Store.{row_at, last_of, AreRising, AreApart, IsStore}
 use Rattle.index_tree.specs.Definitions.{Definition, Auto, Texts}
 use Rattle.spec_store.specs.Commit.{Setting, is_index_id, stored_body}
-use Rattle.spec_index.specs.World.{Slot, new_version, index_id, row_body, text_or_null}
+use Rattle.spec_index.specs.World.{Slot, new_version, index_id, row_body, text_or_null, is_automatic, begins_with_auto}
 use Rattle.spec_server.specs.Machine.{Machine}
 use Rattle.spec_server.specs.Opening.{OpenedFrom, is_part, auto_read, texts_read, form_of, body_form, NoForm, ReadRow, is_defining, name_in, may_be_named, is_filed, is_too_many, slot_of, with_slot, slots_with, slots_after, or_bad, and_then, slots_from, opened_with, rows_of}
 use Rattle.spec_store.specs.Kept.{max_body, max_etag, is_stored, document_of, document_in, body_in, is_etag, row_in, can_follow, row_if_it_follows, or_bad_row, rows_after, rows_in}
 use Rattle.spec_server.specs.Sound.{Has, Fits, NumbersRise, NamesApart, AreListed, IsMachine, Sound}
 use Rattle.raven_laws.specs.Opened.{AgreesWithForm, AgreesWithBody, HasOwnDefinition, HaveOwnDefinitions, OpenedFaithfully}
 use Rattle.spec_store.proofs.StoreLemmas.{same_row, both_true, either_false, same_itself, same_means, found_key, row_at-append, last_of-append}
+use Rattle.raven_laws.proofs.KindLemmas.{named-kind}
 use Rattle.raven_laws.proofs.SlotLemmas.{Has-append, Has-left, Has-right, find-Has, NumbersRise-push, Fits-fresh, same_slot}
 use Rattle.raven_laws.proofs.MemberLemmas.{Rises, read_rises, they_are}
 
@@ -420,6 +421,7 @@ pub record IsMade (rows : List Row) (x : Slot) : Type 0 where
   pub indexed : is_index_id from.id ≡ true
   pub definition : Definition
   pub told : AgreesWithBody from.body definition
+  pub kind : is_automatic definition ≡ begins_with_auto (name_in from)
   pub made : slot_of from definition ≡ x
 
 -- the slots of the rows so far
@@ -438,6 +440,7 @@ IsMade-further rows r x m = record {
   indexed = m.indexed;
   definition = m.definition;
   told = m.told;
+  kind = m.kind;
   made = m.made;
 }
 
@@ -457,8 +460,9 @@ plain-AreMade max rows slots r a up plain = record {
 
 -- the row of a definition adds its slot
 defining-AreMade : (max : ℕ) (rows : List Row) (slots : List Slot) (r : Row) (d : Definition) → AreMade max rows slots → last_of 0 rows < r.etag → length slots < max
-    → is_defining r ≡ true → is_index_id r.id ≡ true → AgreesWithBody r.body d → AreMade max (rows ++ r ∷ []) (slots ++ slot_of r d ∷ [])
-defining-AreMade max rows slots r d a up room is filed means = record {
+    → is_defining r ≡ true → is_index_id r.id ≡ true → AgreesWithBody r.body d → is_automatic d ≡ begins_with_auto (name_in r)
+    → AreMade max (rows ++ r ∷ []) (slots ++ slot_of r d ∷ [])
+defining-AreMade max rows slots r d a up room is filed means kind = record {
   rising = NumbersRise-push 0 slots (slot_of r d) a.rising (omega arith) (λ x h. let u = a.under x h in omega arith);
   under = λ x h. let l = last_of-push 0 rows r in elim (Has-append slots (slot_of r d ∷ []) x h) [
     | inl old ↦ let u = a.under x old in omega arith
@@ -467,7 +471,7 @@ defining-AreMade max rows slots r d a up room is filed means = record {
   ];
   each = λ x h. elim (Has-append slots (slot_of r d ∷ []) x h) [
     | inl old ↦ IsMade-further rows r x (a.each x old)
-    | inr (inl e) ↦ record { from = r; there = Has-right rows (r ∷ []) r (inl refl); defining = is; indexed = filed; definition = d; told = means; made = e }
+    | inr (inl e) ↦ record { from = r; there = Has-right rows (r ∷ []) r (inl refl); defining = is; indexed = filed; definition = d; told = means; kind = kind; made = e }
     | inr (inr no_more) ↦ absurd no_more
   ];
   only = λ y h at. elim (Has-append rows (r ∷ []) y h) [
@@ -530,7 +534,8 @@ slots_after-AreMade s n rows slots x more a up told h =
           let w = with_slot-is slots x.row x.definition more g in
           let free = sym (ap (λ b. b && nat_le s.max_slots (length slots)) e) ∙ t.room in
           subst (AreMade s.max_slots (rows ++ x.row ∷ [])) w.brought
-          (defining-AreMade s.max_slots rows slots x.row w.definition a up (leb-false s.max_slots (length slots) free) e (filed-indexed x.row t.filed e) (told w.definition e w.read))
+          (defining-AreMade s.max_slots rows slots x.row w.definition a up (leb-false s.max_slots (length slots) free) e (filed-indexed x.row t.filed e) (told w.definition e w.read)
+          (named-kind w.definition (name_in x.row) w.may))
       | false ↦ λ e g. subst (AreMade s.max_slots (rows ++ x.row ∷ [])) (same_slots slots more g) (plain-AreMade s.max_slots rows slots x.row a up e)
     ] refl t.rest
 
@@ -607,6 +612,7 @@ world-Sound s rows slots f a =
       numbers = a.under;
       rising = a.rising;
       apart = opened-apart s.max_slots rows slots f.apart a;
+      kinds = λ x h. let m = a.each x h in subst (λ (z : Slot). is_automatic z.version.definition ≡ begins_with_auto z.name) m.made m.kind;
       listed = opened-listed s.max_rows rows slots f s.max_slots a;
       notes = λ n h. absurd h;
       limits = record { rows = f.count; slots = a.count; notes = omega arith; etags = f.etags };

@@ -9,7 +9,7 @@ use Rattle.spec_data.specs.Tables.{Scope, in_scope}
 use Rattle.spec_store.specs.Stale.{past, batch_rows, left_over, stale}
 use Rattle.spec_index.specs.Index.{etag_after, etag_of_batch}
 use Rattle.spec_index.specs.World.{Version, Slot, reads, advanced}
-use Rattle.spec_server.specs.Machine.{Do, Event, Pump, or_as_before, after_batch, pumping, is_stale, start, step, run, takes_all}
+use Rattle.spec_server.specs.Machine.{Do, Event, AreFromClients, Pump, or_as_before, after_batch, pumping, is_stale, start, step, run, takes_all}
 use Rattle.spec_store.specs.Commit.{Setting}
 use Rattle.spec_server.specs.Sound.{Has}
 use Rattle.spec_store.proofs.StoreLemmas.{either_false, same_itself, found_etag}
@@ -102,16 +102,17 @@ all-fresh S s max o some most =
 
 -- AFTER A RUN
 
-pub run-moves : (setting : Setting) (events : List Event) (s : Slot) (max : ℕ) → 1 ≤ max → let W = (run events (start setting)).world in Has W.slots s
+pub run-moves : (setting : Setting) (events : List Event) (s : Slot) (max : ℕ) → AreFromClients events → 1 ≤ max → let W = (run events (start setting)).world in Has W.slots s
     → ((pumping W.store max s).to ≡ (pumping W.store max s).from) ↔ (is_stale W.store s ≡ false)
-run-moves setting events s max some h =
-    let o = run-Sound setting events in
+run-moves setting events s max from some h =
+    let o = run-Sound setting events from in
     let f = o.fits s h in stays-fresh (run events (start setting)).world.store s max o.store f.within some
 
-pub run-all : (setting : Setting) (events : List Event) (s : Slot) (max : ℕ) → 1 ≤ max → let M = run events (start setting) in let N = (step M takes_all 0 (Do (Pump max None))).machine in
+pub run-all : (setting : Setting) (events : List Event) (s : Slot) (max : ℕ) → AreFromClients events → 1 ≤ max
+    → let M = run events (start setting) in let N = (step M takes_all 0 (Do (Pump max None))).machine in
     length M.world.store.rows ≤ max → Has N.world.slots s → is_stale N.world.store s ≡ false
-run-all setting events s max some most h =
+run-all setting events s max from some most h =
     let M = run events (start setting) in
-    let o = run-Sound setting events in
+    let o = run-Sound setting events from in
     let x = Has-map (after_batch M.world.store max) M.world.slots s h in
     subst (λ (y : Slot). is_stale M.world.store y ≡ false) x.2 (all-fresh M.world.store x.0 max o.store some most)

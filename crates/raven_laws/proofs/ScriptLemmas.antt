@@ -1,12 +1,13 @@
 -- A script is a run.
 use Rattle.std.proofs.Common.{◌≡◌, List, [], ◌∷◌, ◌++◌, Some, None, Ok, Err, refl, sym, ◌∙◌, subst}
+use Rattle.std.proofs.lemmas.List.Elements.{filter_map-append}
 use Rattle.std.specs.List.{cons_option}
 use Rattle.spec_store.specs.Commit.{Setting}
-use Rattle.spec_server.specs.Machine.{Machine, Event, start, run}
+use Rattle.spec_server.specs.Machine.{Machine, Event, AreFromClients, start, run}
 use Rattle.spec_server.specs.Sound.{IsMachine, Sound, LaterW}
 use Rattle.spec_server.specs.Script.{LineRead, Circumstance, Given, event_of, left_by, after_line, after_lines, events_of}
 use Rattle.raven_laws.specs.Claims.{FreshIsFromScratch, FreshIsExact, FlagsAreExact, IdsAreSpelledAsStored}
-use Rattle.raven_laws.proofs.MachineLemmas.{run-IsMachine, run-Steps}
+use Rattle.raven_laws.proofs.MachineLemmas.{clients-append, run-IsMachine, run-Steps}
 use Rattle.raven_laws.proofs.MatchLemmas.{Sound-exact}
 use Rattle.raven_laws.proofs.AnswerLemmas.{Sound-fresh, Sound-flags, Sound-ids}
 
@@ -24,25 +25,32 @@ pub lines-append : (all more : List Given) (M : Machine) → after_lines (all ++
 lines-append [] more M = refl
 lines-append (g ∷ all) more M = lines-append all more (after_line g M)
 
-lines-IsMachine : (setting : Setting) (all : List Given) → IsMachine (after_lines all (start setting))
-lines-IsMachine setting all = subst IsMachine (sym (lines-run all (start setting))) (run-IsMachine setting (events_of all))
+-- of lines from clients, the first ones are from clients, and so are those after them
+pub lines-clients : (all more : List Given) → AreFromClients (events_of (all ++ more)) → AreFromClients (events_of all) × AreFromClients (events_of more)
+lines-clients all more from =
+    clients-append (events_of all) (events_of more) (subst AreFromClients (filter_map-append (λ (g : Given). event_of g.circumstance g.read) all more) from)
 
-pub lines-Sound : (setting : Setting) (all : List Given) → Sound (after_lines all (start setting)).world
-lines-Sound setting all = let m = lines-IsMachine setting all in m.world
+lines-IsMachine : (setting : Setting) (all : List Given) → AreFromClients (events_of all) → IsMachine (after_lines all (start setting))
+lines-IsMachine setting all from = subst IsMachine (sym (lines-run all (start setting))) (run-IsMachine setting (events_of all) from)
 
-pub lines-LaterW : (setting : Setting) (all more : List Given) → LaterW (after_lines all (start setting)).world (after_lines (all ++ more) (start setting)).world
-lines-LaterW setting all more =
-    let m = run-Steps (events_of more) (after_lines all (start setting)) (lines-IsMachine setting all) in
+pub lines-Sound : (setting : Setting) (all : List Given) → AreFromClients (events_of all) → Sound (after_lines all (start setting)).world
+lines-Sound setting all from = let m = lines-IsMachine setting all from in m.world
+
+pub lines-LaterW : (setting : Setting) (all more : List Given) → AreFromClients (events_of (all ++ more))
+    → LaterW (after_lines all (start setting)).world (after_lines (all ++ more) (start setting)).world
+lines-LaterW setting all more from =
+    let both = lines-clients all more from in
+    let m = run-Steps (events_of more) (after_lines all (start setting)) both.1 (lines-IsMachine setting all both.0) in
     subst (λ (N : Machine). LaterW (after_lines all (start setting)).world N.world) (sym (lines-append all more (start setting) ∙ lines-run more (after_lines all (start setting)))) m.later
 
-pub lines-fresh : (setting : Setting) (all : List Given) → FreshIsFromScratch (after_lines all (start setting))
-lines-fresh setting all = Sound-fresh (after_lines all (start setting)) (lines-Sound setting all)
+pub lines-fresh : (setting : Setting) (all : List Given) → AreFromClients (events_of all) → FreshIsFromScratch (after_lines all (start setting))
+lines-fresh setting all from = Sound-fresh (after_lines all (start setting)) (lines-Sound setting all from)
 
-pub lines-exact : (setting : Setting) (all : List Given) → FreshIsExact (after_lines all (start setting))
-lines-exact setting all = Sound-exact (after_lines all (start setting)) (lines-Sound setting all)
+pub lines-exact : (setting : Setting) (all : List Given) → AreFromClients (events_of all) → FreshIsExact (after_lines all (start setting))
+lines-exact setting all from = Sound-exact (after_lines all (start setting)) (lines-Sound setting all from)
 
-pub lines-flags : (setting : Setting) (all : List Given) → FlagsAreExact (after_lines all (start setting))
-lines-flags setting all = Sound-flags (after_lines all (start setting)) (lines-Sound setting all)
+pub lines-flags : (setting : Setting) (all : List Given) → AreFromClients (events_of all) → FlagsAreExact (after_lines all (start setting))
+lines-flags setting all from = Sound-flags (after_lines all (start setting)) (lines-Sound setting all from)
 
-pub lines-ids : (setting : Setting) (all : List Given) → IdsAreSpelledAsStored (after_lines all (start setting))
-lines-ids setting all = Sound-ids (after_lines all (start setting)) (lines-Sound setting all)
+pub lines-ids : (setting : Setting) (all : List Given) → AreFromClients (events_of all) → IdsAreSpelledAsStored (after_lines all (start setting))
+lines-ids setting all from = Sound-ids (after_lines all (start setting)) (lines-Sound setting all from)

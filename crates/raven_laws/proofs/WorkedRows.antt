@@ -7,6 +7,7 @@ use Rattle.spec_data.specs.Data.{object, text, entry, no_entries}
 use Rattle.spec_data.specs.Moments.{moment_text, day_from, day_in, day_text}
 use Rattle.spec_data.specs.Rows.{Row, doc}
 use Rattle.index_tree.specs.Definitions.{Definition}
+use Rattle.index_tree.specs.Trees.{Dot, Var}
 use Rattle.index_tree.specs.Mapper.{Mapper, mapper_of, is_mapped}
 use Rattle.spec_index.specs.Mapping.{entry_of}
 use Rattle.spec_store.specs.Commit.{Command, AnyVector, Vector}
@@ -118,8 +119,11 @@ removals : replies (Auto (codes "C") (codes "F") ∷ Remove (codes "AUTO/c/byf")
 unfolding digits
 removals = refl
 
+-- the definition of a client: a map of one field
 abbrev by_field : List ℕ → Definition
-by_field field = Definition.Auto (codes "C") ((field ∷ []) ∷ [])
+by_field field = Definition.Static
+    (record { var = codes "c"; collection = codes "C"; clauses = []; members = record { name = field; value = Dot (Var (codes "c")) field } ∷ [] })
+    None (codes "from c in docs.C select new { c." ++ (field ++ codes " }")) None
 
 -- a client may not give the server's names, nor one of more than 200 bytes
 definitions : replies (Define (codes "N") (by_field (codes "F")) ∷ Define (codes "aUTO/x") (by_field (codes "F")) ∷ Define (codes "ReplacementOf/N") (by_field (codes "F"))
@@ -187,7 +191,7 @@ stale_text : printed (Found [] 0 true) ≡ codes "{\"Ids\":[],\"IndexEtag\":0,\"
 unfolding digits
 stale_text = refl
 
-indexes_text : printed (Indexes (record { definition = definition_data (by_field (codes "F")); entries = 1; errors = 0; etag = 2; is_stale = true; name = codes "N" } ∷ []))
+indexes_text : printed (Indexes (record { definition = definition_data (Definition.Auto (codes "C") ((codes "F" ∷ []) ∷ [])); entries = 1; errors = 0; etag = 2; is_stale = true; name = codes "N" } ∷ []))
     ≡ codes "{\"Results\":[{\"Definition\":{\"Collection\":\"C\",\"Fields\":[[\"F\"]],\"Kind\":\"auto\"},\"Entries\":1,\"Errors\":0,\"Etag\":2,\"IsStale\":true,\"Name\":\"N\"}]}\n"
 unfolding digits
 indexes_text = refl

@@ -6,10 +6,11 @@ use Rattle.spec_store.specs.Store.{Store, last, IsStore}
 use Rattle.spec_store.specs.Later.{Later}
 use Rattle.index_tree.specs.Definitions.{Definition, same_definition}
 use Rattle.spec_store.specs.Commit.{Command, Put, Delete, AnyVector, after_commands}
-use Rattle.spec_index.specs.World.{Slot, Note, World, new_version, serving, SlotChange, SlotRefusal, NameServes, TooManyIndexes, added, added_if_room, define, define_at, define_named, index_id, is_named, name_refusal, remove, removed, unless_refused}
+use Rattle.spec_index.specs.World.{Slot, Note, World, new_version, serving, SlotChange, SlotRefusal, NameServes, TooManyIndexes, added, added_if_room, begins_with_auto, define, define_at, define_named, index_id, is_automatic, is_named, name_refusal, remove, removed, unless_refused}
 use Rattle.spec_server.specs.Sound.{Has, Fits, NumbersRise, NamesApart, AreListed, Sound, IsOldOrNew, HasItsName, LaterW}
 use Rattle.spec_store.proofs.LaterLemmas.{Later-itself, Later-then}
 use Rattle.raven_laws.proofs.ListedLemmas.{put-AreListed, delete-AreListed}
+use Rattle.raven_laws.proofs.KindLemmas.{client-name}
 use Rattle.raven_laws.proofs.LimitLemmas.{length_filtered}
 use Rattle.spec_store.proofs.StoreLemmas.{same_itself, same_means}
 use Rattle.raven_laws.proofs.SlotLemmas.{Has-append, Has-left, Has-right, Has-filter, passes, into-filter, NumbersRise-push, NumbersRise-filter, NamesApart-push, NamesApart-filter, unserved, served, Fits-later, Fits-fresh}
@@ -60,6 +61,7 @@ pub record Comes (W : World) (S : Store) (noted : List Note) (s : Slot) : Type 0
   pub within : s.number ≤ last S
   pub old : IsOldOrNew W s
   pub named : HasItsName W noted s
+  pub kind : is_automatic s.version.definition ≡ begins_with_auto s.name
 
 pub stays : (W : World) (S : Store) (noted : List Note) (s : Slot) → Sound W → Later W.store S → Has W.slots s → Comes W S noted s
 stays W S noted s o l h = record {
@@ -67,6 +69,7 @@ stays W S noted s o l h = record {
   within = let a = o.numbers s h in let b = l.grown in omega arith;
   old = inl (s, h, record { number = refl; definition = refl; onward = omega arith });
   named = inl (s, h, refl, refl);
+  kind = o.kinds s h;
 }
 
 -- CHANGES OF THE SLOTS
@@ -92,8 +95,13 @@ pub record Settles (W : World) (c : SlotChange) (S : Store) : Type 0 where
   pub listed : AreListed S c.slots
   pub count : length c.slots ≤ W.setting.max_slots
 
-pub added-Settles : (W : World) (S : Store) (name : List ℕ) (d : Definition) → Sound W → ((s : Slot) → Has W.slots s → folded s.name ≡ folded name → ⊥) → length W.slots < W.setting.max_slots → Onto W (added W name d) S → Settles W (added W name d) S
-added-Settles W S name d o free room t = record {
+-- the definition is automatic exactly if the name begins so
+abbrev pub SuitsName : List ℕ → Definition → Type 0
+SuitsName name d = is_automatic d ≡ begins_with_auto name
+
+pub added-Settles : (W : World) (S : Store) (name : List ℕ) (d : Definition) → SuitsName name d → Sound W → ((s : Slot) → Has W.slots s → folded s.name ≡ folded name → ⊥)
+    → length W.slots < W.setting.max_slots → Onto W (added W name d) S → Settles W (added W name d) S
+added-Settles W S name d suits o free room t = record {
   slots = λ s h. elim (Has-append W.slots (new ∷ []) s h) [
     | inl old ↦ stays W S [] s o t.later old
     | inr (inl e) ↦ subst (Comes W S []) e (record {
@@ -101,6 +109,7 @@ added-Settles W S name d o free room t = record {
       within = let a = t.grown tt in omega arith;
       old = inr (omega arith);
       named = inr (inl (omega arith));
+      kind = suits;
     })
     | inr (inr no_more) ↦ absurd no_more
   ];
@@ -128,18 +137,19 @@ not_some None h = refl
 not_some (Some s) h = absurd cc
 
 -- if no slot serves the name yet
-pub added_if_room-Settles : (W : World) (name : List ℕ) (d : Definition) (c : SlotChange) → added_if_room W name d ≡ Ok c → serving W.slots name ≡ None → Sound W → (S : Store) → Onto W c S → Settles W c S
-added_if_room-Settles W name d c h free o S =
+pub added_if_room-Settles : (W : World) (name : List ℕ) (d : Definition) (c : SlotChange) → SuitsName name d → added_if_room W name d ≡ Ok c → serving W.slots name ≡ None → Sound W
+    → (S : Store) → Onto W c S → Settles W c S
+added_if_room-Settles W name d c suits h free o S =
     let room = past_test (nat_le W.setting.max_slots (length W.slots)) TooManyIndexes (Ok (added W name d)) c h in
     subst (λ x. Onto W x S → Settles W x S) (same_change (added W name d) c room.1)
-    (added-Settles W S name d o (unserved W.slots name free) (leb-false W.setting.max_slots (length W.slots) room.0))
+    (added-Settles W S name d suits o (unserved W.slots name free) (leb-false W.setting.max_slots (length W.slots) room.0))
 
-pub define-Settles : (W : World) (name : List ℕ) (d : Definition) (c : SlotChange) → define W name d ≡ Ok c → Sound W → (S : Store) → Onto W c S → Settles W c S
-define-Settles W name d c h o S =
+pub define-Settles : (W : World) (name : List ℕ) (d : Definition) → SuitsName name d → (c : SlotChange) → define W name d ≡ Ok c → Sound W → (S : Store) → Onto W c S → Settles W c S
+define-Settles W name d suits c h o S =
     let room = past_test (nat_le W.setting.max_slots (length W.slots)) TooManyIndexes (cond (is_some (serving W.slots name)) (Err NameServes) (Ok (added W name d))) c h in
     let free = past_test (is_some (serving W.slots name)) NameServes (Ok (added W name d)) c room.1 in
     subst (λ x. Onto W x S → Settles W x S) (same_change (added W name d) c free.1)
-    (added-Settles W S name d o (unserved W.slots name (not_some (serving W.slots name) free.0)) (leb-false W.setting.max_slots (length W.slots) room.0))
+    (added-Settles W S name d suits o (unserved W.slots name (not_some (serving W.slots name) free.0)) (leb-false W.setting.max_slots (length W.slots) room.0))
 
 -- nothing is changed
 abbrev pub unchanged_slots : World → List ℕ → SlotChange
@@ -154,20 +164,21 @@ unchanged-Settles W name o S t = record {
   count = o.limits.slots;
 }
 
-define_at-Settles : (W : World) (name : List ℕ) (d : Definition) (there : Option Slot) (c : SlotChange) → serving W.slots name ≡ there → define_at W name d there ≡ Ok c → Sound W → (S : Store) → Onto W c S → Settles W c S
-define_at-Settles W name d None c e h o S = added_if_room-Settles W name d c h e o S
-define_at-Settles W name d (Some s) c e h o S =
+define_at-Settles : (W : World) (name : List ℕ) (d : Definition) (there : Option Slot) (c : SlotChange) → SuitsName name d → serving W.slots name ≡ there → define_at W name d there ≡ Ok c → Sound W
+    → (S : Store) → Onto W c S → Settles W c S
+define_at-Settles W name d None c suits e h o S = added_if_room-Settles W name d c suits h e o S
+define_at-Settles W name d (Some s) c suits e h o S =
     elim (same_definition d s.version.definition) as (λ b. cond b (Ok (unchanged_slots W s.name)) (Err NameServes) ≡ Ok c → Onto W c S → Settles W c S) [
       | true ↦ λ g. subst (λ x. Onto W x S → Settles W x S) (same_change (unchanged_slots W s.name) c g) (unchanged-Settles W s.name o S)
       | false ↦ λ g. absurd cc
     ] h
 
-pub define_named-Settles : (W : World) (name : List ℕ) (d : Definition) (c : SlotChange) → define_named W name d ≡ Ok c → Sound W → (S : Store) → Onto W c S → Settles W c S
-define_named-Settles W name d c h =
-    elim (name_refusal name) as (λ r. unless_refused r (define_at W name d (serving W.slots name)) ≡ Ok c → Sound W → (S : Store) → Onto W c S → Settles W c S) [
-      | None ↦ λ g. define_at-Settles W name d (serving W.slots name) c refl g
-      | Some refusal ↦ λ g. absurd cc
-    ] h
+pub define_named-Settles : (W : World) (name : List ℕ) (d : Definition) → is_automatic d ≡ false → (c : SlotChange) → define_named W name d ≡ Ok c → Sound W → (S : Store) → Onto W c S → Settles W c S
+define_named-Settles W name d is c h =
+    elim (name_refusal name) as (λ r. name_refusal name ≡ r → unless_refused r (define_at W name d (serving W.slots name)) ≡ Ok c → Sound W → (S : Store) → Onto W c S → Settles W c S) [
+      | None ↦ λ e g. define_at-Settles W name d (serving W.slots name) c (is ∙ sym (client-name name e)) refl g
+      | Some refusal ↦ λ e g. absurd cc
+    ] refl h
 
 -- A SLOT IS TAKEN OUT
 

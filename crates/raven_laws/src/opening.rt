@@ -5,8 +5,8 @@ ghost use Rattle.spec_data.specs.Kept.{KeptRow, all_kept};
 ghost use Rattle.spec_data.specs.Rows.{Row};
 ghost use Rattle.spec_store.specs.Commit.{Setting, is_index_id};
 ghost use Rattle.spec_server.specs.Opening.{OpenedFrom};
-ghost use Rattle.spec_server.specs.Machine.{Event, Machine, run};
-ghost use Rattle.spec_server.specs.Script.{Given, after_lines};
+ghost use Rattle.spec_server.specs.Machine.{AreFromClients, Event, Machine, run};
+ghost use Rattle.spec_server.specs.Script.{Given, after_lines, events_of};
 ghost use Rattle.spec_server.specs.Sound.{Has, IsMachine, LaterW, Sound};
 ghost use Rattle.spec_store.specs.Store.{row_at};
 ghost use Rattle.spec_index.specs.World.{Slot, new_version};
@@ -26,10 +26,10 @@ pub fn opened_is_sound()
         (s : Slot) → Has M.world.slots s → s.version ≡ new_version s.version.definition }
 {}
 
-/// From a sound state each run leads to a sound one, which is later.
+/// From a sound state whatever clients ask leads to a sound one, which is later.
 pub fn sound_states_go_on()
-    ensures sound { (M : Machine) (events : List Event) → IsMachine M → IsMachine (run events M) }
-    ensures later { (M : Machine) (events : List Event) → IsMachine M → LaterW M.world (run events M).world }
+    ensures sound { (M : Machine) (events : List Event) → IsMachine M → AreFromClients events → IsMachine (run events M) }
+    ensures later { (M : Machine) (events : List Event) → IsMachine M → AreFromClients events → LaterW M.world (run events M).world }
 {}
 
 /// In a sound state answers are true.
@@ -40,26 +40,38 @@ pub fn sound_states_answer_truly()
     ensures ids { (M : Machine) → Sound M.world → IdsAreSpelledAsStored M }
 {}
 
-/// Whatever is asked of a database that stored rows opened, each state is sound, is later than those before, and its answers are true.
+/// Whatever clients ask of a database that stored rows opened, each state is sound, is later than those before, and its answers are true.
 pub fn every_run_from_stored_rows_is_sound()
-    ensures sound { (setting : Setting) (held : List KeptRow) (M : Machine) (events : List Event) → OpenedFaithfully setting held M → Sound (run events M).world }
-    ensures goes_on { (setting : Setting) (held : List KeptRow) (M : Machine) (events more : List Event) → OpenedFaithfully setting held M →
+    ensures sound { (setting : Setting) (held : List KeptRow) (M : Machine) (events : List Event) →
+        OpenedFaithfully setting held M → AreFromClients events → Sound (run events M).world }
+    ensures goes_on { (setting : Setting) (held : List KeptRow) (M : Machine) (events more : List Event) →
+        OpenedFaithfully setting held M → AreFromClients (events ++ more) →
         LaterW (run events M).world (run (events ++ more) M).world }
-    ensures fresh { (setting : Setting) (held : List KeptRow) (M : Machine) (events : List Event) → OpenedFaithfully setting held M → FreshIsFromScratch (run events M) }
-    ensures exact { (setting : Setting) (held : List KeptRow) (M : Machine) (events : List Event) → OpenedFaithfully setting held M → FreshIsExact (run events M) }
-    ensures flags { (setting : Setting) (held : List KeptRow) (M : Machine) (events : List Event) → OpenedFaithfully setting held M → FlagsAreExact (run events M) }
-    ensures ids { (setting : Setting) (held : List KeptRow) (M : Machine) (events : List Event) → OpenedFaithfully setting held M → IdsAreSpelledAsStored (run events M) }
+    ensures fresh { (setting : Setting) (held : List KeptRow) (M : Machine) (events : List Event) →
+        OpenedFaithfully setting held M → AreFromClients events → FreshIsFromScratch (run events M) }
+    ensures exact { (setting : Setting) (held : List KeptRow) (M : Machine) (events : List Event) →
+        OpenedFaithfully setting held M → AreFromClients events → FreshIsExact (run events M) }
+    ensures flags { (setting : Setting) (held : List KeptRow) (M : Machine) (events : List Event) →
+        OpenedFaithfully setting held M → AreFromClients events → FlagsAreExact (run events M) }
+    ensures ids { (setting : Setting) (held : List KeptRow) (M : Machine) (events : List Event) →
+        OpenedFaithfully setting held M → AreFromClients events → IdsAreSpelledAsStored (run events M) }
 {}
 
 /// The same for the lines of a script.
 pub fn every_script_from_stored_rows_is_sound()
-    ensures sound { (setting : Setting) (held : List KeptRow) (M : Machine) (lines : List Given) → OpenedFaithfully setting held M → Sound (after_lines lines M).world }
-    ensures goes_on { (setting : Setting) (held : List KeptRow) (M : Machine) (lines more : List Given) → OpenedFaithfully setting held M →
+    ensures sound { (setting : Setting) (held : List KeptRow) (M : Machine) (lines : List Given) →
+        OpenedFaithfully setting held M → AreFromClients (events_of lines) → Sound (after_lines lines M).world }
+    ensures goes_on { (setting : Setting) (held : List KeptRow) (M : Machine) (lines more : List Given) →
+        OpenedFaithfully setting held M → AreFromClients (events_of (lines ++ more)) →
         LaterW (after_lines lines M).world (after_lines (lines ++ more) M).world }
-    ensures fresh { (setting : Setting) (held : List KeptRow) (M : Machine) (lines : List Given) → OpenedFaithfully setting held M → FreshIsFromScratch (after_lines lines M) }
-    ensures exact { (setting : Setting) (held : List KeptRow) (M : Machine) (lines : List Given) → OpenedFaithfully setting held M → FreshIsExact (after_lines lines M) }
-    ensures flags { (setting : Setting) (held : List KeptRow) (M : Machine) (lines : List Given) → OpenedFaithfully setting held M → FlagsAreExact (after_lines lines M) }
-    ensures ids { (setting : Setting) (held : List KeptRow) (M : Machine) (lines : List Given) → OpenedFaithfully setting held M → IdsAreSpelledAsStored (after_lines lines M) }
+    ensures fresh { (setting : Setting) (held : List KeptRow) (M : Machine) (lines : List Given) →
+        OpenedFaithfully setting held M → AreFromClients (events_of lines) → FreshIsFromScratch (after_lines lines M) }
+    ensures exact { (setting : Setting) (held : List KeptRow) (M : Machine) (lines : List Given) →
+        OpenedFaithfully setting held M → AreFromClients (events_of lines) → FreshIsExact (after_lines lines M) }
+    ensures flags { (setting : Setting) (held : List KeptRow) (M : Machine) (lines : List Given) →
+        OpenedFaithfully setting held M → AreFromClients (events_of lines) → FlagsAreExact (after_lines lines M) }
+    ensures ids { (setting : Setting) (held : List KeptRow) (M : Machine) (lines : List Given) →
+        OpenedFaithfully setting held M → AreFromClients (events_of lines) → IdsAreSpelledAsStored (after_lines lines M) }
 {}
 
 /// No row is invented: each, except those of definitions, was there before the run, or was written by a command of one of the requests,

@@ -1,4 +1,4 @@
-//! What holds after every run: whatever is asked, in whatever order.
+//! What holds after every run: whatever clients ask, in whatever order.
 
 ghost use Rattle.std.specs.Prelude.{◌≡◌, ◌↔◌, ◌<◌, ◌≤◌, ◌^◌, ◌+◌, ◌++◌, ℕ, List, Some, None, false, length};
 ghost use Rattle.spec_store.specs.Store.{Store, last};
@@ -8,16 +8,16 @@ ghost use Rattle.spec_index.specs.Mapping.{scratch};
 ghost use Rattle.spec_store.specs.Commit.{Setting};
 ghost use Rattle.spec_index.specs.World.{Slot, Version, World, batch, serving};
 ghost use Rattle.spec_index.specs.Optimiser.{Choice, Shape, first_free, name_of, pick};
-ghost use Rattle.spec_server.specs.Machine.{Do, Event, Held, Keeping, Line, Machine, Pump, is_stale, pumping, run, start, step, takes_all};
+ghost use Rattle.spec_server.specs.Machine.{AreFromClients, Do, Event, Held, Keeping, Line, Machine, Pump, is_stale, pumping, run, start, step, takes_all};
 ghost use Rattle.spec_server.specs.Sound.{Has, IsHeld, IsMachine, LaterW, NumbersRise, Sound};
 ghost use Rattle.raven_laws.specs.Choices.{IsChosen, IsFirstFree};
 ghost use Rattle.raven_laws.specs.Served.{ServedStays};
 ghost use Rattle.raven_laws.specs.Claims.{FlagsAreExact, FreshIsExact, FreshIsFromScratch, IdsAreSpelledAsStored, IsSpelledAsStored};
 
-/// Each index has recorded what the store has up to its etag, has its row among the indexes' rows, and shares its number and its name
-/// with no other. No limit is passed. Each batch that a worker holds may be published.
+/// Each index has recorded what the store has up to its etag, has its row among the indexes' rows, shares its number and its name with no
+/// other, and is automatic exactly if its name begins with `auto/`. No limit is passed. Each batch that a worker holds may be published.
 pub fn every_run_is_sound()
-    ensures { (setting : Setting) (events : List Event) → IsMachine (run events (start setting)) }
+    ensures { (setting : Setting) (events : List Event) → AreFromClients events → IsMachine (run events (start setting)) }
 {}
 
 /// A batch that a worker reads may be published, in the world in which it was read and in every later one.
@@ -29,7 +29,7 @@ pub fn batches_may_wait()
 
 /// Each state is later than those before: rows stay or are replaced, indexes go forward, and a name keeps its index until that is removed.
 pub fn every_run_goes_on()
-    ensures { (setting : Setting) (events more : List Event) →
+    ensures { (setting : Setting) (events more : List Event) → AreFromClients (events ++ more) →
         LaterW (run events (start setting)).world (run (events ++ more) (start setting)).world }
 {}
 
@@ -41,31 +41,31 @@ pub fn later_worlds_order()
 
 /// Each index is the one that serves its name.
 pub fn every_index_serves_its_name()
-    ensures { (setting : Setting) (events : List Event) (s : Slot) →
+    ensures { (setting : Setting) (events : List Event) (s : Slot) → AreFromClients events →
         let W = (run events (start setting)).world in Has W.slots s → serving W.slots s.name ≡ Some s }
 {}
 
 /// An answer that is not stale is what mapping all documents of the store from scratch gives.
 pub fn fresh_answers_are_from_scratch()
-    ensures { (setting : Setting) (events : List Event) → FreshIsFromScratch (run events (start setting)) }
+    ensures { (setting : Setting) (events : List Event) → AreFromClients events → FreshIsFromScratch (run events (start setting)) }
 {}
 
 /// An answer that is not stale has exactly the ids of the documents that the store has, that the index maps, and whose field is the text.
 pub fn fresh_answers_are_exact()
-    ensures { (setting : Setting) (events : List Event) → FreshIsExact (run events (start setting)) }
+    ensures { (setting : Setting) (events : List Event) → AreFromClients events → FreshIsExact (run events (start setting)) }
 {}
 
 /// Each flag in a reply, of a query, of a question about staleness or in the list of all indexes, is exact, up to the cutoff that was asked.
 pub fn flags_are_exact()
-    ensures { (setting : Setting) (events : List Event) → FlagsAreExact (run events (start setting)) }
+    ensures { (setting : Setting) (events : List Event) → AreFromClients events → FlagsAreExact (run events (start setting)) }
 {}
 
 /// Ids are spelled as the store spells them: in the entries of each index, and in each answer.
 pub fn ids_are_spelled_as_stored()
-    ensures entries { (setting : Setting) (events : List Event) (s : Slot) (e : List ℕ × Fields) →
+    ensures entries { (setting : Setting) (events : List Event) (s : Slot) (e : List ℕ × Fields) → AreFromClients events →
         let W = (run events (start setting)).world in
         Has W.slots s → Has (scratch (mapper_of s.version.definition) s.version.table) e → IsSpelledAsStored W.store e.0 }
-    ensures answers { (setting : Setting) (events : List Event) → IdsAreSpelledAsStored (run events (start setting)) }
+    ensures answers { (setting : Setting) (events : List Event) → AreFromClients events → IdsAreSpelledAsStored (run events (start setting)) }
 {}
 
 /// The index that serves a name goes on to serve it, with its number and its definition, in every step but its own removal.
@@ -75,7 +75,7 @@ pub fn served_names_stay()
 
 /// The name that is chosen for a new index is free, so no new index is refused for its name.
 pub fn new_names_are_free()
-    ensures { (setting : Setting) (events : List Event) (shape : Shape) → setting.max_slots < 2 ^ 32 →
+    ensures { (setting : Setting) (events : List Event) (shape : Shape) → AreFromClients events → setting.max_slots < 2 ^ 32 →
         let W = (run events (start setting)).world in serving W.slots (name_of W.slots (last W.store + 1) shape) ≡ None }
 {}
 
@@ -94,14 +94,14 @@ pub fn new_names_have_the_least_number()
 
 /// A batch moves the etag of an index exactly if the index is stale.
 pub fn batches_move_what_is_stale()
-    ensures { (setting : Setting) (events : List Event) (s : Slot) (max : ℕ) → 1 ≤ max →
+    ensures { (setting : Setting) (events : List Event) (s : Slot) (max : ℕ) → AreFromClients events → 1 ≤ max →
         let W = (run events (start setting)).world in Has W.slots s →
         ((pumping W.store max s).to ≡ (pumping W.store max s).from) ↔ (is_stale W.store s ≡ false) }
 {}
 
 /// A batch as large as the store leaves no index stale.
 pub fn large_batches_are_enough()
-    ensures { (setting : Setting) (events : List Event) (s : Slot) (max : ℕ) → 1 ≤ max →
+    ensures { (setting : Setting) (events : List Event) (s : Slot) (max : ℕ) → AreFromClients events → 1 ≤ max →
         let M = run events (start setting) in let N = (step M takes_all 0 (Do (Pump max None))).machine in
         length M.world.store.rows ≤ max → Has N.world.slots s → is_stale N.world.store s ≡ false }
 {}

@@ -6,10 +6,10 @@ ghost use Rattle.spec_data.specs.Rows.{Row};
 ghost use Rattle.spec_store.specs.Commit.{Setting};
 ghost use Rattle.spec_server.specs.Opening.{OpenedFrom};
 ghost use Rattle.index_tree.specs.Language.{LangRefusal};
-ghost use Rattle.spec_server.specs.Machine.{Machine};
+ghost use Rattle.spec_server.specs.Machine.{AreFromClients, Machine};
 ghost use Rattle.index_tree.specs.Definitions.{Definition, Texts};
-ghost use Rattle.spec_server.specs.Script.{LineRead};
-ghost use Rattle.index_lang.specs.Lines.{IsLine};
+ghost use Rattle.spec_server.specs.Script.{Given, LineRead, events_of};
+ghost use Rattle.index_lang.specs.Lines.{AreLines, IsLine};
 ghost use Rattle.index_lang.specs.Openings.{IsOpened, Opens};
 ghost use Rattle.index_lang.specs.Says.{Says};
 
@@ -21,6 +21,11 @@ pub fn texts_are_read_one_way()
 /// A line is read as one thing.
 pub fn lines_are_read_one_way()
     ensures { (line : List ℕ) (a b : LineRead) → IsLine line a → IsLine line b → a ≡ b }
+{}
+
+/// The lines of a script, as they are read, are what clients send: so the laws of runs hold of every script.
+pub fn lines_come_from_clients()
+    ensures { (lines : List Given) → AreLines lines → AreFromClients (events_of lines) }
 {}
 
 /// Stored rows open one database, or one row is reported as the first that is not valid, and not both.

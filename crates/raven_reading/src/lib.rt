@@ -3,4 +3,6 @@
 
 mod laws;
 
-pub use laws::{lines_are_read_one_way, rows_open_one_way, texts_are_read_one_way};
+pub use laws::{
+    lines_are_read_one_way, lines_come_from_clients, rows_open_one_way, texts_are_read_one_way,
+};

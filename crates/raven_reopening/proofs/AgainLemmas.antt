@@ -1,5 +1,5 @@
 -- A world whose rows open again leaves such a world, whatever is asked.
-use Rattle.std.proofs.Common.{◌≡◌, ℕ, ◌+◌, ◌<◌, List, [], ◌∷◌, true, false, not, cond, nat_lt, nat_le, is_some, length, filter, Option, Some, None, Result, Ok, Err, refl, arith}
+use Rattle.std.proofs.Common.{◌≡◌, ℕ, ◌+◌, ◌<◌, List, [], ◌∷◌, true, false, not, cond, nat_lt, nat_le, is_some, length, filter, Option, Some, None, Result, Ok, Err, refl, ap, arith}
 use Rattle.std.proofs.lemmas.Bool.{ltb-false}
 use Rattle.std.specs.List.{list_any}
 use Rattle.spec_data.specs.Moments.{moments_end}
@@ -9,8 +9,8 @@ use Rattle.spec_server.specs.Opening.{is_auto_name}
 use Rattle.spec_store.specs.Commit.{Command, AnyVector, Client, Server, Refused, Written, commit}
 use Rattle.spec_index.specs.Optimiser.{Shape, Make, Merge, best, chosen, covers, is_of, name_of, slot_shape}
 use Rattle.spec_server.specs.Replies as replies
-use Rattle.spec_index.specs.World.{Slot, World, index_id, row_body, serving, SlotRefusal, added, define_at, is_named, is_reserved_name, removed, unless_refused}
-use Rattle.spec_server.specs.Machine.{Machine, Request, Put as PutOne, Delete as DeleteOne, Bulk, Get, Define, Remove, Auto as AutoOne, Find, Pump, Stale, Indexes, Stats, Line, Do, Event, Keeping, Course, after, course_of, commands_in, pump_at, pump_for, change_of_slots, one_field, rewrote, run, settled, single_reply, step, use_or_make, write, wrote}
+use Rattle.spec_index.specs.World.{Slot, World, is_automatic, index_id, row_body, serving, SlotRefusal, added, define_at, is_named, is_reserved_name, removed, unless_refused}
+use Rattle.spec_server.specs.Machine.{Machine, Request, Put as PutOne, Delete as DeleteOne, Bulk, Get, Define, Remove, Auto as AutoOne, Find, Pump, Stale, Indexes, Stats, Line, Do, IsFromClient, AreFromClients, Event, Keeping, Course, after, course_of, commands_in, pump_at, pump_for, change_of_slots, one_field, rewrote, run, settled, single_reply, step, use_or_make, write, wrote}
 use Rattle.spec_server.specs.Sound.{IsMachine, Sound}
 use Rattle.raven_laws.proofs.MachineLemmas.{AllLeave, settled-leaves, step-Steps}
 use Rattle.raven_laws.proofs.WorldLemmas.{taken_out}
@@ -152,8 +152,30 @@ settled-Again M k c a all = settled-leaves Again M k c a all
 step-Again : (M : Machine) (k : Keeping) (now : ℕ) (line : Line) → IsValidLine line → now < moments_end → Sound M.world → Again M.world → Again (step M k now line).machine.world
 step-Again M k now (Do request) valid soon o a = settled-Again M k (course_of M.world now request) a (course-Again M.world now request valid.commands valid.indexing soon o a)
 
+-- a valid line defines an index by a text, and so no automatic one
+by_text-static : (name : List ℕ) (d : Definition) → IsByText name d → is_automatic d ≡ false
+by_text-static name d x = ap is_automatic x.by_text
+
+valid-client : (line : Line) → IsValidLine line → IsFromClient line
+valid-client (Do (PutOne id expected body)) valid = tt
+valid-client (Do (DeleteOne id expected)) valid = tt
+valid-client (Do (Bulk commands)) valid = tt
+valid-client (Do (Get id)) valid = tt
+valid-client (Do (Define name d)) valid = by_text-static name d valid.indexing
+valid-client (Do (Remove name)) valid = tt
+valid-client (Do (AutoOne c f)) valid = tt
+valid-client (Do (Find index field ws)) valid = tt
+valid-client (Do (Pump max index)) valid = tt
+valid-client (Do (Stale name cutoff)) valid = tt
+valid-client (Do Indexes) valid = tt
+valid-client (Do Stats) valid = tt
+
+pub events-clients : (es : List Event) → AreEvents es → AreFromClients es
+events-clients [] fits = tt
+events-clients (e ∷ es) fits = (valid-client e.line fits.0.valid, events-clients es fits.1)
+
 pub run-Again : (es : List Event) (M : Machine) → AreEvents es → IsMachine M → Again M.world → Again (run es M).world
 run-Again [] M fits i a = a
 run-Again (e ∷ es) M fits i a =
-    run-Again es (after M e) fits.1 (step-Steps M e.keeping e.now e.line i).machine
+    run-Again es (after M e) fits.1 (step-Steps M e.keeping e.now e.line (valid-client e.line fits.0.valid) i).machine
     (step-Again M e.keeping e.now e.line fits.0.valid fits.0.moment i.world a)

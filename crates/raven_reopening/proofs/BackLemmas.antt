@@ -30,7 +30,7 @@ use Rattle.raven_reopening.proofs.FitLemmas.{named-other}
 use Rattle.raven_reopening.proofs.LastLemmas.{AllLast, name-under}
 use Rattle.raven_reopening.proofs.CountLemmas.{definitions, few-definitions, one_more}
 use Rattle.raven_reading.proofs.TextLemmas.{opened-told}
-use Rattle.raven_reopening.proofs.AgainLemmas.{Again, run-Again}
+use Rattle.raven_reopening.proofs.AgainLemmas.{Again, events-clients, run-Again}
 use Rattle.raven_reopening.proofs.OpenedLemmas.{machine_of, opened-Again}
 
 -- WHAT IS READ OF THE ROWS
@@ -287,4 +287,6 @@ pub run-opens : (s : Setting) (held : List KeptRow) (M : Machine) (es : List Eve
 run-opens s held M es h fits =
     let from = opened-told s held M h in
     let i = opened_from-IsMachine s held M from in
-    again-opens s (run es M) ((go-LaterW M es i).setting ∙ (opened_from-rows s held M from.opened).setting) (go-IsMachine M es i).world (run-Again es M fits i (opened-Again s held M h))
+    let clients = events-clients es fits in
+    again-opens s (run es M) ((go-LaterW M es i clients).setting ∙ (opened_from-rows s held M from.opened).setting) (go-IsMachine M es i clients).world
+    (run-Again es M fits i (opened-Again s held M h))

@@ -14,7 +14,8 @@ use Rattle.index_tree.specs.Definitions.{Definition, Static, Auto}
 use Rattle.spec_server.specs.Opening.{is_auto_name, is_static_name, may_be_named}
 use Rattle.spec_index.specs.Optimiser.{Shape, plain_name, free_name, first_free, name_of}
 use Rattle.spec_server.specs.Sound.{Has, NumbersRise}
-use Rattle.spec_index.specs.World.{Slot, index_id, is_reserved_name, serving}
+use Rattle.spec_index.specs.World.{Slot, begins_with_auto, index_id, is_reserved_name, serving}
+use Rattle.raven_laws.proofs.KindLemmas.{name_of-begins}
 
 -- TEXTS THAT CAN BE IDS AND NAMES
 
@@ -100,9 +101,9 @@ text-other limit a b same t =
 
 -- another spelling of the name of an automatic index is one too
 pub auto_name-other : (a b : List ℕ) → folded a ≡ folded b → is_auto_name b ≡ true → is_auto_name a ≡ true
-auto_name-other a b same h = elim (is_fit 200 b) as (λ t. is_fit 200 b ≡ t → t && starts_with nat_eq (folded b) (codes "auto/") ≡ true → is_auto_name a ≡ true) [
+auto_name-other a b same h = elim (is_fit 200 b) as (λ t. is_fit 200 b ≡ t → t && begins_with_auto b ≡ true → is_auto_name a ≡ true) [
   | true ↦ λ e g.
-      ap (λ t. t && starts_with nat_eq (folded a) (codes "auto/")) (text-fit 200 a (text-other 200 a b same (fit-text 200 b e)))
+      ap (λ t. t && begins_with_auto a) (text-fit 200 a (text-other 200 a b same (fit-text 200 b e)))
       ∙ ap (λ words. starts_with nat_eq words (codes "auto/")) same ∙ g
   | false ↦ λ e g. absurd cc
 ] refl h
@@ -174,14 +175,6 @@ first_free-numbered name slots = elim (is_some (serving slots name)) as (λ b. I
   | false ↦ inl refl
 ]
 
--- a name that begins with `Auto/` is found to do so, and still with a number after it
-begins : (words : List ℕ) → starts_with nat_eq (folded (codes "Auto/" ++ words)) (codes "auto/") ≡ true
-begins words = refl
-
-begins-numbered : (words : List ℕ) (most : ℕ) (new : List ℕ) → IsNumbered (codes "Auto/" ++ words) most new → starts_with nat_eq (folded new) (codes "auto/") ≡ true
-begins-numbered words most new (inl e) = subst (λ x. starts_with nat_eq (folded x) (codes "auto/") ≡ true) (sym e) (begins words)
-begins-numbered words most new (inr m) = subst (λ x. starts_with nat_eq (folded x) (codes "auto/") ≡ true) (sym m.2) (begins (words ++ (codes "/" ++ decimal m.0)))
-
 -- a number makes a name that is short enough
 number-text : (number : ℕ) → number < 2 ^ 64 → IsText 26 (codes "Auto/" ++ decimal number)
 number-text number small = record {
@@ -205,15 +198,19 @@ numbered-text name most new small t (inr m) =
 -- the name of a new index is a valid name of an automatic one
 pub name_of-auto : (slots : List Slot) (number : ℕ) (shape : Shape) → number < 2 ^ 64 → length slots + 2 < 2 ^ 64 → is_auto_name (name_of slots number shape) ≡ true
 name_of-auto slots number shape small few =
-    let plain = first_free (plain_name shape) slots in
-    let by_number = first_free (codes "Auto/" ++ decimal number) slots in
-    elim (is_fit 200 plain) as (λ b. is_fit 200 plain ≡ b → is_auto_name (cond b plain by_number) ≡ true) [
-      | true ↦ λ e. ap (λ t. t && starts_with nat_eq (folded plain) (codes "auto/")) e ∙ begins-numbered _ (length slots + 2) plain (first_free-numbered (plain_name shape) slots)
-      | false ↦ λ e.
-          let numbered = first_free-numbered (codes "Auto/" ++ decimal number) slots in
-          ap (λ t. t && starts_with nat_eq (folded by_number) (codes "auto/")) (text-fit 200 by_number (numbered-text (codes "Auto/" ++ decimal number) (length slots + 2) by_number few (number-text number small) numbered))
-          ∙ begins-numbered (decimal number) (length slots + 2) by_number numbered
-    ] refl
+    ap (λ t. t && begins_with_auto (name_of slots number shape)) (fit (is_fit 200 plain) refl) ∙ name_of-begins slots number shape
+  where
+    plain : List ℕ
+    plain = first_free (plain_name shape) slots
+
+    by_number : List ℕ
+    by_number = first_free (codes "Auto/" ++ decimal number) slots
+
+    fit : (b : Bool) → is_fit 200 plain ≡ b → is_fit 200 (cond b plain by_number) ≡ true
+    fit true e = e
+    fit false e =
+        let numbered = first_free-numbered (codes "Auto/" ++ decimal number) slots in
+        text-fit 200 by_number (numbered-text (codes "Auto/" ++ decimal number) (length slots + 2) by_number few (number-text number small) numbered)
 
 first-true : (a b : Bool) → a && b ≡ true → a ≡ true
 first-true true b h = refl
@@ -221,7 +218,7 @@ first-true false b h = absurd cc
 
 pub named-fit : (d : Definition) (name : List ℕ) → may_be_named d name ≡ true → is_fit 200 name ≡ true
 named-fit (Static map reduce map_text reduce_text) name h = first-true (is_fit 200 name) (not (is_reserved_name name)) h
-named-fit (Auto collection fields) name h = first-true (is_fit 200 name) (starts_with nat_eq (folded name) (codes "auto/")) h
+named-fit (Auto collection fields) name h = first-true (is_fit 200 name) (begins_with_auto name) h
 
 -- HOW MANY SLOTS THERE CAN BE
 

@@ -1,5 +1,5 @@
 -- A database: its store, its indexes and the notes of their switches.
-use Rattle.std.specs.Prelude.{ℕ, ◌+◌, List, [], ◌∷◌, ◌++◌, Bool, not, ◌||◌, nat_lt, nat_le, nat_eq, ◌==◌, if◌then◌else◌, Option, Some, None, is_some, Result, Ok, Err, length, codes, filter, find, map}
+use Rattle.std.specs.Prelude.{ℕ, ◌+◌, List, [], ◌∷◌, ◌++◌, Bool, true, false, not, ◌||◌, nat_lt, nat_le, nat_eq, ◌==◌, if◌then◌else◌, Option, Some, None, is_some, Result, Ok, Err, length, codes, filter, find, map}
 use Rattle.std.specs.List.{starts_with}
 use Rattle.std.specs.FinMap.{empty}
 use Rattle.spec_data.specs.Data.{Data, null, text, array, object, items_of, entries_of}
@@ -42,6 +42,11 @@ pub record World : Type 0 where
   pub store : Store
   pub slots : List Slot
   pub notes : List Note
+
+-- the server makes the index for queries; every other one is defined by a client
+abbrev pub is_automatic : Definition → Bool
+is_automatic (Static map reduce map_text reduce_text) = false
+is_automatic (Auto collection fields) = true
 
 abbrev pub reads : Version → Scope
 reads v = scope_of (mapper_of v.definition)
@@ -134,9 +139,13 @@ define W name d =
     if nat_le W.setting.max_slots (length W.slots) then Err TooManyIndexes else (
     if is_some (serving W.slots name) then Err NameServes else Ok (added W name d))
 
+-- the name begins as those of automatic indexes do
+abbrev pub begins_with_auto : List ℕ → Bool
+begins_with_auto name = starts_with nat_eq (folded name) (codes "auto/")
+
 -- only the server gives such names
 abbrev pub is_reserved_name : List ℕ → Bool
-is_reserved_name name = starts_with nat_eq (folded name) (codes "auto/") || starts_with nat_eq (folded name) (codes "replacementof/")
+is_reserved_name name = begins_with_auto name || starts_with nat_eq (folded name) (codes "replacementof/")
 
 abbrev pub name_refusal : List ℕ → Option SlotRefusal
 name_refusal name =

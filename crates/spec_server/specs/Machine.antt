@@ -1,5 +1,5 @@
 -- The machine: the reply to a request, and the state after it.
-use Rattle.std.specs.Prelude.{ℕ, ◌+◌, List, [], ◌∷◌, Bool, true, not, ◌&&◌, if◌then◌else◌, Option, Some, None, is_some, Result, Ok, Err, length, codes, filter, map}
+use Rattle.std.specs.Prelude.{◌≡◌, ℕ, ◌+◌, List, [], ◌∷◌, Bool, true, false, not, ◌&&◌, if◌then◌else◌, Option, Some, None, is_some, Result, Ok, Err, length, codes, filter, map}
 use Rattle.std.specs.Str.{bytes_eq}
 use Rattle.spec_data.specs.Data.{Data, text, object, entries_of, pairs_of}
 use Rattle.spec_data.specs.Folding.{folded}
@@ -7,7 +7,6 @@ use Rattle.spec_data.specs.Members.{member}
 use Rattle.spec_data.specs.Moments.{moment_text}
 use Rattle.spec_data.specs.Rising.{Pairs, put}
 use Rattle.spec_data.specs.Rows.{Row, doc, gone, is_document}
-use Rattle.spec_data.specs.Scalars.{words}
 use Rattle.spec_store.specs.Store.{Store, row_at, last, empty_store}
 use Rattle.spec_store.specs.Stale.{stale, newest}
 use Rattle.index_tree.specs.Definitions.{Definition}
@@ -17,8 +16,8 @@ use Rattle.spec_store.specs.Commit.{Command, Expect, Client, Server, Setting, Re
 use Rattle.spec_index.specs.Optimiser.{Shape, Choice, Use, Make, Merge, pick, name_of}
 use Rattle.spec_server.specs.Replies.{Reply, Index, Removed, Pumped, Pumping, Listing, Found, NoIndex, UnknownLine}
 use Rattle.spec_server.specs.Replies as replies
-use Rattle.spec_index.specs.World.{Version, Slot, World, reads, batch, serving, SlotChange, SlotRefusal, define, define_named, remove, is_named, definition_data}
-use Rattle.spec_index.specs.Find.{found, found_in}
+use Rattle.spec_index.specs.World.{Version, Slot, World, reads, batch, serving, SlotChange, SlotRefusal, define, define_named, remove, is_named, is_automatic, definition_data}
+use Rattle.spec_index.specs.Find.{found_in}
 
 -- a batch that a worker has read and not yet published: the number of its index, and the version after the batch
 pub record Held : Type 0 where
@@ -79,6 +78,15 @@ pub record Event : Type 0 where
   pub line : Line
   pub now : ℕ
   pub keeping : Keeping
+
+-- what a client may send: it defines no automatic index, since the server makes those
+abbrev pub IsFromClient : Line → Type 0
+IsFromClient (Do (Define name definition)) = is_automatic definition ≡ false
+IsFromClient other = Unit {0}
+
+abbrev pub AreFromClients : List Event → Type 0
+AreFromClients [] = Unit {0}
+AreFromClients (e ∷ es) = IsFromClient e.line × AreFromClients es
 
 pub record Replied : Type 0 where
   pub reply : Reply

@@ -1,15 +1,14 @@
 -- What stored rows open: a machine, or the first row that is not valid.
-use Rattle.std.specs.Prelude.{ℕ, ◌+◌, List, [], ◌∷◌, ◌++◌, Bool, not, ◌&&◌, ◌||◌, ◌==◌, nat_le, nat_lt, nat_eq, if◌then◌else◌, Option, Some, None, Result, Ok, Err, length, codes, drop, map, ◌≡◌}
-use Rattle.std.specs.List.{list_any, starts_with}
+use Rattle.std.specs.Prelude.{ℕ, ◌+◌, List, [], ◌∷◌, ◌++◌, Bool, not, ◌&&◌, ◌||◌, ◌==◌, nat_le, nat_lt, if◌then◌else◌, Option, Some, None, Result, Ok, Err, length, codes, drop, map, ◌≡◌}
+use Rattle.std.specs.List.{list_any}
 use Rattle.std.specs.Str.{bytes_eq}
 use Rattle.spec_data.specs.Data.{Data, null, text, array, object, no_items, item, no_entries, pairs_of}
 use Rattle.spec_data.specs.Faults.{is_fit}
-use Rattle.spec_data.specs.Folding.{folded}
 use Rattle.spec_data.specs.Members.{member}
 use Rattle.spec_data.specs.Rows.{Row, is_document}
 use Rattle.spec_store.specs.Commit.{Setting, is_index_id}
 use Rattle.index_tree.specs.Definitions.{Definition, Static, Auto, Texts}
-use Rattle.spec_index.specs.World.{Slot, new_version, is_reserved_name, max_index_name}
+use Rattle.spec_index.specs.World.{Slot, new_version, begins_with_auto, is_reserved_name, max_index_name}
 use Rattle.spec_server.specs.Machine.{Machine, machine_of}
 use Rattle.spec_data.specs.Kept.{KeptRow}
 use Rattle.spec_store.specs.Kept.{rows_in}
@@ -62,7 +61,7 @@ name_in r = drop 7 r.id
 
 -- a valid name of an automatic index
 abbrev pub is_auto_name : List ℕ → Bool
-is_auto_name name = is_fit max_index_name name && starts_with nat_eq (folded name) (codes "auto/")
+is_auto_name name = is_fit max_index_name name && begins_with_auto name
 
 -- a valid name of an index that a client defined
 abbrev pub is_static_name : List ℕ → Bool

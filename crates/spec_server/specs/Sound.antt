@@ -6,7 +6,7 @@ use Rattle.spec_data.specs.Rows.{Row, doc, is_document}
 use Rattle.spec_store.specs.Store.{row_at, Store, last, IsStore}
 use Rattle.spec_store.specs.Later.{Later}
 use Rattle.spec_index.specs.Index.{Agrees}
-use Rattle.spec_index.specs.World.{Version, Slot, Note, World, reads, index_id, row_body}
+use Rattle.spec_index.specs.World.{Version, Slot, Note, World, reads, index_id, row_body, is_automatic, begins_with_auto}
 use Rattle.spec_store.specs.Commit.{stored_body}
 use Rattle.spec_server.specs.Machine.{Held, Machine}
 
@@ -49,13 +49,14 @@ pub record IsWithinLimits (W : World) : Type 0 where
   pub notes : length W.notes ≤ W.setting.max_notes
   pub etags : last W.store ≤ max_etag
 
--- the invariants of a world
+-- The invariants of a world. By its name one sees whether an index is automatic.
 pub record Sound (W : World) : Type 0 where
   pub store : IsStore W.store
   pub fits : (s : Slot) → Has W.slots s → Fits W.store s.version
   pub numbers : (s : Slot) → Has W.slots s → s.number ≤ last W.store
   pub rising : NumbersRise 0 W.slots
   pub apart : NamesApart W.slots
+  pub kinds : (s : Slot) → Has W.slots s → is_automatic s.version.definition ≡ begins_with_auto s.name
   pub listed : AreListed W.store W.slots
   pub notes : (n : Note) → Has W.notes n → (n.newest ≤ n.index_etag) × (n.etag ≤ last W.store)
   pub limits : IsWithinLimits W

@@ -1,0 +1,62 @@
+-- An index is automatic exactly if its name begins so: a new one, one of a client, and one that a row is read as.
+use Rattle.std.proofs.Common.{◌≡◌, ℕ, zero, suc, ◌+◌, List, ◌++◌, length, Bool, true, false, not, cond, nat_lt, nat_eq, is_some, Some, None, refl, sym, codes}
+use Rattle.std.specs.Fmt.{decimal}
+use Rattle.std.specs.List.{starts_with}
+use Rattle.spec_data.specs.Faults.{is_fit}
+use Rattle.spec_data.specs.Folding.{folded}
+use Rattle.index_tree.specs.Definitions.{Definition, Static, Auto}
+use Rattle.spec_index.specs.Optimiser.{Shape, and_joined, first_free, free_name, name_of, plain_name}
+use Rattle.spec_index.specs.World.{Slot, SlotRefusal, begins_with_auto, is_automatic, is_reserved_name, name_refusal, serving}
+use Rattle.spec_server.specs.Opening.{may_be_named}
+use Rattle.spec_store.proofs.StoreLemmas.{both_true, either_false}
+
+-- THE NAME OF A NEW ONE
+
+free-begins : (k n : ℕ) (words : List ℕ) (slots : List Slot) → begins_with_auto (free_name k n (codes "Auto/" ++ words) slots) ≡ true
+free-begins zero n words slots = refl
+free-begins (suc k) n words slots =
+    let name = codes "Auto/" ++ words in
+    elim (is_some (serving slots (name ++ (codes "/" ++ decimal n)))) as (λ b. begins_with_auto (cond b (free_name k (n + 1) name slots) (name ++ (codes "/" ++ decimal n))) ≡ true) [
+      | true ↦ free-begins k (n + 1) words slots
+      | false ↦ refl
+    ]
+
+first-begins : (words : List ℕ) (slots : List Slot) → begins_with_auto (first_free (codes "Auto/" ++ words) slots) ≡ true
+first-begins words slots =
+    let name = codes "Auto/" ++ words in
+    elim (is_some (serving slots name)) as (λ b. begins_with_auto (cond b (free_name (length slots) 2 name slots) name) ≡ true) [
+      | true ↦ free-begins (length slots) 2 words slots
+      | false ↦ refl
+    ]
+
+pub name_of-begins : (slots : List Slot) (number : ℕ) (shape : Shape) → begins_with_auto (name_of slots number shape) ≡ true
+name_of-begins slots number shape =
+    let plain = first_free (plain_name shape) slots in
+    elim (is_fit 200 plain) as (λ b. begins_with_auto (cond b plain (first_free (codes "Auto/" ++ decimal number) slots)) ≡ true) [
+      | true ↦ first-begins (shape.collection ++ (codes "/By" ++ and_joined shape.fields)) slots
+      | false ↦ first-begins (decimal number) slots
+    ]
+
+-- THE NAME OF A CLIENT'S
+
+free-of-auto : (name : List ℕ) → is_reserved_name name ≡ false → begins_with_auto name ≡ false
+free-of-auto name h = (either_false (begins_with_auto name) (starts_with nat_eq (folded name) (codes "replacementof/")) h).0
+
+pub client-name : (name : List ℕ) → name_refusal name ≡ None → begins_with_auto name ≡ false
+client-name name h =
+    let short = cond (nat_lt 200 (length name)) (Some (SlotRefusal.NameTooLong (length name))) None in
+    elim (is_reserved_name name) as (λ b. is_reserved_name name ≡ b → cond b (Some SlotRefusal.ReservedName) short ≡ None → begins_with_auto name ≡ false) [
+      | true ↦ λ e g. absurd cc
+      | false ↦ λ e g. free-of-auto name e
+    ] refl h
+
+-- THE NAME OF A ROW'S
+
+not_true : (b : Bool) → not b ≡ true → b ≡ false
+not_true true h = absurd cc
+not_true false h = refl
+
+pub named-kind : (d : Definition) (name : List ℕ) → may_be_named d name ≡ true → is_automatic d ≡ begins_with_auto name
+named-kind (Static map reduce map_text reduce_text) name h =
+    sym (free-of-auto name (not_true (is_reserved_name name) (both_true (is_fit 200 name) (not (is_reserved_name name)) h).1))
+named-kind (Auto collection fields) name h = sym (both_true (is_fit 200 name) (begins_with_auto name) h).1
