@@ -1,7 +1,7 @@
 -- What a line is read as, a client may send: it defines what a text says, and that is never an automatic index.
 use Rattle.std.proofs.Common.{ℕ, List, [], ◌∷◌, true, false, cond, ◌&&◌, codes, Option, Some, None, Result, Ok, Err, sym, ap, subst}
 use Rattle.std.specs.Str.{bytes_eq, is_utf8}
-use Rattle.index_tree.specs.Definitions.{Definition}
+use Rattle.index_tree.specs.Definitions.{Definition, Texts}
 use Rattle.index_tree.specs.Language.{LangRefusal}
 use Rattle.spec_index.specs.World.{is_automatic}
 use Rattle.spec_server.specs.Machine.{AreFromClients}
@@ -11,11 +11,11 @@ use Rattle.index_lang.specs.Says.{Says}
 use Rattle.raven_laws.proofs.ClientLemmas.{IsReadFromClient, event-clients, line_of-client}
 use Rattle.raven_reading.proofs.TextLemmas.{said-by}
 
-defined-client : (name map : List ℕ) (answer : Result Definition LangRefusal) → Says map answer → IsReadFromClient (defined_by name answer)
-defined-client name map (Err refusal) says = tt
-defined-client name map (Ok d) says = ap is_automatic (said-by map d says).1
+defined-client : (name : List ℕ) (texts : Texts) (answer : Result Definition LangRefusal) → Says texts answer → IsReadFromClient (defined_by name answer)
+defined-client name texts (Err refusal) says = tt
+defined-client name texts (Ok d) says = ap is_automatic (said-by texts d says).by_texts
 
-defining-client : (texts : Result (List ℕ × List ℕ) ReadRefusal) (read : LineRead) → Comes (asked_to_define texts) read → IsReadFromClient read
+defining-client : (texts : Result (List ℕ × Texts) ReadRefusal) (read : LineRead) → Comes (asked_to_define texts) read → IsReadFromClient read
 defining-client (Err refusal) read is = subst IsReadFromClient (sym is) tt
 defining-client (Ok texts) read is = subst IsReadFromClient (sym is.read) (defined-client texts.0 texts.1 is.answer is.says)
 

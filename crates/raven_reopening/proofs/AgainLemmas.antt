@@ -154,7 +154,7 @@ step-Again M k now (Do request) valid soon o a = settled-Again M k (course_of M.
 
 -- a valid line defines an index by a text, and so no automatic one
 by_text-static : (name : List ℕ) (d : Definition) → IsByText name d → is_automatic d ≡ false
-by_text-static name d x = ap is_automatic x.by_text
+by_text-static name d x = ap is_automatic x.by_texts.by_texts
 
 valid-client : (line : Line) → IsValidLine line → IsFromClient line
 valid-client (Do (PutOne id expected body)) valid = tt
