@@ -6,8 +6,8 @@ use Rattle.raven_console.proofs.arguments.run_options.Goals as goal
 pub returns-in_default : goal.returns-in_default
 returns-in_default c = sym (run_read _ None c.in_default.ensures)
 
-pub returns-in_ok-file_of : goal.returns-in_ok-file_of
-returns-in_ok-file_of c =
+pub returns-in_ok-file_of-in-Some-2 : goal.returns-in_ok-file_of-in-Some-2
+returns-in_ok-file_of-in-Some-2 c =
     sym (run_read _ (Some (bytes_of c.in-Some.file, bytes_of c.in-Some.base)) c.in-Some.ensures
     ∙ ap (options_of (bytes_of c.in-Some.file)) (sym c.in_ok-base.ensures ∙ c.in-Some-2.is)
     ∙ ap (λ z. options_of z (Some c.in-Some-2.base)) (sym c.in_ok-file_of-in-Some-2.ensures))
