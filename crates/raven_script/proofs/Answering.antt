@@ -3,7 +3,9 @@ use Rattle.std.proofs.Common.{◌≡◌, ℕ, List, Option, Some, None, Result, 
 use Rattle.std.specs.Prelude.{option_map}
 use Rattle.index_tree.specs.Definitions.{Texts}
 use Rattle.index_definition.specs.DefinitionView.{definition_view}
-use Rattle.index_lang.specs.Parse.{IsParsed}
+use Rattle.index_lang.specs.Parse.{AreRead, IsParsed, causes, definition as parsed_definition, first_cause, is_long, judged_if, lengths, unless}
+use Rattle.index_lang.specs.declared.reading.Trees.{Trees}
+use Rattle.index_definition.specs.declared.refusal.LangRefusal.{LangRefusal}
 use Rattle.index_definition.specs.RefusalView.{refusal_view}
 use Rattle.index_definition.specs.declared.definition.Definition as program
 use Rattle.index_definition.specs.declared.refusal.Part.{Part}
@@ -65,6 +67,25 @@ pub answers-unread : (given : Result (List ℕ × Texts) read.ReadRefusal) (why 
 answers-unread (Ok given) why h = not_refused (Defining given.0 given.1) given why h
 answers-unread (Err told) why h = answers-plain (Err told) (Err why) (refused_on why (Err told) (λ given. Ok None) h)
 
+-- what is parsed has the name that it is given
+module _ (name map : List ℕ) (reduce : Option (List ℕ)) (definition : program.Definition) where
+  named_by : (trees : Trees) (cause : Option LangRefusal) → Ok definition ≡ unless cause (parsed_definition name map reduce trees) → definition.name ≡ name
+  named_by trees (Some why) h = absurd cc
+  named_by trees None h =
+      let same : (a b : program.Definition) → (let r : Result program.Definition LangRefusal = Ok a in r) ≡ Ok b → a ≡ b = λ a b e. cc in
+      ap (λ (d : program.Definition). d.name) (same definition (parsed_definition name map reduce trees) h)
+
+  named_if : (trees : Result Trees LangRefusal) → Ok definition ≡ judged_if name map reduce trees → definition.name ≡ name
+  named_if (Ok trees) h = named_by trees (first_cause (causes trees)) h
+  named_if (Err why) h = absurd cc
+
+  pub parsed-name : IsParsed name map reduce (Ok definition) → definition.name ≡ name
+  parsed-name h = by (first_cause (lengths map reduce)) h
+    where
+      by : (long : Option LangRefusal) → is_long long (Ok definition) ((trees : Result Trees LangRefusal) × AreRead map reduce trees × (Ok definition ≡ judged_if name map reduce trees)) → definition.name ≡ name
+      by (Some why) g = absurd cc
+      by None g = named_if g.0 g.2
+
 -- the texts say a definition
 pub answers-defined : (name map : List ℕ) (reduce : Option (List ℕ)) (definition : program.Definition) (found : Option Line) → IsParsed name map reduce (Ok definition)
     → option_map line_view found ≡ Some (Do (Define name (definition_view definition.body))) → Answers (Defining name (map, reduce)) (Ok found)
@@ -83,10 +104,16 @@ answers-refused name map reduce part at kind parsed = record {
   told = refl;
 }
 
+pub answers-refused-as : (asked : Asked) (p q : Part) (a b : ℕ) (k l : LangKind) → p ≡ q → a ≡ b → k ≡ l → Answers asked (Err (refusal.BadDefinition q b l))
+    → Answers asked (Err (refusal.BadDefinition p a k))
+answers-refused-as asked p q a b k l part at kind h =
+    let is : refusal.BadDefinition q b l ≡ refusal.BadDefinition p a k = λ i. refusal.BadDefinition ((sym part) i) ((sym at) i) ((sym kind) i) in
+    subst (λ why. Answers asked (Err why)) is h
+
 -- the texts of the definition are found
-pub answers-read : (name : List ℕ) (texts : Texts) (given : Result (List ℕ × Texts) read.ReadRefusal) (result : Result (Option Line) ReadRefusal) → given ≡ Ok (name, texts)
-    → Answers (Defining name texts) result → Answers (asked_to_define given) result
-answers-read name texts given result is h = subst (λ g. Answers (asked_to_define g) result) (sym is) h
+pub answers-read : (name map : List ℕ) (reduce : Option (List ℕ)) (texts : Texts) (given : Result (List ℕ × Texts) read.ReadRefusal) (result : Result (Option Line) ReadRefusal)
+    → given ≡ Ok (name, texts) → Answers (Defining name (map, reduce)) result → map ≡ texts.0 → reduce ≡ texts.1 → Answers (asked_to_define given) result
+answers-read name map reduce texts given result is h m r = subst (λ g. Answers (asked_to_define g) result) (sym is) (subst (λ (t : Texts). Answers (Defining name t) result) (λ i. (m i, r i)) h)
 
 -- the line is one whose first word is `INDEX`, or it is none
 pub answers-asked : (line : List ℕ) (asked : Asked) (result : Result (Option Line) ReadRefusal) → asked_of line ≡ asked → Answers asked result → Answers (asked_of line) result

@@ -128,10 +128,15 @@ fn reduce_of(texts: &Texts) -> Option<&str>
 
 // What the texts say.
 #[tactic(auto, using(crate::proofs::Answering::answering))]
-fn defined(alloc: Global, name: Name, texts: &Texts) -> Result<Option<Line>, ReadRefusal>
-    ensures { Answers (Defining name (texts_view texts.now)) result }
+fn defined(
+    alloc: Global,
+    name: Name,
+    map: &str,
+    reduce: Option<&str>,
+) -> Result<Option<Line>, ReadRefusal>
+    ensures { Answers (Defining name (map.now, option_map (λ t. t.now) reduce.entry)) result }
 {
-    match parse(alloc, name, texts.map.as_str(), reduce_of(texts)) {
+    match parse(alloc, name, map, reduce) {
         Ok(definition) => {
             let definition = share(alloc, definition)?;
             Ok(Some(Line::Do(Request::Define { definition })))
@@ -149,7 +154,7 @@ pub fn index(alloc: Global, text: &str) -> Result<Option<Line>, ReadRefusal>
     ensures { Answers (asked_to_define (spec_index_of text.now)) result }
 {
     match texts_of(alloc, text) {
-        Ok((name, texts)) => defined(alloc, name, &texts),
+        Ok((name, texts)) => defined(alloc, name, texts.map.as_str(), reduce_of(&texts)),
         Err(refusal) => Err(refusal),
     }
 }
