@@ -5,7 +5,8 @@ use Rattle.std.specs.Option.{is_some, option_map}
 use Rattle.std.specs.Str.{bytes_eq}
 use Rattle.std.proofs.lemmas.Slice.Eq.{bytes_eq-Decides}
 use Rattle.spec_server.specs.Options.{Invocation, Options, Pairs, are_known, are_once, asked_in, base_in, has_name, is_value, pairs_in, run_names, run_options, value_named}
-use Rattle.raven_console.specs.ArgumentsView.{Texts, bytes_of, texts_in}
+use Rattle.raven_console.specs.ArgumentsView.{Texts, bytes_of, invocation_view, options_view, texts_in}
+use Rattle.raven_console.specs.declared.options.RunOptions.{RunOptions}
 
 -- the first of them that is there
 abbrev pub or_else : Option (List ℕ) → Option (List ℕ) → Option (List ℕ)
@@ -179,5 +180,9 @@ run_asked ws more command options e h o =
     ap (λ z. asked_in (map string_bytes z)) e
     ∙ ap (λ b. if b then option_map Invocation.Run (run_options (pairs_in (map string_bytes more))) else None) h
     ∙ ap (option_map Invocation.Run) (sym o)
+
+pub as_run : (found : Option RunOptions) → option_map invocation_view found ≡ option_map Invocation.Run (option_map options_view found)
+as_run None = refl
+as_run (Some options) = refl
 
 pub ruleset pairs = (begins, ends)

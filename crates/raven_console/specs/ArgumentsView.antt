@@ -4,8 +4,6 @@ use Rattle.std.specs.Prelude.{ℕ, List, ◌&&◌, if◌then◌else◌, Option, 
 use Rattle.std.specs.Option.{option_map}
 use Rattle.spec_server.specs.Options.{Options, Pairs, are_known, are_once, run_names, value_named}
 use Rattle.spec_server.specs.Options as is
-use Rattle.raven_console.specs.declared.options.Invocation.{Invocation}
-use Rattle.raven_console.specs.declared.options.Invocation.TheVariants as asks
 use Rattle.raven_console.specs.declared.options.Outside.{Outside}
 use Rattle.raven_console.specs.declared.options.RunOptions.{RunOptions}
 
@@ -27,8 +25,8 @@ texts_in (Some pairs) =
 abbrev pub options_view : RunOptions → Options
 options_view options = record { file = options.file; base = options.base }
 
-abbrev pub invocation_view : Invocation → is.Invocation
-invocation_view (asks.Run options) = is.Run (options_view options)
+abbrev pub invocation_view : RunOptions → is.Invocation
+invocation_view options = is.Run (options_view options)
 
 -- what the caller has to make: a run needs its file, and does not listen
 abbrev pub outside_of : is.Invocation → Outside

@@ -3,7 +3,7 @@ ghost use Rattle.std.specs.Prelude.{◌≡◌, IfOk, map, option_map, string_byt
 ghost use Rattle.spec_server.specs.Options.{asked_in, base_in, is_value as spec_is_value, pairs_in, run_options as spec_run_options};
 ghost use Rattle.raven_console.specs.ArgumentsView.{bytes_of, invocation_view, options_view, outside_of, texts_in, texts_view};
 
-use crate::options::{Invocation, Outside, RunOptions};
+use crate::options::{Outside, RunOptions};
 use doc_txn::BaseId;
 use raven_base::NoMemory;
 use raven_value::Text;
@@ -80,8 +80,8 @@ fn run_options(alloc: Global, arguments: &[String]) -> Result<Option<RunOptions>
     }
 }
 
-/// What the arguments ask the program to do; none exactly if they are malformed.
-pub(crate) fn asked(alloc: Global, arguments: &[String]) -> Result<Option<Invocation>, NoMemory>
+/// What the arguments ask the program to do, which is to run with some options; none exactly if they are malformed.
+pub(crate) fn asked(alloc: Global, arguments: &[String]) -> Result<Option<RunOptions>, NoMemory>
     ensures { IfOk result (λ found. option_map invocation_view found ≡ asked_in (map string_bytes arguments.now)) }
 {
     let Some((command, more)) = arguments.split_first() else {
@@ -90,10 +90,7 @@ pub(crate) fn asked(alloc: Global, arguments: &[String]) -> Result<Option<Invoca
     if command.as_str() != "run" {
         return Ok(None);
     }
-    match run_options(alloc, more)? {
-        Some(options) => Ok(Some(Invocation::Run(options))),
-        None => Ok(None),
-    }
+    run_options(alloc, more)
 }
 
 /// What the arguments ask the caller to make; none exactly if they are malformed, so that the program would return `Usage`.
@@ -101,7 +98,7 @@ pub fn outside(alloc: Global, arguments: &[String]) -> Result<Option<Outside>, N
     ensures { IfOk result (λ found. found ≡ option_map outside_of (asked_in (map string_bytes arguments.now))) }
 {
     match asked(alloc, arguments)? {
-        Some(Invocation::Run(options)) => {
+        Some(options) => {
             let RunOptions { file, .. } = options;
             Ok(Some(Outside {
                 file,

@@ -2,13 +2,6 @@
 use doc_txn::BaseId;
 use raven_value::Text;
 
-/// What the arguments ask the program to do.
-#[derive(Debug, Drop)]
-pub(crate) enum Invocation {
-    /// To answer the lines of a script.
-    Run(RunOptions),
-}
-
 /// The options of `run`.
 #[derive(Debug, Drop)]
 pub(crate) struct RunOptions {

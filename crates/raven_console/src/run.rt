@@ -11,7 +11,6 @@ use crate::give::give_all;
 use crate::lines::next_line;
 use crate::machine::Machine;
 use crate::opening::open_from;
-use crate::options::Invocation;
 use crate::read::{ReadEnd, read_all};
 use crate::status::Status;
 use doc_keeper::LoadFault;
@@ -88,7 +87,7 @@ fn run<S: Source, O: Sink, K: Keeper, C: Clock>(
     ensures unopened { IsUnopened result → (output.new ≡ output.old) × ((K.state keeper.new).held ≡ (K.state keeper.old).held) }
 {
     let options = match asked(alloc, arguments) {
-        Ok(Some(Invocation::Run(options))) => options,
+        Ok(Some(options)) => options,
         Ok(None) => return Status::Usage,
         Err(NoMemory) => return Status::NoMemory,
     };

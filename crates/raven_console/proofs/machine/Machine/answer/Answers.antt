@@ -1,9 +1,11 @@
 use Rattle.std.proofs.Common.{refl}
 use Rattle.raven_reply.specs.ReplyView.{reply_view}
-use Rattle.raven_console.proofs.Answered.{answers-refused}
+use Rattle.raven_console.proofs.Answered.{answers-refused, if_ok}
 use Rattle.raven_console.proofs.machine.Machine.answer.Goals as goal
 
-pub returns-in_ok-text-in-Err-clause-answered : goal.returns-in_ok-text-in-Err-clause-answered
-returns-in_ok-text-in-Err-clause-answered g c =
-    answers-refused c.args.bytes.now c.args.now _ _ c.args.self.now c.args.self.now c.in_ok-text-in-Err.text.items (reply_view c.in_ok-reply-in-Err.reply)
-    (c.in_ok-reply-in-Err.ensures c.args.bytes.now c.in-Err.ensures) c.in_ok-text-in-Err.ensures refl refl
+pub returns-in_ok-reply-in-Err-clause-answered : goal.returns-in_ok-reply-in-Err-clause-answered
+returns-in_ok-reply-in-Err-clause-answered g c =
+    if_ok c.printed.result _ _
+    (λ text h. answers-refused c.args.bytes.now c.args.now _ _ c.args.self.now c.args.self.now text.items (reply_view c.in_ok-reply-in-Err.reply)
+    (c.in_ok-reply-in-Err.ensures c.args.bytes.now c.in-Err.ensures) h refl refl)
+    c.printed.ensures
