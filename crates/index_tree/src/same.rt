@@ -140,8 +140,5 @@ impl SameAs for FoldMember {
 pub fn same_reduce(a: &ReduceQuery, b: &ReduceQuery) -> bool
     ensures { IsTrue result ↔ (a.now ≡ b.now) }
 {
-    a.var == b.var
-        && a.group == b.group
-        && a.key.same_as(&b.key)
-        && a.members.same_as(&b.members)
+    a.var == b.var && a.group == b.group && a.key.same_as(&b.key) && a.members.same_as(&b.members)
 }

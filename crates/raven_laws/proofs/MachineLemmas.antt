@@ -80,18 +80,20 @@ wrote-Moves : (now : ℕ) (W : World) (reply : List replies.Result → replies.R
     → commit W.setting Client now commands W.store ≡ o → CourseMoves W (wrote W reply now commands o)
 wrote-Moves now W reply commands (Err refused) o is = tt
 wrote-Moves now W reply commands (Ok w) o is =
-    let c = commit-Commits W.setting Client now commands W.store w o.store is in
-    (Turns-Moves W w.store W.slots o (record {
-      store = c.sound;
-      later = c.later;
-      comes = λ s h. stays W w.store [] s o c.later h;
-      rising = o.rising;
-      apart = o.apart;
-      listed = clients-AreListed 0 W.setting now commands _ w W.slots is o.listed;
-      rows = commit_from-fits 0 W.setting Client now commands _ w o.limits.rows is;
-      count = o.limits.slots;
-      etags = commit_from-last 0 W.setting Client now commands _ w o.limits.etags is;
-    }), tt)
+    let c = commit-Commits W.setting Client now commands W.store w o.store is in (
+      Turns-Moves W w.store W.slots o (record {
+        store = c.sound;
+        later = c.later;
+        comes = λ s h. stays W w.store [] s o c.later h;
+        rising = o.rising;
+        apart = o.apart;
+        listed = clients-AreListed 0 W.setting now commands _ w W.slots is o.listed;
+        rows = commit_from-fits 0 W.setting Client now commands _ w o.limits.rows is;
+        count = o.limits.slots;
+        etags = commit_from-last 0 W.setting Client now commands _ w o.limits.etags is;
+      }),
+      tt,
+    )
 
 -- CHANGES OF INDEXES
 
@@ -135,18 +137,20 @@ rewrote-Moves now W reply c (Ok w) o by is =
       grown = put-grows W.setting Server now c.commands W.store w o.store is;
       now = now;
       written = commit_from-applied 0 W.setting Server now c.commands _ w is;
-    }) in
-    (Turns-Moves W w.store c.slots o (record {
-      store = k.sound;
-      later = k.later;
-      comes = t.slots;
-      rising = t.rising;
-      apart = t.apart;
-      listed = t.listed;
-      rows = commit_from-fits 0 W.setting Server now c.commands _ w o.limits.rows is;
-      count = t.count;
-      etags = commit_from-last 0 W.setting Server now c.commands _ w o.limits.etags is;
-    }), tt)
+    }) in (
+      Turns-Moves W w.store c.slots o (record {
+        store = k.sound;
+        later = k.later;
+        comes = t.slots;
+        rising = t.rising;
+        apart = t.apart;
+        listed = t.listed;
+        rows = commit_from-fits 0 W.setting Server now c.commands _ w o.limits.rows is;
+        count = t.count;
+        etags = commit_from-last 0 W.setting Server now c.commands _ w o.limits.etags is;
+      }),
+      tt,
+    )
 
 reslotted-Moves : (now : ℕ) (W : World) (reply : List ℕ → replies.Reply) (name : List ℕ) (r : Result SlotChange SlotRefusal) → Sound W
     → ((c : SlotChange) → r ≡ Ok c → Sound W → (S : Store) → Onto W c S → Settles W c S) → CourseMoves W (change_of_slots W now reply name r)

@@ -25,8 +25,8 @@ pub use opening::{
     rows_were_there_or_written, sound_states_answer_truly, sound_states_go_on,
 };
 pub use runs::{
-    batches_may_wait, batches_move_what_is_stale, every_index_serves_its_name, every_run_goes_on, every_run_is_sound,
-    flags_are_exact, fresh_answers_are_exact, fresh_answers_are_from_scratch,
+    batches_may_wait, batches_move_what_is_stale, every_index_serves_its_name, every_run_goes_on,
+    every_run_is_sound, flags_are_exact, fresh_answers_are_exact, fresh_answers_are_from_scratch,
     ids_are_spelled_as_stored, large_batches_are_enough, later_worlds_order, new_names_are_free,
     new_names_have_the_least_number, picks_are_best, served_names_stay,
 };
