@@ -1,16 +1,16 @@
 //! A pair put into a page, and a key taken out of it.
-ghost use Rattle.std.specs.Prelude.{◌≡◌, ◌<◌, ◌≤◌, ◌+◌, ◌*◌, ◌++◌, suc, length, IfOk, OnOk};
+ghost use Rattle.std.specs.Prelude.{◌≡◌, ◌<◌, ◌≤◌, ◌+◌, ◌*◌, suc, length, IfOk, OnOk};
 ghost use Rattle.std.specs.Map.{remove_entry};
 ghost use Rattle.std.specs.BTreeMap.{is_at, insert_entry};
 ghost use Rattle.paged_map.specs.Pairs.{IsRising};
 ghost use Rattle.paged_map.specs.Level.{flat, level_of, IsLevel, IsCut, IsMended};
-ghost use Rattle.paged_map.specs.Shape.{helds, held, IsNode};
+ghost use Rattle.paged_map.specs.Shape.{helds, held, IsNode, IsBoth, IsWidened};
 ghost use Rattle.paged_map.specs.Merges.{MergesAtMost};
 
-use crate::leaf::{both, with_pair, without_pair};
-use crate::new_pages::{branches, leaves, one};
+use crate::leaf::{with_pair, without_pair};
+use crate::lists::spliced;
+use crate::new_pages::pages_over;
 use crate::page::{Node, Page};
-use crate::page_list::{joined_lists, spliced};
 use crate::search::child;
 use crate::summary::Summary;
 use raven_base::{NoMemory, Steps};
@@ -36,21 +36,15 @@ impl<K: Ord + Clone + Drop, V: Clone + Drop, S: Summary<V>> Page<K, V, S> {
         ensures merges { OnOk result (MergesAtMost (33 * suc self.now.height) steps.old steps.new) }
     {
         match &self.node {
-            Node::Leaf(pairs) => Ok(leaves(
-                alloc,
-                summary,
-                with_pair(alloc, pairs, key, value)?,
-                steps,
-            )?),
+            Node::Leaf(pairs) => {
+                let changed = with_pair(alloc, pairs, key, value)?;
+                pages_over(alloc, summary, Node::Leaf(changed), steps)
+            }
             Node::Branch(pages) => {
                 let at = child(pages, &key);
                 let changed = pages[at].put(alloc, summary, key, value, steps)?;
-                Ok(branches(
-                    alloc,
-                    summary,
-                    spliced(alloc, pages, at, at + 1, &changed)?,
-                    steps,
-                )?)
+                let all = spliced(alloc, pages, at, at + 1, &changed)?;
+                pages_over(alloc, summary, Node::Branch(all), steps)
             }
         }
     }
@@ -103,50 +97,59 @@ fn mended<K: Clone + Drop, V: Clone + Drop, S: Summary<V>, L: Ledger>(
     ensures pages { IfOk result (λ v. IsMended (helds pages.now) at (held left).pairs (helds v.items)) }
     ensures merges { OnOk result (MergesAtMost 47 steps.old steps.new) }
 {
+    let (start, end, node) = widened(alloc, pages, at, left)?;
+    let middle = pages_over(alloc, summary, node, steps)?;
+    spliced(alloc, pages, start, end, &middle)
+}
+
+/// From where up to before where the node takes the place of pages: of one, or where it is too small of two, with what the other holds.
+fn widened<K: Clone + Drop, V: Clone + Drop, S: Summary<V>>(
+    alloc: Global,
+    pages: &[Arc<Page<K, V, S>>],
+    at: usize,
+    left: Node<K, V, S>,
+) -> Result<(usize, usize, Node<K, V, S>), NoMemory>
+    requires keys { (x y : K) → K.is_clone x y → y ≡ x }
+    requires values { (x y : V) → V.is_clone x y → y ≡ x }
+    requires in_range { at < length (helds pages.now) }
+    requires some { 2 ≤ length (helds pages.now) }
+    requires level { IsLevel 16 (level_of (helds pages.now)) (helds pages.now) }
+    requires node { IsNode 1 left }
+    requires height { (held left).height ≡ level_of (helds pages.now) }
+    requires count { 15 ≤ (held left).count }
+    ensures { IfOk result (λ r. IsWidened (helds pages.now) at left r.0 r.1 r.2) }
+{
     if left.count() >= 16 {
-        let middle = one(alloc, summary, left, steps)?;
-        return Ok(spliced(alloc, pages, at, at + 1, &middle)?);
-    }
-    if at + 1 < pages.len() {
-        let middle = joined(alloc, summary, &left, &pages[at + 1].node, steps)?;
-        Ok(spliced(alloc, pages, at, at + 2, &middle)?)
+        Ok((at, at + 1, left))
+    } else if at + 1 < pages.len() {
+        Ok((at, at + 2, both(alloc, &left, &pages[at + 1].node)?))
     } else {
-        let middle = joined(alloc, summary, &pages[at - 1].node, &left, steps)?;
-        Ok(spliced(alloc, pages, at - 1, at + 1, &middle)?)
+        Ok((at - 1, at + 1, both(alloc, &pages[at - 1].node, &left)?))
     }
 }
 
-/// What both nodes hold, in one page or in two of about the same size.
-fn joined<K: Clone + Drop, V: Clone + Drop, S: Summary<V>, L: Ledger>(
+/// What both nodes hold.
+fn both<K: Clone + Drop, V: Clone + Drop, S: Summary<V>>(
     alloc: Global,
-    summary: &S,
     left: &Node<K, V, S>,
     right: &Node<K, V, S>,
-    steps: &mut Steps<L>,
-) -> Result<Vec<Arc<Page<K, V, S>>>, NoMemory>
+) -> Result<Node<K, V, S>, NoMemory>
     requires keys { (x y : K) → K.is_clone x y → y ≡ x }
     requires values { (x y : V) → V.is_clone x y → y ≡ x }
     requires left_node { IsNode 1 left.now }
     requires right_node { IsNode 1 right.now }
     requires height { (held left.now).height ≡ (held right.now).height }
-    requires enough { 16 ≤ (held left.now).count + (held right.now).count }
-    ensures same { IfOk result (λ v. flat (helds v.items) ≡ (held left.now).pairs ++ (held right.now).pairs) }
-    ensures cut { IfOk result (λ v. IsCut 16 (held left.now).height (helds v.items)) }
-    ensures merges { OnOk result (MergesAtMost ((held left.now).count + (held right.now).count) steps.old steps.new) }
+    ensures { IfOk result (λ n. IsBoth left.now right.now n) }
 {
-    match left {
-        Node::Leaf(first) => match right {
-            Node::Leaf(second) => Ok(leaves(alloc, summary, both(alloc, first, second)?, steps)?),
-            Node::Branch(_) => unreachable!(),
-        },
-        Node::Branch(first) => match right {
-            Node::Leaf(_) => unreachable!(),
-            Node::Branch(second) => Ok(branches(
-                alloc,
-                summary,
-                joined_lists(alloc, first, second)?,
-                steps,
-            )?),
-        },
+    match (left, right) {
+        (Node::Leaf(first), Node::Leaf(second)) => {
+            let end = first.len();
+            Ok(Node::Leaf(spliced(alloc, first, end, end, second)?))
+        }
+        (Node::Branch(first), Node::Branch(second)) => {
+            let end = first.len();
+            Ok(Node::Branch(spliced(alloc, first, end, end, second)?))
+        }
+        _ => unreachable!(),
     }
 }

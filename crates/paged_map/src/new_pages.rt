@@ -1,9 +1,10 @@
 //! New pages over pairs or over other pages.
-ghost use Rattle.std.specs.Prelude.{◌≡◌, ◌<◌, ◌≤◌, ◌+◌, ◌∷◌, [], suc, length, IfOk, OnOk};
-ghost use Rattle.paged_map.specs.Level.{flat, level_of, IsLevel, IsFilled, IsCut};
-ghost use Rattle.paged_map.specs.Shape.{helds, held, IsNode};
+ghost use Rattle.std.specs.Prelude.{◌≡◌, ◌<◌, ◌≤◌, [], suc, length, IfOk, OnOk};
+ghost use Rattle.paged_map.specs.Level.{flat, level_of, IsLevel, IsFilled, IsCutUp};
+ghost use Rattle.paged_map.specs.Shape.{helds, held, IsNode, IsTidy, IsCutOff};
 ghost use Rattle.paged_map.specs.Merges.{MergesAtMost};
 
+use crate::lists::cut_off;
 use crate::page::{Node, Page};
 use crate::summary::Summary;
 use raven_base::{NoMemory, Steps};
@@ -49,91 +50,42 @@ pub fn page_of<K: Clone + Drop, V: Drop, S: Summary<V>, L: Ledger>(
     Ok(Arc::new(alloc, Page { least, total, node })?)
 }
 
-/// A list of one page.
-pub fn one<K: Clone + Drop, V: Drop, S: Summary<V>, L: Ledger>(
+impl<K: Drop, V: Drop, S: Summary<V>> Node<K, V, S> {
+    /// Cuts off the last 32 pairs or pages, or the second half of at most 64.
+    fn cut_off(&mut self) -> Result<Node<K, V, S>, NoMemory>
+        requires many { 32 < (held self.old).count }
+        requires tidy { IsTidy self.old }
+        ensures { IfOk result (λ last. IsCutOff self.old self.new last) }
+    {
+        match self {
+            Node::Leaf(pairs) => Ok(Node::Leaf(cut_off(pairs)?)),
+            Node::Branch(pages) => Ok(Node::Branch(cut_off(pages)?)),
+        }
+    }
+}
+
+/// The pages that hold what the node holds, each with at most 32 items: all full but the first one or two.
+pub fn pages_over<K: Clone + Drop, V: Drop, S: Summary<V>, L: Ledger>(
     alloc: Global,
     summary: &S,
-    node: Node<K, V, S>,
+    mut node: Node<K, V, S>,
     steps: &mut Steps<L>,
 ) -> Result<Vec<Arc<Page<K, V, S>>>, NoMemory>
     requires keys { (x y : K) → K.is_clone x y → y ≡ x }
-    requires node { IsNode 2 node }
-    ensures page { IfOk result (λ v. helds v.items ≡ held node ∷ []) }
+    requires some { 0 < (held node).count }
+    requires node { IsTidy node }
+    ensures same { IfOk result (λ v. flat (helds v.items) ≡ (held node).pairs) }
+    ensures cut { IfOk result (λ v. IsCutUp (held node).count (held node).height (helds v.items)) }
     ensures merges { OnOk result (MergesAtMost (held node).count steps.old steps.new) }
 {
-    let mut pages = Vec::new(alloc);
-    pages.push(page_of(alloc, summary, node, steps)?)?;
-    Ok(pages)
-}
-
-/// A list of two pages.
-fn two<K: Clone + Drop, V: Drop, S: Summary<V>, L: Ledger>(
-    alloc: Global,
-    summary: &S,
-    left: Node<K, V, S>,
-    right: Node<K, V, S>,
-    steps: &mut Steps<L>,
-) -> Result<Vec<Arc<Page<K, V, S>>>, NoMemory>
-    requires keys { (x y : K) → K.is_clone x y → y ≡ x }
-    requires left_node { IsNode 2 left }
-    requires right_node { IsNode 2 right }
-    ensures pages { IfOk result (λ v. helds v.items ≡ held left ∷ held right ∷ []) }
-    ensures merges { OnOk result (MergesAtMost ((held left).count + (held right).count) steps.old steps.new) }
-{
-    let mut pages = one(alloc, summary, left, steps)?;
-    pages.push(page_of(alloc, summary, right, steps)?)?;
-    Ok(pages)
-}
-
-/// The pairs in one leaf, or in two halves.
-pub fn leaves<K: Clone + Drop, V: Drop, S: Summary<V>, L: Ledger>(
-    alloc: Global,
-    summary: &S,
-    mut pairs: Vec<(K, V)>,
-    steps: &mut Steps<L>,
-) -> Result<Vec<Arc<Page<K, V, S>>>, NoMemory>
-    requires keys { (x y : K) → K.is_clone x y → y ≡ x }
-    requires some { 0 < length pairs.items }
-    requires few { length pairs.items ≤ 64 }
-    ensures same { IfOk result (λ v. flat (helds v.items) ≡ pairs.items) }
-    ensures cut { IfOk result (λ v. IsCut (length pairs.items) 0 (helds v.items)) }
-    ensures merges { OnOk result (MergesAtMost (length pairs.items) steps.old steps.new) }
-{
-    if pairs.len() <= 32 {
-        return Ok(one(alloc, summary, Node::Leaf(pairs), steps)?);
+    let mut last_first = Vec::new(alloc);
+    while node.count() > 32 {
+        let last = node.cut_off()?;
+        last_first.push(page_of(alloc, summary, last, steps)?)?;
     }
-    let rest = pairs.split_off(pairs.len() / 2)?;
-    pairs.shrink_to_fit();
-    Ok(two(alloc, summary, Node::Leaf(pairs), Node::Leaf(rest), steps)?)
-}
-
-/// The pages in one branch, or in two halves.
-pub fn branches<K: Clone + Drop, V: Drop, S: Summary<V>, L: Ledger>(
-    alloc: Global,
-    summary: &S,
-    mut pages: Vec<Arc<Page<K, V, S>>>,
-    steps: &mut Steps<L>,
-) -> Result<Vec<Arc<Page<K, V, S>>>, NoMemory>
-    requires keys { (x y : K) → K.is_clone x y → y ≡ x }
-    requires some { 2 ≤ length (helds pages.items) }
-    requires few { length (helds pages.items) ≤ 64 }
-    requires level { IsLevel 16 (level_of (helds pages.items)) (helds pages.items) }
-    ensures same { IfOk result (λ v. flat (helds v.items) ≡ flat (helds pages.items)) }
-    ensures cut { IfOk result (λ v. IsCut (length (helds pages.items)) (suc (level_of (helds pages.items))) (helds v.items)) }
-    ensures merges { OnOk result (MergesAtMost (length (helds pages.items)) steps.old steps.new) }
-{
-    if pages.len() <= 32 {
-        return Ok(one(alloc, summary, Node::Branch(pages), steps)?);
-    }
-    let rest = pages.split_off(pages.len() / 2)?;
-    pages.shrink_to_fit();
-    Ok(two(
-        alloc,
-        summary,
-        Node::Branch(pages),
-        Node::Branch(rest),
-        steps,
-    )?)
+    last_first.push(page_of(alloc, summary, node, steps)?)?;
+    last_first.reverse();
+    Ok(last_first)
 }
 
 /// The root over the pages: the only one itself, or a branch of them.
@@ -154,7 +106,7 @@ pub fn root_of<K: Clone + Drop, V: Drop, S: Summary<V>, L: Ledger>(
     ensures merges { OnOk result (MergesAtMost (length (helds pages.items)) steps.old steps.new) }
 {
     if pages.len() > 1 {
-        return Ok(page_of(alloc, summary, Node::Branch(pages), steps)?);
+        return page_of(alloc, summary, Node::Branch(pages), steps);
     }
     match pages.pop() {
         Some(page) => Ok(page),
@@ -177,7 +129,7 @@ pub fn root_over<K: Clone + Drop, V: Drop, S: Summary<V>, L: Ledger>(
     ensures merges { OnOk result (MergesAtMost 32 steps.old steps.new) }
 {
     match node {
-        Node::Leaf(pairs) => Ok(page_of(alloc, summary, Node::Leaf(pairs), steps)?),
-        Node::Branch(pages) => Ok(root_of(alloc, summary, pages, steps)?),
+        Node::Leaf(pairs) => page_of(alloc, summary, Node::Leaf(pairs), steps),
+        Node::Branch(pages) => root_of(alloc, summary, pages, steps),
     }
 }

@@ -69,7 +69,7 @@ impl<K, V, S: Summary<V>> Node<K, V, S> {
         ensures merges { OnOk result (MergesAtMost (held self.now).count steps.old steps.new) }
     {
         match self {
-            Node::Leaf(pairs) => Ok(total_of_pairs(alloc, summary, pairs, steps)?),
+            Node::Leaf(pairs) => total_of_pairs(alloc, summary, pairs, steps),
             Node::Branch(pages) => Ok(Some(total_of_pages(alloc, summary, pages, steps)?)),
         }
     }

@@ -10,9 +10,9 @@ ghost use Rattle.paged_map.specs.Range.{between};
 ghost use Rattle.paged_map.specs.Totals.{total_of};
 ghost use Rattle.paged_map.specs.Merges.{MergesAtMost};
 
-use crate::build::root_over_pairs;
+use crate::build::root_over_all;
 use crate::new_pages::{empty, root_of, root_over};
-use crate::page::Page;
+use crate::page::{Node, Page};
 use crate::pairs::Pairs;
 use crate::summary::Summary;
 use raven_base::{NoMemory, Steps};
@@ -163,7 +163,7 @@ impl<K: Ord + Clone + Drop, V: Drop, S: Summary<V>> SummedMap<K, V, S> {
     {
         let len = pairs.len() as u64;
         Ok(SummedMap {
-            root: root_over_pairs(alloc, summary, pairs, steps)?,
+            root: root_over_all(alloc, summary, Node::Leaf(pairs), steps)?,
             len,
         })
     }
