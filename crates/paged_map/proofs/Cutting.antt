@@ -187,6 +187,7 @@ module _ {K V S T : Type 0} where
         more = omega (arith, all, n, l);
         few = λ x. omega (arith, x, d.count, d.last_few, all, n);
       }
+
   pub cutting_ends : {whole rest : Node K V S T} {cut : List (Held K V)} → IsCutting whole rest cut → (held rest).count ≤ 32 →
       (flat (reverse (cut ++ held rest ∷ [])) ≡ (held whole).pairs) × IsCutUp (held whole).count (held whole).height (reverse (cut ++ held rest ∷ []))
   cutting_ends {whole} {rest} {cut} c l =
