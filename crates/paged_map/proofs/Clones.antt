@@ -18,3 +18,7 @@ module _ {X : Type 0} (C : X → X → Type 0) where
   appended_parts xs us zs {a} {b} {c} p q r =
       let e : c ≡ p.0 ++ (q.0 ++ r.0) = r.1 ∙ ap (λ l. l ++ r.0) (q.1 ∙ ap (λ l. l ++ q.0) p.1) ∙ append_assoc p.0 q.0 r.0 in
       subst (AllZip C (xs ++ (us ++ zs))) (sym e) (zip_append xs p.0 (us ++ zs) (q.0 ++ r.0) p.2 (zip_append us q.0 zs r.0 q.2 r.2))
+
+-- pairs are cloned exactly if their parts are
+pub pair_exact : {K V : Type 0} (C : K → K → Type 0) (D : V → V → Type 0) → ((x y : K) → C x y → y ≡ x) → ((x y : V) → D x y → y ≡ x) → (p q : K × V) → C p.0 q.0 × D p.1 q.1 → q ≡ p
+pair_exact C D c d p q h = ap (λ k. (k, q.1)) (c p.0 q.0 h.0) ∙ ap (λ v. (p.0, v)) (d p.1 q.1 h.1)

@@ -43,6 +43,10 @@ node_few : {K V S T : Type 0} (low : ℕ) (n : Node K V S T) → IsNode low n �
 node_few low (Leaf pairs) s = s
 node_few low (Branch pages) s = s.1
 
+pub node_one : {K V S T : Type 0} (n : Node K V S T) → IsNode 2 n → IsNode 1 n
+node_one (Leaf pairs) s = s
+node_one (Branch pages) s = (omega (arith, s.0), s.1, s.2)
+
 -- a page that was opened, at place i
 pub opened_at : {K V S T : Type 0} (ps : List (Arc (Held K V) Global)) (i : ℕ) (page : Arc (Held K V) Global) (x : Held K V) (n : Node K V S T) →
     x ≡ page.value → page ≡ get_or ps i page → held n ≡ x → held n ≡ get_or (helds ps) i page.value
@@ -129,3 +133,10 @@ module _ {K V S T : Type 0} (ps : List (Held K V)) (i : ℕ) (left : Node K V S 
         one_less = omega (arith, size, t, u, cut.enough, w.enough, w.near);
         pairs = flat-append (take s ps) _ ∙ ap (λ y. flat (take s ps) ++ y) (flat-append ms (drop e ps) ∙ ap (λ y. y ++ flat (drop e ps)) same) ∙ w.pairs;
       }
+
+-- what is left of a branch is a node
+pub mended_node : {K V : Type 0} {ps new : List (Held K V)} {i : ℕ} {left : List (K × V)} → IsMended ps i left new → 2 ≤ length ps → length ps ≤ 32 →
+    ((1 ≤ length new) × (length new ≤ 32) × IsLevel 16 (level_of new) new) × (level_of new ≡ level_of ps)
+mended_node {K} {V} {ps} {new} m many few =
+    let h = level_of_is 16 (level_of ps) new m.level (omega (arith, m.one_less, many)) in
+    ((omega (arith, m.one_less, many), omega (arith, m.no_more, few), subst (λ x. IsLevel 16 x new) (sym h) m.level), h)

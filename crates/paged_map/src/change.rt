@@ -102,7 +102,8 @@ fn mended<K: Clone + Drop, V: Clone + Drop, S: Summary<V>, L: Ledger>(
     spliced(alloc, pages, start, end, &middle)
 }
 
-/// From where up to before where the node takes the place of pages: of one, or where it is too small of two, with what the other holds.
+/// What goes in place of the pages from a start up to before an end, and these two: `left` alone in place of its own page, or,
+/// where it is too small, all that it and the page beside it hold, in place of both.
 fn widened<K: Clone + Drop, V: Clone + Drop, S: Summary<V>>(
     alloc: Global,
     pages: &[Arc<Page<K, V, S>>],

@@ -1,4 +1,5 @@
 use Rattle.std.proofs.Common.{refl, subst, sym, arith}
+use Rattle.std.proofs.lemmas.List.{length-map}
 use Rattle.std.proofs.lemmas.Result.{IfOk-weaker}
 use Rattle.paged_map.specs.Level.{IsMended}
 use Rattle.paged_map.specs.Shape.{helds, held}
@@ -15,3 +16,15 @@ returns-clause-pages g c =
 
 pub returns-clause-merges : goal.returns-clause-merges
 returns-clause-merges g c = IfOk-weaker c.spliced.result _ _ (λ v z. at_most_le 47 c.in_ok-middle.ensures.merges c.in_ok-start.ensures.few) c.spliced.ensures
+
+pub pages_over-requires-clause-some : goal.pages_over-requires-clause-some
+pages_over-requires-clause-some g c = omega (arith, c.in_ok-start.ensures.enough)
+
+pub pages_over-requires-clause-node : goal.pages_over-requires-clause-node
+pages_over-requires-clause-node g c = c.in_ok-start.ensures.tidy
+
+pub spliced-requires-clause-order : goal.spliced-requires-clause-order
+spliced-requires-clause-order g c = omega (arith, c.in_ok-start.ensures.order)
+
+pub spliced-requires-clause-in_range : goal.spliced-requires-clause-in_range
+spliced-requires-clause-in_range g c = omega (arith, c.in_ok-start.ensures.in_range, length-map c.args.pages.now (λ p. p.value))

@@ -3,7 +3,7 @@ use Rattle.std.proofs.lemmas.List.{length-map}
 use Rattle.paged_map.specs.Level.{level_of}
 use Rattle.paged_map.specs.Shape.{helds, held}
 use Rattle.paged_map.proofs.Pages.{level_at}
-use Rattle.paged_map.proofs.Mending.{opened_at, widened_alone, widened_right, widened_left}
+use Rattle.paged_map.proofs.Mending.{node_one, opened_at, widened_alone, widened_right, widened_left}
 use Rattle.paged_map.proofs.change.widened.Goals as goal
 
 pub returns-then-count-ge16 : goal.returns-then-count-ge16
@@ -41,3 +41,30 @@ returns g c =
     opened_at c.args.pages.now _ page c.deref-else-at-pages.result.now c.behind-pages-else-at-pages.inside.node c.deref-else-at-pages.ensures c.index-pages-at-else-at-pages.is c.behind-pages-else-at-pages.view_is in
     let l = length-map c.args.pages.now (λ p. p.value) in
     widened_left ps c.args.at c.args.left c.behind-pages-else-at-pages.inside.node c.in_ok-both-2.field-0 page.value (omega (arith, l, c.requires.some)) c.requires.in_range c.requires.level (omega (arith, c.count.ensures)) is c.behind-pages-else-at-pages.invariant.node c.in_ok-both-2.ensures
+
+pub both-requires-clause-left_node : goal.both-requires-clause-left_node
+both-requires-clause-left_node g c = c.requires.node
+
+pub both-requires-clause-right_node : goal.both-requires-clause-right_node
+both-requires-clause-right_node g c = node_one c.behind-pages.inside.node c.behind-pages.invariant.node
+
+pub both-requires-else-at-pages-clause-left_node : goal.both-requires-else-at-pages-clause-left_node
+both-requires-else-at-pages-clause-left_node g c = node_one c.behind-pages-else-at-pages.inside.node c.behind-pages-else-at-pages.invariant.node
+
+pub both-requires-else-at-pages-clause-right_node : goal.both-requires-else-at-pages-clause-right_node
+both-requires-else-at-pages-clause-right_node g c = c.requires.node
+
+pub overflow_sub-at : goal.overflow_sub-at
+overflow_sub-at g c =
+    let l = length-map c.args.pages.now (λ p. p.value) in
+    omega (arith, l, c.requires.some)
+
+pub overflow_sub-result : goal.overflow_sub-result
+overflow_sub-result g c =
+    let l = length-map c.args.pages.now (λ p. p.value) in
+    omega (arith, l, c.requires.some)
+
+pub bounds-pages-at-else-at-pages : goal.bounds-pages-at-else-at-pages
+bounds-pages-at-else-at-pages g c =
+    let l = length-map c.args.pages.now (λ p. p.value) in
+    omega (arith, l, c.requires.in_range)
