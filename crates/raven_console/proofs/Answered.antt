@@ -6,8 +6,9 @@ use Rattle.spec_server.specs.Machine as is
 use Rattle.spec_server.specs.Machine.{Machine}
 use Rattle.spec_server.specs.Replies.{Reply, printed}
 use Rattle.spec_server.specs.Script.{BadId, BadName, LineRead, ReadRefusal, asked_of, fault_reply, left_by, refusal_reply, written_for}
+use Rattle.spec_server.specs.WellFormed.{IsWellFormed}
 use Rattle.index_lang.specs.Lines.{IsLine}
-use Rattle.raven_reading.proofs.Clients.{line-client}
+use Rattle.raven_reading.proofs.Formed.{line-formed}
 use Rattle.raven_script.specs.LineView.{Answers}
 use Rattle.raven_script.specs.RequestView.{IsBadId, IsBadName, line_view}
 use Rattle.raven_script.specs.declared.request.Line.{Line}
@@ -63,10 +64,10 @@ answers-done line now before after M N text asks means p = record { read = Ok (S
 pub line_means : (line : List ℕ) (found : Option Line) → Answers (asked_of line) (Ok found) → IsLine line (Ok (option_map line_view found))
 line_means line found h = subst (IsLine line) h.told h.comes
 
--- what a line asks, a client may send
-pub from_client : (line : List ℕ) (asks : is.Line) → IsLine line (Ok (Some asks)) → is.IsFromClient asks
-from_client line asks h = line-client line (Ok (Some asks)) h
+-- what a line asks is well formed
+pub well_formed : (line : List ℕ) (asks : is.Line) → IsLine line (Ok (Some asks)) → IsWellFormed asks
+well_formed line asks h = line-formed line asks h
 
 pub ruleset refusals = (refused_line, refused_id, refused_name)
 
-pub ruleset answers = (answers-refused, answers-none, answers-done, line_means, from_client)
+pub ruleset answers = (answers-refused, answers-none, answers-done, line_means, well_formed)

@@ -1,8 +1,9 @@
 //! The machine that answers lines.
 ghost use Rattle.std.specs.Prelude.{◌≡◌, ◌<◌, ◌≤◌, IfOk, OnErr};
 ghost use Rattle.spec_data.specs.Moments.{moments_end};
-ghost use Rattle.spec_server.specs.Machine.{Do, IsFromClient, course_of, machine_of};
+ghost use Rattle.spec_server.specs.Machine.{Do, course_of, machine_of};
 ghost use Rattle.spec_server.specs.Replies.{KeeperFault, printed as spec_printed};
+ghost use Rattle.spec_server.specs.WellFormed.{IsWellFormed};
 ghost use Rattle.raven_reply.specs.ReplyView.{reply_view};
 ghost use Rattle.raven_console.specs.Answering.{IsAnswered, IsPerformed};
 ghost use Rattle.raven_console.specs.Devices.{Keeps};
@@ -53,7 +54,7 @@ struct Prepared {
 }
 
 fn prepare(alloc: Global, world: &World, now: u64, request: Request) -> Result<Prepared, NoMemory>
-    requires { IsFromClient (Do (request_view request)) }
+    requires { IsWellFormed (Do (request_view request)) }
     ensures { IfOk result (λ p. IsPrepared (course_of world.now now (request_view request)) p) }
 {
     let outcome = outcome_of(alloc, world, now, request)?;
@@ -94,7 +95,7 @@ impl Machine {
         now: u64,
         request: Request,
     ) -> Result<Vec<u8>, NoMemory>
-        requires client { IsFromClient (Do (request_view request)) }
+        requires formed { IsWellFormed (Do (request_view request)) }
         requires keeps { Keeps (K.state keeper.old).held self.old }
         ensures performed { IfOk result (λ text.
             IsPerformed (Do (request_view request)) now (K.state keeper.old) (K.state keeper.new) self.old self.new text.items) }

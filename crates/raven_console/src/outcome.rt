@@ -1,6 +1,8 @@
 //! What a request leaves.
-ghost use Rattle.std.specs.Prelude.{◌≡◌, IfOk, Some};
-ghost use Rattle.spec_server.specs.Machine.{Auto, Do, IsFromClient, course_of, only_reply};
+ghost use Rattle.std.specs.Prelude.{◌≡◌, IfOk, Some, true};
+ghost use Rattle.spec_server.specs.Machine.{Auto, Do, course_of, only_reply};
+ghost use Rattle.spec_server.specs.Opening.{is_part};
+ghost use Rattle.spec_server.specs.WellFormed.{IsWellFormed};
 ghost use Rattle.raven_script.specs.RequestView.{request_view};
 ghost use Rattle.raven_world.specs.WorldView.{answer_view, change_view};
 ghost use Rattle.raven_reply.specs.ReplyView.{reply_view};
@@ -63,6 +65,7 @@ fn picked(
     collection: &Text,
     field: &Text,
 ) -> Result<Outcome, NoMemory>
+    requires { is_part field.now ≡ true }
     ensures { IfOk result (λ outcome. outcome_view outcome ≡ course_of world.now now (Auto collection.now field.now)) }
 {
     match world.answer(alloc, collection, field)? {
@@ -78,7 +81,7 @@ pub fn outcome_of(
     now: u64,
     request: Request,
 ) -> Result<Outcome, NoMemory>
-    requires { IsFromClient (Do (request_view request)) }
+    requires { IsWellFormed (Do (request_view request)) }
     ensures { IfOk result (λ outcome. outcome_view outcome ≡ course_of world.now now (request_view request)) }
 {
     match request {

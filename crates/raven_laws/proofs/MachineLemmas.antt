@@ -10,7 +10,7 @@ use Rattle.spec_index.specs.Optimiser.{Choice, Use, Make, Merge, pick, name_of}
 use Rattle.spec_store.specs.Commit.{Command, Put, Delete, Writer, Client, Server, Setting, Refused, Written, refusal_of, row_of, with_written, or_refused, commit_from, commit}
 use Rattle.spec_server.specs.Replies as replies
 use Rattle.spec_index.specs.World.{Slot, Version, World, reads, advanced, batch, serving, SlotChange, SlotRefusal, define, define_named, is_automatic, is_named, remove}
-use Rattle.spec_server.specs.Machine.{Machine, Request, Put as PutOne, Delete as DeleteOne, Bulk, Get, Define, Remove, Auto, Find, Pump, Stale, Indexes, Stats, Event, Held, Keeping, Line, Do, IsFromClient, AreFromClients, Change, Course, is_taken, takes_after, with_world, same_machine, made, settled, single_reply, wrote, write, rewrote, change_of_slots, use_or_make, one_field, or_as_before, after_batch, after_batch_if_named, with_slots, pump, pump_at, pump_for, course_of, step, start, after, run}
+use Rattle.spec_server.specs.Machine.{Machine, Request, Put as PutOne, Delete as DeleteOne, Bulk, Get, Define, Remove, Auto, Find, Pump, Stale, Indexes, Stats, Event, Held, Keeping, Line, Do, IsFromClient, AreFromClients, Change, Course, is_taken, takes_after, with_world, same_machine, made, settled, single_reply, wrote, write, rewrote, change_of_slots, use_or_make, one_field, or_as_before, after_batch, after_batch_if_named, with_slots, pump, pump_at, pump_for, course_of, changes_of, step, start, after, run}
 use Rattle.spec_server.specs.Sound.{Has, NumbersRise, NamesApart, AreListed, Sound, IsHeld, IsMachine, LaterW}
 use Rattle.spec_store.proofs.LaterLemmas.{Later-itself, IsStore-with, last-with}
 use Rattle.spec_store.proofs.CommitLemmas.{row_of-follows, commit-Commits}
@@ -252,6 +252,15 @@ course-Moves W now (Pump max index) from o = pump_for-Moves W max index o
 course-Moves W now (Stale name cutoff) from o = tt
 course-Moves W now Indexes from o = tt
 course-Moves W now Stats from o = tt
+
+moved-to : (W : World) (changes : List Change) (c : Change) → AllMove W changes → Has changes c → Moves W c.world
+moved-to W [] c all h = absurd h
+moved-to W (x ∷ more) c all (inl e) = subst (λ (y : Change). Moves W y.world) e all.0
+moved-to W (x ∷ more) c all (inr h) = Moves-then W x.world c.world all.0 (moved-to x.world more c all.1 h)
+
+-- each change of a line leads from a sound world to a sound and later one
+pub changes-Move : (W : World) (now : ℕ) (line : Line) (c : Change) → Sound W → IsFromClient line → Has (changes_of W now line) c → Moves W c.world
+changes-Move W now (Do request) c o from h = let course = course_of W now request in moved-to W course.changes c (course-Moves W now request from o) h
 
 -- HELD BATCHES
 

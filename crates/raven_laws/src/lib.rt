@@ -21,8 +21,8 @@ pub use indexes::{
 };
 pub use keeping::{changes_are_their_rows, keepers_follow_stores, keepers_store_every_run};
 pub use opening::{
-    every_run_from_stored_rows_is_sound, every_script_from_stored_rows_is_sound, opened_is_sound,
-    rows_were_there_or_written, sound_states_answer_truly, sound_states_go_on,
+    changes_go_on, every_run_from_stored_rows_is_sound, every_script_from_stored_rows_is_sound,
+    opened_is_sound, rows_were_there_or_written, sound_states_answer_truly, sound_states_go_on,
 };
 pub use runs::{
     batches_may_wait, batches_move_what_is_stale, every_index_serves_its_name, every_run_goes_on,

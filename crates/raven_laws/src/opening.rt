@@ -5,11 +5,11 @@ ghost use Rattle.spec_data.specs.Kept.{KeptRow, all_kept};
 ghost use Rattle.spec_data.specs.Rows.{Row};
 ghost use Rattle.spec_store.specs.Commit.{Setting, is_index_id};
 ghost use Rattle.spec_server.specs.Opening.{OpenedFrom};
-ghost use Rattle.spec_server.specs.Machine.{AreFromClients, Event, Machine, run};
+ghost use Rattle.spec_server.specs.Machine.{AreFromClients, Change, Event, IsFromClient, Line, Machine, changes_of, run};
 ghost use Rattle.spec_server.specs.Script.{Given, after_lines, events_of};
 ghost use Rattle.spec_server.specs.Sound.{Has, IsMachine, LaterW, Sound};
 ghost use Rattle.spec_store.specs.Store.{row_at};
-ghost use Rattle.spec_index.specs.World.{Slot, new_version};
+ghost use Rattle.spec_index.specs.World.{Slot, World, new_version};
 ghost use Rattle.raven_laws.specs.Claims.{FlagsAreExact, FreshIsExact, FreshIsFromScratch, IdsAreSpelledAsStored};
 ghost use Rattle.raven_laws.specs.Opened.{OpenedFaithfully};
 ghost use Rattle.raven_laws.specs.Writes.{IsWritten};
@@ -30,6 +30,13 @@ pub fn opened_is_sound()
 pub fn sound_states_go_on()
     ensures sound { (M : Machine) (events : List Event) → IsMachine M → AreFromClients events → IsMachine (run events M) }
     ensures later { (M : Machine) (events : List Event) → IsMachine M → AreFromClients events → LaterW M.world (run events M).world }
+{}
+
+/// Each change that a client's line makes of a sound world leaves a sound one, which is later. So does each change that a call of a world
+/// returns, since it is one of these.
+pub fn changes_go_on()
+    ensures sound { (W : World) (now : ℕ) (line : Line) (c : Change) → Sound W → IsFromClient line → Has (changes_of W now line) c → Sound c.world }
+    ensures later { (W : World) (now : ℕ) (line : Line) (c : Change) → Sound W → IsFromClient line → Has (changes_of W now line) c → LaterW W c.world }
 {}
 
 /// In a sound state answers are true.

@@ -1,3 +1,9 @@
 pub mod Once
 pub mod TextLemmas
 pub mod Clients
+pub mod Utf8Lemmas
+pub mod LexLemmas
+pub mod PairLemmas
+pub mod SoundLemmas
+pub mod LineLemmas
+pub mod Formed

@@ -1,14 +1,15 @@
 //! The laws of what is read, each the contract of a function without a body.
 
-ghost use Rattle.std.specs.Prelude.{◌≡◌, ℕ, List, Ok, Result};
+ghost use Rattle.std.specs.Prelude.{◌≡◌, ℕ, List, Ok, Result, Some};
 ghost use Rattle.spec_data.specs.Kept.{KeptRow};
 ghost use Rattle.spec_data.specs.Rows.{Row};
 ghost use Rattle.spec_store.specs.Commit.{Setting};
 ghost use Rattle.spec_server.specs.Opening.{OpenedFrom};
 ghost use Rattle.index_tree.specs.Language.{LangRefusal};
-ghost use Rattle.spec_server.specs.Machine.{AreFromClients, Machine};
+ghost use Rattle.spec_server.specs.Machine.{AreFromClients, Line, Machine};
 ghost use Rattle.index_tree.specs.Definitions.{Definition, Texts};
 ghost use Rattle.spec_server.specs.Script.{Given, LineRead, events_of};
+ghost use Rattle.spec_server.specs.WellFormed.{IsWellFormed};
 ghost use Rattle.index_lang.specs.Lines.{AreLines, IsLine};
 ghost use Rattle.index_lang.specs.Openings.{IsOpened, Opens};
 ghost use Rattle.index_lang.specs.Says.{Says};
@@ -26,6 +27,11 @@ pub fn lines_are_read_one_way()
 /// The lines of a script, as they are read, are what clients send: so the laws of runs hold of every script.
 pub fn lines_come_from_clients()
     ensures { (lines : List Given) → AreLines lines → AreFromClients (events_of lines) }
+{}
+
+/// What a line asks meets the conditions of the calls that answer it, without which what they write would not open again.
+pub fn lines_are_well_formed()
+    ensures { (line : List ℕ) (asks : Line) → IsLine line (Ok (Some asks)) → IsWellFormed asks }
 {}
 
 /// Stored rows open one database, or one row is reported as the first that is not valid, and not both.

@@ -14,7 +14,8 @@ use Rattle.spec_server.specs.Machine.{Machine, Request, Put as PutOne, Delete as
 use Rattle.spec_server.specs.Sound.{IsMachine, Sound}
 use Rattle.raven_laws.proofs.MachineLemmas.{AllLeave, settled-leaves, step-Steps}
 use Rattle.raven_laws.proofs.WorldLemmas.{taken_out}
-use Rattle.raven_reopening.specs.Form.{IsByText, AreCommands, AreEvents, IsIndexing, IsValidLine}
+use Rattle.raven_reading.specs.Requests.{IsByText, AreCommands, IsIndexing, IsValidLine}
+use Rattle.raven_reopening.specs.Form.{AreEvents}
 use Rattle.raven_reopening.proofs.FitLemmas.{few_slots, name_of-auto, named-fit}
 use Rattle.raven_reopening.proofs.LastLemmas.{AllLast, Stays, clients-Stay, removal-Stays, server-Stays}
 use Rattle.raven_reopening.proofs.RightLemmas.{AllRight, IsNew, added-right, auto-new, filter-right, pumped-right, pumped_at-right, static-new}

@@ -3,7 +3,6 @@ use Rattle.std.proofs.Common.{◌≡◌, ℕ, ◌≤◌, List, [], ◌∷◌, Bo
 use Rattle.std.proofs.lemmas.Slice.Eq.{bytes_eq-Decides}
 use Rattle.std.specs.List.{list_any}
 use Rattle.std.specs.Ordering.{match_ordering}
-use Rattle.std.specs.Str.{bytes_eq}
 use Rattle.json.proofs.Printed.Utf8.{IsUtf8-are_ascii}
 use Rattle.spec_data.specs.Data.{Data, null, flag, num, text, array, object, Entries, no_entries, entry, depth, entries_depth, entries_of, pairs_of}
 use Rattle.spec_data.specs.Folding.{key_cmp}
@@ -20,7 +19,9 @@ use Rattle.spec_server.specs.Opening.{AutoForm, StaticForm, body_form, form_of, 
 use Rattle.spec_index.specs.World.{row_body}
 use Rattle.spec_store.proofs.KeyedLemmas.{differ_greater}
 use Rattle.spec_data.proofs.MemberLemmas.{IsRising-put, pairs_of-entries_of}
-use Rattle.raven_reopening.specs.Form.{IsRequestBody, IsStorable}
+use Rattle.raven_reading.specs.Requests.{IsRequestBody}
+use Rattle.raven_reading.proofs.PairLemmas.{ArePairsSound, member-depth, member-sound, object-sound, put-depth, put-sound}
+use Rattle.raven_reopening.specs.Form.{IsStorable}
 use Rattle.raven_reopening.proofs.ReadLemmas.{IsReadBack, document-back}
 
 entries-pairs : (ms : Entries) → entries_of (pairs_of ms) ≡ ms
@@ -29,26 +30,9 @@ entries-pairs (entry k d ms) = ap (entry k d) (entries-pairs ms)
 
 -- SOUND MEMBERS
 
--- each name and each value is sound
-abbrev pub ArePairsSound : Pairs → Type 0
-ArePairsSound [] = Unit {0}
-ArePairsSound (m ∷ ms) = IsUtf8 m.0 × (IsSound m.1 × ArePairsSound ms)
-
 pairs-sound : (ms : Entries) → HasSound ms → ArePairsSound (pairs_of ms)
 pairs-sound no_entries h = tt
 pairs-sound (entry k d ms) h = (h.0, (h.1.0, pairs-sound ms h.1.1))
-
-entries-sound : (ps : Pairs) → ArePairsSound ps → HasSound (entries_of ps)
-entries-sound [] h = tt
-entries-sound (p ∷ ps) h = (h.0, (h.1.0, entries-sound ps h.1.1))
-
-pub put-sound : (k : List ℕ) (d : Data) (ps : Pairs) → IsUtf8 k → IsSound d → ArePairsSound ps → ArePairsSound (put k d ps)
-put-sound k d [] u s h = (u, (s, tt))
-put-sound k d (p ∷ ps) u s h = elim (key_cmp k p.0) as (λ o. ArePairsSound (match_ordering o ((k, d) ∷ p ∷ ps) ((k, d) ∷ ps) (p ∷ put k d ps))) [
-  | Less ↦ (u, (s, h))
-  | Equal ↦ (u, (s, h.1.1))
-  | Greater ↦ (h.0, (h.1.0, put-sound k d ps u s h.1.1))
-]
 
 filter-sound : (p : List ℕ × Data → Bool) (ps : Pairs) → ArePairsSound ps → ArePairsSound (filter p ps)
 filter-sound p [] h = tt
@@ -65,30 +49,7 @@ rising-filter : (p : List ℕ × Data → Bool) (ps : Pairs) → IsRising ps →
 rising-filter p [] h = tt
 rising-filter p (m ∷ ps) h = elim (p m) as (λ b. IsRising (cond b (m ∷ filter p ps) (filter p ps))) [ true ↦ (below-filter m.0 p ps h.0, rising-filter p ps h.1) | false ↦ rising-filter p ps h.1 ]
 
-same_value : (a b : Data) → Some a ≡ Some b → a ≡ b
-same_value a b h = cc
-
-pub member-sound : (k : List ℕ) (ms : Entries) (d : Data) → HasSound ms → member k ms ≡ Some d → IsSound d
-member-sound k no_entries d h is = absurd cc
-member-sound k (entry l e ms) d h is = elim (bytes_eq k l) as (λ b. cond b (Some e) (member k ms) ≡ Some d → IsSound d) [
-  | true ↦ λ g. subst IsSound (same_value e d g) h.1.0
-  | false ↦ λ g. member-sound k ms d h.1.1 g
-] is
-
-pub object-sound : (ps : Pairs) → IsRising ps → ArePairsSound ps → IsSound (object (entries_of ps))
-object-sound ps up h = (subst (λ (x : Pairs). IsRising x) (sym (pairs_of-entries_of ps)) up, entries-sound ps h)
-
 -- HOW DEEP MEMBERS ARE
-
-pub put-depth : (k : List ℕ) (d : Data) (ps : Pairs) (n : ℕ) → depth d ≤ n → entries_depth (entries_of ps) ≤ n → entries_depth (entries_of (put k d ps)) ≤ n
-put-depth k d [] n le h = omega arith
-put-depth k d (p ∷ ps) n le h =
-    let more = put-depth k d ps n le (omega arith) in
-    elim (key_cmp k p.0) as (λ o. entries_depth (entries_of (match_ordering o ((k, d) ∷ p ∷ ps) ((k, d) ∷ ps) (p ∷ put k d ps))) ≤ n) [
-      | Less ↦ omega arith
-      | Equal ↦ omega arith
-      | Greater ↦ omega arith
-    ]
 
 filter-depth : (p : List ℕ × Data → Bool) (ps : Pairs) → entries_depth (entries_of (filter p ps)) ≤ entries_depth (entries_of ps)
 filter-depth p [] = omega arith
@@ -96,13 +57,6 @@ filter-depth p (m ∷ ps) = let more = filter-depth p ps in elim (p m) as (λ b.
   | true ↦ omega arith
   | false ↦ omega arith
 ]
-
-pub member-depth : (k : List ℕ) (ms : Entries) (d : Data) → member k ms ≡ Some d → depth d ≤ entries_depth ms
-member-depth k no_entries d is = absurd cc
-member-depth k (entry l e ms) d is = elim (bytes_eq k l) as (λ b. cond b (Some e) (member k ms) ≡ Some d → depth d ≤ entries_depth (entry l e ms)) [
-  | true ↦ λ g. let same = ap depth (same_value e d g) in omega arith
-  | false ↦ λ g. let more = member-depth k ms d g in omega arith
-] is
 
 -- CLEAN METADATA
 

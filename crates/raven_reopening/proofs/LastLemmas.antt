@@ -25,7 +25,7 @@ use Rattle.raven_laws.proofs.LimitLemmas.{all_none, takes, unspent}
 use Rattle.raven_laws.proofs.ListedLemmas.{unreserved}
 use Rattle.raven_laws.proofs.OpenLemmas.{folded-drop}
 use Rattle.raven_laws.proofs.SlotLemmas.{Has-append, Has-filter, find-Has}
-use Rattle.raven_reopening.specs.Form.{IsRequestBody, IsCommand, AreCommands}
+use Rattle.raven_reading.specs.Requests.{IsRequestBody, IsCommand, AreCommands}
 use Rattle.raven_reopening.proofs.ReadLemmas.{IsBack}
 use Rattle.raven_reopening.proofs.BodyLemmas.{stored-back}
 use Rattle.raven_reopening.proofs.FitLemmas.{index_id-fit}

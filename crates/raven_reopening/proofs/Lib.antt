@@ -7,7 +7,4 @@ pub mod RightLemmas
 pub mod AgainLemmas
 pub mod OpenedLemmas
 pub mod BackLemmas
-pub mod Utf8Lemmas
-pub mod LexLemmas
-pub mod SoundLemmas
 pub mod LineLemmas

@@ -15,7 +15,7 @@ use Rattle.raven_laws.proofs.MachineLemmas.{Keeps, brought-Keeps}
 use Rattle.raven_laws.proofs.SlotLemmas.{Has-append, Has-filter, Has-map}
 use Rattle.index_lang.specs.Openings.{IsInBody, IsOfForm}
 use Rattle.index_lang.specs.Says.{Says}
-use Rattle.raven_reopening.specs.Form.{IsRequestBody, IsByText, IsIndexing}
+use Rattle.raven_reading.specs.Requests.{IsRequestBody, IsByText, IsIndexing}
 use Rattle.raven_reopening.proofs.BodyLemmas.{auto-back, definition-body, static-body}
 use Rattle.raven_reopening.proofs.FitLemmas.{static_name-fit}
 

@@ -1,19 +1,15 @@
--- Which rows can be stored and read again, and which requests write only such rows.
-use Rattle.std.specs.Prelude.{◌≡◌, ℕ, ◌<◌, ◌≤◌, List, [], ◌∷◌, None, Ok, IsTrue, IsUtf8, length}
-use Rattle.spec_data.specs.Data.{Data, Entries, object, depth}
-use Rattle.spec_data.specs.Faults.{is_fit, max_id, max_name}
+-- Which rows can be stored and read again, and which events and lines write only such rows.
+use Rattle.std.specs.Prelude.{◌<◌, ◌≤◌, List, [], ◌∷◌, IsTrue, length}
+use Rattle.spec_data.specs.Data.{Data, depth}
+use Rattle.spec_data.specs.Faults.{is_fit, max_id}
 use Rattle.spec_data.specs.Moments.{moments_end}
 use Rattle.spec_data.specs.Rows.{Row, Body, doc, gone}
 use Rattle.spec_data.specs.Sound.{IsSound}
 use Rattle.spec_data.specs.Written.{text_of}
-use Rattle.spec_store.specs.Commit.{Command, Put, Delete}
 use Rattle.spec_store.specs.Kept.{is_etag, is_stored, max_body}
-use Rattle.spec_server.specs.Machine.{Event, Line, Do, Request, Define, Auto, commands_in}
-use Rattle.index_tree.specs.Definitions.{Definition, Texts}
-use Rattle.spec_server.specs.Opening.{is_part}
+use Rattle.spec_server.specs.Machine.{Event}
 use Rattle.spec_server.specs.Script.{Given}
-use Rattle.raven_laws.specs.Opened.{AgreesWithTexts}
-use Rattle.index_lang.specs.Says.{Says}
+use Rattle.raven_reading.specs.Requests.{IsValidLine}
 
 -- ROWS
 
@@ -39,45 +35,7 @@ abbrev pub AreValidRows : List Row → Type 0
 AreValidRows [] = Unit {0}
 AreValidRows (r ∷ rows) = IsValidRow r × AreValidRows rows
 
--- REQUESTS
-
--- a body that the program can hold: a sound object at most a hundred deep
-pub record IsRequestBody (d : Data) : Type 0 where
-  pub sound : IsSound d
-  pub shallow : depth d ≤ 100
-  pub members : Entries
-  pub an_object : d ≡ object members
-
-abbrev pub IsCommand : Command → Type 0
-IsCommand (Put id expected body) = IsTrue (is_fit max_id id) × IsRequestBody body
-IsCommand (Delete id expected) = Unit {0}
-
-abbrev pub AreCommands : List Command → Type 0
-AreCommands [] = Unit {0}
-AreCommands (c ∷ cs) = IsCommand c × AreCommands cs
-
--- The name is valid, and the definition is what some texts say. These have none of a reduce, since a body with one is not read yet.
-pub record IsByText (name : List ℕ) (d : Definition) : Type 0 where
-  pub fit : IsTrue (is_fit max_name name)
-  pub texts : Texts
-  pub utf8 : IsUtf8 texts.0
-  pub no_reduce : texts.1 ≡ None
-  pub by_texts : AgreesWithTexts texts d
-  pub says : Says texts (Ok d)
-
--- the field of an Auto can be a part of a path; the definition of a Define is by texts
-abbrev pub IsIndexing : Request → Type 0
-IsIndexing (Auto collection field) = IsUtf8 collection × (IsUtf8 field × IsTrue (is_part field))
-IsIndexing (Define name definition) = IsByText name definition
-IsIndexing other = Unit {0}
-
--- what the request asks to write can be stored and read again
-pub record IsValidRequest (request : Request) : Type 0 where
-  pub commands : AreCommands (commands_in request)
-  pub indexing : IsIndexing request
-
-abbrev pub IsValidLine : Line → Type 0
-IsValidLine (Do request) = IsValidRequest request
+-- EVENTS
 
 pub record IsEvent (e : Event) : Type 0 where
   pub moment : e.now < moments_end

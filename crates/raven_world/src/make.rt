@@ -1,6 +1,7 @@
 //! Automatic indexes: the one that serves a query, or a new one.
-ghost use Rattle.std.specs.Prelude.{◌≡◌, ◌+◌, IfOk, IfSome, false, length, nat_le};
+ghost use Rattle.std.specs.Prelude.{◌≡◌, ◌+◌, IfOk, IfSome, false, length, nat_le, true};
 ghost use Rattle.spec_server.specs.Machine.{Auto as AutoOne, course_of, one_field};
+ghost use Rattle.spec_server.specs.Opening.{is_part};
 ghost use Rattle.spec_index.specs.Optimiser.{Make, name_of, pick as spec_pick};
 ghost use Rattle.spec_store.specs.Store.{last};
 ghost use Rattle.raven_world.specs.WorldView.{AnswersQuery, answer_view};
@@ -25,7 +26,8 @@ impl World {
         auto_name(alloc, &self.slots, self.next_number(), collection, field)
     }
 
-    /// Makes an automatic index for a query of one field of a collection.
+    /// Makes an automatic index for a query of one field of a collection. The field can be a part of a path; an index of another would not
+    /// open again.
     pub fn make(
         &self,
         alloc: Global,
@@ -33,7 +35,8 @@ impl World {
         field: &Text,
         now: u64,
     ) -> Result<Change, WorldFault>
-        requires { spec_pick (one_field collection.now field.now) self.now.store self.now.slots ≡ Make (one_field collection.now field.now) }
+        requires part { is_part field.now ≡ true }
+        requires picked { spec_pick (one_field collection.now field.now) self.now.store self.now.slots ≡ Make (one_field collection.now field.now) }
         ensures { IfSome (answer_view result) (λ course. course ≡ course_of self.now now (AutoOne collection.now field.now)) }
     {
         if self.is_crowded() {

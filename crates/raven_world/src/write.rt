@@ -1,7 +1,8 @@
 //! Writes of clients.
-ghost use Rattle.std.specs.Prelude.{◌≡◌, ◌∷◌, [], IfOk, IfSome, map};
+ghost use Rattle.std.specs.Prelude.{◌≡◌, ◌∷◌, [], IfOk, IfSome, map, true};
 ghost use Rattle.spec_server.specs.Machine.{refused_at as spec_refused_at, result_of as spec_result_of, results_of as spec_results_of, in_world, one_change, single_reply, write};
 ghost use Rattle.spec_server.specs.Replies.{Bulk};
+ghost use Rattle.spec_server.specs.WellFormed.{put_bodies, puts_body};
 ghost use Rattle.doc_txn.specs.CommandView.{command_view};
 ghost use Rattle.doc_txn.specs.FaultView.{kind_view};
 ghost use Rattle.raven_reply.specs.ReplyView.{reply_view, result_view};
@@ -150,7 +151,7 @@ impl World {
         })
     }
 
-    /// Takes one command, and replies to it.
+    /// Takes one command, and replies to it. A document that it puts is an object at most 100 deep; another would not open again.
     #[tactic(auto, using(crate::proofs::Steps::writes))]
     pub fn commit_one(
         &self,
@@ -158,6 +159,7 @@ impl World {
         command: Command,
         now: u64,
     ) -> Result<Change, WorldFault>
+        requires { puts_body (command_view command) ≡ true }
         ensures { IfSome (answer_view result) (λ course. course ≡ write self.now single_reply now (command_view command ∷ [])) }
     {
         let mut commands = Commands::new(alloc);
@@ -167,9 +169,10 @@ impl World {
         Ok(self.changed(alloc, done, reply)?)
     }
 
-    /// Takes commands in order, all of them or none, and replies to each.
+    /// Takes commands in order, all of them or none, and replies to each. The documents are as for `commit_one`.
     #[tactic(auto, using(crate::proofs::Steps::writes))]
     pub fn commit(&self, alloc: Global, commands: &Commands, now: u64) -> Result<Change, WorldFault>
+        requires { put_bodies (map command_view commands.now) ≡ true }
         ensures { IfSome (answer_view result) (λ course. course ≡ write self.now Bulk now (map command_view commands.now)) }
     {
         let done = self.transact(alloc, commands, now)?;

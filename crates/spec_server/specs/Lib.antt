@@ -5,4 +5,5 @@ pub mod Lines
 pub mod Script
 pub mod Codes
 pub mod Opening
+pub mod WellFormed
 pub mod Options

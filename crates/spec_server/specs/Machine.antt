@@ -102,7 +102,8 @@ pub record Change : Type 0 where
   pub rows : List Row
   pub world : World
 
--- What a request does: changes, each of the world that the one before it leaves, and the reply if all of them are made.
+-- What a request does: changes, each of the world that the one before it leaves, and the reply if all of them are made. A change that is refused
+-- is none: its refusal is then the reply, and the changes before it are the whole course.
 pub record Course : Type 0 where
   pub changes : List Change
   pub reply : Reply

@@ -18,5 +18,5 @@ returns c =
     let body = ap (λ (d : Definition). definition_view d.body) c.in_ok-shared.ensures ∙ c.in_ok-definition.ensures.body in
     subst (λ x. IfSome (answer_view c.add.result) (λ course. course ≡ x))
     ((λ i. change_of_slots W c.args.now Index (named i) (Ok (added W (named i) (definition_view c.in_ok-shared.field-0.value.body))))
-    ∙ make-told W c.args.now c.args.collection.now c.args.field.now c.in_ok-name.name (definition_view c.in_ok-shared.field-0.value.body) c.requires few c.in_ok-name.ensures free body)
+    ∙ make-told W c.args.now c.args.collection.now c.args.field.now c.in_ok-name.name (definition_view c.in_ok-shared.field-0.value.body) c.requires.picked few c.in_ok-name.ensures free body)
     c.add.ensures

@@ -24,8 +24,8 @@ use Rattle.spec_data.specs.Scan.{is_too_deep, outside}
 use Rattle.spec_data.specs.Sound.{IsSound, AreSound}
 use Rattle.spec_store.proofs.StoreLemmas.{both_true}
 use Rattle.spec_data.proofs.MemberLemmas.{IsRising-put}
-use Rattle.raven_reopening.proofs.BodyLemmas.{ArePairsSound, put-sound, put-depth, object-sound}
-use Rattle.raven_reopening.proofs.LexLemmas.{AreGood, tokens-good}
+use Rattle.raven_reading.proofs.PairLemmas.{ArePairsSound, put-sound, put-depth, object-sound}
+use Rattle.raven_reading.proofs.LexLemmas.{AreGood, tokens-good}
 
 -- TREES: nested no deeper than n, with UTF-8 texts
 
