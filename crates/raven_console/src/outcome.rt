@@ -1,6 +1,6 @@
 //! What a request leaves.
-ghost use Rattle.std.specs.Prelude.{◌≡◌, IfOk, Some, true};
-ghost use Rattle.spec_server.specs.Machine.{Auto, Do, course_of, only_reply};
+ghost use Rattle.std.specs.Prelude.{◌≡◌, ◌≤◌, IfOk, Some, true};
+ghost use Rattle.spec_server.specs.Machine.{Auto, Do, course_of, only_reply, pump_for};
 ghost use Rattle.spec_server.specs.Opening.{is_part};
 ghost use Rattle.spec_server.specs.WellFormed.{IsWellFormed};
 ghost use Rattle.raven_script.specs.RequestView.{request_view};
@@ -9,11 +9,13 @@ ghost use Rattle.raven_reply.specs.ReplyView.{reply_view};
 ghost use Rattle.raven_console.specs.OutcomeView.{outcome_view};
 
 use doc_txn::Command;
-use raven_base::NoMemory;
+use raven_base::{NoMemory, Steps};
 use raven_script::Request;
-use raven_value::{Rows, Text};
+use raven_value::{Name, Rows, Text};
 use raven_world::{Answered, Change, Reply, World, WorldFault};
 use std::alloc::Global;
+use std::marker::Brand;
+use std::sync::ledger::{Blank, Ledger};
 
 /// A change that waits for the keeper: the rows to store, and the world once they are stored.
 #[derive(Drop)]
@@ -74,6 +76,26 @@ fn picked(
     }
 }
 
+// A batch for each index, or for the one that is named. Nobody reads the counter.
+fn pumped<L: Ledger>(
+    alloc: Global,
+    world: &World,
+    max: u32,
+    index: Option<Name>,
+    blank: Blank,
+) -> Result<Outcome, NoMemory>
+    requires name { blank.name ≡ L.name }
+    requires parts { blank.parts ≡ L.parts }
+    requires enough { 3 ≤ blank.parts }
+    ensures { IfOk result (λ outcome. outcome_view outcome ≡ pump_for world.now max index) }
+{
+    let mut steps = Steps::<L>::new(blank);
+    match index {
+        None => Ok(changed(world.pump(alloc, max, &mut steps)?)),
+        Some(name) => settled(world.pump_one(alloc, max, &name, &mut steps)),
+    }
+}
+
 /// What the request leaves of the world, at this moment.
 pub fn outcome_of(
     alloc: Global,
@@ -101,11 +123,7 @@ pub fn outcome_of(
         }
         Request::Define { definition } => settled(world.define(alloc, definition, now)),
         Request::Remove { name } => settled(world.remove(alloc, &name, now)),
-        Request::Pump { max, index: None } => Ok(changed(world.pump(alloc, max)?)),
-        Request::Pump {
-            max,
-            index: Some(name),
-        } => settled(world.pump_one(alloc, max, &name)),
+        Request::Pump { max, index } => pumped::<Brand>(alloc, world, max, index, Blank::new(3)),
         Request::Stale { name, cutoff } => Ok(unchanged(world.stale(alloc, &name, cutoff)?)),
         Request::Indexes => Ok(unchanged(world.indexes(alloc)?)),
         Request::Stats => Ok(unchanged(world.stats())),

@@ -3,3 +3,4 @@ pub mod Steps
 pub mod Pairs
 pub mod Openings
 pub mod Choices
+pub mod Batches

@@ -4,3 +4,4 @@ pub mod Roomy
 pub mod Transacts
 pub mod Kinds
 pub mod Opened
+pub mod Batches

@@ -1,11 +1,13 @@
 //! One batch for each index, or for one.
-ghost use Rattle.std.specs.Prelude.{◌≡◌, ◌≤◌, ◌∷◌, [], IfOk, IfSome, map, option_map};
-ghost use Rattle.spec_server.specs.Machine.{after_batch as spec_brought_on, after_batch_if_named as spec_brought_on_if, pump, pump_at, pumping};
-ghost use Rattle.spec_index.specs.World.{batch, serving as spec_serving};
+ghost use Rattle.std.specs.Prelude.{◌≡◌, ◌+◌, ◌≤◌, [], None, Some, IfOk, IfSome, cond, filter, length, map, option_map};
+ghost use Rattle.spec_server.specs.Machine.{after_batch as spec_after_batch, after_batch_if_named as spec_after_batch_if_named, in_world, one_change, pump, pump_at, pumping};
+ghost use Rattle.spec_server.specs.Replies.{Pumped as PumpedAll};
+ghost use Rattle.spec_index.specs.World.{batch, is_named as spec_is_named, serving as spec_serving};
+ghost use Rattle.raven_world.specs.Batches.{pumped_one, touched_by, touched_by_all};
 ghost use Rattle.raven_world.specs.WorldView.{change_view, answer_view};
 
 use crate::answer::no_index;
-use crate::slot::{Slot, is_named, serving};
+use crate::slot::{Slot, is_named};
 use crate::world::{Change, World, WorldFault};
 use doc_store::Store;
 use index_batch::next;
@@ -14,39 +16,27 @@ use raven_base::{NoMemory, Steps};
 use raven_reply::{Pumping, Pumpings, Reply};
 use raven_value::{Name, Rows};
 use std::alloc::Global;
-use std::marker::Brand;
 use std::sync::Arc;
-use std::sync::ledger::{Blank, Ledger};
+use std::sync::ledger::Ledger;
 
-// What a batch gives for a slot, if it has not seen all rows. Nobody reads the counter.
+// What a batch gives for a slot, if it has not seen all rows.
 fn next_batch<L: Ledger>(
     alloc: Global,
     store: &Store,
     max: u32,
     slot: &Slot,
-    blank: Blank,
+    steps: &mut Steps<L>,
 ) -> Result<Option<IndexVersion>, NoMemory>
-    requires name { blank.name ≡ L.name }
-    requires parts { blank.parts ≡ L.parts }
-    requires enough { 3 ≤ blank.parts }
-    ensures { IfOk result (λ next. option_map (λ index. index.version) next ≡ batch slot.now.version store.now max) }
+    ensures version { IfOk result (λ next. option_map (λ index. index.version) next ≡ batch slot.now.version store.now max) }
+    ensures maps { steps.new.maps ≤ steps.old.maps + length (touched_by store.now max slot.now) }
+    ensures merges { steps.new.merges ≡ steps.old.merges }
+    ensures reads { steps.new.reads ≡ steps.old.reads }
 {
     let version = &slot.version;
     let mapper = DefinitionMapper {
         definition: version.definition(),
     };
-    let mut steps = Steps::<L>::new(blank);
-    next(alloc, version, store, &mapper, max, &mut steps)
-}
-
-fn brought_on(alloc: Global, store: &Store, max: u32, slot: &Slot) -> Result<Slot, NoMemory>
-    ensures { IfOk result (λ new. new ≡ spec_brought_on store.now max slot.now) }
-{
-    let Some(version) = next_batch::<Brand>(alloc, store, max, slot, Blank::new(3))? else {
-        return Ok(slot.clone()?);
-    };
-    let version = Arc::new(alloc, version)?;
-    with_version(slot, version)
+    next(alloc, version, store, &mapper, max, steps)
 }
 
 fn with_version(slot: &Slot, version: Arc<IndexVersion>) -> Result<Slot, NoMemory>
@@ -60,6 +50,25 @@ fn with_version(slot: &Slot, version: Arc<IndexVersion>) -> Result<Slot, NoMemor
     })
 }
 
+fn after_batch<L: Ledger>(
+    alloc: Global,
+    store: &Store,
+    max: u32,
+    slot: &Slot,
+    steps: &mut Steps<L>,
+) -> Result<Slot, NoMemory>
+    ensures slot { IfOk result (λ new. new ≡ spec_after_batch store.now max slot.now) }
+    ensures maps { steps.new.maps ≤ steps.old.maps + length (touched_by store.now max slot.now) }
+    ensures merges { steps.new.merges ≡ steps.old.merges }
+    ensures reads { steps.new.reads ≡ steps.old.reads }
+{
+    let Some(version) = next_batch(alloc, store, max, slot, steps)? else {
+        return Ok(slot.clone()?);
+    };
+    let version = Arc::new(alloc, version)?;
+    with_version(slot, version)
+}
+
 fn pumping_of(before: &Slot, now: &Slot) -> Result<Pumping, NoMemory>
     ensures { IfOk result (λ pumping. pumping ≡ record { from = before.now.version.etag; index = before.now.name; to = now.now.version.etag }) }
 {
@@ -70,96 +79,160 @@ fn pumping_of(before: &Slot, now: &Slot) -> Result<Pumping, NoMemory>
     })
 }
 
-fn all_brought_on(
+// The slot after a batch, and what the batch did to it.
+fn brought_on<L: Ledger>(
+    alloc: Global,
+    store: &Store,
+    max: u32,
+    slot: &Slot,
+    steps: &mut Steps<L>,
+) -> Result<(Slot, Pumping), NoMemory>
+    ensures slot { IfOk result (λ new. new.0 ≡ spec_after_batch store.now max slot.now) }
+    ensures pumped { IfOk result (λ new. new.1 ≡ pumping store.now max slot.now) }
+    ensures maps { steps.new.maps ≤ steps.old.maps + length (touched_by store.now max slot.now) }
+    ensures merges { steps.new.merges ≡ steps.old.merges }
+    ensures reads { steps.new.reads ≡ steps.old.reads }
+{
+    let brought = after_batch(alloc, store, max, slot, steps)?;
+    let pumped = pumping_of(slot, &brought)?;
+    Ok((brought, pumped))
+}
+
+fn all_brought_on<L: Ledger>(
     alloc: Global,
     store: &Store,
     max: u32,
     slots: &[Slot],
-) -> Result<(Vec<Slot>, Vec<Pumping>), NoMemory>
-    ensures slots { IfOk result (λ new. new.0.items ≡ map (spec_brought_on store.now max) slots.now) }
-    ensures pumped { IfOk result (λ new. new.1.items ≡ map (pumping store.now max) slots.now) }
+    steps: &mut Steps<L>,
+) -> Result<(Vec<Slot>, Pumpings), NoMemory>
+    ensures slots { IfOk result (λ new. new.0.items ≡ map (spec_after_batch store.now max) slots.now) }
+    ensures pumped { IfOk result (λ new. new.1 ≡ map (pumping store.now max) slots.now) }
+    ensures maps { steps.new.maps ≤ steps.old.maps + length (touched_by_all store.now max slots.now) }
+    ensures merges { steps.new.merges ≡ steps.old.merges }
+    ensures reads { steps.new.reads ≡ steps.old.reads }
 {
-    let mut new = Vec::new(alloc);
-    let mut pumped = Vec::new(alloc);
+    let mut new = Vec::with_capacity(alloc, slots.len())?;
+    let mut all = Pumpings::new(alloc);
     for slot in slots {
-        let brought = brought_on(alloc, store, max, slot)?;
-        pumped.push(pumping_of(slot, &brought)?)?;
+        let (brought, pumped) = brought_on(alloc, store, max, slot, steps)?;
         new.push(brought)?;
+        all.push(pumped)?;
     }
-    Ok((new, pumped))
+    Ok((new, all))
 }
 
-fn brought_on_if(
+// The slot, after a batch if it serves the name, and what that batch did to it.
+fn brought_on_if<L: Ledger>(
     alloc: Global,
     store: &Store,
     max: u32,
     name: &Name,
     slot: &Slot,
-) -> Result<Slot, NoMemory>
-    ensures { IfOk result (λ new. new ≡ spec_brought_on_if store.now max name.now slot.now) }
+    steps: &mut Steps<L>,
+) -> Result<(Slot, Option<Pumping>), NoMemory>
+    ensures slot { IfOk result (λ new. new.0 ≡ spec_after_batch_if_named store.now max name.now slot.now) }
+    ensures pumped { IfOk result (λ new. new.1 ≡ cond (spec_is_named name.now slot.now) (Some (pumping store.now max slot.now)) None) }
+    ensures maps { steps.new.maps ≤ steps.old.maps + cond (spec_is_named name.now slot.now) (length (touched_by store.now max slot.now)) 0 }
+    ensures merges { steps.new.merges ≡ steps.old.merges }
+    ensures reads { steps.new.reads ≡ steps.old.reads }
 {
-    if is_named(slot, name.as_str()) {
-        brought_on(alloc, store, max, slot)
-    } else {
-        Ok(slot.clone()?)
+    if !is_named(slot, name.as_str()) {
+        return Ok((slot.clone()?, None));
     }
+    let (brought, pumped) = brought_on(alloc, store, max, slot, steps)?;
+    Ok((brought, Some(pumped)))
 }
 
-fn one_brought_on(
+// All slots, those that serve the name after a batch, and what it did to the first of these. In a sound world one slot serves
+// a name.
+fn one_brought_on<L: Ledger>(
     alloc: Global,
     store: &Store,
     max: u32,
     name: &Name,
     slots: &[Slot],
-) -> Result<Vec<Slot>, NoMemory>
-    ensures { IfOk result (λ new. new.items ≡ map (spec_brought_on_if store.now max name.now) slots.now) }
+    steps: &mut Steps<L>,
+) -> Result<(Vec<Slot>, Option<Pumping>), NoMemory>
+    ensures slots { IfOk result (λ new. new.0.items ≡ map (spec_after_batch_if_named store.now max name.now) slots.now) }
+    ensures pumped { IfOk result (λ new. new.1 ≡ option_map (pumping store.now max) (spec_serving slots.now name.now)) }
+    ensures maps { steps.new.maps ≤ steps.old.maps + length (touched_by_all store.now max (filter (spec_is_named name.now) slots.now)) }
+    ensures merges { steps.new.merges ≡ steps.old.merges }
+    ensures reads { steps.new.reads ≡ steps.old.reads }
 {
     let mut new = Vec::with_capacity(alloc, slots.len())?;
+    let mut first: Option<Pumping> = None;
     for slot in slots {
-        new.push(brought_on_if(alloc, store, max, name, slot)?)?;
+        let (brought, pumped) = brought_on_if(alloc, store, max, name, slot, steps)?;
+        new.push(brought)?;
+        first = first.or(pumped);
     }
-    Ok(new)
-}
-
-// What a batch does to one slot, as a list.
-fn pumping_alone(alloc: Global, store: &Store, max: u32, slot: &Slot) -> Result<Pumpings, NoMemory>
-    ensures { IfOk result (λ pumped. pumped ≡ pumping store.now max slot.now ∷ []) }
-{
-    let brought = brought_on(alloc, store, max, slot)?;
-    let mut pumped = Pumpings::new(alloc);
-    pumped.push(pumping_of(slot, &brought)?)?;
-    Ok(pumped)
+    Ok((new, first))
 }
 
 impl World {
-    /// Each index catches up by one batch of at most `max` rows.
-    pub fn pump(&self, alloc: Global, max: u32) -> Result<Change, NoMemory>
-        ensures { IfOk result (λ change. change_view change ≡ pump self.now max) }
+    // The world with these slots, after batches that did this.
+    fn after_batches(
+        &self,
+        alloc: Global,
+        slots: Vec<Slot>,
+        pumped: Pumpings,
+    ) -> Result<Change, NoMemory>
+        ensures { IfOk result (λ change. change_view change ≡ one_change (PumpedAll pumped) [] (in_world self.now self.now.store slots.items)) }
     {
-        let (slots, pumped) = all_brought_on(alloc, &self.store, max, &self.slots)?;
         let world = self.with_slots(slots)?;
-        let reply = Reply::Pumped {
-            pumped: Pumpings::of(pumped),
-        };
+        let reply = Reply::Pumped { pumped };
         let rows = Rows::new(alloc);
         Ok(Change { world, rows, reply })
     }
 
-    /// The index of this name catches up by one batch of at most `max` rows.
-    pub fn pump_one(&self, alloc: Global, max: u32, name: &Name) -> Result<Change, WorldFault>
-        ensures { IfSome (answer_view result) (λ course. course ≡ pump_at self.now max name.now (spec_serving self.now.slots name.now)) }
+    // The same after a batch for the index of a name, or the refusal if no index serves it.
+    fn after_one(
+        &self,
+        alloc: Global,
+        name: &Name,
+        slots: Vec<Slot>,
+        pumped: Option<Pumping>,
+    ) -> Result<Change, WorldFault>
+        ensures { IfSome (answer_view result) (λ course. course ≡ pumped_one self.now name.now slots.items pumped) }
     {
-        let Some(slot) = serving(&self.slots, name.as_str()) else {
+        let Some(pumped) = pumped else {
             return Err(WorldFault::Refused(no_index(alloc, name)?));
         };
-        let pumped = pumping_alone(alloc, &self.store, max, slot)?;
-        let slots = one_brought_on(alloc, &self.store, max, name, &self.slots)?;
-        let world = self.with_slots(slots)?;
-        let rows = Rows::new(alloc);
-        Ok(Change {
-            world,
-            rows,
-            reply: Reply::Pumped { pumped },
-        })
+        let mut all = Pumpings::new(alloc);
+        all.push(pumped)?;
+        Ok(self.after_batches(alloc, slots, all)?)
+    }
+
+    /// Each index catches up by one batch of at most `max` rows. A document that several of them map counts for each.
+    pub fn pump<L: Ledger>(
+        &self,
+        alloc: Global,
+        max: u32,
+        steps: &mut Steps<L>,
+    ) -> Result<Change, NoMemory>
+        ensures change { IfOk result (λ change. change_view change ≡ pump self.now max) }
+        ensures maps { steps.new.maps ≤ steps.old.maps + length (touched_by_all self.now.store max self.now.slots) }
+        ensures merges { steps.new.merges ≡ steps.old.merges }
+        ensures reads { steps.new.reads ≡ steps.old.reads }
+    {
+        let (slots, pumped) = all_brought_on(alloc, &self.store, max, &self.slots, steps)?;
+        self.after_batches(alloc, slots, pumped)
+    }
+
+    /// The index of this name catches up by one batch of at most `max` rows.
+    pub fn pump_one<L: Ledger>(
+        &self,
+        alloc: Global,
+        max: u32,
+        name: &Name,
+        steps: &mut Steps<L>,
+    ) -> Result<Change, WorldFault>
+        ensures course { IfSome (answer_view result) (λ course. course ≡ pump_at self.now max name.now (spec_serving self.now.slots name.now)) }
+        ensures maps { steps.new.maps ≤ steps.old.maps + length (touched_by_all self.now.store max (filter (spec_is_named name.now) self.now.slots)) }
+        ensures merges { steps.new.merges ≡ steps.old.merges }
+        ensures reads { steps.new.reads ≡ steps.old.reads }
+    {
+        let (slots, pumped) = one_brought_on(alloc, &self.store, max, name, &self.slots, steps)?;
+        self.after_one(alloc, name, slots, pumped)
     }
 }

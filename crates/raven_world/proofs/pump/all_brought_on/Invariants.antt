@@ -1,9 +1,13 @@
-use Rattle.std.proofs.Common.{◌≡◌, ◌++◌, drop, map}
+use Rattle.std.proofs.Common.{◌≡◌, ◌+◌, ◌≤◌, ◌++◌, drop, length, map}
 use Rattle.spec_server.specs.Machine.{after_batch, pumping}
+use Rattle.raven_world.specs.Batches.{touched_by_all}
 use Rattle.raven_world.proofs.pump.all_brought_on.Given as goal
 
 abbrev pub invariant-loop-slot : goal.invariant-loop-slot
-invariant-loop-slot l = record {
+invariant-loop-slot g l = record {
   slots : l.new.items ++ map (after_batch l.store l.max) (drop l.slot-index l.slots) ≡ map (after_batch l.store l.max) l.slots;
-  pumped : l.pumped.items ++ map (pumping l.store l.max) (drop l.slot-index l.slots) ≡ map (pumping l.store l.max) l.slots;
+  pumped : l.all ++ map (pumping l.store l.max) (drop l.slot-index l.slots) ≡ map (pumping l.store l.max) l.slots;
+  maps : l.steps.maps + length (touched_by_all l.store l.max (drop l.slot-index l.slots)) ≤ l.fn.steps.maps + length (touched_by_all l.store l.max l.slots);
+  merges : l.steps.merges ≡ l.fn.steps.merges;
+  reads : l.steps.reads ≡ l.fn.steps.reads;
 }

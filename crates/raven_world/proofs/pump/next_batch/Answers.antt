@@ -1,8 +1,11 @@
-use Rattle.std.proofs.Common.{◌∙◌, ap, subst, sym}
+use Rattle.std.proofs.Common.{◌∙◌, ◌+◌, ◌≤◌, ap, length, subst, sym}
+use Rattle.spec_store.specs.Stale.{batch_rows}
+use Rattle.spec_index.specs.World.{Slot, Version, reads}
 use Rattle.index_definition.specs.DefinitionView.{definition_view}
 use Rattle.index_definition.specs.declared.definition.Definition.{Definition}
 use Rattle.index_version.specs.Meaning.{Means, found_meaning}
 use Rattle.index_version.specs.Named.{NamedVersion}
+use Rattle.index_version.specs.Renewed.{touched_documents}
 use Rattle.index_version.proofs.Meanings.{definition_means}
 use Rattle.raven_world.proofs.pump.next_batch.Goals as goal
 
@@ -14,3 +17,8 @@ next-requires g c =
           (ap (λ (d : Definition). definition_view d.body) c.deref-2.ensures ∙ c.definition.ensures.body ∙ ap (λ (v : NamedVersion). v.version.definition) (c.deref.ensures ∙ sym c.deref-3.ensures))
           (definition_means own);
     }
+
+pub returns-clause-maps : goal.returns-clause-maps
+returns-clause-maps g c =
+    let own = ap (λ (v : NamedVersion). v.version) c.deref-3.ensures ∙ ap (λ (s : Slot). s.version) c.slot.view_is in
+    subst (λ (v : Version). c.next.new.steps.maps ≤ c.args.steps.now.maps + length (touched_documents v (batch_rows (reads v) v.etag c.args.store.now c.args.max))) own c.next.ensures.maps

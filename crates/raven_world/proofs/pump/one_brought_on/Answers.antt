@@ -1,0 +1,35 @@
+use Rattle.std.proofs.Common.{◌∙◌, arith}
+use Rattle.spec_server.specs.Machine.{after_batch_if_named}
+use Rattle.raven_world.proofs.Batches.{first_all, first_more, named_left, walked_more}
+use Rattle.raven_world.proofs.pump.one_brought_on.Goals as goal
+
+pub loop-slot-preserved : goal.loop-slot-preserved
+loop-slot-preserved g c =
+    let S = c.args.store.now in
+    let name = c.args.name.now in
+    let slots = c.args.slots.now in
+    let i = c.loop-slot.slot-index in
+    let within = c.loop-slot-test.true in
+    let left = named_left S c.args.max name slots i _ within c.slot-item.is in
+    let so_far = c.loop-slot.invariant.maps in
+    let here = c.in_ok-brought.ensures.maps in
+    record {
+      slots = walked_more (after_batch_if_named S c.args.max name) slots i _ c.loop-slot.new.items _ c.in_ok-brought.brought within c.slot-item.is c.in_ok-brought.ensures.slot c.in_ok-push.ensures.items c.loop-slot.invariant.slots;
+      pumped = first_more S c.args.max name slots i _ c.loop-slot.first c.in_ok-brought.pumped _ within c.slot-item.is c.in_ok-brought.ensures.pumped c.or-first.ensures c.loop-slot.invariant.pumped;
+      maps = omega (arith, left, so_far, here);
+      merges = c.in_ok-brought.ensures.merges ∙ c.loop-slot.invariant.merges;
+      reads = c.in_ok-brought.ensures.reads ∙ c.loop-slot.invariant.reads;
+    }
+
+pub returns-in_err-brought-clause-maps : goal.returns-in_err-brought-clause-maps
+returns-in_err-brought-clause-maps g c =
+    let left = named_left c.args.store.now c.args.max c.args.name.now c.args.slots.now c.loop-slot.slot-index _ c.loop-slot-test.true c.slot-item.is in
+    omega (arith, left, c.loop-slot.invariant.maps, c.brought_on_if.ensures.maps)
+
+pub returns-in_err-push-clause-maps : goal.returns-in_err-push-clause-maps
+returns-in_err-push-clause-maps g c =
+    let left = named_left c.args.store.now c.args.max c.args.name.now c.args.slots.now c.loop-slot.slot-index _ c.loop-slot-test.true c.slot-item.is in
+    omega (arith, left, c.loop-slot.invariant.maps, c.in_ok-brought.ensures.maps)
+
+pub returns-clause-pumped : goal.returns-clause-pumped
+returns-clause-pumped g c = first_all c.args.store.now c.args.max c.args.name.now c.args.slots.now c.loop-slot.slot-index c.loop-slot.first c.loop-slot-test.false c.loop-slot.invariant.pumped

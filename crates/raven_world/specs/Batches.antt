@@ -1,0 +1,21 @@
+-- Which documents batches touch, and what a request for one batch leaves.
+use Rattle.std.specs.Prelude.{ℕ, List, [], ◌∷◌, Option, Some, None, flat_map}
+use Rattle.spec_store.specs.Stale.{batch_rows}
+use Rattle.spec_store.specs.Store.{Store}
+use Rattle.spec_index.specs.World.{Slot, World, reads}
+use Rattle.spec_server.specs.Machine.{Course, in_world, one_change, only_reply}
+use Rattle.spec_server.specs.Replies.{NoIndex, Pumped, Pumping}
+use Rattle.index_version.specs.Renewed.{touched_documents}
+
+-- the documents that the next batch of an index touches
+abbrev pub touched_by : Store → ℕ → Slot → List (List ℕ)
+touched_by S max s = touched_documents s.version (batch_rows (reads s.version) s.version.etag S max)
+
+-- those that the next batches of several indexes touch, one index after another: a document is there once for each index that touches it
+abbrev pub touched_by_all : Store → ℕ → List Slot → List (List ℕ)
+touched_by_all S max slots = flat_map (touched_by S max) slots
+
+-- a request for a batch of the index of a name: these are the slots after it, and this is what it did; nothing if no index serves the name
+abbrev pub pumped_one : World → List ℕ → List Slot → Option Pumping → Course
+pumped_one W name slots None = only_reply (NoIndex name)
+pumped_one W name slots (Some pumping) = one_change (Pumped (pumping ∷ [])) [] (in_world W W.store slots)
