@@ -8,8 +8,8 @@ use raven_ports::{Keeper, KeeperFault, KeptRow, KeptRows};
 use raven_value::Text;
 use sqlite::types::ValueRef;
 use sqlite::{
-    Alter, Connection, Error, ErrorCode, FileFrom, FileStore, MemStore, Row, Rows, Transaction,
-    Wary, params,
+    Alter, Connection, Error, ErrorCode, File, FileStore, MemStore, Row, Rows, Statement,
+    Transaction, params,
 };
 use std::alloc::Global;
 
@@ -26,6 +26,13 @@ const LOAD: &str =
 const PUT: &str =
     "INSERT INTO kept (key, etag, id, collection, body, changed) VALUES (?1, ?2, ?3, ?4, ?5, ?6) ON CONFLICT (key) DO UPDATE SET etag = excluded.etag, id = excluded.id, collection = excluded.collection, body = excluded.body, changed = excluded.changed";
 
+// The statements of a keeper, which are compiled once.
+#[derive(Drop)]
+struct Statements {
+    load: Statement,
+    put: Statement,
+}
+
 /// A keeper in a database of SQLite, which it has for itself. It does not report what it holds.
 ///
 /// Each call that is refused is a fault, unless it ran out of memory. So is a load that meets a row whose columns do not fit a
@@ -34,6 +41,7 @@ const PUT: &str =
 pub struct SqlKeeper<S: Alter + Drop> {
     alloc: Global,
     conn: Connection<S>,
+    statements: Statements,
     faults: u64,
 }
 
@@ -54,7 +62,7 @@ fn is_ours(objects: &[Row]) -> Result<bool, Error> {
 }
 
 // Makes the table in a database that has nothing. Any other is left as it is, and refused unless it has just the table.
-fn prepare<S: Alter>(conn: &mut Connection<S>) -> Result<(), Error> {
+fn make_table<S: Alter>(conn: &mut Connection<S>) -> Result<(), Error> {
     let objects = conn.query_all(OBJECTS, &[])?;
     if !is_ours(objects.as_slice())? {
         return Err(Error::SqliteFailure(ErrorCode::NotADatabase));
@@ -63,6 +71,13 @@ fn prepare<S: Alter>(conn: &mut Connection<S>) -> Result<(), Error> {
         conn.execute(TABLE, &[])?;
     }
     Ok(())
+}
+
+fn prepare<S: Alter>(conn: &mut Connection<S>) -> Result<Statements, Error> {
+    make_table(conn)?;
+    let load = conn.prepare(LOAD)?;
+    let put = conn.prepare(PUT)?;
+    Ok(Statements { load, put })
 }
 
 // The least etag that is past this one. Etags of the database have 63 bits.
@@ -76,8 +91,13 @@ fn least_past(after: Option<u64>) -> Option<i64> {
     }
 }
 
-fn begin<S: Alter>(conn: &mut Connection<S>, least: i64, max: u32) -> Result<Rows<'_, S>, Error> {
-    conn.query(LOAD, params![least, max])
+fn begin<'conn, S: Alter>(
+    conn: &'conn mut Connection<S>,
+    load: &Statement,
+    least: i64,
+    max: u32,
+) -> Result<Rows<'conn, S>, Error> {
+    load.query(conn, params![least, max])
 }
 
 fn text_at(row: &Row, at: usize) -> Result<Text, Error> {
@@ -150,6 +170,7 @@ fn take<S: Alter>(
 fn load_rows<S: Alter>(
     alloc: Global,
     conn: &mut Connection<S>,
+    load: &Statement,
     after: Option<u64>,
     max: u32,
 ) -> Result<KeptRows, KeeperFault>
@@ -159,7 +180,7 @@ fn load_rows<S: Alter>(
     let Some(least) = least_past(after) else {
         return Ok(Sequence::new(alloc));
     };
-    match begin(conn, least, max) {
+    match begin(conn, load, least, max) {
         Ok(mut rows) => take(alloc, &mut rows, after, max),
         Err(error) => Err(fault_of(error)),
     }
@@ -170,9 +191,10 @@ fn number(value: u64, column: usize) -> Result<i64, Error> {
     i64::try_from(value).map_err(|_| Error::IntegralValueOutOfRange(column))
 }
 
-fn put<S: Alter>(
+fn put_row<S: Alter>(
     alloc: Global,
     transaction: &mut Transaction<'_, S>,
+    put: &Statement,
     row: &KeptRow,
 ) -> Result<(), Error> {
     let key = row.id.as_str().to_ascii_lowercase(alloc)?;
@@ -182,8 +204,8 @@ fn put<S: Alter>(
         Some(text) => Some(text.as_str()),
         None => None,
     };
-    transaction.execute(
-        PUT,
+    transaction.execute_prepared(
+        put,
         params![
             &key,
             etag,
@@ -200,6 +222,7 @@ fn put<S: Alter>(
 fn put_all<S: Alter>(
     alloc: Global,
     conn: &mut Connection<S>,
+    put: &Statement,
     rows: &KeptRows,
 ) -> Result<(), Error> {
     if !conn.is_autocommit() {
@@ -207,7 +230,7 @@ fn put_all<S: Alter>(
     }
     let mut transaction = conn.transaction();
     for row in rows.as_slice() {
-        put(alloc, &mut transaction, row)?;
+        put_row(alloc, &mut transaction, put, row)?;
     }
     transaction.commit()
 }
@@ -217,9 +240,10 @@ impl<S: Alter + Drop> SqlKeeper<S> {
     fn over(alloc: Global, conn: Connection<S>) -> Result<SqlKeeper<S>, KeeperFault> {
         let mut conn = conn;
         match prepare(&mut conn) {
-            Ok(()) => Ok(SqlKeeper {
+            Ok(statements) => Ok(SqlKeeper {
                 alloc,
                 conn,
+                statements,
                 faults: 0,
             }),
             Err(error) => Err(fault_of(error)),
@@ -249,18 +273,21 @@ impl SqlKeeper<MemStore> {
     }
 }
 
-impl SqlKeeper<FileStore<FileFrom<Wary>>> {
+impl SqlKeeper<FileStore<File>> {
     /// A keeper in the file at a path, which is made if there is none. The keeper has the file for itself, with the log next to
     /// it, whose name ends in `-wal`.
+    ///
+    /// It supposes that after a loss of power each byte that was being written over is the old one or the new one. So most commits
+    /// sync the log once.
     ///
     /// It fails if the file is no database of SQLite, is open elsewhere, or has anything but the table of a keeper.
     pub fn in_file(
         rt: &HostRuntime,
         path: &str,
-    ) -> Result<SqlKeeper<FileStore<FileFrom<Wary>>>, KeeperFault> {
-        match Connection::open_from(rt, path, false, Wary) {
+    ) -> Result<SqlKeeper<FileStore<File>>, KeeperFault> {
+        match Connection::open(rt, path) {
             Ok(conn) => SqlKeeper::over(rt.alloc(), conn),
-            Err((error, _)) => Err(fault_of(error)),
+            Err(error) => Err(fault_of(error)),
         }
     }
 }
@@ -278,14 +305,14 @@ impl<S: Alter + Drop> Keeper for SqlKeeper<S> {
         after: Option<u64>,
         max: u32,
     ) -> Result<KeptRows, KeeperFault> {
-        match load_rows(alloc, &mut self.conn, after, max) {
+        match load_rows(alloc, &mut self.conn, &self.statements.load, after, max) {
             Ok(rows) => Ok(rows),
             Err(fault) => Err(self.counted(fault)),
         }
     }
 
     fn commit(&mut self, rows: &KeptRows) -> Result<(), KeeperFault> {
-        match put_all(self.alloc, &mut self.conn, rows) {
+        match put_all(self.alloc, &mut self.conn, &self.statements.put, rows) {
             Ok(()) => Ok(()),
             Err(error) => Err(self.counted(fault_of(error))),
         }
