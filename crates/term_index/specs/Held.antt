@@ -1,6 +1,7 @@
 -- What the terms of a field say: which id has which value.
 use Rattle.std.specs.Prelude.{◌≡◌, ℕ, List, [], ◌∷◌, Bool, false, if◌then◌else◌, Option, Some, None}
 use Rattle.std.specs.FinMap.{FinMap, insert, remove, find}
+use Rattle.std.specs.Option.{option_map_or}
 use Rattle.spec_data.specs.Folding.{folded, key_cmp}
 use Rattle.spec_data.specs.Scalars.{Scalar, Test, holds}
 use Rattle.raven_value.specs.ScalarView.{scalar_view}
@@ -19,8 +20,7 @@ set_value q (Some v) m = insert m q v
 
 -- the value meets the test; an id that has no value in a field meets no test on it
 abbrev pub passes : Test → Bool → Option Scalar → Bool
-passes test exact None = false
-passes test exact (Some v) = holds test exact v
+passes test exact value = option_map_or (holds test exact) value false
 
 abbrev pub Pairs : Type 0
 Pairs = List (Key × Unit {0})
