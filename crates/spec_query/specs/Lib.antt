@@ -1,0 +1,10 @@
+pub mod Query
+pub mod Condition
+pub mod Sorting
+pub mod Plan
+pub mod Results
+pub mod Finding
+pub mod Printing
+pub mod Parameters
+pub mod Fields
+pub mod Binding

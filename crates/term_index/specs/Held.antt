@@ -1,0 +1,54 @@
+-- What the terms of a field say: which id has which value.
+use Rattle.std.specs.Prelude.{◌≡◌, ℕ, List, [], ◌∷◌, Bool, false, if◌then◌else◌, Option, Some, None}
+use Rattle.std.specs.FinMap.{FinMap, insert, remove, find}
+use Rattle.std.specs.Option.{option_map_or}
+use Rattle.spec_data.specs.Folding.{folded, key_cmp}
+use Rattle.spec_data.specs.Scalars.{Scalar, Test, holds}
+use Rattle.raven_value.specs.ScalarView.{scalar_view}
+use Rattle.reference_track.specs.Sets.{is_id}
+use Rattle.term_index.specs.declared.key.Key.{Key}
+use Rattle.term_index.specs.declared.key.Key.TheVariants as k
+
+-- the values of a field by folded ids
+abbrev pub Values : Type 0
+Values = FinMap key_cmp Scalar
+
+-- with this value at a folded id, or with none
+abbrev pub set_value : List ℕ → Option Scalar → Values → Values
+set_value q None m = remove m q
+set_value q (Some v) m = insert m q v
+
+-- the value meets the test; an id that has no value in a field meets no test on it
+abbrev pub passes : Test → Bool → Option Scalar → Bool
+passes test exact value = option_map_or (holds test exact) value false
+
+abbrev pub Pairs : Type 0
+Pairs = List (Key × Unit {0})
+
+abbrev pub onto : Key → List (List ℕ × Scalar) → List (List ℕ × Scalar)
+onto (k.At t) rest = (folded t.id, scalar_view t.value) ∷ rest
+onto edge rest = rest
+
+-- the folded ids and their values, in the order of the terms
+abbrev pub held : Pairs → List (List ℕ × Scalar)
+held [] = []
+held (e ∷ es) = onto e.0 (held es)
+
+-- each id is there once
+abbrev pub AreApart : List (List ℕ × Scalar) → Type 0
+AreApart [] = Unit {0}
+AreApart (e ∷ es) = (find key_cmp e.0 es ≡ None) × AreApart es
+
+abbrev pub passing_onto : Test → Bool → Key → List (List ℕ) → List (List ℕ)
+passing_onto test exact (k.At t) rest = if holds test exact (scalar_view t.value) then t.id ∷ rest else rest
+passing_onto test exact edge rest = rest
+
+-- the ids of the terms whose values meet the test, in the order of the terms
+abbrev pub passing : Test → Bool → Pairs → List (List ℕ)
+passing test exact [] = []
+passing test exact (e ∷ es) = passing_onto test exact e.0 (passing test exact es)
+
+-- the first of the ids is this one
+abbrev pub is_first : List ℕ → List (List ℕ) → Bool
+is_first x [] = false
+is_first x (y ∷ ys) = is_id x y

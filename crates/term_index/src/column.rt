@@ -1,0 +1,199 @@
+//! The values of one field.
+ghost use Rattle.std.specs.Prelude.{◌≡◌, ℕ, List, None, IfOk, IsTrue, cond, map, option_map};
+ghost use Rattle.std.specs.FinMap.{empty, find, get};
+ghost use Rattle.std.specs.Ordering.{eq_by_cmp};
+ghost use Rattle.spec_data.specs.Folding.{folded, key_cmp};
+ghost use Rattle.spec_data.specs.Scalars.{In, Is};
+ghost use Rattle.raven_value.specs.ScalarView.{scalar_view, test_view};
+ghost use Rattle.reference_track.specs.Sets.{AreInOrder, is_one_of};
+ghost use Rattle.term_index.specs.Held.{AreApart, held, passes, set_value};
+ghost use Rattle.term_index.specs.KeyView.{term_of};
+
+use crate::key::{Key, Term};
+use crate::sets::{add, in_order};
+use crate::walks::{TermSet, ids_of_value, ids_passing};
+use paged_map::PagedMap;
+use raven_base::{NoMemory, Shared};
+use raven_value::{Id, Ids, Scalar, Test};
+use std::alloc::{AllocError, Global};
+use std::marker::Model;
+
+/// A value for each of some ids, seen by contracts as the map from their folded ids to the values.
+#[derive(Drop)]
+pub struct Column {
+    terms: TermSet,
+}
+
+impl Model for Column {
+    ghost use Rattle.std.specs.FinMap.{code, from_entries};
+    ghost use Rattle.spec_data.specs.Codes.{text_code, scalar_code};
+    ghost use Rattle.term_index.specs.Held.{AreApart, Values, held};
+
+    ghost Value = { Values };
+
+    ghost coded = { code text_code scalar_code };
+
+    ghost view = { λ a. from_entries (held a.terms) };
+
+    ghost invariant = { λ a. AreApart (held a.terms) };
+}
+
+/// Whether two values are the same, or both are missing.
+#[tactic(auto, using(crate::proofs::Changes::same_scalar))]
+fn are_same(a: Option<&Scalar>, b: Option<&Scalar>) -> bool
+    ensures { IsTrue result → option_map (λ v. scalar_view v.now) a.entry ≡ option_map (λ v. scalar_view v.now) b.entry }
+{
+    match (a, b) {
+        (Some(a), Some(b)) => a == b,
+        (None, None) => true,
+        _ => false,
+    }
+}
+
+fn term_at(alloc: Global, id: &Shared<Id>, value: &Scalar) -> Result<Key, NoMemory>
+    ensures { IfOk result (λ key. key ≡ term_of value.now id.now) }
+{
+    let term = Term {
+        value: value.clone()?,
+        id: id.clone()?,
+    };
+    Ok(Key::At(Shared::of(alloc, term)?))
+}
+
+/// The terms with a value of an id that has none.
+fn with_value(
+    alloc: Global,
+    terms: &TermSet,
+    id: &Shared<Id>,
+    value: Option<&Scalar>,
+) -> Result<TermSet, NoMemory>
+    requires apart { AreApart (held terms.now) }
+    requires new { find key_cmp (folded id.now) (held terms.now) ≡ None }
+    ensures values { IfOk result (λ m. (q : List ℕ) → find key_cmp q (held m) ≡ cond (eq_by_cmp key_cmp q (folded id.now)) (option_map (λ v. scalar_view v.now) value.entry) (find key_cmp q (held terms.now))) }
+    ensures apart { IfOk result (λ m. AreApart (held m)) }
+{
+    match value {
+        Some(value) => {
+            let term = term_at(alloc, id, value)?;
+            Ok(terms.with(alloc, term, ())?)
+        }
+        None => Ok(terms.clone()?),
+    }
+}
+
+/// The terms without the value of an id.
+fn without_value(
+    alloc: Global,
+    terms: &TermSet,
+    id: &Shared<Id>,
+    value: Option<&Scalar>,
+) -> Result<TermSet, NoMemory>
+    requires apart { AreApart (held terms.now) }
+    requires old { find key_cmp (folded id.now) (held terms.now) ≡ option_map (λ v. scalar_view v.now) value }
+    ensures values { IfOk result (λ m. (q : List ℕ) → find key_cmp q (held m) ≡ cond (eq_by_cmp key_cmp q (folded id.now)) None (find key_cmp q (held terms.now))) }
+    ensures apart { IfOk result (λ m. AreApart (held m)) }
+{
+    match value {
+        Some(value) => {
+            let term = term_at(alloc, id, value)?;
+            Ok(terms.without(alloc, &term)?)
+        }
+        None => Ok(terms.clone()?),
+    }
+}
+
+impl Column {
+    /// No values.
+    pub fn new(alloc: Global) -> Result<Column, NoMemory>
+        ensures { IfOk result (λ column. column ≡ empty) }
+    {
+        Ok(Column {
+            terms: PagedMap::new(alloc)?,
+        })
+    }
+
+    fn replaced(
+        &self,
+        alloc: Global,
+        id: &Shared<Id>,
+        old: Option<&Scalar>,
+        new: Option<&Scalar>,
+    ) -> Result<Column, NoMemory>
+        requires { get self.now (folded id.now) ≡ option_map (λ v. scalar_view v.now) old }
+        ensures { IfOk result (λ column. column ≡ set_value (folded id.now) (option_map (λ v. scalar_view v.now) new.entry) self.now) }
+    {
+        let less = without_value(alloc, &self.terms, id, old)?;
+        Ok(Column {
+            terms: with_value(alloc, &less, id, new)?,
+        })
+    }
+
+    /// The column with the new value of an id in place of the old one. It is a clone if they are the same.
+    pub fn replace(
+        &self,
+        alloc: Global,
+        id: &Shared<Id>,
+        old: Option<&Scalar>,
+        new: Option<&Scalar>,
+    ) -> Result<Column, NoMemory>
+        requires { get self.now (folded id.now) ≡ option_map (λ v. scalar_view v.now) old }
+        ensures { IfOk result (λ column. column ≡ set_value (folded id.now) (option_map (λ v. scalar_view v.now) new.entry) self.now) }
+    {
+        if are_same(old, new) {
+            Ok(self.clone()?)
+        } else {
+            self.replaced(alloc, id, old, new)
+        }
+    }
+
+    /// The ids of a value, in order.
+    pub fn equal(&self, alloc: Global, value: &Scalar, exact: bool) -> Result<Ids, NoMemory>
+        ensures members { IfOk result (λ ids. (q : List ℕ) → is_one_of q ids ≡ passes (Is (scalar_view value.now)) exact (get self.now (folded q))) }
+        ensures order { IfOk result (λ ids. AreInOrder ids) }
+    {
+        Ok(ids_of_value(alloc, &self.terms, value, exact)?)
+    }
+
+    fn equal_to_one(&self, alloc: Global, values: &[Scalar], exact: bool) -> Result<Ids, NoMemory>
+        ensures members { IfOk result (λ ids. (q : List ℕ) → is_one_of q ids ≡ passes (In (map scalar_view values.now)) exact (get self.now (folded q))) }
+        ensures order { IfOk result (λ ids. AreInOrder ids) }
+    {
+        let mut ids = Vec::new(alloc);
+        for value in values {
+            let more = self.equal(alloc, value, exact)?;
+            add(&mut ids, more)?;
+        }
+        Ok(in_order(ids))
+    }
+
+    fn passing(&self, alloc: Global, test: &Test, exact: bool) -> Result<Ids, NoMemory>
+        ensures members { IfOk result (λ ids. (q : List ℕ) → is_one_of q ids ≡ passes (test_view test.now) exact (get self.now (folded q))) }
+        ensures order { IfOk result (λ ids. AreInOrder ids) }
+    {
+        let ids = ids_passing(alloc, &self.terms, test, exact)?;
+        Ok(in_order(ids.into_vec()))
+    }
+
+    /// The ids whose values meet a test, in order.
+    pub fn range(&self, alloc: Global, test: &Test, exact: bool) -> Result<Ids, NoMemory>
+        ensures members { IfOk result (λ ids. (q : List ℕ) → is_one_of q ids ≡ passes (test_view test.now) exact (get self.now (folded q))) }
+        ensures order { IfOk result (λ ids. AreInOrder ids) }
+    {
+        match test {
+            Test::Is(value) => self.equal(alloc, value, exact),
+            Test::In(values) => self.equal_to_one(alloc, values.as_slice(), exact),
+            test => self.passing(alloc, test, exact),
+        }
+    }
+}
+
+/// A clone shares every page, and takes no memory.
+impl Clone for Column {
+    ghost is_clone = { λ s t. t ≡ s };
+
+    fn clone(&self) -> Result<Column, AllocError> {
+        Ok(Column {
+            terms: self.terms.clone()?,
+        })
+    }
+}

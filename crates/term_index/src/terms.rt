@@ -1,0 +1,152 @@
+//! The values of all fields.
+ghost use Rattle.std.specs.Prelude.{◌≡◌, ℕ, List, IfOk, option_map};
+ghost use Rattle.std.specs.Map.{lookup};
+ghost use Rattle.std.specs.Option.{option_copied};
+ghost use Rattle.std.specs.Str.{bytes_eq};
+ghost use Rattle.spec_data.specs.Folding.{folded};
+ghost use Rattle.spec_data.specs.Scalars.{Is};
+ghost use Rattle.raven_value.specs.ScalarView.{scalar_view, test_view};
+ghost use Rattle.reference_track.specs.Sets.{AreInOrder, is_one_of};
+ghost use Rattle.term_index.specs.Columns.{HasFields, fields_of, no_values, value_at, value_of, with_fields};
+ghost use Rattle.term_index.specs.Held.{passes};
+
+use crate::column::Column;
+use raven_base::{NoMemory, Shared};
+use raven_value::{Id, Ids, Names, Scalar, Test, Text};
+use std::alloc::{AllocError, Global};
+use std::marker::Model;
+
+/// The values that ids have in some fields, seen by contracts as a map from folded ids to values for each field.
+///
+/// Of each field it keeps the terms, pairs of a value and an id, in shared pages, ordered by the kind of the value, its number, its
+/// folded text and the folded id. So the ids whose values meet a test are found between two terms, and those of one value are in
+/// order. A change makes new terms and leaves the old ones, with which they share most of their pages and all other terms; a field
+/// whose value is unchanged is shared as a whole.
+#[derive(Drop)]
+pub struct Terms {
+    columns: Vec<(Shared<Text>, Column)>,
+}
+
+impl Model for Terms {
+    ghost use Rattle.term_index.specs.Columns.{Columns, columns_code};
+
+    ghost Value = { Columns };
+
+    ghost coded = { columns_code };
+
+    ghost view = { λ a. a.columns.items };
+}
+
+/// The value of the field of that name, if there is one.
+fn value_of<'a>(fields: &'a [(Text, Scalar)], name: &str) -> Option<&'a Scalar>
+    ensures { option_map (λ v. scalar_view v.now) result ≡ value_of name.now (fields_of fields.now) }
+{
+    for field in fields {
+        if name == field.0.as_str() {
+            return Some(&field.1);
+        }
+    }
+    None
+}
+
+impl Terms {
+    /// No values in these fields.
+    pub fn new(alloc: Global, fields: &Names) -> Result<Terms, NoMemory>
+        ensures { IfOk result (λ terms. terms ≡ no_values fields.now) }
+    {
+        let mut columns = Vec::new(alloc);
+        for name in fields.as_slice() {
+            columns.push((Shared::of(alloc, name.clone()?)?, Column::new(alloc)?))?;
+        }
+        Ok(Terms { columns })
+    }
+
+    /// The terms with the new fields of an id in place of the old ones. An id without an entry has no fields.
+    ///
+    /// For each field whose value changes it takes time and memory that grow with the logarithm of the number of ids.
+    pub fn replace(
+        &self,
+        alloc: Global,
+        id: &Id,
+        old: &[(Text, Scalar)],
+        new: &[(Text, Scalar)],
+    ) -> Result<Terms, NoMemory>
+        requires { HasFields (folded id.now) (fields_of old.now) self.now }
+        ensures { IfOk result (λ terms. terms ≡ with_fields (folded id.now) (fields_of new.now) self.now) }
+    {
+        let id = Shared::of(alloc, id.clone()?)?;
+        let mut columns = Vec::new(alloc);
+        for column in &self.columns {
+            let name = column.0.get().as_str();
+            let values = column
+                .1
+                .replace(alloc, &id, value_of(old, name), value_of(new, name))?;
+            columns.push((column.0.clone()?, values))?;
+        }
+        Ok(Terms { columns })
+    }
+
+    fn column(&self, field: &str) -> Option<&Column>
+        ensures { option_copied result ≡ lookup (bytes_eq field.now) self.now }
+    {
+        for column in &self.columns {
+            if field == column.0.get().as_str() {
+                return Some(&column.1);
+            }
+        }
+        None
+    }
+
+    /// The ids that have this value in a field, in order.
+    ///
+    /// It takes a search, and then time that grows with the number of ids found and the logarithm of the number of all. If texts
+    /// are compared exactly, ids with other spellings of the text are read too.
+    pub fn equal(
+        &self,
+        alloc: Global,
+        field: &str,
+        value: &Scalar,
+        exact: bool,
+    ) -> Result<Ids, NoMemory>
+        ensures members { IfOk result (λ ids. (q : List ℕ) → is_one_of q ids ≡ passes (Is (scalar_view value.now)) exact (value_at field.now (folded q) self.now)) }
+        ensures order { IfOk result (λ ids. AreInOrder ids) }
+    {
+        match self.column(field) {
+            Some(column) => column.equal(alloc, value, exact),
+            None => Ok(Ids::new(alloc)),
+        }
+    }
+
+    /// The ids whose values in a field meet a test, in order.
+    ///
+    /// It costs what `equal` costs, and sorting the ids found. `Not` reads all terms of the field, and a test that compares texts
+    /// exactly by their order reads those of all texts.
+    pub fn range(
+        &self,
+        alloc: Global,
+        field: &str,
+        test: &Test,
+        exact: bool,
+    ) -> Result<Ids, NoMemory>
+        ensures members { IfOk result (λ ids. (q : List ℕ) → is_one_of q ids ≡ passes (test_view test.now) exact (value_at field.now (folded q) self.now)) }
+        ensures order { IfOk result (λ ids. AreInOrder ids) }
+    {
+        match self.column(field) {
+            Some(column) => column.range(alloc, test, exact),
+            None => Ok(Ids::new(alloc)),
+        }
+    }
+}
+
+/// A clone shares every page.
+impl Clone for Terms {
+    ghost is_clone = { λ s t. t ≡ s };
+
+    fn clone(&self) -> Result<Terms, AllocError> {
+        let mut columns = Vec::new(*self.columns.allocator());
+        for column in &self.columns {
+            columns.push((column.0.clone()?, column.1.clone()?))?;
+        }
+        Ok(Terms { columns })
+    }
+}
