@@ -1,7 +1,8 @@
 -- Which entries a group has: those of the whole list that have the key of the group.
-use Rattle.std.specs.Prelude.{◌≡◌, Some, None, List, [], ◌∷◌, filter}
+use Rattle.std.specs.Prelude.{◌≡◌, Some, None, List, [], ◌∷◌, filter, map}
 use Rattle.std.specs.declared.cmp.Ordering.{Ordering}
 use Rattle.std.specs.Ordering.{is_eq}
+use Rattle.std.specs.FinMap.{FinMap, from_entries}
 use Rattle.std.specs.Map.{lookup, remove_entry}
 use Rattle.std.specs.BTreeMap.{is_at, insert_entry}
 use Rattle.reduce_tree.specs.Tree.{Tree}
@@ -33,3 +34,10 @@ all_inserted S es (c ∷ cs) = all_inserted S (insert_entry S es c.1.0 c.1.1) cs
 abbrev pub AreNew : {G K E : Type 0} → (K → K → Ordering) → (E → G) → List (K × E) → List (G × (K × E)) → Type 0
 AreNew S key es [] = Unit {0}
 AreNew S key es (c ∷ cs) = ((lookup (is_at (S c.1.0)) es ≡ None) × (c.0 ≡ key c.1.1)) × AreNew S key (insert_entry S es c.1.0 c.1.1) cs
+
+-- THE ROWS OF ENTRIES, by themselves: for each key that an entry has, the fold of all entries that have it
+abbrev pub folded_at : {G K E X : Type 0} → (G → G → Ordering) → (E → G) → (List E → X) → List (K × E) → G → X
+folded_at R key fold es q = fold (map (λ e. e.1) (of_group R key q es))
+
+abbrev pub rows_of : {G K E X : Type 0} → (R : G → G → Ordering) → (E → G) → (List E → X) → List (K × E) → FinMap R X
+rows_of R key fold es = from_entries (map (λ e. (key e.1, folded_at R key fold es (key e.1))) es)

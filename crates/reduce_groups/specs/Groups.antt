@@ -1,11 +1,13 @@
 -- What a clause sees of groups.
-use Rattle.std.specs.Prelude.{◌≡◌, ℕ, ◌<◌, ◌≤◌, ◌^◌, cond, Option, List, [], ◌∷◌, length, refl}
+use Rattle.std.specs.Prelude.{◌≡◌, ℕ, ◌<◌, ◌≤◌, ◌^◌, cond, Option, List, [], ◌∷◌, length, map, option_map, refl}
 use Rattle.std.specs.Coded.{Coded, code_by, coded×, coded_list}
 use Rattle.std.specs.declared.cmp.Ordering.{Ordering}
 use Rattle.std.specs.Ordering.{is_eq}
+use Rattle.std.specs.List.{filter_map}
 use Rattle.std.specs.Option.{option_map_or}
 use Rattle.std.specs.Map.{lookup, remove_entry}
 use Rattle.std.specs.BTreeMap.{is_at, insert_entry}
+use Rattle.reduce_tree.specs.Folding.{result_of}
 use Rattle.reduce_tree.specs.Tree.{Tree, tree_code, IsFilledTree}
 
 -- how entries become rows, and the trees of the groups in the order of their keys
@@ -53,3 +55,10 @@ after_removals R S q es (c ∷ cs) = after_removals R S q (cond (is_eq (R q c.0)
 abbrev pub after_insertions : {G K E : Type 0} → (G → G → Ordering) → (K → K → Ordering) → G → List (K × E) → List (G × (K × E)) → List (K × E)
 after_insertions R S q es [] = es
 after_insertions R S q es (c ∷ cs) = after_insertions R S q (cond (is_eq (R q c.0)) (insert_entry S es c.1.0 c.1.1) es) cs
+
+-- the row of a tree under the key of its group, if it has entries
+abbrev pub row_in : {F G K E R : Type 0} → (F → E → R) → (F → R) → (R → R → R) → G × Tree F K E → Option (G × R)
+row_in lifted none merged t = option_map (λ row. (t.0, row)) (result_of (lifted t.1.fold) (none t.1.fold) merged (map (λ e. e.1) t.1.entries))
+
+abbrev pub rows_in : {F G K E R : Type 0} → (F → E → R) → (F → R) → (R → R → R) → List (G × Tree F K E) → List (G × R)
+rows_in lifted none merged ts = filter_map (row_in lifted none merged) ts

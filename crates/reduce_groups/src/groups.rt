@@ -3,14 +3,15 @@ ghost use Rattle.std.specs.Prelude.{◌≡◌, ◌≤◌, ◌+◌, ◌*◌, ℕ,
 ghost use Rattle.std.specs.Map.{remove_entry};
 ghost use Rattle.std.specs.BTreeMap.{insert_entry, is_at};
 ghost use Rattle.std.specs.Option.{option_copied};
+ghost use Rattle.std.specs.FinMap.{IsAntisymmetric, entries};
 ghost use Rattle.std.specs.Ordering.{is_eq};
 ghost use Rattle.paged_map.specs.Merges.{MergesAtMost};
 ghost use Rattle.paged_map.specs.Pairs.{IsRising};
-ghost use Rattle.reduce_groups.specs.Grouping.{AreGrouped, AreNew, AreThere, all_inserted, all_removed};
-ghost use Rattle.reduce_groups.specs.Groups.{AllLevels, AllSmall, AreSound, after_insertions, after_removals, entries_at};
-ghost use Rattle.reduce_tree.specs.Folding.{result_of};
+ghost use Rattle.reduce_groups.specs.Grouping.{AreGrouped, AreNew, AreThere, all_inserted, all_removed, rows_of};
+ghost use Rattle.reduce_groups.specs.Groups.{AllLevels, AllSmall, AreSound, after_insertions, after_removals, entries_at, rows_in};
+ghost use Rattle.reduce_tree.specs.Folding.{fold_of, result_of};
 
-use crate::trees::{tree_with, trees_with};
+use crate::trees::{rows_in, tree_with, trees_with};
 use paged_map::PagedMap;
 use raven_base::{Exact, NoMemory, Shared, Steps};
 use reduce_tree::{Fold, ReduceTree};
@@ -186,5 +187,18 @@ impl<G: Ord, K: Ord, E, F: Fold<E>> Groups<G, K, E, F> {
             Some(tree) => tree.get().result(),
             None => None,
         }
+    }
+}
+
+impl<G: Ord + Exact + Drop, K: Ord, E, F: Fold<E>> Groups<G, K, E, F> {
+    /// The rows of all groups, each under its key, in the order of the keys.
+    ///
+    /// If the groups are those of entries by a key, the rows are exactly what those entries give by themselves.
+    pub fn rows(&self, alloc: Global) -> Result<Vec<(G, F::Row)>, NoMemory>
+        ensures rows { IfOk result (λ rows. rows.items ≡ rows_in F.lifted F.none F.merged self.now.trees) }
+        ensures grouped { IfOk result (λ rows. IsAntisymmetric G.cmp → (key : E → G) (es : List (K × E)) → AreGrouped G.cmp key es self.now.trees →
+            rows.items ≡ entries (rows_of G.cmp key (fold_of (F.lifted self.now.fold) (F.none self.now.fold) F.merged) es)) }
+    {
+        rows_in(alloc, &self.trees)
     }
 }

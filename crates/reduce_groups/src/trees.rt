@@ -3,7 +3,8 @@ ghost use Rattle.std.specs.Prelude.{◌≡◌, ◌≤◌, ◌<◌, ◌+◌, ◌*
 ghost use Rattle.std.specs.BTreeMap.{insert_entry};
 ghost use Rattle.std.specs.Ordering.{is_eq};
 ghost use Rattle.paged_map.specs.Merges.{MergesAtMost};
-ghost use Rattle.reduce_groups.specs.Groups.{AllLevels, AreSound, entries_at, levels_at};
+ghost use Rattle.paged_map.specs.Pairs.{IsRising};
+ghost use Rattle.reduce_groups.specs.Groups.{AllLevels, AreSound, entries_at, levels_at, rows_in};
 ghost use Rattle.reduce_tree.specs.Tree.{IsFilledTree};
 
 use paged_map::PagedMap;
@@ -76,4 +77,21 @@ fn trees_and<G: Ord + Exact + Drop, K: Ord + Drop, E: Drop, F: Fold<E>>(
     ensures { IfOk result (λ ts. ts ≡ insert_entry G.cmp trees.now group.now tree) }
 {
     trees.with(alloc, group.clone()?, Shared::of(alloc, tree)?)
+}
+
+/// The rows of the trees, each under the key of its group.
+pub fn rows_in<G: Ord + Exact + Drop, K: Ord, E, F: Fold<E>>(
+    alloc: Global,
+    trees: &PagedMap<G, Shared<ReduceTree<K, E, F>>>,
+) -> Result<Vec<(G, F::Row)>, NoMemory>
+    ensures rows { IfOk result (λ rows. rows.items ≡ rows_in F.lifted F.none F.merged trees.now) }
+    ensures rising { IsRising G.cmp trees.now }
+{
+    let mut rows = Vec::new(alloc);
+    for pair in trees.iter() {
+        if let Some(row) = pair.1.get().result() {
+            rows.push((pair.0.clone()?, row.clone()?))?;
+        }
+    }
+    Ok(rows)
 }
