@@ -1,0 +1,4 @@
+pub mod Ties
+pub mod Firsts
+pub mod Folding
+pub mod Reordering
