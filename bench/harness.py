@@ -142,9 +142,9 @@ def sqlite_command(database: str, count: int) -> list[str]:
     return [sys.executable, SQLITE, database, str(count)]
 
 
-def most_of(first: Lines, line: str, room: int = ROOM) -> int:
+def most_of(first: Lines, line: str) -> int:
     """How many lines as long as this one fit into a script after the first ones."""
-    return (room - len(script_of(first))) // (len(line.encode()) + 1)
+    return (ROOM - len(script_of(first))) // (len(line.encode()) + 1)
 
 
 def copied(folder: pathlib.Path, copy: pathlib.Path) -> pathlib.Path:

@@ -16,6 +16,11 @@ def written_by(lines: Lines) -> int:
     return sum(line.startswith("PUT ") + line.count('"Type":"PUT"') for line in lines)
 
 
+def longest(lines_of: LinesOf, count: int) -> str:
+    """One of the longest of these lines, or a longer one."""
+    return max(lines_of(50, count), key=len) + " "
+
+
 class InMemory:
     """Each run fills it anew. Times are those of the processor."""
 
@@ -44,7 +49,7 @@ class InMemory:
         return self.bench.each(lambda count: spent(count, count), none, start, self.most(lines_of), varies=True)
 
     def most(self, lines_of: LinesOf) -> int:
-        return harness.most_of(self.first, lines_of(1, self.documents)[0])
+        return harness.most_of(self.first, longest(lines_of, self.documents))
 
 
 class InFile:
@@ -83,7 +88,7 @@ class InFile:
         return self.bench.each(lambda count: spent(count, count), none, start, self.most(lines_of), varies=True)
 
     def most(self, lines_of: LinesOf) -> int:
-        return harness.most_of([], lines_of(1, self.documents)[0])
+        return harness.most_of([], longest(lines_of, self.documents))
 
     def bytes_each(self) -> float:
         """The memory of a document: the peak of opening the store, less that of opening an empty one."""
