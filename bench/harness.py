@@ -1,32 +1,39 @@
-"""What the measurements of the program share: runs, their differences, and tables.
+"""What the measurements of the program share: runs, how their replies are checked, and the differences of runs.
 
 It puts the folder of `raven_tools` on the path, so it is imported before that.
 """
 
-import argparse
 import collections.abc
 import dataclasses
+import math
 import os
 import pathlib
-import platform
+import shutil
+import statistics
 import subprocess
 import sys
 import tempfile
 import time
 
 sys.path.append(str(pathlib.Path(__file__).resolve().parents[1] / "tools"))
-from raven_tools import model
-from raven_tools.places import PROGRAM
+from raven_tools import model, programs
 
 GNU_TIME = "/usr/bin/time"
-# Names of the documents that are put.
-NAMES = ["Ada", "Alan", "Barbara", "Donald", "Edsger", "Frances", "Grace", "John", "Margaret", "Niklaus"]
-# A script may be so long; some bytes are left for the lines that end it.
+SQLITE = str(pathlib.Path(__file__).resolve().parent / "beside_sqlite.py")
+# Some bytes are left for the line that ends a script.
 ROOM = model.MAX_SCRIPT - 1_000
+# A difference is at least this share of the shorter run, whose time is never quite the same twice.
+SHARE = 0.1
+Lines = list[str]
+Spent = collections.abc.Callable[[int], float]
 
 
 class Wrong(Exception):
     """The program did not write what it has to."""
+
+
+class Missing(Exception):
+    """Something that a measurement needs is not on this machine."""
 
 
 @dataclasses.dataclass(frozen=True)
@@ -35,36 +42,37 @@ class Outcome:
 
     output: bytes
     seconds: float  # on the clock
-    cpu: float  # seconds of the processor, which other work on the machine hardly changes
+    cpu: float  # seconds of the processor, which other work on the machine changes less
     peak: int | None  # the greatest resident size in KiB; None without GNU time
+    messages: bytes
 
 
 def script_of(lines: collections.abc.Iterable[str]) -> bytes:
     return "".join(line + "\n" for line in lines).encode()
 
 
-def run(program: str, script: bytes, *options: str) -> Outcome:
-    """One run of `raven run`, with input from and output to a file. It is Wrong if its status is not 0."""
+def run(command: list[str], script: bytes) -> Outcome:
+    """One run, with input from and output to a file. It is Wrong if its status is not 0."""
     with tempfile.TemporaryFile() as given, tempfile.TemporaryFile() as taken, tempfile.TemporaryFile() as messages:
         given.write(script)
         given.seek(0)
         with tempfile.NamedTemporaryFile("r") as peak:
-            command = [*measured(peak.name), program, "run", *options]
             began = time.monotonic()
-            started = subprocess.Popen(command, stdin=given, stdout=taken, stderr=messages)
+            started = subprocess.Popen([*measured(peak.name), *command], stdin=given, stdout=taken, stderr=messages)
             _, status, used = os.wait4(started.pid, 0)
             seconds = time.monotonic() - began
             started.returncode = os.waitstatus_to_exitcode(status)
             kib = peak.read().split()
         taken.seek(0)
         messages.seek(0)
+        written = messages.read()
         if started.returncode:
-            raise Wrong(f"status {started.returncode}, {messages.read()[-200:]!r}")
-        return Outcome(taken.read(), seconds, used.ru_utime + used.ru_stime, int(kib[-1]) if kib else None)
+            raise Wrong(f"status {started.returncode}, {written[-200:]!r}")
+        return Outcome(taken.read(), seconds, used.ru_utime + used.ru_stime, int(kib[-1]) if kib else None, written)
 
 
 def measured(file: str) -> list[str]:
-    """What the program is started by, so that its peak of memory is written into the file.
+    """What a program is started by, so that its peak of memory is written into the file.
 
     The peak that `wait4` reports of a process started from here includes the memory of Python, out of which it was started.
     """
@@ -75,81 +83,88 @@ def reports_peaks() -> bool:
     return os.access(GNU_TIME, os.X_OK)
 
 
-def quickest(repeat: int, *runs: collections.abc.Callable[[], float]) -> list[float]:
-    """The least seconds of each of the runs, which are made in turn so many times."""
-    return list(map(min, zip(*([seconds() for seconds in runs] for _ in range(repeat)))))
+@dataclasses.dataclass(frozen=True)
+class Bench:
+    """The program that is measured, and how."""
+
+    program: str
+    folder: pathlib.Path  # for files; each use makes its own folder in it
+    repeat: int = 3
+    part: int = 1  # all sizes are divided by it, to try the measurements
+    least: float = 0.3  # a difference that is shorter, in seconds, is measured again with more operations
+
+    def size(self, documents: int) -> int:
+        return max(documents // self.part, 20)
+
+    def run(self, lines: Lines, last: str, *options: str) -> Outcome:
+        """A run of lines that all succeed, and of which the last has this reply."""
+        script = script_of(lines)
+        if len(script) > model.MAX_SCRIPT:
+            raise Wrong(f"a script of {len(script):,} bytes is too long")
+        taken = run([self.program, "run", *options], script)
+        check_counts(taken.output, len(lines), last)
+        return taken
+
+    def check(self, lines: Lines) -> None:
+        """Compares each reply with that of the model."""
+        script = script_of(lines)
+        expected = model.replies(script)
+        found = model.at_no_moment(run([self.program, "run"], script).output)
+        if b'"Error"' in expected:
+            raise Wrong(f"the model refuses a line: {expected[-200:]!r}")
+        if found != expected:
+            raise Wrong(programs.first_difference(expected, found))
+
+    def each(self, more: Spent, less: Spent, start: int, most: int, varies: bool = False) -> float:
+        """What one operation takes: the difference of a run with so many of them and one without, divided by their number.
+
+        Of several differences, of runs one after the other, the middle one counts. There are so many operations that the
+        difference is long enough, or `most`. Unless `less` varies with the number, it is not run anew to find that.
+        """
+        count = min(max(start // self.part, 1), most)
+        without, with_them = less(count), more(count)
+        while with_them - without < (enough := self.enough(without)) and count < most:
+            times = math.ceil(1.3 * enough / max(with_them - without, 0.01))
+            count = min(count * min(max(times, 2), 32), most)
+            without, with_them = less(count) if varies else without, more(count)
+        differences = [with_them - without]
+        for _ in range(self.repeat - 1):
+            without = less(count)
+            differences.append(more(count) - without)
+        return statistics.median(differences) / count
+
+    def enough(self, without: float) -> float:
+        """How long a difference is at least, in seconds, to a run that takes so long."""
+        return max(self.least, SHARE * without) / self.part
 
 
-def difference(repeat: int, more: collections.abc.Callable[[], float], less: collections.abc.Callable[[], float]) -> float:
-    """The seconds that the one takes longer than the other, of the quickest of each."""
-    longer, shorter = quickest(repeat, more, less)
-    return longer - shorter
+def sqlite_command(database: str, count: int) -> list[str]:
+    return [sys.executable, SQLITE, database, str(count)]
 
 
-def first_wrong(expected: bytes, found: bytes) -> str:
-    """The first reply that is not the right one, or how many there are."""
-    for at, (left, right) in enumerate(zip(expected.split(b"\n"), found.split(b"\n"))):
-        if left != right:
-            return f"reply {at + 1}: {right[:120]!r} in place of {left[:120]!r}"
-    return f"{found.count(10)} replies in place of {expected.count(10)}"
+def most_of(first: Lines, line: str) -> int:
+    """How many lines as long as this one fit into a script after the first ones."""
+    return (ROOM - len(script_of(first))) // (len(line.encode()) + 1)
+
+
+def copied(folder: pathlib.Path, copy: pathlib.Path) -> pathlib.Path:
+    """A copy of a folder, which is on the disk, so that what the copy costs does not count later."""
+    shutil.rmtree(copy, ignore_errors=True)
+    shutil.copytree(folder, copy)
+    for path in copy.iterdir():
+        with open(path, "rb") as file:
+            os.fsync(file.fileno())
+    return copy
 
 
 def check_counts(output: bytes, lines: int, last: str) -> None:
     """Each line has a reply, none of them is a refusal, and the last one is this."""
-    if output.count(b"\n") != lines or b'"Error"' in output or not output.endswith(b"\n" + last.encode() + b"\n"):
-        raise Wrong(f"{output.count(10)} replies to {lines} lines, the last {output[-200:]!r} in place of {last!r}")
+    *_, found = output.rstrip(b"\n").rsplit(b"\n", 1)
+    if output.count(b"\n") != lines or b'"Error"' in output or found != last.encode():
+        raise Wrong(f"{output.count(10)} replies to {lines} lines, the last {found[:200]!r} in place of {last!r}")
 
 
-# Options
-
-
-def numbers(text: str) -> list[int]:
-    """Numbers with commas between them."""
-    found = [int(part) for part in text.split(",")]
-    if min(found) < 1:
-        raise ValueError
-    return found
-
-
-def parser(description: str) -> argparse.ArgumentParser:
-    """The options that each measurement has."""
-    options = argparse.ArgumentParser(description=description)
-    options.add_argument("program", nargs="?", default=str(PROGRAM), type=os.path.abspath)
-    return options
-
-
-# Tables
-
-
-def processor() -> str:
-    """The name of the processor, if the system reports it."""
-    try:
-        for line in pathlib.Path("/proc/cpuinfo").read_text().splitlines():
-            if line.startswith("model name"):
-                return line.split(":", 1)[1].strip()
-    except OSError:
-        pass
-    return platform.processor() or platform.machine()
-
-
-def print_machine() -> None:
-    """What a table has to say of the machine."""
-    print(f"{os.cpu_count()} cores, {processor()}; load before: {os.getloadavg()[0]:.1f}", end="\n\n")
-
-
-def table(
-    heads: list[str], rows: collections.abc.Iterable[list[str]], texts: collections.abc.Collection[str] = ()
-) -> None:
-    """Prints each row as it is measured. The columns are numbers, but for those of these heads."""
-    print(line_of(heads))
-    print("|" + "|".join("---" if head in texts else "---:" for head in heads) + "|")
-    for row in rows:
-        print(line_of(row), flush=True)
-
-
-def line_of(cells: list[str]) -> str:
-    return "| " + " | ".join(cells) + " |"
-
-
-def per_second(count: float, seconds: float) -> str:
-    return f"{count / seconds:,.0f}" if seconds > 0 else "too quick to tell"
+def stats(documents: int, indexes: int, newest: int) -> str:
+    """The reply to STATS."""
+    counts = {"CountOfDocuments": documents, "CountOfIndexes": indexes, "CountOfTombstones": 0, "LastDocEtag": newest}
+    return model.write_json(counts)

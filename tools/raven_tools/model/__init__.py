@@ -9,6 +9,7 @@ from raven_tools.model.documents import OWN, collection_of, fault_of, stored, ve
 from raven_tools.model.json import quoted, read_json, write_json
 from raven_tools.model.limits import (
     BASE,
+    MAX_BATCH,
     MAX_BODY,
     MAX_DEPTH,
     MAX_ETAG,

@@ -1,0 +1,42 @@
+"""The instructions of a PUT, which hardly depend on what else the machine does."""
+
+import collections.abc
+import concurrent.futures
+import re
+import shutil
+
+import harness
+from figures import documents
+from harness import Bench, script_of
+from report import Aim, Figure, Line, ratio
+
+DOCUMENTS, PUTS = 16_000, 2_000
+COUNTED = ["valgrind", "--tool=cachegrind", "--cache-sim=no", "--cachegrind-out-file=/dev/null"]
+AIM = Aim("at most", 1 / 3, of_before=True)
+PUT = Line("Instructions of a `PUT` among 16,000 documents in memory", "SQLite in memory, called by python3", AIM)
+LINES = (PUT,)
+
+
+def counted(command: list[str], script: bytes) -> int:
+    """How many instructions it takes. The hashes of python3 are the same each time."""
+    messages = harness.run(["env", "PYTHONHASHSEED=0", *COUNTED, *command], script).messages
+    found = re.search(rb"I\s+refs:\s+([0-9,]+)", messages)
+    if not found:
+        raise harness.Wrong(f"cachegrind counts nothing: {messages[-200:]!r}")
+    return int(found[1].replace(b",", b""))
+
+
+def measure(bench: Bench) -> collections.abc.Iterator[Figure]:
+    if not shutil.which(COUNTED[0]):
+        raise harness.Missing("valgrind, which counts instructions")
+    count, more = bench.size(DOCUMENTS), bench.size(PUTS)
+    first = documents.filling(count)
+    fills, puts = script_of(first), script_of([*first, *documents.put_lines(more, count)])
+    program = [bench.program, "run"]
+    runs = [(program, fills), (program, puts)]
+    runs += [(harness.sqlite_command(":memory:", len(first) + done), puts) for done in (0, more)]
+    # Other load changes no count, so they run beside one another.
+    with concurrent.futures.ThreadPoolExecutor() as threads:
+        fill, put, sqlite_fill, sqlite_put = threads.map(lambda run: counted(*run), runs)
+    each = (put - fill) / more
+    yield Figure(PUT, ratio(put - fill, sqlite_put - sqlite_fill), f"{each:,.0f}")
