@@ -10,7 +10,7 @@ copy_crates "$scratch" raven_base paged_map
 cp "$here/main.txt" "$scratch/crates/paged_bench/src/main.rt"
 cp "$here/text.txt" "$scratch/crates/paged_bench/src/text.rt"
 echo "paged_bench: raven_base paged_map anyhow" >>"$scratch/crates.txt"
-build "$scratch" paged_bench paged u64 1000
+build "$scratch" paged_bench with u64 1000
 bench=$scratch/crates/paged_bench/out/paged_bench
 if command -v rustc >/dev/null; then
     rustc -O --edition 2021 -o "$scratch/rust_tree" "$here/rust_tree.rs"
@@ -19,7 +19,8 @@ print_machine
 echo "map key pairs ns/insertion ns/lookup bytes/pair"
 for key in u64 text; do
     for count in 1000 30000 1000000; do
-        "$bench" paged "$key" "$count"
+        "$bench" with "$key" "$count"
+        "$bench" put "$key" "$count"
         "$bench" tree "$key" "$count"
         if [ -x "$scratch/rust_tree" ]; then "$scratch/rust_tree" "$key" "$count"; fi
     done

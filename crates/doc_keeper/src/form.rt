@@ -98,10 +98,10 @@ fn body_in(alloc: Global, body: &Option<Text>) -> Result<Option<Body>, NoMemory>
     }
 }
 
-fn id_in(alloc: Global, text: &Text) -> Result<Option<Id>, NoMemory>
+fn id_in(text: &Text) -> Result<Option<Id>, NoMemory>
     ensures { IfOk result (λ found. found ≡ (if is_fit max_id text.now then Some text.now else None)) }
 {
-    match Id::new(alloc, text.as_str()) {
+    match Id::of(text) {
         Ok(id) => Ok(Some(id)),
         Err(IdRefusal::NoMemory) => Err(NoMemory),
         Err(_) => Ok(None),
@@ -124,7 +124,7 @@ fn row_in(alloc: Global, kept: &KeptRow) -> Result<Option<Row>, NoMemory>
     if !is_in_bounds(kept) {
         return Ok(None);
     }
-    let Some(id) = id_in(alloc, &kept.id)? else {
+    let Some(id) = id_in(&kept.id)? else {
         return Ok(None);
     };
     let Some(body) = body_in(alloc, &kept.body)? else {

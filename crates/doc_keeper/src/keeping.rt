@@ -15,7 +15,7 @@ pub(crate) fn document_text(alloc: Global, document: &Document) -> Result<Text, 
     ensures { IfOk result (λ text. text ≡ text_of document.now) }
 {
     let bytes = write(alloc, document.value())?;
-    Ok(Text::of_string(unsafe { String::from_utf8_unchecked(bytes) }))
+    Text::of_string(unsafe { String::from_utf8_unchecked(bytes) })
 }
 
 fn body_text(alloc: Global, body: &Body) -> Result<Option<Text>, NoMemory>
@@ -27,13 +27,13 @@ fn body_text(alloc: Global, body: &Body) -> Result<Option<Text>, NoMemory>
     }
 }
 
-/// The row as it is stored: a document as the text that is written for it.
+/// The row as it is stored: a document as the text that is written for it. The id and the collection are shared.
 pub fn kept(alloc: Global, row: &Row) -> Result<KeptRow, NoMemory>
     ensures { IfOk result (λ kept. kept ≡ spec_kept row.now) }
 {
     Ok(KeptRow {
         etag: row.etag,
-        id: Text::of(alloc, row.id.as_str())?,
+        id: row.id.text().clone()?,
         collection: row.collection.clone()?,
         body: body_text(alloc, &row.body)?,
         changed: row.changed,

@@ -1,5 +1,5 @@
 -- What the maps of a store show after a change.
-use Rattle.std.proofs.Common.{◌≡◌, ℕ, ◌<◌, List, [], ◌∷◌, ◌++◌, Bool, true, false, not, cond, Option, Some, None, filter, unwrap_or, refl, sym, ap, ◌∙◌, subst, arith}
+use Rattle.std.proofs.Common.{◌≡◌, ℕ, ◌<◌, List, [], ◌∷◌, ◌++◌, Bool, true, false, not, cond, Option, Some, None, filter, option_map, unwrap_or, append-nil, refl, sym, ap, ◌∙◌, subst, arith}
 use Rattle.std.specs.declared.cmp.Ordering.TheVariants.{Less, Equal, Greater}
 use Rattle.std.specs.Str.{bytes_eq}
 use Rattle.std.specs.Ordering.{nat_cmp, is_eq, match_ordering}
@@ -8,17 +8,20 @@ use Rattle.std.specs.Cmp.Lexicographic.{nat_list_cmp_total, nat_list_eq_equiv}
 use Rattle.std.specs.Map.{lookup, remove_entry}
 use Rattle.std.specs.BTreeMap.{is_at, insert_entry}
 use Rattle.std.proofs.lemmas.List.{map-append}
+use Rattle.std.proofs.lemmas.List.Elements.{filter-append}
 use Rattle.std.proofs.lemmas.Map.Text.{is_eq-slice_cmp}
+use Rattle.std.proofs.lemmas.Slice.Eq.{bytes_eq-Decides}
 use Rattle.spec_data.specs.Folding.{folded, key_cmp, same_key}
 use Rattle.spec_data.specs.Rows.{Row, key}
 use Rattle.spec_store.specs.Store.{row_at, put, last_of, AreRising, AreApart, Store, IsStore, with_row}
-use Rattle.spec_store.proofs.StoreLemmas.{row_at-put, found_etag, same_means, same_row, last_of-put, AreRising-put, AreApart-put, AreRising-filter, last_of-filter}
+use Rattle.spec_store.proofs.StoreLemmas.{row_at-put, found_etag, found_passing, passing_found, none_still, same_means, same_row, last_of-put, AreRising-put, AreApart-put, AreRising-filter, last_of-filter}
 use Rattle.spec_store.proofs.KeyedLemmas.{key_ties}
 use Rattle.paged_map.specs.Pairs.{AllAnswer}
 use Rattle.paged_map.proofs.Laws.{lookup-insert_entry, insert_last}
-use Rattle.doc_store.specs.Maps.{id_cmp, AreFiled, rows_in, by_etag, newest_at, is_of, Shows}
+use Rattle.doc_store.specs.Maps.{id_cmp, AreFiled, rows_in, by_etag, without_etag, etag_at, is_of, rows_of, ShowsByEtag, Shows}
 use Rattle.doc_store.specs.Steps.{MayStand}
 use Rattle.doc_store.specs.Bounds.{IsWithin}
+use Rattle.doc_store.proofs.FilterLemmas.{filter-swap}
 
 -- NUMBERS
 
@@ -77,6 +80,41 @@ all_below e low (x ∷ rows) up h = (greater e x.etag (before x.etag rows up.1 h
 pub appended : (r : Row) (rows : List Row) → AreRising 0 rows → last_of 0 rows < r.etag → insert_entry nat_cmp (by_etag rows) r.etag r ≡ by_etag (rows ++ r ∷ [])
 appended r rows up h = insert_last nat_cmp nat_cmp_total r.etag r (by_etag rows) (all_below r.etag 0 rows up h) ∙ sym (map-append (λ x. (x.etag, x)) rows (r ∷ []))
 
+-- the rows beside that of an id rise, and go no further
+below : (k : List ℕ) (rows : List Row) (e : ℕ) → AreRising 0 rows → last_of 0 rows < e → last_of 0 (filter (other k) rows) < e
+below k rows e up h = let a = last_of-filter 0 0 (other k) rows up (omega arith) in omega arith
+
+-- a row that is put past those beside its id is put into all
+put-beside : (r : Row) (rows : List Row) → AreRising 0 rows → last_of 0 rows < r.etag
+    → insert_entry nat_cmp (by_etag (filter (λ x. not (same_key (key r) (key x))) rows)) r.etag r ≡ by_etag (put r rows)
+put-beside r rows up h = appended r (filter (other (key r)) rows) (AreRising-filter 0 (other (key r)) rows up) (below (key r) rows r.etag up h)
+
+-- the pairs without the etag of an id's row are the rows beside that of the id
+without-beside : (k : List ℕ) (rows : List Row) → IsStore (record { rows = rows }) → without_etag (etag_at k rows) (by_etag rows) ≡ by_etag (filter (λ x. not (same_key k (key x))) rows)
+without-beside k rows s =
+    elim (row_at k rows) as (λ o. row_at k rows ≡ o → without_etag (option_map (λ (x : Row). x.etag) o) (by_etag rows) ≡ by_etag (filter (λ x. not (same_key k (key x))) rows)) [
+      | None ↦ λ none. ap by_etag (sym (none_out k rows none))
+      | Some old ↦ λ is. same_out 0 k rows old s.rising s.apart is
+    ] refl
+
+pub put_is : (rows : List Row) (r : Row) (pairs : List (ℕ × Row)) → IsStore (record { rows = rows }) → last_of 0 rows < r.etag
+    → pairs ≡ insert_entry nat_cmp (without_etag (etag_at (key r) rows) (by_etag rows)) r.etag r → pairs ≡ by_etag (put r rows)
+put_is rows r pairs s newer is = is ∙ ap (λ es. insert_entry nat_cmp es r.etag r) (without-beside (key r) rows s) ∙ put-beside r rows s.rising newer
+
+pub IsStore-put : (rows : List Row) (r : Row) → IsStore (record { rows = rows }) → last_of 0 rows < r.etag → IsStore (record { rows = put r rows })
+IsStore-put rows r s newer = record { rising = AreRising-put 0 r rows s.rising newer; apart = AreApart-put r rows s.apart }
+
+pub shown_by_etag : (pairs : List (ℕ × Row)) (last : ℕ) (rows : List Row) → rows_in pairs ≡ rows → ShowsByEtag pairs last (rows_in pairs) → ShowsByEtag pairs last rows
+shown_by_etag pairs last rows is s = subst (ShowsByEtag pairs last) is s
+
+pub put_shown : (rows : List Row) (r : Row) (pairs : List (ℕ × Row)) (last : ℕ) → IsStore (record { rows = rows }) → last_of 0 rows < r.etag → pairs ≡ by_etag (put r rows) → last ≡ r.etag
+    → ShowsByEtag pairs last (rows_in pairs)
+put_shown rows r pairs last s newer is e = subst (ShowsByEtag pairs last) (sym (ap rows_in is ∙ rows_in-by_etag (put r rows))) (record {
+  store = IsStore-put rows r s newer;
+  pairs = is;
+  last_is = e ∙ sym (last_of-put 0 r rows);
+})
+
 -- BY ID
 
 pub id_total : IsTotalOrder id_cmp
@@ -102,99 +140,79 @@ AreFiled-with (e ∷ ids) r h =
 
 -- BY COLLECTION
 
--- the last that passes, once a row is put in place of one that passes where it does
-pub last_of-filter_put : (low : ℕ) (p : Row → Bool) (r : Row) (rows : List Row) → AreApart rows → ((x : Row) → row_at (key r) rows ≡ Some x → p x ≡ p r)
-    → last_of low (filter p (put r rows)) ≡ cond (p r) r.etag (last_of low (filter p rows))
-last_of-filter_put low p r [] apart same = elim (p r) as (λ b. last_of low (cond b (r ∷ []) []) ≡ cond b r.etag low) [ true ↦ refl | false ↦ refl ]
-last_of-filter_put low p r (x ∷ rows) apart same =
-    elim (same_key (key r) (key x)) as (λ b. same_key (key r) (key x) ≡ b → last_of low (filter p (cond (not b) (x ∷ filter (other (key r)) rows) (filter (other (key r)) rows) ++ r ∷ [])) ≡ cond (p r) r.etag (last_of low (cond (p x) (x ∷ filter p rows) (filter p rows)))) [
-      | true ↦ λ e.
-          let none : row_at (key r) rows ≡ None = subst (λ q. row_at q rows ≡ None) (sym (same_means (key r) (key x) e)) apart.0 in
-          let alike : p x ≡ p r = same x (ap (λ b. cond b (Some x) (row_at (key r) rows)) e) in
-          last_of-filter_put low p r rows apart.1 (λ y is. absurd (let f = sym none ∙ is in cc))
-          ∙ elim (p r) as (λ b. p r ≡ b → cond b r.etag (last_of low (filter p rows)) ≡ cond b r.etag (last_of low (cond (p x) (x ∷ filter p rows) (filter p rows)))) [
-            | true ↦ λ t. refl
-            | false ↦ λ t. ap (λ b. last_of low (cond b (x ∷ filter p rows) (filter p rows))) (sym (alike ∙ t))
-          ] refl
-      | false ↦ λ e.
-          let rest : (y : Row) → row_at (key r) rows ≡ Some y → p y ≡ p r = λ y is. same y (ap (λ b. cond b (Some x) (row_at (key r) rows)) e ∙ is) in
-          elim (p x) as (λ b. last_of low (cond b (x ∷ filter p (filter (other (key r)) rows ++ r ∷ [])) (filter p (filter (other (key r)) rows ++ r ∷ []))) ≡ cond (p r) r.etag (last_of low (cond b (x ∷ filter p rows) (filter p rows)))) [
-            | true ↦ last_of-filter_put x.etag p r rows apart.1 rest
-            | false ↦ last_of-filter_put low p r rows apart.1 rest
-          ]
+-- of the rows that pass the new one is put among those, if it passes where the earlier one does
+filter-put : (p : Row → Bool) (r : Row) (rows : List Row) → AreApart rows → ((x : Row) → row_at (key r) rows ≡ Some x → p x ≡ p r)
+    → filter p (put r rows) ≡ cond (p r) (put r (filter p rows)) (filter p rows)
+filter-put p r rows apart same =
+    filter-append p (filter (other (key r)) rows) (r ∷ [])
+    ∙ ap (λ xs. xs ++ filter p (r ∷ [])) (filter-swap p (other (key r)) rows)
+    ∙ elim (p r) as (λ b. p r ≡ b → filter (other (key r)) (filter p rows) ++ cond b (r ∷ []) [] ≡ cond b (put r (filter p rows)) (filter p rows)) [
+      | true ↦ λ e. refl
+      | false ↦ λ e. append-nil (filter (other (key r)) (filter p rows)) ∙ none_out (key r) (filter p rows) (absent e)
     ] refl
+  where
+    absent : p r ≡ false → row_at (key r) (filter p rows) ≡ None
+    absent e =
+        elim (row_at (key r) (filter p rows)) as (λ o. row_at (key r) (filter p rows) ≡ o → o ≡ None) [
+          | None ↦ λ is. refl
+          | Some x ↦ λ is. absurd (let f = found_passing p (key r) rows x apart is in let g = sym (same x f.0 ∙ e) ∙ f.1 in cc)
+        ] refl
 
-read : (b : Bool) (e : ℕ) (o : Option ℕ) → unwrap_or (cond b (Some e) o) 0 ≡ cond b e (unwrap_or o 0)
-read true e o = refl
-read false e o = refl
+read : (b : Bool) (found : List Row) (o : Option (List Row)) → unwrap_or (cond b (Some found) o) [] ≡ cond b found (unwrap_or o [])
+read true found o = refl
+read false found o = refl
 
-pub newest-with : (newest : List (List ℕ × ℕ)) (r : Row) (rows : List Row) → AreApart rows → ((x : Row) → row_at (key r) rows ≡ Some x → x.collection ≡ r.collection)
-    → ((c : List ℕ) → newest_at newest c ≡ last_of 0 (filter (is_of c) rows))
-    → (c : List ℕ) → newest_at (insert_entry key_cmp newest r.collection r.etag) c ≡ last_of 0 (filter (is_of c) (put r rows))
-newest-with newest r rows apart same h c =
-    ap (λ o. unwrap_or o 0) (lookup-insert_entry key_cmp nat_list_cmp_total c r.collection r.etag newest)
-    ∙ read (is_eq (key_cmp c r.collection)) r.etag (lookup (is_at (key_cmp c)) newest)
-    ∙ ap (λ b. cond b r.etag (newest_at newest c)) (is_eq-slice_cmp c r.collection ∙ nat_list_eq_equiv.symm c r.collection)
-    ∙ ap (cond (is_of c r) r.etag) (h c)
-    ∙ sym (last_of-filter_put 0 (is_of c) r rows apart (λ x is. ap (λ w. bytes_eq w c) (same x is)))
+collections-with : (collections : List (List ℕ × List Row)) (r : Row) (rows found : List Row) → AreApart rows → ((x : Row) → row_at (key r) rows ≡ Some x → x.collection ≡ r.collection)
+    → ((c : List ℕ) → rows_of collections c ≡ filter (is_of c) rows) → found ≡ put r (filter (is_of r.collection) rows)
+    → (c : List ℕ) → rows_of (insert_entry key_cmp collections r.collection found) c ≡ filter (is_of c) (put r rows)
+collections-with collections r rows found apart same h is c =
+    ap (λ o. unwrap_or o []) (lookup-insert_entry key_cmp nat_list_cmp_total c r.collection found collections)
+    ∙ read (is_eq (key_cmp c r.collection)) found (lookup (is_at (key_cmp c)) collections)
+    ∙ ap (λ b. cond b found (rows_of collections c)) (is_eq-slice_cmp c r.collection ∙ nat_list_eq_equiv.symm c r.collection)
+    ∙ elim (is_of c r) as (λ b. is_of c r ≡ b → cond b found (rows_of collections c) ≡ cond b (put r (filter (is_of c) rows)) (filter (is_of c) rows)) [
+      | true ↦ λ e. is ∙ ap (λ d. put r (filter (is_of d) rows)) ((bytes_eq-Decides r.collection c).0 e)
+      | false ↦ λ e. h c
+    ] refl
+    ∙ sym (filter-put (is_of c) r rows apart (λ x old. ap (λ w. bytes_eq w c) (same x old)))
 
--- ALL OF THEM
-
-pub Shows-with : (ids : List (List ℕ × Row)) (etags : List (ℕ × Row)) (newest : List (List ℕ × ℕ)) (last : ℕ) (S : Store) (r : Row)
-    → Shows ids etags newest last S.rows → MayStand S r → IsWithin (with_row S r)
-    → Shows (insert_entry id_cmp ids r.id r) (by_etag (put r S.rows)) (insert_entry key_cmp newest r.collection r.etag) r.etag (put r S.rows)
-Shows-with ids etags newest last S r s m w = record {
-  kept = record { store = record { rising = AreRising-put 0 r S.rows s.kept.store.rising m.newer; apart = AreApart-put r S.rows s.kept.store.apart }; within = w };
-  by_ids = ids-with ids r S.rows s.by_ids;
-  filed = AreFiled-with ids r s.filed;
-  by_etags = refl;
-  by_collections = newest-with newest r S.rows s.kept.store.apart m.same s.by_collections;
-  last_is = sym (last_of-put 0 r S.rows);
-}
-
--- the rows beside that of an id rise, and go no further
-below : (k : List ℕ) (rows : List Row) (e : ℕ) → AreRising 0 rows → last_of 0 rows < e → last_of 0 (filter (other k) rows) < e
-below k rows e up h = let a = last_of-filter 0 0 (other k) rows up (omega arith) in omega arith
-
--- a row that is put past those beside its id is put into all
-pub put-beside : (r : Row) (rows : List Row) → AreRising 0 rows → last_of 0 rows < r.etag
-    → insert_entry nat_cmp (by_etag (filter (λ x. not (same_key (key r) (key x))) rows)) r.etag r ≡ by_etag (put r rows)
-put-beside r rows up h = appended r (filter (other (key r)) rows) (AreRising-filter 0 (other (key r)) rows up) (below (key r) rows r.etag up h)
+-- the row of an id is among those of its collection
+pub etag_at-of : (rows : List Row) (r : Row) → AreApart rows → ((x : Row) → row_at (key r) rows ≡ Some x → x.collection ≡ r.collection)
+    → etag_at (key r) rows ≡ etag_at (key r) (filter (is_of r.collection) rows)
+etag_at-of rows r apart same =
+    elim (row_at (key r) rows) as (λ o. row_at (key r) rows ≡ o → option_map (λ (x : Row). x.etag) o ≡ etag_at (key r) (filter (is_of r.collection) rows)) [
+      | None ↦ λ is. ap (option_map (λ (x : Row). x.etag)) (sym (none_still (is_of r.collection) (key r) rows apart is))
+      | Some x ↦ λ is. ap (option_map (λ (x : Row). x.etag)) (sym (passing_found (is_of r.collection) (key r) rows x apart is ((bytes_eq-Decides x.collection r.collection).1 (same x is))))
+    ] refl
 
 -- IN THE CODE'S WORDS
 
-pub shown : (ids : List (List ℕ × Row)) (etags : List (ℕ × Row)) (newest : List (List ℕ × ℕ)) (last : ℕ) (S : Store) → record { rows = rows_in etags } ≡ S
-    → Shows ids etags newest last (rows_in etags) → Shows ids etags newest last S.rows
-shown ids etags newest last S is s = subst (λ (T : Store). Shows ids etags newest last T.rows) is s
+pub shown : (ids : List (List ℕ × Row)) (collections : List (List ℕ × List Row)) (rows : List Row) (S : Store) → record { rows = rows } ≡ S
+    → Shows ids collections rows → Shows ids collections S.rows
+shown ids collections rows S is s = subst (λ (T : Store). Shows ids collections T.rows) is s
 
-pub beside_some : (ids : List (List ℕ × Row)) (etags : List (ℕ × Row)) (newest : List (List ℕ × ℕ)) (last : ℕ) (S : Store) (id : List ℕ) (old : Row) (etag : ℕ) (left : List (ℕ × Row))
-    → Shows ids etags newest last S.rows → lookup (is_at (id_cmp id)) ids ≡ Some old → etag ≡ old.etag → left ≡ remove_entry (is_at (nat_cmp etag)) etags
-    → left ≡ by_etag (filter (λ x. not (same_key (folded id) (key x))) S.rows)
-beside_some ids etags newest last S id old etag left s found of_old is =
-    is ∙ ap (λ n. remove_entry (is_at (nat_cmp n)) etags) of_old ∙ ap (remove_entry (is_at (nat_cmp old.etag))) s.by_etags
-    ∙ same_out 0 (folded id) S.rows old s.kept.store.rising s.kept.store.apart (sym (s.by_ids id) ∙ found)
+-- what the row of a collection's map has to meet
+pub replaced_among : (ids : List (List ℕ × Row)) (collections : List (List ℕ × List Row)) (S : Store) (r : Row) (found : List Row) (replaced : Option ℕ)
+    → Shows ids collections S.rows → MayStand S r → found ≡ rows_of collections r.collection → replaced ≡ etag_at (key r) S.rows → replaced ≡ etag_at (key r) found
+replaced_among ids collections S r found replaced s m is e =
+    e ∙ etag_at-of S.rows r s.kept.store.apart m.same ∙ ap (etag_at (key r)) (sym (is ∙ s.by_collections r.collection))
 
-pub beside_none : (ids : List (List ℕ × Row)) (etags : List (ℕ × Row)) (newest : List (List ℕ × ℕ)) (last : ℕ) (S : Store) (id : List ℕ) (left : List (ℕ × Row))
-    → Shows ids etags newest last S.rows → lookup (is_at (id_cmp id)) ids ≡ None → left ≡ etags
-    → left ≡ by_etag (filter (λ x. not (same_key (folded id) (key x))) S.rows)
-beside_none ids etags newest last S id left s none is = is ∙ s.by_etags ∙ ap by_etag (sym (none_out (folded id) S.rows (sym (s.by_ids id) ∙ none)))
+pub newer_than : (ids : List (List ℕ × Row)) (collections : List (List ℕ × List Row)) (S : Store) (r : Row) (found : List Row)
+    → Shows ids collections S.rows → MayStand S r → found ≡ rows_of collections r.collection → last_of 0 found < r.etag
+newer_than ids collections S r found s m is =
+    let same = ap (last_of 0) (is ∙ s.by_collections r.collection) in
+    let no_more = last_of-filter 0 0 (is_of r.collection) S.rows s.kept.store.rising (omega arith) in
+    let newer = m.newer in omega arith
 
-pub put_is : (S : Store) (r : Row) (etags : List (ℕ × Row)) → IsStore S → MayStand S r
-    → etags ≡ insert_entry nat_cmp (by_etag (filter (λ x. not (same_key (key r) (key x))) S.rows)) r.etag r → etags ≡ by_etag (put r S.rows)
-put_is S r etags s m is = is ∙ put-beside r S.rows s.rising m.newer
-
-pub rows_are : (S : Store) (r : Row) (etags : List (ℕ × Row)) → etags ≡ by_etag (put r S.rows) → rows_in etags ≡ put r S.rows
-rows_are S r etags is = ap rows_in is ∙ rows_in-by_etag (put r S.rows)
-
-pub grown : (ids : List (List ℕ × Row)) (etags : List (ℕ × Row)) (newest : List (List ℕ × ℕ)) (last : ℕ) (S : Store) (r : Row)
-    (ids2 : List (List ℕ × Row)) (etags2 : List (ℕ × Row)) (newest2 : List (List ℕ × ℕ)) (etag : ℕ)
-    → Shows ids etags newest last S.rows → MayStand S r → IsWithin (with_row S r)
-    → ids2 ≡ insert_entry id_cmp ids r.id r → etags2 ≡ by_etag (put r S.rows) → newest2 ≡ insert_entry key_cmp newest r.collection r.etag → etag ≡ r.etag
-    → Shows ids2 etags2 newest2 etag (rows_in etags2)
-grown ids etags newest last S r ids2 etags2 newest2 etag s m w a b c d =
-    subst (λ x. Shows ids2 etags2 newest2 etag x) (sym (rows_are S r etags2 b))
-    (subst (λ x. Shows ids2 etags2 newest2 x (put r S.rows)) (sym d)
-    (subst (λ x. Shows ids2 etags2 x r.etag (put r S.rows)) (sym c)
-    (subst (λ x. Shows ids2 x (insert_entry key_cmp newest r.collection r.etag) r.etag (put r S.rows)) (sym b)
-    (subst (λ x. Shows x (by_etag (put r S.rows)) (insert_entry key_cmp newest r.collection r.etag) r.etag (put r S.rows)) (sym a)
-    (Shows-with ids etags newest last S r s m w)))))
+pub grown : (ids : List (List ℕ × Row)) (collections : List (List ℕ × List Row)) (S : Store) (r : Row) (found : List Row)
+    (ids2 : List (List ℕ × Row)) (collections2 : List (List ℕ × List Row)) (rows2 new : List Row)
+    → Shows ids collections S.rows → MayStand S r → IsWithin (with_row S r) → found ≡ rows_of collections r.collection → new ≡ put r found
+    → ids2 ≡ insert_entry id_cmp ids r.id r → collections2 ≡ insert_entry key_cmp collections r.collection new → rows2 ≡ put r S.rows
+    → Shows ids2 collections2 rows2
+grown ids collections S r found ids2 collections2 rows2 new s m w is made a b c =
+    subst (Shows ids2 collections2) (sym c) (record {
+      kept = record { store = IsStore-put S.rows r s.kept.store m.newer; within = w };
+      by_ids = λ q. ap (lookup (is_at (id_cmp q))) a ∙ ids-with ids r S.rows s.by_ids q;
+      filed = subst AreFiled (sym a) (AreFiled-with ids r s.filed);
+      by_collections = λ q. ap (λ pairs. rows_of pairs q) b
+          ∙ collections-with collections r S.rows new s.kept.store.apart m.same s.by_collections (made ∙ ap (put r) (is ∙ s.by_collections r.collection)) q;
+    })

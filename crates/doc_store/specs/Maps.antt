@@ -1,13 +1,13 @@
 -- How the maps of a store show its rows.
-use Rattle.std.specs.Prelude.{◌≡◌, ℕ, List, [], ◌∷◌, Bool, map, filter, max, unwrap_or}
+use Rattle.std.specs.Prelude.{◌≡◌, ℕ, List, [], ◌∷◌, Bool, Option, Some, None, if◌then◌else◌, nat_lt, map, filter, option_map, unwrap_or}
 use Rattle.std.specs.Str.{bytes_eq}
-use Rattle.std.specs.Ordering.{on}
+use Rattle.std.specs.Ordering.{nat_cmp, on}
 use Rattle.std.specs.declared.cmp.Ordering.{Ordering}
-use Rattle.std.specs.Map.{lookup}
+use Rattle.std.specs.Map.{lookup, remove_entry}
 use Rattle.std.specs.BTreeMap.{is_at}
 use Rattle.spec_data.specs.Folding.{folded, key_cmp}
 use Rattle.spec_data.specs.Rows.{Row, key}
-use Rattle.spec_store.specs.Store.{row_at, last_of}
+use Rattle.spec_store.specs.Store.{IsStore, row_at, last_of}
 use Rattle.doc_store.specs.Bounds.{IsKept}
 
 -- ids are ordered by their folded forms
@@ -27,23 +27,37 @@ AreFiled (e ∷ es) = (folded e.0 ≡ key e.1) × AreFiled es
 abbrev pub by_etag : List Row → List (ℕ × Row)
 by_etag rows = map (λ r. (r.etag, r)) rows
 
--- the etag that a map has for a collection, or 0
-abbrev pub newest_at : List (List ℕ × ℕ) → List ℕ → ℕ
-newest_at newest collection = unwrap_or (lookup (is_at (key_cmp collection)) newest) 0
+-- the pairs without the one at an etag, if one is given
+abbrev pub without_etag : Option ℕ → List (ℕ × Row) → List (ℕ × Row)
+without_etag None pairs = pairs
+without_etag (Some etag) pairs = remove_entry (is_at (nat_cmp etag)) pairs
 
--- the greatest of a number and of the etags for these collections
-abbrev pub newest_among : ℕ → List (List ℕ × ℕ) → List (List ℕ) → ℕ
-newest_among etag newest [] = etag
-newest_among etag newest (c ∷ cs) = newest_among (max etag (newest_at newest c)) newest cs
+-- the etag of the row of a folded id, if there is one
+abbrev pub etag_at : List ℕ → List Row → Option ℕ
+etag_at q rows = option_map (λ r. r.etag) (row_at q rows)
+
+-- of two rows the one with the lower etag, or the only one
+abbrev pub earlier : Option Row → Option Row → Option Row
+earlier None b = b
+earlier (Some a) None = Some a
+earlier (Some a) (Some b) = if nat_lt b.etag a.etag then Some b else Some a
 
 abbrev pub is_of : List ℕ → Row → Bool
 is_of collection r = bytes_eq r.collection collection
 
--- the maps show these rows: by id each row, by etag the list of them, and by collection its greatest etag
-pub record Shows (ids : List (List ℕ × Row)) (etags : List (ℕ × Row)) (newest : List (List ℕ × ℕ)) (last : ℕ) (rows : List Row) : Type 0 where
+-- the rows that a map has for a collection
+abbrev pub rows_of : List (List ℕ × List Row) → List ℕ → List Row
+rows_of collections c = unwrap_or (lookup (is_at (key_cmp c)) collections) []
+
+-- a map shows these rows under their etags, and the etag of the last of them is this
+pub record ShowsByEtag (etags : List (ℕ × Row)) (last : ℕ) (rows : List Row) : Type 0 where
+  pub store : IsStore (record { rows = rows })
+  pub pairs : etags ≡ by_etag rows
+  pub last_is : last ≡ last_of 0 rows
+
+-- the maps show these rows: by id each row, and by collection the list of its rows
+pub record Shows (ids : List (List ℕ × Row)) (collections : List (List ℕ × List Row)) (rows : List Row) : Type 0 where
   pub kept : IsKept (record { rows = rows })
   pub by_ids : (q : List ℕ) → lookup (is_at (id_cmp q)) ids ≡ row_at (folded q) rows
   pub filed : AreFiled ids
-  pub by_etags : etags ≡ by_etag rows
-  pub by_collections : (c : List ℕ) → newest_at newest c ≡ last_of 0 (filter (is_of c) rows)
-  pub last_is : last ≡ last_of 0 rows
+  pub by_collections : (c : List ℕ) → rows_of collections c ≡ filter (is_of c) rows

@@ -3,6 +3,7 @@
 
 mod opening;
 mod rows;
+mod rows_by_etag;
 mod store;
 
 pub use opening::OpenFault;

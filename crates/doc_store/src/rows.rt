@@ -1,11 +1,14 @@
 //! Walks over the rows of a store's maps.
-ghost use Rattle.std.specs.Prelude.{◌≡◌, ◌↔◌, ◌<◌, ◌^◌, ◌&&◌, IfOk, IsTrue, filter, length, nat_lt, not, take};
+ghost use Rattle.std.specs.Prelude.{◌≡◌, ◌<◌, ◌^◌, ◌&&◌, IfOk, filter, length, nat_lt, not};
+ghost use Rattle.std.specs.List.{find};
+ghost use Rattle.std.specs.Option.{option_copied};
 ghost use Rattle.std.specs.Str.{bytes_eq};
 ghost use Rattle.spec_data.specs.Rows.{is_document};
 ghost use Rattle.spec_store.specs.Store.{last_of};
-ghost use Rattle.spec_data.specs.Tables.{in_scope};
-ghost use Rattle.doc_store.specs.Maps.{newest_among, newest_at, rows_in};
+ghost use Rattle.spec_store.specs.Stale.{up_to};
+ghost use Rattle.doc_store.specs.Maps.{earlier, rows_in, rows_of};
 
+use crate::rows_by_etag::RowsByEtag;
 use paged_map::{PagedMap, Pairs};
 use raven_base::{NoMemory, Shared};
 use raven_value::{Body, Id, Row, Text};
@@ -22,13 +25,6 @@ pub fn last_etag(rows: &[Row]) -> u64
     etag
 }
 
-/// Whether a row's collection is one of these.
-pub fn is_in_scope(scope: &[Text], row: &Row) -> bool
-    ensures { result ≡ in_scope scope.now row.now }
-{
-    scope.iter().any(|name| row.collection == *name)
-}
-
 /// Copies of all rows.
 pub fn copies(alloc: Global, rows: Pairs<'_, Id, Shared<Row>>) -> Result<Vec<Row>, NoMemory>
     ensures { IfOk result (λ copies. copies.items ≡ rows_in rows.entry) }
@@ -40,62 +36,59 @@ pub fn copies(alloc: Global, rows: Pairs<'_, Id, Shared<Row>>) -> Result<Vec<Row
     Ok(copies)
 }
 
-/// The first rows in scope past an etag, and whether more remain.
-pub fn first_past(
+/// Of two rows the one with the lower etag, or the only one.
+pub fn earlier<'a>(a: Option<&'a Row>, b: Option<&'a Row>) -> Option<&'a Row>
+    ensures { option_copied result ≡ earlier (option_copied a.entry) (option_copied b.entry) }
+{
+    let Some(first) = a else {
+        return b;
+    };
+    match b {
+        Some(second) => if second.etag < first.etag { b } else { a },
+        None => a,
+    }
+}
+
+/// The rows of a collection.
+pub fn rows_of(
     alloc: Global,
-    rows: Pairs<'_, u64, Shared<Row>>,
+    collections: &PagedMap<Text, RowsByEtag>,
+    collection: &Text,
+) -> Result<RowsByEtag, NoMemory>
+    ensures { IfOk result (λ rows. rows ≡ rows_of collections.now collection.now) }
+{
+    match collections.get(collection) {
+        Some(rows) => Ok(rows.clone()?),
+        None => RowsByEtag::new(alloc),
+    }
+}
+
+/// The first row of a collection past an etag.
+pub fn first_of<'a>(
+    collections: &'a PagedMap<Text, RowsByEtag>,
+    collection: &Text,
     etag: u64,
-    scope: &[Text],
-    max: usize,
-) -> Result<(Vec<Row>, bool), NoMemory>
-    ensures rows { IfOk result (λ r. r.0.items ≡ take max (filter (λ x. in_scope scope.now x && nat_lt etag x.etag) (rows_in rows.entry))) }
-    ensures more { IfOk result (λ r. IsTrue r.1 ↔ (max < length (filter (λ x. in_scope scope.now x && nat_lt etag x.etag) (rows_in rows.entry)))) }
+) -> Option<&'a Row>
+    ensures { option_copied result ≡ find (λ r. nat_lt etag r.etag) (rows_of collections.now collection.now) }
 {
-    let mut found = Vec::new(alloc);
-    for pair in rows {
-        let row = pair.1.get();
-        if is_in_scope(scope, row) && etag < row.etag {
-            if found.len() == max {
-                return Ok((found, true));
-            }
-            found.push(row.clone()?)?;
-        }
+    match collections.get(collection) {
+        Some(rows) => rows.first_after(etag),
+        None => None,
     }
-    Ok((found, false))
 }
 
-/// The etag of the last row in scope, or 0.
-pub fn last_in_scope(rows: Pairs<'_, u64, Shared<Row>>, scope: &[Text]) -> u64
-    ensures { result ≡ last_of 0 (filter (in_scope scope.now) (rows_in rows.entry)) }
+/// The greatest etag of a collection up to a bound, or 0.
+pub fn newest_of(
+    collections: &PagedMap<Text, RowsByEtag>,
+    collection: &Text,
+    upto: Option<u64>,
+) -> u64
+    ensures { result ≡ last_of 0 (filter (λ r. up_to upto r.etag) (rows_of collections.now collection.now)) }
 {
-    let mut etag = 0;
-    for pair in rows {
-        let row = pair.1.get();
-        if is_in_scope(scope, row) {
-            etag = row.etag;
-        }
-    }
-    etag
-}
-
-fn newest_of(newest: &PagedMap<Text, u64>, collection: &Text) -> u64
-    ensures { result ≡ newest_at newest.now collection.now }
-{
-    match newest.get(collection) {
-        Some(etag) => *etag,
+    match collections.get(collection) {
+        Some(rows) => rows.last_up_to(upto),
         None => 0,
     }
-}
-
-/// The greatest etag that one of these collections has, or 0.
-pub fn newest_in_scope(newest: &PagedMap<Text, u64>, scope: &[Text]) -> u64
-    ensures { result ≡ newest_among 0 newest.now scope.now }
-{
-    let mut etag: u64 = 0;
-    for collection in scope {
-        etag = etag.max(newest_of(newest, collection));
-    }
-    etag
 }
 
 /// How many documents and tombstones there are.

@@ -1,19 +1,21 @@
 //! The store.
 ghost use Rattle.std.specs.Str.{bytes_eq};
 ghost use Rattle.std.specs.Prelude.{◌≡◌, ◌≤◌, ◌<◌, ◌&&◌, ◌↔◌, ℕ, IfOk, IsTrue, filter, length, nat_lt, not, option_copied};
-ghost use Rattle.spec_data.specs.Folding.{folded, same_key};
+ghost use Rattle.std.specs.List.{find};
+ghost use Rattle.spec_data.specs.Folding.{folded};
 ghost use Rattle.spec_data.specs.Limits.{max_etag};
-ghost use Rattle.spec_data.specs.Rows.{is_document, key};
+ghost use Rattle.spec_data.specs.Rows.{is_document};
 ghost use Rattle.spec_store.specs.Store.{IsStore, empty_store, last, row_at, with_row, with_rows};
 ghost use Rattle.spec_store.specs.Later.{MayFollowAll};
 ghost use Rattle.spec_store.specs.Stale.{newest, past, stale, batch_rows};
-ghost use Rattle.spec_data.specs.Tables.{table_of};
+ghost use Rattle.spec_data.specs.Tables.{in_scope, table_of};
 ghost use Rattle.std.specs.FinMap.{values};
 ghost use Rattle.doc_store.specs.Bounds.{IsWithin};
-ghost use Rattle.doc_store.specs.Maps.{by_etag};
+ghost use Rattle.doc_store.specs.Maps.{etag_at};
 ghost use Rattle.doc_store.specs.Steps.{MayStand};
 
-use crate::rows::{Counts, copies, counts_of, first_past, last_in_scope, newest_in_scope};
+use crate::rows::{Counts, copies, counts_of, earlier, first_of, newest_of, rows_of};
+use crate::rows_by_etag::RowsByEtag;
 use paged_map::PagedMap;
 use raven_base::{NoMemory, Shared};
 use raven_value::{Id, Row, Rows, Scope, Text};
@@ -28,24 +30,23 @@ use std::marker::Model;
 #[derive(Drop)]
 pub struct Store {
     by_id: PagedMap<Id, Shared<Row>>,
-    by_etag: PagedMap<u64, Shared<Row>>,
-    /// The greatest etag of each collection, by which an index is stale or not without a walk over rows.
-    newest: PagedMap<Text, u64>,
-    last: u64,
+    by_etag: RowsByEtag,
+    /// The rows of each collection, so that an index reads no rows but those in its scope.
+    by_collection: PagedMap<Text, RowsByEtag>,
 }
 
 impl Model for Store {
     ghost use Rattle.spec_store.specs.Store as stores;
     ghost use Rattle.spec_store.specs.Codes.{store_code};
-    ghost use Rattle.doc_store.specs.Maps.{Shows, rows_in};
+    ghost use Rattle.doc_store.specs.Maps.{Shows};
 
     ghost Value = { stores.Store };
 
     ghost coded = { store_code };
 
-    ghost view = { λ a. record { rows = rows_in a.by_etag } };
+    ghost view = { λ a. record { rows = a.by_etag } };
 
-    ghost invariant = { λ a. Shows a.by_id a.by_etag a.newest a.last (rows_in a.by_etag) };
+    ghost invariant = { λ a. Shows a.by_id a.by_collection a.by_etag };
 }
 
 impl Store {
@@ -55,9 +56,8 @@ impl Store {
     {
         Ok(Store {
             by_id: PagedMap::new(alloc)?,
-            by_etag: PagedMap::new(alloc)?,
-            newest: PagedMap::new(alloc)?,
-            last: 0,
+            by_etag: RowsByEtag::new(alloc)?,
+            by_collection: PagedMap::new(alloc)?,
         })
     }
 
@@ -76,7 +76,7 @@ impl Store {
         ensures last { result ≡ last self.now }
         ensures bound { result ≤ max_etag }
     {
-        self.last
+        self.by_etag.last()
     }
 
     /// How many rows there are, tombstones among them.
@@ -109,6 +109,9 @@ impl Store {
     }
 
     /// The first `max` rows in scope past an etag, by etag, and whether more remain.
+    ///
+    /// For each row that it gives, and once more, it reads at most one row of each collection of the scope, and none of others.
+    /// Each is found in time that grows with the logarithm of the number of rows.
     pub fn rows_after(
         &self,
         alloc: Global,
@@ -119,42 +122,60 @@ impl Store {
         ensures rows { IfOk result (λ r. r.0 ≡ batch_rows scope.now etag self.now max) }
         ensures more { IfOk result (λ r. IsTrue r.1 ↔ (max < length (past scope.now etag self.now))) }
     {
-        let later = self.by_etag.range(&etag, &self.last);
-        let (rows, more) = first_past(alloc, later, etag, scope.as_slice(), max as usize)?;
-        Ok((Rows::of(rows), more))
+        let collections = scope.as_slice();
+        let mut found = Rows::new(alloc);
+        let mut after = etag;
+        while let Some(row) = self.first_past(after, collections) {
+            if found.len() == max as usize {
+                return Ok((found, true));
+            }
+            found.push(row.clone()?)?;
+            after = row.etag;
+        }
+        Ok((found, false))
+    }
+
+    /// The first row in scope past an etag. It takes no memory.
+    fn first_past(&self, etag: u64, scope: &[Text]) -> Option<&Row>
+        ensures row { option_copied result ≡ find (λ r. in_scope scope.now r && nat_lt etag r.etag) self.now.rows }
+        ensures sound { IsStore self.now }
+    {
+        let collections = &self.by_collection;
+        let mut first = None;
+        for collection in scope {
+            first = earlier(first, first_of(collections, collection, etag));
+        }
+        first
     }
 
     /// The greatest etag of a row in scope up to a bound, or 0. An index is stale up to that bound exactly if its etag is less.
-    /// It takes no memory, and walks over rows only if one in scope is past the bound.
+    /// It takes no memory, and reads no rows of other collections.
     pub fn newest(&self, scope: &Scope, upto: Option<u64>) -> u64
         ensures newest { result ≡ newest self.now scope.now upto }
         ensures stale { (etag : ℕ) → stale self.now scope.now etag upto ≡ nat_lt etag result }
     {
-        self.newest_up_to(scope.as_slice(), upto)
+        self.newest_in_scope(scope.as_slice(), upto)
     }
 
-    fn newest_up_to(&self, scope: &[Text], upto: Option<u64>) -> u64
+    fn newest_in_scope(&self, scope: &[Text], upto: Option<u64>) -> u64
         ensures newest { result ≡ newest self.now scope.now upto }
         ensures sound { IsStore self.now }
     {
-        let newest = newest_in_scope(&self.newest, scope);
-        match upto {
-            None => newest,
-            Some(most) => if newest <= most {
-                newest
-            } else {
-                last_in_scope(self.by_etag.range(&0, &most), scope)
-            },
+        let collections = &self.by_collection;
+        let mut newest: u64 = 0;
+        for collection in scope {
+            newest = newest.max(newest_of(collections, collection, upto));
         }
+        newest
     }
 
-    /// The rows by etag, but for the one of an id.
-    fn rows_beside(&self, alloc: Global, id: &Id) -> Result<PagedMap<u64, Shared<Row>>, NoMemory>
-        ensures { IfOk result (λ rows. rows ≡ by_etag (filter (λ x. not (same_key (folded id.now) (key x))) self.now.rows)) }
+    /// The etag of the row of an id.
+    fn etag_of(&self, id: &Id) -> Option<u64>
+        ensures { result ≡ etag_at (folded id.now) self.now.rows }
     {
-        match self.by_id.get(id) {
-            Some(old) => Ok(self.by_etag.without(alloc, &old.get().etag)?),
-            None => Ok(self.by_etag.clone()?),
+        match self.get(id) {
+            Some(row) => Some(row.etag),
+            None => None,
         }
     }
 
@@ -166,12 +187,14 @@ impl Store {
         ensures { IfOk result (λ store. store ≡ with_row self.now row.now) }
     {
         let shared = Shared::of(alloc, row.clone()?)?;
-        let beside = self.rows_beside(alloc, &row.id)?;
+        let replaced = self.etag_of(&row.id);
+        let beside = rows_of(alloc, &self.by_collection, &row.collection)?;
+        let changed = beside.with(alloc, &shared, replaced)?;
+        let name = row.collection.clone()?;
         Ok(Store {
             by_id: self.by_id.with(alloc, row.id.clone()?, shared.clone()?)?,
-            by_etag: beside.with(alloc, row.etag, shared)?,
-            newest: self.newest.with(alloc, row.collection.clone()?, row.etag)?,
-            last: row.etag,
+            by_etag: self.by_etag.with(alloc, &shared, replaced)?,
+            by_collection: self.by_collection.with(alloc, name, changed)?,
         })
     }
 
@@ -196,8 +219,7 @@ impl Clone for Store {
         Ok(Store {
             by_id: self.by_id.clone()?,
             by_etag: self.by_etag.clone()?,
-            newest: self.newest.clone()?,
-            last: self.last,
+            by_collection: self.by_collection.clone()?,
         })
     }
 }

@@ -9,7 +9,7 @@ use Rattle.spec_store.specs.Store.{Store, last, row_at}
 use Rattle.spec_store.specs.Commit.{Command, Put, Delete, Writer, Client, Server, Setting, Expect, Refusal, id_of, expected_of, document_at, differs, live_vector, first_of, refuse_if, is_index_id, reserved, too_large, collection_changed, conflict, store_full, etags_spent, refusal_of, row_of, tombstone}
 use Rattle.doc_txn.specs.FaultView.{kind_view}
 use Rattle.doc_txn.specs.declared.fault.TxnKind.{TxnKind}
-use Rattle.doc_txn.specs.Tests.{reserved_for, large_row, moved_row, full_for, spent_for}
+use Rattle.doc_txn.specs.Tests.{reserved_for, large_row, moved_row, full_for, refused_for, spent_for}
 
 either_false : (b : Bool) → b || false ≡ b
 either_false true = refl
@@ -78,24 +78,27 @@ first-or None None None None (Some k) f = refl
 first-or None None None None None (Some k) = refl
 first-or None None None None None None = refl
 
--- the first test that stands is that of the command, where all of them are on its row, the row of its id and the document of its id
-pub refused-by-row : (s : Setting) (w : Writer) (now : ℕ) (S : Store) (cmd : Command) (row : Option Row) (id : List ℕ) (old document : Option Row) (expected : Expect) (a b c d e f : Option TxnKind)
-    → row ≡ row_of now S cmd → id ≡ id_of cmd → old ≡ row_at (folded id) S.rows → document ≡ option_and_then (λ r. cond (is_document r) (Some r) None) old → expected ≡ expected_of cmd
+-- the first test that stands, where all of them are on the id, the row of the id and the document of it
+pub refused-by-row : (s : Setting) (w : Writer) (S : Store) (row : Option Row) (id : List ℕ) (old document : Option Row) (expected : Expect) (a b c d e f : Option TxnKind)
+    → old ≡ row_at (folded id) S.rows → document ≡ option_and_then (λ r. cond (is_document r) (Some r) None) old
     → option_map kind_view a ≡ reserved_for w id row → option_map kind_view b ≡ large_row row → option_map kind_view c ≡ moved_row row old
     → option_map kind_view d ≡ differs expected (live_vector s.base document) → option_map kind_view e ≡ full_for s S row old → option_map kind_view f ≡ spent_for S row
-    → option_map kind_view (option_or (option_or (option_or (option_or (option_or a b) c) d) e) f) ≡ refusal_of s w S cmd
-refused-by-row s w now S cmd row id old document expected a b c d e f is at stands lives asked p q r t u v =
-    let place : old ≡ row_at (folded (id_of cmd)) S.rows = stands ∙ ap (λ x. row_at (folded x) S.rows) at in
-    let living : document ≡ document_at S (folded (id_of cmd)) = lives ∙ ap (option_and_then (λ r. cond (is_document r) (Some r) None)) place in
+    → option_map kind_view (option_or (option_or (option_or (option_or (option_or a b) c) d) e) f) ≡ refused_for s w S id expected row
+refused-by-row s w S row id old document expected a b c d e f place lives p q r t u v =
+    let living : document ≡ document_at S (folded id) = lives ∙ ap (option_and_then (λ r. cond (is_document r) (Some r) None)) place in
     first-or a b c d e f
-    ∙ (λ i. first_of ((p ∙ ap (λ x. reserved_for w x row) at) i
+    ∙ (λ i. first_of (p i
     ∷ q i
     ∷ (r ∙ ap (moved_row row) place) i
-    ∷ (t ∙ λ j. differs (asked j) (live_vector s.base (living j))) i
+    ∷ (t ∙ λ j. differs expected (live_vector s.base (living j))) i
     ∷ (u ∙ ap (full_for s S row) place) i
     ∷ v i
     ∷ []))
-    ∙ refusal-row s w now S cmd row is
+
+-- and that is the refusal of the command that has this id, expects this and would write this row
+pub refused-as : (s : Setting) (w : Writer) (now : ℕ) (S : Store) (c : Command) (id : List ℕ) (expected : Expect) (row : Option Row) → id ≡ id_of c → expected ≡ expected_of c → row ≡ row_of now S c
+    → refused_for s w S id expected row ≡ refusal_of s w S c
+refused-as s w now S c id expected row at asked is = (λ i. refused_for s w S (at i) (asked i) row) ∙ refusal-row s w now S c row is
 
 pub none-of : (a b c d e f : Option TxnKind) → option_or (option_or (option_or (option_or (option_or a b) c) d) e) f ≡ None → (e ≡ None) × (f ≡ None)
 none-of (Some k) b c d e f h = absurd cc

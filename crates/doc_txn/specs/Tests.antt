@@ -1,11 +1,12 @@
 -- The tests of a command, on the row that it would write and on the row that its id has.
-use Rattle.std.specs.Prelude.{ℕ, List, Bool, false, ◌||◌, ◌&&◌, ◌==◌, nat_lt, nat_le, Option, Some, None, is_some, is_none, length, codes}
+use Rattle.std.specs.Prelude.{ℕ, List, [], ◌∷◌, Bool, false, ◌||◌, ◌&&◌, ◌==◌, nat_lt, nat_le, Option, Some, None, is_some, is_none, length, codes}
 use Rattle.std.specs.Str.{bytes_eq}
+use Rattle.spec_data.specs.Folding.{folded}
 use Rattle.spec_data.specs.Limits.{max_body, max_etag}
 use Rattle.spec_data.specs.Rows.{Row, Body, doc, gone, is_document}
 use Rattle.spec_data.specs.Written.{text_of}
-use Rattle.spec_store.specs.Store.{Store, last}
-use Rattle.spec_store.specs.Commit.{Setting, Writer, Client, Server, Refusal, ReservedId, TooLarge, StoreFull, EtagsSpent, is_index_id, other_collection, refuse_if}
+use Rattle.spec_store.specs.Store.{Store, last, row_at}
+use Rattle.spec_store.specs.Commit.{Setting, Writer, Client, Server, Expect, Refusal, ReservedId, TooLarge, StoreFull, EtagsSpent, differs, document_at, first_of, is_index_id, live_vector, other_collection, refuse_if}
 
 -- the row is a document of the server's collection
 abbrev pub is_definition : Option Row → Bool
@@ -38,3 +39,9 @@ full_for s S row old = refuse_if (is_some row && is_none old && nat_le s.max_row
 -- a row is to be written and there is no further etag
 abbrev pub spent_for : Store → Option Row → Option Refusal
 spent_for S row = refuse_if (is_some row && (last S == max_etag)) (EtagsSpent (last S))
+
+-- the first of the tests that refuses the id, the vector that is expected of its document, or the row
+abbrev pub refused_for : Setting → Writer → Store → List ℕ → Expect → Option Row → Option Refusal
+refused_for s w S id expected row =
+    let old = row_at (folded id) S.rows in
+    first_of (reserved_for w id row ∷ large_row row ∷ moved_row row old ∷ differs expected (live_vector s.base (document_at S (folded id))) ∷ full_for s S row old ∷ spent_for S row ∷ [])

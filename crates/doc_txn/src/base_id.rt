@@ -95,5 +95,5 @@ pub fn vector(alloc: Global, etag: u64, base: &BaseId) -> Result<Text, NoMemory>
     vector.push_str(etag.to_string(alloc)?.as_str())?;
     vector.push_str("-")?;
     vector.push_str(base.as_str())?;
-    Ok(Text::of_string(vector))
+    Text::of_string(vector)
 }

@@ -1,10 +1,11 @@
 //! What a transaction is asked to do.
 ghost use Rattle.std.specs.Prelude.{◌≡◌};
-ghost use Rattle.spec_store.specs.Commit.{expected_of, id_of};
-ghost use Rattle.doc_txn.specs.CommandView.{command_view, expect_view};
+ghost use Rattle.spec_store.specs.Commit.{id_of};
+ghost use Rattle.doc_txn.specs.CommandView.{command_view};
 
 use raven_base::Sequence;
 use raven_value::{Id, Text, Value};
+use std::alloc::AllocError;
 
 /// Who writes. A client may not write the definitions of indexes.
 #[derive(Clone, Copy, Debug, PartialEq, Eq)]
@@ -57,13 +58,33 @@ impl Command {
             Command::Put { id, .. } | Command::Delete { id, .. } => id,
         }
     }
+}
 
-    /// The vector that the document has to have.
-    pub fn expected(&self) -> &Expect
-        ensures { expect_view result.now ≡ expected_of (command_view self.now) }
-    {
+impl Clone for Expect {
+    ghost is_clone = { λ s t. t ≡ s };
+
+    fn clone(&self) -> Result<Expect, AllocError> {
         match self {
-            Command::Put { expected, .. } | Command::Delete { expected, .. } => expected,
+            Expect::Any => Ok(Expect::Any),
+            Expect::Vector(vector) => Ok(Expect::Vector(vector.clone()?)),
+        }
+    }
+}
+
+impl Clone for Command {
+    ghost is_clone = { λ s t. t ≡ s };
+
+    fn clone(&self) -> Result<Command, AllocError> {
+        match self {
+            Command::Put { id, expected, body } => Ok(Command::Put {
+                id: id.clone()?,
+                expected: expected.clone()?,
+                body: body.clone()?,
+            }),
+            Command::Delete { id, expected } => Ok(Command::Delete {
+                id: id.clone()?,
+                expected: expected.clone()?,
+            }),
         }
     }
 }

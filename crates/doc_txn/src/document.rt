@@ -1,11 +1,12 @@
 //! What is stored of a body.
-ghost use Rattle.std.specs.Prelude.{◌≡◌, ◌∷◌, [], IfOk, codes, filter, map, not, option_map};
+ghost use Rattle.std.specs.Prelude.{◌≡◌, ◌∷◌, [], IfOk, codes, filter, not, option_map};
 ghost use Rattle.spec_data.specs.Data.{entries_of, object};
-ghost use Rattle.raven_value.specs.View.{data_of, pair_of};
+ghost use Rattle.spec_data.specs.Members.{value_at};
+ghost use Rattle.raven_value.specs.View.{data_of};
 ghost use Rattle.spec_store.specs.Commit.{clean_metadata as spec_clean_metadata, collection_of as spec_collection_of, is_server_member as spec_is_own, named_collection as spec_named_collection, stored_body as spec_stored};
 
 use raven_base::NoMemory;
-use raven_value::{Members, Path, Text, Value};
+use raven_value::{Members, Text, Value};
 use std::alloc::Global;
 
 /// Whether the server writes the member of this name in metadata itself.
@@ -19,78 +20,82 @@ pub fn is_own(name: &str) -> bool
         || name == "@collection"
 }
 
-fn without_own(alloc: Global, members: &[(Text, Value)]) -> Result<Vec<(Text, Value)>, NoMemory>
-    ensures { IfOk result (λ kept. map pair_of kept.items ≡ filter (λ m. not (spec_is_own m.0)) (map pair_of members.now)) }
+// Whether the server writes the member itself.
+fn is_own_member(member: &(Text, Value)) -> bool
+    ensures { result ≡ spec_is_own member.now.0 }
 {
-    let mut kept = Vec::new(alloc);
-    for member in members {
-        if !is_own(member.0.as_str()) {
-            kept.push((member.0.clone()?, member.1.clone()?))?;
-        }
-    }
-    Ok(kept)
+    is_own(member.0.as_str())
 }
 
-fn clean_members(alloc: Global, members: &Members) -> Result<Members, NoMemory>
-    ensures { IfOk result (λ kept. kept ≡ filter (λ m. not (spec_is_own m.0)) members.now) }
+// Takes out the members that the server writes itself.
+fn drop_own(members: &mut Vec<(Text, Value)>)
+    ensures { members.new.items ≡ filter (λ m. not (spec_is_own m.0)) members.old.items }
 {
-    let kept = without_own(alloc, members.as_slice())?;
-    Ok(Members::of(kept))
+    members.retain(|member| !is_own_member(member));
+}
+
+fn clean_members(members: Members) -> Members
+    ensures { result ≡ filter (λ m. not (spec_is_own m.0)) members }
+{
+    let mut kept = members.into_vec();
+    drop_own(&mut kept);
+    Members::of(kept)
 }
 
 #[tactic(auto, using(crate::proofs::Pairs::pairs))]
-fn clean_metadata(alloc: Global, metadata: Option<&Value>) -> Result<Value, NoMemory>
-    ensures { IfOk result (λ value. data_of value ≡ spec_clean_metadata (option_map (λ v. data_of v.now) metadata.entry)) }
+fn clean_metadata(alloc: Global, metadata: Option<Value>) -> Value
+    ensures { data_of result ≡ spec_clean_metadata (option_map (λ v. data_of v) metadata) }
 {
     match metadata {
-        Some(Value::Map(members)) => Ok(Value::Map(clean_members(alloc, members)?)),
-        _ => Ok(Value::Map(Members::new(alloc))),
+        Some(Value::Map(members)) => Value::Map(clean_members(members)),
+        _ => Value::Map(Members::new(alloc)),
     }
 }
 
-// The members with the metadata in its place.
-#[tactic(auto, using(crate::proofs::Pairs::pairs))]
+// The members with clean metadata.
+#[tactic(auto, using(crate::proofs::Pairs::stored_members))]
 fn with_metadata(alloc: Global, members: Members) -> Result<Value, NoMemory>
     ensures { IfOk result (λ value. data_of value ≡ spec_stored (object (entries_of members))) }
 {
     let mut kept = members;
-    let metadata = clean_metadata(alloc, kept.get("@metadata"))?;
-    kept.put_at(alloc, "@metadata", metadata)?;
+    let name = Text::of(alloc, "@metadata")?;
+    let metadata = clean_metadata(alloc, kept.remove(&name));
+    kept.put(name, metadata)?;
     Ok(Value::Map(kept))
 }
 
-/// The body as it is stored: its `@metadata` is an object without the members that the server writes itself.
-pub fn stored(alloc: Global, body: &Value) -> Result<Value, NoMemory>
-    ensures { IfOk result (λ value. data_of value ≡ spec_stored (data_of body.now)) }
+/// The body as it is stored: its `@metadata` is an object without the members that the server writes itself. Its members are moved.
+pub fn stored(alloc: Global, body: Value) -> Result<Value, NoMemory>
+    ensures { IfOk result (λ value. data_of value ≡ spec_stored (data_of body)) }
 {
-    match body.clone()? {
+    match body {
         Value::Map(members) => with_metadata(alloc, members),
         other => Ok(other),
     }
 }
 
-fn named_collection<'a>(value: Option<&'a Value>) -> &'a str
-    ensures { result.now ≡ spec_named_collection (option_map (λ v. data_of v.now) value.entry) }
+fn named_collection(alloc: Global, value: Option<&Value>) -> Result<Text, NoMemory>
+    ensures { IfOk result (λ name. name ≡ spec_named_collection (option_map (λ v. data_of v.now) value.entry)) }
 {
     match value {
-        Some(Value::Text(text)) if !text.as_str().is_empty() => text.as_str(),
-        _ => "@empty",
+        Some(Value::Text(text)) if !text.as_str().is_empty() => Ok(text.clone()?),
+        _ => Ok(Text::of(alloc, "@empty")?),
     }
 }
 
-fn collection_path(alloc: Global) -> Result<Path, NoMemory>
-    ensures { IfOk result (λ path. path ≡ codes "@metadata" ∷ codes "@collection" ∷ []) }
+// The value at `@metadata.@collection`.
+fn collection_value(body: &Value) -> Option<&Value>
+    ensures { option_map (λ v. data_of v.now) result ≡ value_at (codes "@metadata" ∷ codes "@collection" ∷ []) (data_of body.now) }
 {
-    let mut path = Path::of(alloc, Text::of(alloc, "@metadata")?)?;
-    path.push(Text::of(alloc, "@collection")?)?;
-    Ok(path)
+    let metadata = body.get("@metadata")?;
+    let collection = metadata.get("@collection")?;
+    Some(collection)
 }
 
 /// The collection of a document: the text at `@metadata.@collection`, or `@empty` if there is none.
 pub fn collection_of(alloc: Global, body: &Value) -> Result<Text, NoMemory>
     ensures { IfOk result (λ collection. collection ≡ spec_collection_of (data_of body.now)) }
 {
-    let path = collection_path(alloc)?;
-    let collection = Text::of(alloc, named_collection(body.at(&path)))?;
+    let collection = named_collection(alloc, collection_value(body))?;
     Ok(collection)
 }

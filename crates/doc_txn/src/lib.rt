@@ -17,4 +17,4 @@ pub use fault::{TxnFault, TxnKind};
 pub use limits::Limits;
 pub use refusal::is_index_id;
 pub use row::spelling;
-pub use transaction::{Etags, Transaction, commit, transact};
+pub use transaction::{Etags, Transaction, commit, transact, transact_one};

@@ -1,19 +1,20 @@
 //! The tests of a command.
 ghost use Rattle.std.specs.Prelude.{◌≡◌, ◌<◌, ◌≤◌, ◌^◌, ℕ, List, length, IfOk, None, option_copied, option_map};
+ghost use Rattle.spec_data.specs.Folding.{folded};
 ghost use Rattle.spec_data.specs.Limits.{max_etag};
 ghost use Rattle.spec_data.specs.Rows.{doc};
 ghost use Rattle.raven_value.specs.View.{data_of};
-ghost use Rattle.spec_store.specs.Store.{last as spec_last};
-ghost use Rattle.spec_store.specs.Commit.{differs, is_index_id as spec_is_index_id, live_vector as spec_live_vector, refusal_of as spec_refusal_of, row_of as spec_row_of, with_option};
+ghost use Rattle.spec_store.specs.Store.{last as spec_last, row_at};
+ghost use Rattle.spec_store.specs.Commit.{Command as SpecCommand, differs, id_of, is_index_id as spec_is_index_id, live_vector as spec_live_vector, row_of as spec_row_of, with_option};
 ghost use Rattle.doc_store.specs.Bounds.{IsWithin};
-ghost use Rattle.doc_txn.specs.CommandView.{command_view, expect_view, writer_view};
+ghost use Rattle.doc_txn.specs.CommandView.{expect_view, writer_view};
 ghost use Rattle.doc_txn.specs.FaultView.{kind_view};
 ghost use Rattle.doc_txn.specs.SettingView.{setting_of};
 ghost use Rattle.doc_txn.specs.TermsView.{setting_in};
-ghost use Rattle.doc_txn.specs.Tests.{full_for, is_definition as spec_is_definition, large_body, large_row, moved_row, reserved_for, spent_for};
+ghost use Rattle.doc_txn.specs.Tests.{full_for, is_definition as spec_is_definition, large_body, large_row, moved_row, refused_for, reserved_for, spent_for};
 
 use crate::base_id::{BaseId, vector};
-use crate::command::{Command, Expect, Writer};
+use crate::command::{Expect, Writer};
 use crate::fault::TxnKind;
 use crate::limits::Limits;
 use crate::row::live;
@@ -150,24 +151,25 @@ fn etags_spent(store: &Store, row: Option<&Row>) -> Option<TxnKind>
     }
 }
 
-/// The first test that refuses a command, which would write this row.
+/// The first test that refuses the command of this id and this expected vector. The row `old` is the one that the id has, and `row` the one
+/// that the command would write. If no test refuses it, its row fits into the store.
 pub fn refusal_of(
     alloc: Global,
     store: &Store,
-    command: &Command,
+    old: Option<&Row>,
+    id: &Id,
+    expected: &Expect,
     row: Option<&Row>,
     terms: &Terms,
 ) -> Result<Option<TxnKind>, NoMemory>
-    requires { option_copied row ≡ spec_row_of terms.now.moment store.now (command_view command.now) }
-    ensures fits { IfOk result (λ kind. kind ≡ None → IsWithin (with_option store.now (option_copied row.entry))) }
-    ensures refused { IfOk result (λ kind. option_map kind_view kind ≡ spec_refusal_of (setting_in terms.entry.now) (writer_view terms.entry.now.writer) store.now (command_view command.now)) }
+    requires { option_copied old ≡ row_at (folded id.now) store.now.rows }
+    ensures fits { IfOk result (λ kind. kind ≡ None → (now : ℕ) (c : SpecCommand) → option_copied row.entry ≡ spec_row_of now store.now c → id.now ≡ id_of c → IsWithin (with_option store.now (option_copied row.entry))) }
+    ensures refused { IfOk result (λ kind. option_map kind_view kind ≡ refused_for (setting_in terms.entry.now) (writer_view terms.entry.now.writer) store.now id.now (expect_view expected.now) (option_copied row.entry)) }
 {
-    let id = command.id();
-    let old = store.get(id);
     let reserved = reserved(terms.writer, id, row);
     let large = too_large(alloc, row)?;
     let changed = collection_changed(row, old)?;
-    let conflict = conflict(alloc, terms.base, command.expected(), live(old))?;
+    let conflict = conflict(alloc, terms.base, expected, live(old))?;
     let full = store_full(store, terms.limits, row, old);
     let spent = etags_spent(store, row);
     Ok(

@@ -1,11 +1,13 @@
 //! What a command writes.
 ghost use Rattle.std.specs.Prelude.{◌≡◌, IfOk, Some, None, if◌then◌else◌, option_and_then, option_copied};
+ghost use Rattle.spec_data.specs.Folding.{folded};
 ghost use Rattle.spec_data.specs.Rows.{doc, is_document};
 ghost use Rattle.raven_value.specs.View.{data_of};
-ghost use Rattle.spec_store.specs.Commit.{collection_of as spec_collection_of, row_spelling, row_of as spec_row_of, stored_body as spec_stored, tombstone as spec_tombstone};
-ghost use Rattle.doc_txn.specs.CommandView.{command_view};
+ghost use Rattle.spec_store.specs.Store.{row_at};
+ghost use Rattle.spec_store.specs.Commit.{collection_of as spec_collection_of, expected_of, id_of, row_spelling, row_of as spec_row_of, stored_body as spec_stored, tombstone as spec_tombstone};
+ghost use Rattle.doc_txn.specs.CommandView.{command_view, expect_view};
 
-use crate::command::Command;
+use crate::command::{Command, Expect};
 use crate::document::{collection_of, stored};
 use doc_store::Store;
 use raven_base::NoMemory;
@@ -32,10 +34,10 @@ pub fn spelling(id: &Id, old: Option<&Row>) -> Result<Id, NoMemory>
     }
 }
 
-fn document_row(alloc: Global, etag: u64, id: Id, body: &Value, now: u64) -> Result<Row, NoMemory>
-    ensures { IfOk result (λ row. row ≡ record { etag = etag; id = id; collection = spec_collection_of (data_of body.now); body = doc (spec_stored (data_of body.now)); changed = now }) }
+fn document_row(alloc: Global, etag: u64, id: Id, body: Value, now: u64) -> Result<Row, NoMemory>
+    ensures { IfOk result (λ row. row ≡ record { etag = etag; id = id; collection = spec_collection_of (data_of body); body = doc (spec_stored (data_of body)); changed = now }) }
 {
-    let collection = collection_of(alloc, body)?;
+    let collection = collection_of(alloc, &body)?;
     let document = Document::of(alloc, stored(alloc, body)?)?;
     Ok(Row {
         etag,
@@ -58,25 +60,49 @@ fn tombstone(etag: u64, old: &Row, now: u64) -> Result<Row, NoMemory>
     })
 }
 
-/// The row that a command writes, if any.
-pub fn row_of(
+/// A command with the row that it would write in place of its body.
+#[derive(Drop)]
+pub struct Draft {
+    /// The id of the command.
+    pub id: Id,
+
+    /// The vector that the document has to have.
+    pub expected: Expect,
+
+    /// The row, if it would write one.
+    pub row: Option<Row>,
+}
+
+/// What a command would write. The row `old` is the one that its id has.
+pub fn draft_of(
     alloc: Global,
     store: &Store,
-    command: &Command,
+    old: Option<&Row>,
+    command: Command,
     now: u64,
-) -> Result<Option<Row>, NoMemory>
-    ensures { IfOk result (λ row. row ≡ spec_row_of now store.now (command_view command.now)) }
+) -> Result<Draft, NoMemory>
+    requires { option_copied old ≡ row_at (folded (id_of (command_view command))) store.now.rows }
+    ensures id { IfOk result (λ draft. draft.id ≡ id_of (command_view command)) }
+    ensures expected { IfOk result (λ draft. expect_view draft.expected ≡ expected_of (command_view command)) }
+    ensures row { IfOk result (λ draft. draft.row ≡ spec_row_of now store.now (command_view command)) }
 {
-    let old = store.get(command.id());
     let etag = store.last() + 1;
     match command {
-        Command::Put { id, body, .. } => {
-            let spelled = spelling(id, old)?;
-            Ok(Some(document_row(alloc, etag, spelled, body, now)?))
+        Command::Put { id, expected, body } => {
+            let spelled = spelling(&id, old)?;
+            let row = Some(document_row(alloc, etag, spelled, body, now)?);
+            Ok(Draft { id, expected, row })
         }
-        Command::Delete { .. } => match live(old) {
-            Some(row) => Ok(Some(tombstone(etag, row, now)?)),
-            None => Ok(None),
+        Command::Delete { id, expected } => match live(old) {
+            Some(row) => {
+                let row = Some(tombstone(etag, row, now)?);
+                Ok(Draft { id, expected, row })
+            }
+            None => Ok(Draft {
+                id,
+                expected,
+                row: None,
+            }),
         },
     }
 }

@@ -15,7 +15,7 @@ use crate::command::{Command, Commands, Writer};
 use crate::fault::{TxnFault, TxnKind};
 use crate::limits::Limits;
 use crate::refusal::{Terms, refusal_of};
-use crate::row::row_of;
+use crate::row::draft_of;
 use doc_store::Store;
 use raven_base::{NoMemory, Sequence};
 use raven_value::{Row, Rows};
@@ -55,9 +55,7 @@ impl Transaction {
         ensures written { OnOk result (written_of self.new ≡ with_written (Some row) (written_of self.old)) }
         ensures etags { OnOk result (self.new.etags ≡ self.old.etags ++ Some row.etag ∷ []) }
     {
-        let mut one = Rows::new(alloc);
-        one.push(row.clone()?)?;
-        self.store = self.store.with_rows(alloc, &one)?;
+        self.store = self.store.with_row(alloc, &row)?;
         self.etags.push(Some(row.etag))?;
         self.rows.push(row)
     }
@@ -78,20 +76,44 @@ impl Transaction {
     fn take(
         &mut self,
         alloc: Global,
-        command: &Command,
+        command: Command,
         terms: &Terms,
     ) -> Result<Option<TxnKind>, NoMemory>
-        ensures refused { IfOk result (λ kind. option_map kind_view kind ≡ spec_refusal_of (setting_in terms.entry.now) (writer_view terms.entry.now.writer) self.old.store (command_view command.now)) }
-        ensures written { IfOk result (λ kind. kind ≡ None → written_of self.new ≡ with_written (spec_row_of terms.entry.now.moment self.old.store (command_view command.now)) (written_of self.old)) }
-        ensures etags { IfOk result (λ kind. kind ≡ None → self.new.etags ≡ self.old.etags ++ option_map (λ r. r.etag) (spec_row_of terms.entry.now.moment self.old.store (command_view command.now)) ∷ []) }
+        ensures refused { IfOk result (λ kind. option_map kind_view kind ≡ spec_refusal_of (setting_in terms.entry.now) (writer_view terms.entry.now.writer) self.old.store (command_view command)) }
+        ensures written { IfOk result (λ kind. kind ≡ None → written_of self.new ≡ with_written (spec_row_of terms.entry.now.moment self.old.store (command_view command)) (written_of self.old)) }
+        ensures etags { IfOk result (λ kind. kind ≡ None → self.new.etags ≡ self.old.etags ++ option_map (λ r. r.etag) (spec_row_of terms.entry.now.moment self.old.store (command_view command)) ∷ []) }
     {
-        let row = row_of(alloc, &self.store, command, terms.moment)?;
-        let refusal = refusal_of(alloc, &self.store, command, row.as_ref(), terms)?;
+        let (row, refusal) = judged(alloc, &self.store, command, terms)?;
         if refusal.is_none() {
             self.write_if(alloc, row)?;
         }
         Ok(refusal)
     }
+}
+
+// The row that a command would write, and why it is refused, if it is.
+fn judged(
+    alloc: Global,
+    store: &Store,
+    command: Command,
+    terms: &Terms,
+) -> Result<(Option<Row>, Option<TxnKind>), NoMemory>
+    ensures row { IfOk result (λ told. told.0 ≡ spec_row_of terms.entry.now.moment store.now (command_view command)) }
+    ensures refused { IfOk result (λ told. option_map kind_view told.1 ≡ spec_refusal_of (setting_in terms.entry.now) (writer_view terms.entry.now.writer) store.now (command_view command)) }
+    ensures fits { IfOk result (λ told. told.1 ≡ None → IsWithin (with_option store.now told.0)) }
+{
+    let old = store.get(command.id());
+    let draft = draft_of(alloc, store, old, command, terms.moment)?;
+    let row = draft.row.as_ref();
+    let refusal = refusal_of(alloc, store, old, &draft.id, &draft.expected, row, terms)?;
+    Ok((draft.row, refusal))
+}
+
+// A copy, for what takes commands by value.
+fn copied(command: &Command) -> Result<Command, NoMemory>
+    ensures { IfOk result (λ copy. command_view copy ≡ command_view command.now) }
+{
+    Ok(command.clone()?)
 }
 
 /// Takes the commands in order, each on the store that those before it leave. The first that is refused refuses all of them.
@@ -117,10 +139,40 @@ pub fn transact(
     };
     let mut done = Transaction::start(alloc, store)?;
     for (at, command) in commands.as_slice().iter().enumerate() {
-        if let Some(kind) = done.take(alloc, command, &terms)? {
+        let copy = copied(command)?;
+        if let Some(kind) = done.take(alloc, copy, &terms)? {
             let at = at as u64;
             return Err(TxnFault::Refused { at, kind });
         }
+    }
+    Ok(done)
+}
+
+/// As `transact` of this command alone, whose body is moved into the store and not copied.
+#[tactic(auto, using(crate::proofs::Taking::one))]
+pub fn transact_one(
+    alloc: Global,
+    store: &Store,
+    command: Command,
+    writer: Writer,
+    base: &BaseId,
+    limits: &Limits,
+    now: u64,
+) -> Result<Transaction, TxnFault>
+    ensures ok { IfOk result (λ done. outcome base.now limits.now writer now (command ∷ []) store.now ≡ Ok (written_of done)) }
+    ensures refused { IfErr result (λ fault. Refuses fault (outcome base.now limits.now writer now (command ∷ []) store.now)) }
+    ensures etags { IfOk result (λ done. done.etags ≡ etags_taken now (command_view command ∷ []) store.now) }
+    ensures grows { IfOk result (λ done. IsStore store.now → Commits store.now (written_of done)) }
+{
+    let terms = Terms {
+        writer,
+        base,
+        limits,
+        moment: now,
+    };
+    let mut done = Transaction::start(alloc, store)?;
+    if let Some(kind) = done.take(alloc, command, &terms)? {
+        return Err(TxnFault::Refused { at: 0, kind });
     }
     Ok(done)
 }

@@ -1,10 +1,13 @@
 -- What a batch makes of the rows that it takes.
-use Rattle.std.proofs.Common.{◌≡◌, ◌<◌, ◌↔◌, ℕ, List, [], ◌∷◌, length, drop, Bool, true, false, cond, IsTrue, Some, None, Option, refl, sym, ap, ◌∙◌, arith}
+use Rattle.std.proofs.Common.{◌≡◌, ◌<◌, ◌≤◌, ◌↔◌, ◌&&◌, ◌||◌, ℕ, List, [], ◌∷◌, length, take, drop, filter, Bool, true, false, cond, nat_lt, IsTrue, Some, None, Option, refl, sym, ap, ◌∙◌, arith}
+use Rattle.std.specs.List.{list_any}
+use Rattle.std.proofs.lemmas.Bool.{le-ltb}
 use Rattle.std.proofs.lemmas.Grind.{common_steps}
+use Rattle.std.proofs.lemmas.List.{take_all}
 use Rattle.spec_data.specs.Rows.{Row}
 use Rattle.spec_store.specs.Store.{Store, last, last_of}
-use Rattle.spec_store.specs.Stale.{past, batch_rows}
-use Rattle.spec_data.specs.Tables.{note_rows}
+use Rattle.spec_store.specs.Stale.{past, batch_rows, stale, up_to}
+use Rattle.spec_data.specs.Tables.{Scope, in_scope, note_rows}
 use Rattle.spec_index.specs.Index.{etag_after, etag_of_batch}
 use Rattle.spec_index.specs.World.{Version, reads, advanced, batch}
 
@@ -13,6 +16,24 @@ version_at v rows etag = record { definition = v.definition; etag = etag; table 
 
 pub batch-none : (v : Version) (S : Store) (max : ℕ) (rows : List Row) → rows ≡ batch_rows (reads v) v.etag S max → rows ≡ [] → (let x : Option Version = None in x) ≡ batch v S max
 batch-none v S max rows is none = ap (λ batch_rows. advanced v batch_rows (etag_of_batch (reads v) v.etag S max)) (sym none ∙ is)
+
+-- IF THERE IS NOTHING TO DO
+
+none_past : (scope : Scope) (e : ℕ) (rows : List Row) → list_any (λ r. in_scope scope r && nat_lt e r.etag && up_to None r.etag) rows ≡ false → filter (λ r. in_scope scope r && nat_lt e r.etag) rows ≡ []
+none_past scope e [] h = refl
+none_past scope e (r ∷ rows) h =
+    elim (in_scope scope r && nat_lt e r.etag) as (λ b. (b && true) || list_any (λ x. in_scope scope x && nat_lt e x.etag && up_to None x.etag) rows ≡ false → cond b (r ∷ past scope e (record { rows = rows })) (past scope e (record { rows = rows })) ≡ []) [
+      | true ↦ λ is. absurd cc
+      | false ↦ λ is. none_past scope e rows is
+    ] h
+
+pub batch-fresh : (v : Version) (S : Store) (max : ℕ) → stale S (reads v) v.etag None ≡ false → (let x : Option Version = None in x) ≡ batch v S max
+batch-fresh v S max fresh = batch-none v S max [] (sym (ap (take max) (none_past (reads v) v.etag S.rows fresh) ∙ take_all max [] (omega arith))) refl
+
+pub is_fresh : (v : Version) (S : Store) (scope : Scope) (e n : ℕ) → scope ≡ reads v → e ≡ v.etag → ((etag : ℕ) → stale S scope etag None ≡ nat_lt etag n) → n ≤ e → stale S (reads v) v.etag None ≡ false
+is_fresh v S scope e n of_v at_v tells le = (λ i. stale S (sym of_v i) (sym at_v i) None) ∙ tells e ∙ le-ltb e n le
+
+-- IF ROWS ARE TAKEN
 
 etag-some : (e : ℕ) (rows left : List Row) (more : Bool) (last : ℕ) → (rows ≡ [] → ⊥) → (IsTrue more ↔ (0 < length left)) → cond more (last_of 0 rows) last ≡ etag_after e rows left last
 etag-some e rows [] true last some m = absurd (let h = m.0 refl in omega arith)

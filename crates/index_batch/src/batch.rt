@@ -1,6 +1,6 @@
 //! Batches: how an index catches up.
-ghost use Rattle.std.specs.Prelude.{◌≡◌, ◌+◌, ◌≤◌, IfOk, IfSome, cond, length, option_map};
-ghost use Rattle.spec_store.specs.Stale.{batch_rows};
+ghost use Rattle.std.specs.Prelude.{◌≡◌, ◌+◌, ◌≤◌, IfOk, IfSome, None, cond, false, length, option_map};
+ghost use Rattle.spec_store.specs.Stale.{batch_rows, stale};
 ghost use Rattle.spec_store.specs.Store.{last, last_of};
 ghost use Rattle.spec_index.specs.World.{batch, reads};
 ghost use Rattle.index_version.specs.Meaning.{Means};
@@ -23,7 +23,8 @@ fn etag_after(taken: &[Row], more: bool, store: &Store) -> u64
 /// The index after the first `max` rows that it has not seen, or nothing if there are none.
 /// Its etag is that of the last of them if more remain, else the store's last.
 ///
-/// The mapper maps the documents that these rows touch, each at most once, and no others.
+/// The mapper maps the documents that these rows touch, each at most once, and no others. For an index that is not stale nothing
+/// is counted and no row is read: one search for each collection that it reads finds that.
 pub fn next<M: Mapper, L: Ledger>(
     alloc: Global,
     index: &IndexVersion,
@@ -38,9 +39,14 @@ pub fn next<M: Mapper, L: Ledger>(
     ensures maps { let v = index.now.version in steps.new.maps ≤ steps.old.maps + length (touched_documents v (batch_rows (reads v) v.etag store.now max)) }
     ensures merges { steps.new.merges ≡ steps.old.merges }
     ensures reads { steps.new.reads ≡ steps.old.reads }
+    ensures idle { let v = index.now.version in stale store.now (reads v) v.etag None ≡ false → steps.new ≡ steps.old }
 {
     let scope = index.scope(alloc)?;
-    let (taken, more) = store.rows_after(alloc, index.etag(), &scope, max)?;
+    let seen = index.etag();
+    if store.newest(&scope, None) <= seen {
+        return Ok(None);
+    }
+    let (taken, more) = store.rows_after(alloc, seen, &scope, max)?;
     if taken.is_empty() {
         return Ok(None);
     }

@@ -19,7 +19,7 @@ pub fn joined_name(alloc: Global, path: &Path) -> Result<Text, NoMemory>
         name.push_str(".")?;
         name.push_str(part.as_str())?;
     }
-    Ok(Text::of_string(name))
+    Text::of_string(name)
 }
 
 pub(crate) fn joined_names(alloc: Global, paths: &[Path]) -> Result<Texts, NoMemory>

@@ -204,8 +204,10 @@ fn judge(
 ) -> Result<Definition, LangRefusal>
     ensures { UnlessNoMemory result (λ answer. answer ≡ spec.judged name map.now (option_map (λ t. t.now) reduce.entry) trees) }
 {
-    check(&trees)?;
-    Ok(definition(alloc, name, map, reduce, trees)?)
+    match check(&trees) {
+        Ok(()) => Ok(definition(alloc, name, map, reduce, trees)?),
+        Err(refusal) => Err(refusal),
+    }
 }
 
 /// The definition that the texts of a map and of a reduce, if there is one, say; or the first cause for which they are none, in the order of

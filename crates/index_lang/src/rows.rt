@@ -13,11 +13,10 @@ use raven_base::NoMemory;
 use raven_value::{Members, Path, Text, Value, Values};
 use std::alloc::Global;
 
-fn put_text(alloc: Global, members: &mut Members, name: &str, text: &str) -> Result<(), NoMemory>
-    ensures { OnOk result (members.new ≡ put name.now (spec_text text.now) members.old) }
+fn put_text(alloc: Global, members: &mut Members, name: &str, text: Text) -> Result<(), NoMemory>
+    ensures { OnOk result (members.new ≡ put name.now (spec_text text) members.old) }
 {
-    let value = Value::Text(Text::of(alloc, text)?);
-    members.put_at(alloc, name, value)
+    members.put_at(alloc, name, Value::Text(text))
 }
 
 fn texts_value(alloc: Global, texts: &[Text]) -> Result<Value, NoMemory>
@@ -53,7 +52,12 @@ fn metadata_value(alloc: Global) -> Result<Value, NoMemory>
     ensures { IfOk result (λ value. data_of value ≡ object (entry (codes "@collection") (spec_text (codes "@indexes")) no_entries)) }
 {
     let mut metadata = Members::new(alloc);
-    put_text(alloc, &mut metadata, "@collection", "@indexes")?;
+    put_text(
+        alloc,
+        &mut metadata,
+        "@collection",
+        Text::of(alloc, "@indexes")?,
+    )?;
     Ok(Value::Map(metadata))
 }
 
@@ -65,8 +69,8 @@ fn put_static(
 ) -> Result<(), NoMemory>
     ensures { OnOk result (members.new ≡ put (codes "Reduce") (world.text_or_null reduce.now) (put (codes "Map") (spec_text map.now) (put (codes "Kind") (spec_text (codes "static")) members.old))) }
 {
-    put_text(alloc, members, "Kind", "static")?;
-    put_text(alloc, members, "Map", map.as_str())?;
+    put_text(alloc, members, "Kind", Text::of(alloc, "static")?)?;
+    put_text(alloc, members, "Map", map.clone()?)?;
     members.put_at(alloc, "Reduce", text_or_null(reduce)?)
 }
 
@@ -78,9 +82,9 @@ fn put_auto(
 ) -> Result<(), NoMemory>
     ensures { OnOk result (members.new ≡ put (codes "Kind") (spec_text (codes "auto")) (put (codes "Fields") (world.path_list fields.now) (put (codes "Collection") (spec_text collection.now) members.old))) }
 {
-    put_text(alloc, members, "Collection", collection.as_str())?;
+    put_text(alloc, members, "Collection", collection.clone()?)?;
     members.put_at(alloc, "Fields", paths_value(alloc, fields)?)?;
-    put_text(alloc, members, "Kind", "auto")
+    put_text(alloc, members, "Kind", Text::of(alloc, "auto")?)
 }
 
 fn put_body(alloc: Global, members: &mut Members, body: &DefBody) -> Result<(), NoMemory>

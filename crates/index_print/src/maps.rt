@@ -84,5 +84,5 @@ pub fn print_map(alloc: Global, query: &MapQuery) -> Result<Text, NoMemory>
     add(&mut out, " select new { ")?;
     add_members(alloc, &mut out, &query.members)?;
     add(&mut out, " }")?;
-    Ok(Text::of_string(out))
+    Text::of_string(out)
 }

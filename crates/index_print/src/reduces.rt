@@ -149,5 +149,5 @@ pub fn print_reduce(alloc: Global, query: &ReduceQuery) -> Result<Text, NoMemory
     add(&mut out, " select new { ")?;
     add_members(&mut out, query.group.as_str(), &query.key, &query.members)?;
     add(&mut out, " }")?;
-    Ok(Text::of_string(out))
+    Text::of_string(out)
 }

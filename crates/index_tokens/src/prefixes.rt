@@ -18,7 +18,7 @@ fn word_at(alloc: Global, bytes: &[u8]) -> Result<(Token, usize), NoMemory>
 {
     let len = name_len(bytes);
     let word = Vec::from_slice(alloc, &bytes[..len])?;
-    Ok((Token::Word(text_of(word)), len))
+    Ok((Token::Word(text_of(word)?), len))
 }
 
 fn number_at(bytes: &[u8]) -> (Token, usize)

@@ -8,9 +8,9 @@ use raven_value::Text;
 use std::alloc::Global;
 
 /// The text of bytes that are known to be one.
-pub fn text_of(bytes: Vec<u8>) -> Text
+pub fn text_of(bytes: Vec<u8>) -> Result<Text, NoMemory>
     requires { IsUtf8 bytes.items }
-    ensures { result ≡ bytes.items }
+    ensures { IfOk result (λ text. text ≡ bytes.items) }
 {
     Text::of_string(String::from_utf8(bytes).unwrap())
 }
@@ -50,7 +50,7 @@ pub fn quoted(alloc: Global, bytes: &[u8]) -> Result<Option<(Text, usize)>, NoMe
     let mut len = 0;
     while let Some((byte, more)) = rest.split_first() {
         if *byte == b'"' {
-            return Ok(Some((text_of(value), len + 1)));
+            return Ok(Some((text_of(value)?, len + 1)));
         }
         if *byte == b'\\' {
             let Some((letter, behind)) = more.split_first() else {

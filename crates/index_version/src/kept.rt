@@ -21,7 +21,7 @@ use std::alloc::Global;
 
 /// What the map has given for each document that it maps, under the ids of these, and which of them load which ids.
 ///
-/// A change makes new ones and leaves the old ones, with which they share most of their pages.
+/// A copy shares all pages, and a change copies only pages that others have too.
 #[derive(Drop)]
 pub struct Kept {
     pub given: PagedMap<Id, Shared<Given>>,
@@ -51,35 +51,40 @@ impl Kept {
     }
 
     /// With what the map gives for the document of an id, or without it if the map gives nothing.
-    pub fn with(&self, alloc: Global, id: &Id, given: Option<Given>) -> Result<Kept, NoMemory>
-        ensures results { IfOk result (λ kept. (q : List ℕ) → get (by_folded kept.given) q ≡ cond (same_key q (folded id.now)) given (get (by_folded self.now.given) q)) }
-        ensures pairs { IfOk result (λ kept. (x y : List ℕ) → is_pair x y kept.referrers ≡ cond (is_id x id.now) (is_loaded (folded y) given) (is_pair x y self.now.referrers)) }
+    pub fn put(self, alloc: Global, id: &Id, given: Option<Given>) -> Result<Kept, NoMemory>
+        ensures results { IfOk result (λ kept. (q : List ℕ) → get (by_folded kept.given) q ≡ cond (same_key q (folded id.now)) given (get (by_folded self.given) q)) }
+        ensures pairs { IfOk result (λ kept. (x y : List ℕ) → is_pair x y kept.referrers ≡ cond (is_id x id.now) (is_loaded (folded y) given) (is_pair x y self.referrers)) }
     {
         match given {
-            Some(given) => self.with_given(alloc, id, given),
-            None => self.without(alloc, id),
+            Some(given) => self.put_given(alloc, id, given),
+            None => self.take_out(alloc, id),
         }
     }
 
-    fn with_given(&self, alloc: Global, id: &Id, given: Given) -> Result<Kept, NoMemory>
-        ensures results { IfOk result (λ kept. (q : List ℕ) → get (by_folded kept.given) q ≡ cond (same_key q (folded id.now)) (Some given) (get (by_folded self.now.given) q)) }
-        ensures pairs { IfOk result (λ kept. (x y : List ℕ) → is_pair x y kept.referrers ≡ cond (is_id x id.now) (is_loaded (folded y) (Some given)) (is_pair x y self.now.referrers)) }
+    fn put_given(self, alloc: Global, id: &Id, given: Given) -> Result<Kept, NoMemory>
+        ensures results { IfOk result (λ kept. (q : List ℕ) → get (by_folded kept.given) q ≡ cond (same_key q (folded id.now)) (Some given) (get (by_folded self.given) q)) }
+        ensures pairs { IfOk result (λ kept. (x y : List ℕ) → is_pair x y kept.referrers ≡ cond (is_id x id.now) (is_loaded (folded y) (Some given)) (is_pair x y self.referrers)) }
     {
-        let referrers = self.referrers.replace(alloc, id, given.loads().as_slice())?;
+        let Kept {
+            given: all,
+            referrers,
+        } = self;
+        let referrers = referrers.replace(alloc, id, given.loads().as_slice())?;
         let shared = Shared::of(alloc, given)?;
         Ok(Kept {
-            given: self.given.with(alloc, id.clone()?, shared)?,
+            given: all.put(alloc, id.clone()?, shared)?,
             referrers,
         })
     }
 
-    fn without(&self, alloc: Global, id: &Id) -> Result<Kept, NoMemory>
-        ensures results { IfOk result (λ kept. (q : List ℕ) → get (by_folded kept.given) q ≡ cond (same_key q (folded id.now)) None (get (by_folded self.now.given) q)) }
-        ensures pairs { IfOk result (λ kept. (x y : List ℕ) → is_pair x y kept.referrers ≡ cond (is_id x id.now) false (is_pair x y self.now.referrers)) }
+    fn take_out(self, alloc: Global, id: &Id) -> Result<Kept, NoMemory>
+        ensures results { IfOk result (λ kept. (q : List ℕ) → get (by_folded kept.given) q ≡ cond (same_key q (folded id.now)) None (get (by_folded self.given) q)) }
+        ensures pairs { IfOk result (λ kept. (x y : List ℕ) → is_pair x y kept.referrers ≡ cond (is_id x id.now) false (is_pair x y self.referrers)) }
     {
+        let Kept { given, referrers } = self;
         Ok(Kept {
-            given: self.given.without(alloc, id)?,
-            referrers: self.referrers.replace(alloc, id, &[])?,
+            given: given.take_out(alloc, id)?,
+            referrers: referrers.replace(alloc, id, &[])?,
         })
     }
 

@@ -71,19 +71,19 @@ fn auto_entry(alloc: Global, paths: &[Path], body: &Body) -> Result<Entry, NoMem
 {
     let mut entry = Entry::new(alloc);
     for path in paths {
-        entry.put(joined_name(alloc, path)?, field_at(alloc, body, path)?)?;
+        entry.put(joined_name(alloc, path)?, field_at(body, path)?)?;
     }
     Ok(entry)
 }
 
-fn field_at(alloc: Global, body: &Body, path: &Path) -> Result<Scalar, NoMemory>
+fn field_at(body: &Body, path: &Path) -> Result<Scalar, NoMemory>
     ensures { IfOk result (λ scalar. scalar_view scalar ≡ field_of (body_of body.now) path.now) }
 {
     let Body::Doc(document) = body else {
         return Ok(Scalar::Null);
     };
     match document.value().at(path) {
-        Some(value) => value.scalar(alloc),
+        Some(value) => value.scalar(),
         None => Ok(Scalar::Null),
     }
 }

@@ -65,7 +65,7 @@ pub fn renewed<M: Mapper, L: Ledger>(
     let mut new = kept.copy()?;
     for id in ids {
         let given = given_at(alloc, id, table, definition, mapper, steps)?;
-        new = new.with(alloc, id, given)?;
+        new = new.put(alloc, id, given)?;
     }
     Ok(new)
 }

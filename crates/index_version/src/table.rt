@@ -15,7 +15,7 @@ use std::marker::Model;
 /// The recorded documents, seen by contracts as the map from their folded ids to their rows.
 ///
 /// A table and one that was made from it share most of their pages, so each row that is taken costs time and memory
-/// that grow with the logarithm of the number of documents, and a clone takes none.
+/// that grow with the logarithm of the number of documents, and a clone takes none. What several rows change is copied once.
 #[derive(Drop)]
 pub struct Table {
     rows: PagedMap<Id, Shared<Row>>,
@@ -90,22 +90,22 @@ fn all_noted(
 {
     let mut new = rows.clone()?;
     for row in taken {
-        new = noted(alloc, &new, row)?;
+        new = noted(alloc, new, row)?;
     }
     Ok(new)
 }
 
 fn noted(
     alloc: Global,
-    rows: &PagedMap<Id, Shared<Row>>,
+    rows: PagedMap<Id, Shared<Row>>,
     row: &Row,
 ) -> Result<PagedMap<Id, Shared<Row>>, NoMemory>
-    ensures { IfOk result (λ new. by_folded new ≡ note_row (by_folded rows.now) row.now) }
+    ensures { IfOk result (λ new. by_folded new ≡ note_row (by_folded rows) row.now) }
 {
     if is_document(row) {
         let shared = Shared::of(alloc, row.clone()?)?;
-        Ok(rows.with(alloc, row.id.clone()?, shared)?)
+        Ok(rows.put(alloc, row.id.clone()?, shared)?)
     } else {
-        Ok(rows.without(alloc, &row.id)?)
+        Ok(rows.take_out(alloc, &row.id)?)
     }
 }

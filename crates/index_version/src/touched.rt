@@ -36,7 +36,7 @@ fn with_all(alloc: Global, set: IdSet, ids: &[Id]) -> Result<IdSet, NoMemory>
 {
     let mut new = set;
     for id in ids {
-        new = new.with(alloc, id)?;
+        new = new.put(alloc, id)?;
     }
     Ok(new)
 }
@@ -46,7 +46,7 @@ fn with_taken(alloc: Global, set: IdSet, taken: &[Row]) -> Result<IdSet, NoMemor
 {
     let mut new = set;
     for row in taken {
-        new = new.with(alloc, &row.id)?;
+        new = new.put(alloc, &row.id)?;
     }
     Ok(new)
 }

@@ -62,7 +62,7 @@ impl<'a, T: Lookup> Scene<'a, T> {
             let Some(held) = self.evaluate(&member.value, asked)? else {
                 return Ok(None);
             };
-            entry.put(member.name.clone()?, held.scalar(self.alloc)?)?;
+            entry.put(member.name.clone()?, held.scalar()?)?;
         }
         Ok(Some(entry))
     }

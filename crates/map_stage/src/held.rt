@@ -8,7 +8,6 @@ ghost use Rattle.map_stage.specs.HeldView.{held_of};
 
 use raven_base::NoMemory;
 use raven_value::{Members, Scalar, Text, Value, Values};
-use std::alloc::Global;
 use std::borrow::Cow;
 
 /// A value that lies in a document, or that was computed. Only texts are both, since no operator makes lists and objects.
@@ -37,7 +36,7 @@ impl<'a> Held<'a> {
         }
     }
 
-    /// The same value. Only a text that was computed takes memory.
+    /// The same value. A text that was computed is shared.
     pub fn copy(&self) -> Result<Held<'a>, NoMemory>
         ensures { IfOk result (λ held. held_of held ≡ held_of self.now) }
     {
@@ -58,14 +57,14 @@ impl<'a> Held<'a> {
         matches!(self, Held::Flag(true))
     }
 
-    /// The scalar of the same meaning, and null for a list or an object.
-    pub fn scalar(&self, alloc: Global) -> Result<Scalar, NoMemory>
+    /// The scalar of the same meaning, and null for a list or an object. A text is shared.
+    pub fn scalar(&self) -> Result<Scalar, NoMemory>
         ensures { IfOk result (λ scalar. scalar_view scalar ≡ scalar_of (held_of self.now)) }
     {
         Ok(match self {
             Held::Flag(flag) => Scalar::Flag(*flag),
             Held::Num(number) => Scalar::Num(i128::from(*number)),
-            Held::Text(text) => Scalar::Text(Text::of(alloc, text.as_ref().as_str())?),
+            Held::Text(text) => Scalar::Text(text.as_ref().clone()?),
             Held::Null | Held::List(_) | Held::Map(_) => Scalar::Null,
         })
     }

@@ -9,7 +9,6 @@ use crate::held::Held;
 use crate::lookup::Lookup;
 use raven_base::NoMemory;
 use raven_value::{Body, Id, IdRefusal, Ids, Row, Text};
-use std::alloc::Global;
 
 fn document_in<'a>(collection: &Text, row: Option<&'a Row>) -> Held<'a>
     ensures { held_of result ≡ document_in collection.now (option_map (λ r. r.now) row.entry) }
@@ -22,7 +21,6 @@ fn document_in<'a>(collection: &Text, row: Option<&'a Row>) -> Held<'a>
 
 /// The document of the id, if the value is a text that can be one and the document is in the collection.
 pub fn load<'a, T: Lookup>(
-    alloc: Global,
     rows: &'a T,
     collection: &Text,
     value: &Held<'a>,
@@ -33,7 +31,7 @@ pub fn load<'a, T: Lookup>(
     let Held::Text(text) = value else {
         return Ok(Held::Null);
     };
-    match Id::new(alloc, text.as_ref().as_str()) {
+    match Id::of(text.as_ref()) {
         Ok(id) => {
             let document = document_in(collection, rows.find(&id));
             asked.push(id)?;

@@ -113,7 +113,7 @@ fn joined(alloc: Global, left: &Text, right: &Text) -> Result<Text, NoMemory>
 {
     let mut text = String::from_str(alloc, left.as_str())?;
     text.push_str(right.as_str())?;
-    Ok(Text::of_string(text))
+    Text::of_string(text)
 }
 
 fn total<'a>(m: i64, n: i64) -> Option<Held<'a>>

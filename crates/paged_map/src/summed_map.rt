@@ -11,7 +11,9 @@ ghost use Rattle.paged_map.specs.Totals.{total_of};
 ghost use Rattle.paged_map.specs.Merges.{MergesAtMost};
 
 use crate::build::root_over_all;
+use crate::change::{put, take_out};
 use crate::new_pages::{empty, root_of, root_over};
+use crate::owned::owned;
 use crate::page::{Node, Page};
 use crate::pairs::Pairs;
 use crate::summary::Summary;
@@ -55,6 +57,16 @@ impl<K: Ord + Drop, V: Drop, S: Summary<V>> Clone for SummedMap<K, V, S> {
     ghost is_clone = { λ map copy. copy ≡ map };
 
     fn clone(&self) -> Result<SummedMap<K, V, S>, AllocError> {
+        self.another()
+    }
+}
+
+impl<K: Ord + Drop, V: Drop, S: Summary<V>> SummedMap<K, V, S> {
+    /// One more owner of the same root.
+    pub(crate) fn another(&self) -> Result<SummedMap<K, V, S>, AllocError>
+        ensures same { IfOk result (λ m. m ≡ self.now) }
+        ensures rising { IsRising K.cmp self.now.pairs }
+    {
         Ok(SummedMap {
             root: self.root.clone()?,
             len: self.len,
@@ -172,7 +184,67 @@ impl<K: Ord + Clone + Drop, V: Drop, S: Summary<V>> SummedMap<K, V, S> {
 impl<K: Ord + Clone + Drop, V: Clone + Drop, S: Summary<V>> SummedMap<K, V, S> {
     /// The map with this value at the key. If the key is there already, its spelling stays.
     ///
+    /// Of the pages on the way to the key, those that no other map has are changed in place, and the others are copied. If it
+    /// runs out of memory, this map is gone, and its clones stay.
+    ///
     /// A map of 2^64 - 1 pairs, more than an address space holds, has no memory for another.
+    pub fn put<L: Ledger>(
+        self,
+        alloc: Global,
+        summary: &S,
+        key: K,
+        value: V,
+        steps: &mut Steps<L>,
+    ) -> Result<SummedMap<K, V, S>, NoMemory>
+        requires keys { (x y : K) → K.is_clone x y → y ≡ x }
+        requires values { (x y : V) → V.is_clone x y → y ≡ x }
+        ensures pairs { IfOk result (λ m. m.pairs ≡ insert_entry K.cmp self.pairs key value) }
+        ensures rising { IsRising K.cmp self.pairs }
+        ensures levels { IfOk result (λ m. (self.levels ≤ m.levels) × (m.levels ≤ self.levels + 1)) }
+        ensures merges { OnOk result (MergesAtMost (33 * self.levels + 2) steps.old steps.new) }
+    {
+        let SummedMap { root, len } = self;
+        let more = if root.get(&key).is_some() { 0 } else { 1 };
+        let Some(len) = len.checked_add(more) else {
+            return Err(NoMemory);
+        };
+        let pages = put(alloc, summary, owned(alloc, root)?, key, value, steps)?;
+        Ok(SummedMap {
+            root: root_of(alloc, summary, pages, steps)?,
+            len,
+        })
+    }
+
+    /// The map without the key. If the key is not there, it is the same map.
+    ///
+    /// Pages are changed in place and copied as by `put`. If it runs out of memory, this map is gone, and its clones stay.
+    pub fn take_out<L: Ledger>(
+        self,
+        alloc: Global,
+        summary: &S,
+        key: &K,
+        steps: &mut Steps<L>,
+    ) -> Result<SummedMap<K, V, S>, NoMemory>
+        requires keys { (x y : K) → K.is_clone x y → y ≡ x }
+        requires values { (x y : V) → V.is_clone x y → y ≡ x }
+        ensures pairs { IfOk result (λ m. m.pairs ≡ remove_entry (is_at (K.cmp key.now)) self.pairs) }
+        ensures rising { IsRising K.cmp self.pairs }
+        ensures levels { IfOk result (λ m. m.levels ≤ self.levels) }
+        ensures merges { OnOk result (MergesAtMost (47 * self.levels) steps.old steps.new) }
+    {
+        let SummedMap { root, len } = self;
+        if root.get(key).is_none() {
+            return Ok(SummedMap { root, len });
+        }
+        let left = take_out(alloc, summary, owned(alloc, root)?, key, steps)?;
+        Ok(SummedMap {
+            root: root_over(alloc, summary, left, steps)?,
+            len: len - 1,
+        })
+    }
+
+    /// The map with this value at the key, as `put` gives it. This map stays, and the two share all pages but those on the way
+    /// to the key.
     pub fn with<L: Ledger>(
         &self,
         alloc: Global,
@@ -188,18 +260,11 @@ impl<K: Ord + Clone + Drop, V: Clone + Drop, S: Summary<V>> SummedMap<K, V, S> {
         ensures levels { IfOk result (λ m. (self.now.levels ≤ m.levels) × (m.levels ≤ self.now.levels + 1)) }
         ensures merges { OnOk result (MergesAtMost (33 * self.now.levels + 2) steps.old steps.new) }
     {
-        let more = if self.root.get(&key).is_some() { 0 } else { 1 };
-        let Some(len) = self.len.checked_add(more) else {
-            return Err(NoMemory);
-        };
-        let pages = self.root.put(alloc, summary, key, value, steps)?;
-        Ok(SummedMap {
-            root: root_of(alloc, summary, pages, steps)?,
-            len,
-        })
+        let map = self.another()?;
+        map.put(alloc, summary, key, value, steps)
     }
 
-    /// The map without the key. If the key is not there, it is a clone.
+    /// The map without the key, as `take_out` gives it. This map stays.
     pub fn without<L: Ledger>(
         &self,
         alloc: Global,
@@ -214,13 +279,7 @@ impl<K: Ord + Clone + Drop, V: Clone + Drop, S: Summary<V>> SummedMap<K, V, S> {
         ensures levels { IfOk result (λ m. m.levels ≤ self.now.levels) }
         ensures merges { OnOk result (MergesAtMost (47 * self.now.levels) steps.old steps.new) }
     {
-        if self.root.get(key).is_none() {
-            return Ok(self.clone()?);
-        }
-        let left = self.root.take_out(alloc, summary, key, steps)?;
-        Ok(SummedMap {
-            root: root_over(alloc, summary, left, steps)?,
-            len: self.len - 1,
-        })
+        let map = self.another()?;
+        map.take_out(alloc, summary, key, steps)
     }
 }

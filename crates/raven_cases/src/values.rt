@@ -33,7 +33,7 @@ pub fn string_in(alloc: Global, value: &str) -> Result<String, LineFault> {
 
 /// The same as a `Text`.
 pub fn text_in(alloc: Global, value: &str) -> Result<Text, LineFault> {
-    Ok(Text::of_string(string_in(alloc, value)?))
+    Ok(Text::of_string(string_in(alloc, value)?)?)
 }
 
 /// Arguments that are separated by single spaces, and none if there is no value.

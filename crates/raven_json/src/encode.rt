@@ -137,6 +137,14 @@ pub fn write(alloc: Global, value: &Value) -> Result<Vec<u8>, NoMemory>
     Ok(out)
 }
 
+/// Appends the compact text of a value.
+pub fn write_to(alloc: Global, out: &mut Vec<u8>, value: &Value) -> Result<(), NoMemory>
+    ensures { OnOk result (out.new.items ≡ out.old.items ++ text_of (data_of value.now)) }
+{
+    write_value(alloc, out, value)?;
+    Ok(())
+}
+
 /// Appends the JSON text of a text.
 pub fn write_text(out: &mut Vec<u8>, text: &str) -> Result<(), NoMemory>
     ensures { OnOk result (out.new.items ≡ out.old.items ++ quoted text.now) }

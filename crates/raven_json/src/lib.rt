@@ -8,5 +8,5 @@ mod laws;
 mod scan;
 
 pub use decode::{JsonRefusal, read};
-pub use encode::{write, write_text};
+pub use encode::{write, write_text, write_to};
 pub use laws::written_is_read;

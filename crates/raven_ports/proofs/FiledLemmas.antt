@@ -3,7 +3,7 @@ use Rattle.std.proofs.Common.{◌≡◌, ℕ, ◌<◌, ◌≤◌, List, [], ◌�
 use Rattle.std.specs.List.{find}
 use Rattle.std.specs.declared.cmp.Ordering.TheVariants.{Less, Equal, Greater}
 use Rattle.std.specs.Ordering.{nat_cmp, is_eq, is_lt, is_le}
-use Rattle.std.specs.Cmp.{nat_cmp_is, nat_cmp_total, ranked}
+use Rattle.std.specs.Cmp.{nat_cmp_is, nat_cmp_total, on_total, ranked}
 use Rattle.std.specs.Cmp.Lexicographic.{nat_list_cmp_total, nat_list_eq_equiv}
 use Rattle.std.specs.Map.{lookup, remove_entry}
 use Rattle.std.specs.BTreeMap.{is_at, insert_entry}
@@ -12,11 +12,11 @@ use Rattle.std.proofs.lemmas.Bool.Decides.{nat_tests}
 use Rattle.std.proofs.lemmas.List.{map-append, append-nil, append_assoc, take_all}
 use Rattle.std.proofs.lemmas.Map.Text.{is_eq-slice_cmp}
 use Rattle.std.proofs.lemmas.Slice.Eq.{bytes_eq-Decides}
-use Rattle.spec_data.specs.Folding.{key_cmp, same_key}
+use Rattle.spec_data.specs.Folding.{folded, same_key}
 use Rattle.spec_data.specs.Kept.{KeptRow, EtagsRise, is_past, last_kept, keep, kept_key}
 use Rattle.paged_map.specs.Pairs.{AllAnswer}
 use Rattle.paged_map.proofs.Laws.{lookup-insert_entry, insert_last}
-use Rattle.raven_ports.specs.Filed.{rows_in, by_etag, etag_at, AreApart, Shows}
+use Rattle.raven_ports.specs.Filed.{id_cmp, rows_in, by_etag, etag_at, AreApart, Shows}
 use Rattle.raven_ports.proofs.KeptLemmas.{keep_rises}
 use Rattle.raven_ports.proofs.RisingLemmas.{IsPast}
 
@@ -149,13 +149,13 @@ AreApart-keep k (x ∷ rows) h =
       | false ↦ λ e. (etag_at-keep (kept_key x) k rows ∙ ap (λ b. cond b (Some k.etag) (etag_at (kept_key x) rows)) (nat_list_eq_equiv.symm (kept_key x) (kept_key k) ∙ e) ∙ h.0, AreApart-keep k rows h.1)
     ] refl
 
-ids-with : (ids : List (List ℕ × ℕ)) (k : KeptRow) (rows : List KeptRow) → ((q : List ℕ) → lookup (is_at (key_cmp q)) ids ≡ etag_at q rows)
-    → (q : List ℕ) → lookup (is_at (key_cmp q)) (insert_entry key_cmp ids (kept_key k) k.etag) ≡ etag_at q (keep k rows)
+ids-with : (ids : List (List ℕ × ℕ)) (k : KeptRow) (rows : List KeptRow) → ((q : List ℕ) → lookup (is_at (id_cmp q)) ids ≡ etag_at (folded q) rows)
+    → (q : List ℕ) → lookup (is_at (id_cmp q)) (insert_entry id_cmp ids k.id k.etag) ≡ etag_at (folded q) (keep k rows)
 ids-with ids k rows h q =
-    lookup-insert_entry key_cmp nat_list_cmp_total q (kept_key k) k.etag ids
-    ∙ ap (λ b. cond b (Some k.etag) (lookup (is_at (key_cmp q)) ids)) (is_eq-slice_cmp q (kept_key k))
-    ∙ ap (cond (same_key q (kept_key k)) (Some k.etag)) (h q)
-    ∙ sym (etag_at-keep q k rows)
+    lookup-insert_entry id_cmp (on_total folded nat_list_cmp_total) q k.id k.etag ids
+    ∙ ap (λ b. cond b (Some k.etag) (lookup (is_at (id_cmp q)) ids)) (is_eq-slice_cmp (folded q) (kept_key k))
+    ∙ ap (cond (same_key (folded q) (kept_key k)) (Some k.etag)) (h q)
+    ∙ sym (etag_at-keep (folded q) k rows)
 
 -- IN THE CODE'S WORDS
 
@@ -163,27 +163,27 @@ pub shown : (etags : List (ℕ × KeptRow)) (ids : List (List ℕ × ℕ)) (rows
 shown etags ids rows is s = subst (Shows etags ids) is s
 
 pub beside_some : (etags : List (ℕ × KeptRow)) (ids : List (List ℕ × ℕ)) (rows : List KeptRow) (q : List ℕ) (e : ℕ) (left : List (ℕ × KeptRow)) → Shows etags ids rows
-    → lookup (is_at (key_cmp q)) ids ≡ Some e → left ≡ remove_entry (is_at (nat_cmp e)) etags → left ≡ by_etag (filter (λ x. not (same_key q (kept_key x))) rows)
+    → lookup (is_at (id_cmp q)) ids ≡ Some e → left ≡ remove_entry (is_at (nat_cmp e)) etags → left ≡ by_etag (filter (λ x. not (same_key (folded q) (kept_key x))) rows)
 beside_some etags ids rows q e left s found is =
-    is ∙ ap (remove_entry (is_at (nat_cmp e))) s.by_etags ∙ same_out None q rows e s.rising s.apart (sym (s.by_ids q) ∙ found)
+    is ∙ ap (remove_entry (is_at (nat_cmp e))) s.by_etags ∙ same_out None (folded q) rows e s.rising s.apart (sym (s.by_ids q) ∙ found)
 
 pub beside_none : (etags : List (ℕ × KeptRow)) (ids : List (List ℕ × ℕ)) (rows : List KeptRow) (q : List ℕ) (left : List (ℕ × KeptRow)) → Shows etags ids rows
-    → lookup (is_at (key_cmp q)) ids ≡ None → left ≡ etags → left ≡ by_etag (filter (λ x. not (same_key q (kept_key x))) rows)
-beside_none etags ids rows q left s none is = is ∙ s.by_etags ∙ ap by_etag (sym (none_out q rows (sym (s.by_ids q) ∙ none)))
+    → lookup (is_at (id_cmp q)) ids ≡ None → left ≡ etags → left ≡ by_etag (filter (λ x. not (same_key (folded q) (kept_key x))) rows)
+beside_none etags ids rows q left s none is = is ∙ s.by_etags ∙ ap by_etag (sym (none_out (folded q) rows (sym (s.by_ids q) ∙ none)))
 
 pub kept_in : (etags : List (ℕ × KeptRow)) (ids : List (List ℕ × ℕ)) (rows : List KeptRow) (k : KeptRow) (etags2 : List (ℕ × KeptRow)) → Shows etags ids rows → IsPast (last_kept None rows) k.etag
     → etags2 ≡ insert_entry nat_cmp (by_etag (filter (λ x. not (same_key (kept_key k) (kept_key x))) rows)) k.etag k → etags2 ≡ by_etag (keep k rows)
 kept_in etags ids rows k etags2 s past is = is ∙ appended k rows s.rising past
 
 pub grown : (etags : List (ℕ × KeptRow)) (ids : List (List ℕ × ℕ)) (rows : List KeptRow) (k : KeptRow) (etags2 : List (ℕ × KeptRow)) (ids2 : List (List ℕ × ℕ))
-    → Shows etags ids rows → IsPast (last_kept None rows) k.etag → etags2 ≡ by_etag (keep k rows) → ids2 ≡ insert_entry key_cmp ids (kept_key k) k.etag → Shows etags2 ids2 (rows_in etags2)
+    → Shows etags ids rows → IsPast (last_kept None rows) k.etag → etags2 ≡ by_etag (keep k rows) → ids2 ≡ insert_entry id_cmp ids k.id k.etag → Shows etags2 ids2 (rows_in etags2)
 grown etags ids rows k etags2 ids2 s past a b =
     let here : rows_in etags2 ≡ keep k rows = ap rows_in a ∙ rows_in-by_etag (keep k rows) in
     subst (Shows etags2 ids2) (sym here) (record {
       rising = keep_rises None k rows s.rising past;
       apart = AreApart-keep k rows s.apart;
       by_etags = a;
-      by_ids = λ q. ap (lookup (is_at (key_cmp q))) b ∙ ids-with ids k rows s.by_ids q;
+      by_ids = λ q. ap (lookup (is_at (id_cmp q))) b ∙ ids-with ids k rows s.by_ids q;
     })
 
 -- A WALK

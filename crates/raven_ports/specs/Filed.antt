@@ -3,8 +3,14 @@ use Rattle.std.specs.Prelude.{◌≡◌, ℕ, List, [], ◌∷◌, Option, Some,
 use Rattle.std.specs.List.{list_any}
 use Rattle.std.specs.Map.{lookup}
 use Rattle.std.specs.BTreeMap.{is_at}
-use Rattle.spec_data.specs.Folding.{key_cmp, same_key}
+use Rattle.std.specs.Ordering.{on}
+use Rattle.std.specs.declared.cmp.Ordering.{Ordering}
+use Rattle.spec_data.specs.Folding.{folded, key_cmp, same_key}
 use Rattle.spec_data.specs.Kept.{KeptRow, EtagsRise, kept_key}
+
+-- ids by their folded forms
+abbrev pub id_cmp : List ℕ → List ℕ → Ordering
+id_cmp = on folded key_cmp
 
 -- the rows of a map
 abbrev pub rows_in : List (ℕ × KeptRow) → List KeptRow
@@ -28,9 +34,9 @@ abbrev pub AreApart : List KeptRow → Type 0
 AreApart [] = Unit {0}
 AreApart (k ∷ ks) = (etag_at (kept_key k) ks ≡ None) × AreApart ks
 
--- the maps show these rows: by etag the list of them, and under each folded id the etag of its row
+-- the maps show these rows: by etag the list of them, and under each id the etag of its row
 pub record Shows (etags : List (ℕ × KeptRow)) (ids : List (List ℕ × ℕ)) (rows : List KeptRow) : Type 0 where
   pub rising : EtagsRise None rows
   pub apart : AreApart rows
   pub by_etags : etags ≡ by_etag rows
-  pub by_ids : (q : List ℕ) → lookup (is_at (key_cmp q)) ids ≡ etag_at q rows
+  pub by_ids : (q : List ℕ) → lookup (is_at (id_cmp q)) ids ≡ etag_at (folded q) rows

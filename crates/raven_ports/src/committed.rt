@@ -2,14 +2,14 @@
 ghost use Rattle.std.specs.Prelude.{◌≡◌, ◌≤◌, ◌<◌, ◌++◌, [], None, filter, length, not, option_map, take, IfOk, IfSome, OnOk};
 ghost use Rattle.std.specs.Option.{option_copied};
 ghost use Rattle.std.specs.List.{find};
-ghost use Rattle.spec_data.specs.Folding.{same_key};
+ghost use Rattle.spec_data.specs.Folding.{folded, same_key};
 ghost use Rattle.spec_data.specs.Kept.{EtagsRise, is_past, keep, keep_all, kept_key, last_kept};
 ghost use Rattle.raven_ports.specs.Filed.{by_etag};
 
 use crate::keeper::{KeptRow, KeptRows};
 use paged_map::PagedMap;
 use raven_base::{NoMemory, Shared};
-use raven_value::Text;
+use raven_value::Folded;
 use std::alloc::{AllocError, Global};
 use std::marker::Model;
 
@@ -20,8 +20,8 @@ use std::marker::Model;
 #[derive(Drop)]
 pub(crate) struct Committed {
     by_etag: PagedMap<u64, Shared<KeptRow>>,
-    /// The etag of each row, under the folded form of its id.
-    etags: PagedMap<Text, u64>,
+    /// The etag of each row, under its id, which it shares with the row.
+    etags: PagedMap<Folded, u64>,
 }
 
 impl Model for Committed {
@@ -38,13 +38,6 @@ impl Model for Committed {
     ghost view = { λ a. rows_in a.by_etag };
 
     ghost invariant = { λ a. Shows a.by_etag a.etags (rows_in a.by_etag) };
-}
-
-/// The folded form of a row's id.
-fn folded_id(alloc: Global, row: &KeptRow) -> Result<Text, NoMemory>
-    ensures { IfOk result (λ id. id ≡ kept_key row.now) }
-{
-    Ok(Text::of_string(row.id.as_str().to_ascii_lowercase(alloc)?))
 }
 
 impl Committed {
@@ -100,13 +93,13 @@ impl Committed {
         Ok(())
     }
 
-    /// The rows by etag, but for the one of a folded id.
+    /// The rows by etag, but for the one of an id.
     fn rows_beside(
         &self,
         alloc: Global,
-        id: &Text,
+        id: &Folded,
     ) -> Result<PagedMap<u64, Shared<KeptRow>>, NoMemory>
-        ensures { IfOk result (λ rows. rows ≡ by_etag (filter (λ x. not (same_key id.now (kept_key x))) self.now)) }
+        ensures { IfOk result (λ rows. rows ≡ by_etag (filter (λ x. not (same_key (folded id.now) (kept_key x))) self.now)) }
     {
         match self.etags.get(id) {
             Some(etag) => Ok(self.by_etag.without(alloc, etag)?),
@@ -120,7 +113,7 @@ impl Committed {
         ensures { IfOk result (λ rows. rows ≡ keep row.now self.now) }
     {
         let shared = Shared::of(alloc, row.clone()?)?;
-        let id = folded_id(alloc, row)?;
+        let id = Folded(row.id.clone()?);
         let beside = self.rows_beside(alloc, &id)?;
         Ok(Committed {
             by_etag: beside.with(alloc, row.etag, shared)?,

@@ -2,8 +2,8 @@
 use Rattle.spec_data.specs.Data.{Data, flag, text}
 use Rattle.spec_server.specs.Replies.{number}
 use Rattle.raven_value.specs.View.{data_of}
-use Rattle.raven_reply.specs.declared.text.Piece.{Piece}
-use Rattle.raven_reply.specs.declared.text.Piece.TheVariants as p
+use Rattle.raven_reply.specs.declared.piece.Piece.{Piece}
+use Rattle.raven_reply.specs.declared.piece.Piece.TheVariants as p
 
 abbrev pub piece_data : Piece → Data
 piece_data (p.Text words) = text words.now

@@ -3,6 +3,7 @@ use Rattle.std.specs.Prelude.{map}
 use Rattle.spec_server.specs.Replies as is
 use Rattle.index_definition.specs.RefusalView.{refusal_view}
 use Rattle.raven_value.specs.View.{data_of}
+use Rattle.raven_reply.specs.Shown.{shown_with}
 use Rattle.raven_reply.specs.declared.reply.BulkResult.{BulkResult}
 use Rattle.raven_reply.specs.declared.reply.BulkResult.TheVariants as b
 use Rattle.raven_reply.specs.declared.reply.Reply.{Reply}
@@ -16,7 +17,7 @@ abbrev pub reply_view : Reply → is.Reply
 reply_view (r.Put vector id) = is.Put vector id
 reply_view (r.Deleted deleted id) = is.Deleted deleted id
 reply_view (r.Bulk results) = is.Bulk (map result_view results)
-reply_view (r.Document document) = is.Document (data_of document)
+reply_view (r.Document document metadata) = is.Document (shown_with document (data_of metadata))
 reply_view (r.Index name) = is.Index name
 reply_view (r.Removed name) = is.Removed name
 reply_view (r.Pumped pumped) = is.Pumped pumped

@@ -1,7 +1,9 @@
 //! Replies, and what is printed of them.
 #![tactic(auto)]
 
+mod document;
 mod moment;
+mod piece;
 mod reply;
 mod text;
 

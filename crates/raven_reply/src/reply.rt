@@ -1,7 +1,7 @@
 //! Replies.
 use index_definition::{LangKind, Part};
 use raven_base::Sequence;
-use raven_value::{Id, Ids, Name, Text, Value};
+use raven_value::{Document, Id, Ids, Name, Text, Value};
 use std::marker::Model;
 
 /// How far a batch brought an index. The two etags are equal exactly if there was nothing to do.
@@ -96,9 +96,10 @@ pub enum Reply {
         results: BulkResults,
     },
 
-    /// The document, with what the server knows of it in its `@metadata`.
+    /// The document, and what is shown as its `@metadata`.
     Document {
-        document: Value,
+        document: Document,
+        metadata: Value,
     },
 
     /// The index that serves, or that was made.

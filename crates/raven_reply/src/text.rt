@@ -1,91 +1,21 @@
 //! What is printed of replies.
 ghost use Rattle.std.specs.Prelude.{◌≡◌, ◌++◌, ◌∷◌, [], IfOk, OnOk, false, map};
-ghost use Rattle.spec_data.specs.Data.{entries_of, items_of, object, text as spec_text};
-ghost use Rattle.spec_data.specs.Written.{entries_text, items_text, quoted, text_of};
+ghost use Rattle.spec_data.specs.Data.{items_of, text as spec_text};
+ghost use Rattle.spec_data.specs.Written.{items_text, text_of};
 ghost use Rattle.spec_server.specs.Replies.{Bulk, Conflict, Deleted, Found as FoundIds, Index, Indexes as IndexesAll, Lang as LangOf, Pumped as PumpedAll, Put as PutOne, Removed, Stale, Stats, error, error_at, listing_data, pumping_data, reply_data, result_data};
 ghost use Rattle.index_tree.specs.Language.{kind_name as spec_kind_name, part_name as spec_part_name};
 ghost use Rattle.index_definition.specs.RefusalView.{kind_view, part_view, refusal_view};
-ghost use Rattle.raven_value.specs.View.{data_of};
 ghost use Rattle.raven_reply.specs.Pieces.{piece_data};
 ghost use Rattle.raven_reply.specs.ReplyView.{reply_view, result_view};
 
+use crate::document::write_document;
+use crate::piece::{Piece, write_bytes, write_object, write_piece};
 use crate::reply::{BulkResult, Listing, Pumping, Reply};
 use index_definition::{LangKind, Part};
 use raven_base::NoMemory;
-use raven_json::{write, write_text};
-use raven_value::{Id, Value};
+use raven_json::write_text;
+use raven_value::Id;
 use std::alloc::Global;
-
-/// The value of a member.
-#[derive(Clone, Copy)]
-pub enum Piece<'a> {
-    Text(&'a str),
-    Number(u64),
-    Flag(bool),
-    Json(&'a Value),
-}
-
-fn write_bytes(out: &mut Vec<u8>, bytes: &[u8]) -> Result<(), NoMemory>
-    ensures { OnOk result (out.new.items ≡ out.old.items ++ bytes.now) }
-{
-    out.extend_from_slice(bytes)?;
-    Ok(())
-}
-
-fn write_document(alloc: Global, out: &mut Vec<u8>, document: &Value) -> Result<(), NoMemory>
-    ensures { OnOk result (out.new.items ≡ out.old.items ++ text_of (data_of document.now)) }
-{
-    let text = write(alloc, document)?;
-    write_bytes(out, &text)
-}
-
-fn write_piece(alloc: Global, out: &mut Vec<u8>, piece: &Piece) -> Result<(), NoMemory>
-    ensures { OnOk result (out.new.items ≡ out.old.items ++ text_of (piece_data piece.now)) }
-{
-    match piece {
-        Piece::Text(text) => write_text(out, text),
-        Piece::Number(number) => write_bytes(out, number.to_string(alloc)?.as_bytes()),
-        Piece::Flag(flag) => write_bytes(out, if *flag { b"true" } else { b"false" }),
-        Piece::Json(value) => write_document(alloc, out, value),
-    }
-}
-
-#[tactic(auto, using(crate::proofs::Printed::printed))]
-fn write_member(alloc: Global, out: &mut Vec<u8>, name: &str, piece: &Piece) -> Result<(), NoMemory>
-    ensures { OnOk result (out.new.items ≡ out.old.items ++ (quoted name.now ++ 58 ∷ text_of (piece_data piece.now))) }
-{
-    write_text(out, name)?;
-    write_bytes(out, b":")?;
-    write_piece(alloc, out, piece)
-}
-
-fn write_members(
-    alloc: Global,
-    out: &mut Vec<u8>,
-    members: &[(&str, Piece)],
-) -> Result<(), NoMemory>
-    ensures { OnOk result (out.new.items ≡ out.old.items ++ entries_text false (entries_of (map (λ m. (m.0.now, piece_data m.1)) members.now))) }
-{
-    let mut later = false;
-    for member in members {
-        if later {
-            write_bytes(out, b",")?;
-        }
-        write_member(alloc, out, member.0, &member.1)?;
-        later = true;
-    }
-    Ok(())
-}
-
-// An object of these members, which rise.
-#[tactic(auto, using(crate::proofs::Printed::printed))]
-fn write_object(alloc: Global, out: &mut Vec<u8>, members: &[(&str, Piece)]) -> Result<(), NoMemory>
-    ensures { OnOk result (out.new.items ≡ out.old.items ++ text_of (object (entries_of (map (λ m. (m.0.now, piece_data m.1)) members.now)))) }
-{
-    write_bytes(out, b"{")?;
-    write_members(alloc, out, members)?;
-    write_bytes(out, b"}")
-}
 
 fn write_pumping(alloc: Global, out: &mut Vec<u8>, pumping: &Pumping) -> Result<(), NoMemory>
     ensures { OnOk result (out.new.items ≡ out.old.items ++ text_of (pumping_data pumping.now)) }
@@ -453,7 +383,7 @@ fn write_reply(alloc: Global, out: &mut Vec<u8>, reply: &Reply) -> Result<(), No
         }
         Reply::Deleted { deleted, id } => write_deleted(alloc, out, *deleted, id.as_str()),
         Reply::Bulk { results } => write_bulk(alloc, out, results.as_slice()),
-        Reply::Document { document } => write_document(alloc, out, document),
+        Reply::Document { document, metadata } => write_document(alloc, out, document, metadata),
         Reply::Index { name } => write_index(alloc, out, name.as_str()),
         Reply::Removed { name } => write_removed(alloc, out, name.as_str()),
         Reply::Pumped { pumped } => write_pumped(alloc, out, pumped.as_slice()),

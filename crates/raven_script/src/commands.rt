@@ -12,7 +12,7 @@ use crate::body::{bad_member, id_of, json_of};
 use crate::request::{ReadRefusal, Request};
 use doc_txn::{Command, Commands, Expect};
 use raven_base::NoMemory;
-use raven_value::{Id, Members, Text, Value};
+use raven_value::{Id, Members, Value};
 use std::alloc::Global;
 
 #[tactic(auto, using(crate::proofs::Readings::members))]
@@ -31,7 +31,7 @@ fn vector_member(alloc: Global, value: Option<&Value>) -> Result<Expect, ReadRef
 {
     match value {
         None | Some(Value::Null) => Ok(Expect::Any),
-        Some(Value::Text(vector)) => Ok(Expect::Vector(Text::of(alloc, vector.as_str())?)),
+        Some(Value::Text(vector)) => Ok(Expect::Vector(vector.clone()?)),
         Some(_) => Err(bad_member(alloc, "ChangeVector")),
     }
 }

@@ -45,7 +45,7 @@ fn only_text(alloc: Global, maps: &Value, map: Option<&Value>) -> Result<Text, R
     ensures { Reads (λ text. text) result (spec_map_member (Some (data_of maps.now)) (option_map (λ v. data_of v.now) map.entry)) }
 {
     match text_in(only_item(Some(maps))) {
-        Some(text) => Ok(Text::of(alloc, text.as_str())?),
+        Some(text) => Ok(text.clone()?),
         None => Err(bad_member(alloc, "Maps")),
     }
 }
@@ -58,7 +58,7 @@ fn map_member(alloc: Global, maps: Option<&Value>, map: Option<&Value>) -> Resul
         return only_text(alloc, maps, map);
     }
     match map {
-        Some(Value::Text(text)) => Ok(Text::of(alloc, text.as_str())?),
+        Some(Value::Text(text)) => Ok(text.clone()?),
         Some(_) => Err(bad_member(alloc, "Map")),
         None => Err(bad_member(alloc, "Maps")),
     }

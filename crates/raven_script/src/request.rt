@@ -6,6 +6,7 @@ use doc_txn::{Commands, Expect};
 use index_definition::{Definition, LangKind, Part};
 use raven_base::NoMemory;
 use raven_value::{Id, IdRefusal, Name, Text, Value};
+use std::alloc::AllocError;
 use std::sync::Arc;
 use thiserror::Error;
 
@@ -156,6 +157,14 @@ impl From<NoMemory> for ReadRefusal {
     ghost from_gives = { λ _ refusal. refusal ≡ OutOfMemory };
 
     fn from(_lack: NoMemory) -> ReadRefusal {
+        ReadRefusal::NoMemory
+    }
+}
+
+impl From<AllocError> for ReadRefusal {
+    ghost from_gives = { λ _ refusal. refusal ≡ OutOfMemory };
+
+    fn from(_lack: AllocError) -> ReadRefusal {
         ReadRefusal::NoMemory
     }
 }

@@ -64,6 +64,40 @@ fn the_newest_row_of_a_collection_is_up_to_an_etag(rt: HostRuntime) -> Result<()
     Ok(())
 }
 
+// The etags of the first rows of some collections past an etag, and whether more remain.
+fn etags_after(
+    alloc: Global,
+    collections: &[&str],
+    etag: u64,
+    max: u32,
+) -> Result<(Vec<u64>, bool), Fail> {
+    let mut scope = Scope::new(alloc);
+    for collection in collections {
+        scope.push(Text::of(alloc, collection)?)?;
+    }
+    let (rows, more) = store(alloc)?.rows_after(alloc, etag, &scope, max)?;
+    let mut etags = Vec::new(alloc);
+    for row in rows.as_slice() {
+        etags.push(row.etag)?;
+    }
+    Ok((etags, more))
+}
+
+#[test]
+fn rows_of_collections_come_once_in_order_of_etag(rt: HostRuntime) -> Result<(), Fail> {
+    let both = ["Users", "Orders", "Users"];
+    let (all, more) = etags_after(rt.alloc(), &both, 0, 9)?;
+    assert_eq!(rt; all.as_slice(), [2u64, 3, 4].as_slice());
+    assert_eq!(rt; more, false);
+    let (first, more) = etags_after(rt.alloc(), &both, 0, 2)?;
+    assert_eq!(rt; first.as_slice(), [2u64, 3].as_slice());
+    assert_eq!(rt; more, true);
+    let (last, more) = etags_after(rt.alloc(), &["Orders", "Users"], 3, 1)?;
+    assert_eq!(rt; last.as_slice(), [4u64].as_slice());
+    assert_eq!(rt; more, false);
+    Ok(())
+}
+
 fn puts(alloc: Global, ids: &[&str]) -> Result<Commands, Fail> {
     let mut commands = Commands::new(alloc);
     for id in ids {

@@ -4,3 +4,4 @@ pub mod Pairs
 pub mod Openings
 pub mod Choices
 pub mod Batches
+pub mod Shown

@@ -1,16 +1,17 @@
 -- The changes that a world makes.
-use Rattle.std.proofs.Common.{◌≡◌, ◌<◌, ◌+◌, ◌^◌, ℕ, List, [], ◌∷◌, length, Bool, true, false, cond, nat_le, Option, Some, None, is_some, Ok, Err, sym, ap, ◌∙◌, arith}
+use Rattle.std.proofs.Common.{◌≡◌, ◌<◌, ◌+◌, ◌^◌, ℕ, List, [], ◌∷◌, length, Bool, true, false, cond, nat_le, Option, Some, None, is_some, Ok, Err, refl, sym, ap, ◌∙◌, arith}
 use Rattle.std.proofs.lemmas.Grind.{common_steps}
 use Rattle.std.specs.Prelude.{filter, not, nat_lt}
 use Rattle.spec_store.specs.Store.{Store, last}
 use Rattle.spec_data.specs.Rows.{Row}
-use Rattle.spec_store.specs.Commit.{Client, Server, Command, Delete, AnyVector, Refused, Written, commit, etags_taken}
+use Rattle.spec_store.specs.Commit.{Client, Server, Command, Put, Delete, AnyVector, Refused, Written, commit, etags_taken}
 use Rattle.spec_server.specs.Replies.{Reply, Index, Removed, NoIndex, UnknownLine, Result as Done, TooManyIndexes as TooMany}
 use Rattle.spec_server.specs.Replies as replies
 use Rattle.index_tree.specs.Definitions.{Definition, same_definition}
 use Rattle.spec_index.specs.Optimiser.{Make, pick, name_of}
 use Rattle.spec_index.specs.World.{World, Slot, NameServes, NameTooLong, ReservedName, TooManyIndexes, added, added_if_room, define_at, index_id, is_named, is_reserved_name, removed, serving, unless_refused}
-use Rattle.spec_server.specs.Machine.{Course, Define, Remove, Auto as AutoOne, in_world, one_change, only_reply, one_field, refused_at, change_of_slots, results_of, rewrote, use_or_make, wrote, write, course_of}
+use Rattle.spec_server.specs.Machine.{Course, Define, Remove, Auto as AutoOne, in_world, one_change, only_reply, one_field, refused_at, change_of_slots, results_of, rewrote, single_reply, use_or_make, wrote, write, course_of}
+use Rattle.raven_world.specs.Transacts.{bare}
 
 -- WRITES
 
@@ -28,6 +29,22 @@ write-done W reply now commands w told etags is taken tells =
     change_with r = one_change r w.rows (in_world W w.store W.slots)
 
 pub ruleset writes = (write-refused, write-done)
+
+bare-results : (base : List ℕ) (N : Store) (c : Command) (etags : List (Option ℕ)) → results_of base N (bare c ∷ []) etags ≡ results_of base N (c ∷ []) etags
+bare-results base N (Put id expected body) [] = refl
+bare-results base N (Put id expected body) (None ∷ etags) = refl
+bare-results base N (Put id expected body) (Some etag ∷ etags) = refl
+bare-results base N (Delete id expected) [] = refl
+bare-results base N (Delete id expected) (etag ∷ etags) = refl
+
+pub write-one : (W : World) (now : ℕ) (c head : Command) (w : Written) (told : Reply) (etags : List (Option ℕ)) → commit W.setting Client now (c ∷ []) W.store ≡ Ok w
+    → etags ≡ etags_taken now (c ∷ []) W.store → head ≡ bare c → told ≡ single_reply (results_of W.setting.base w.store (head ∷ []) etags)
+    → one_change told w.rows (in_world W w.store W.slots) ≡ write W single_reply now (c ∷ [])
+write-one W now c head w told etags is taken bares tells =
+    write-done W single_reply now (c ∷ []) w told etags is taken
+    (tells ∙ ap (λ h. single_reply (results_of W.setting.base w.store (h ∷ []) etags)) bares ∙ ap single_reply (bare-results W.setting.base w.store c etags))
+
+pub ruleset writes_one = (write-refused, write-one)
 
 -- CHANGES OF SLOTS
 

@@ -1,6 +1,7 @@
 -- What a transaction of a client leaves.
 use Rattle.std.specs.Prelude.{◌≡◌, ℕ, List, Result, Ok, Err}
-use Rattle.spec_store.specs.Commit.{Client, Command, Refused, commit, etags_taken}
+use Rattle.spec_data.specs.Data.{null}
+use Rattle.spec_store.specs.Commit.{AnyVector, Client, Command, Delete, Put, Refused, commit, etags_taken}
 use Rattle.spec_server.specs.Machine.{refused_at}
 use Rattle.spec_index.specs.World as is
 use Rattle.spec_server.specs.Replies.{Reply}
@@ -20,3 +21,8 @@ abbrev pub Transacts : is.World → ℕ → List Command → Result Transaction 
 Transacts W now commands (Ok done) = (commit W.setting Client now commands W.store ≡ Ok (written_of done)) × (done.etags ≡ etags_taken now commands W.store)
 Transacts W now commands (Err (Refuse reply)) = IsRefusal W now commands (reply_view reply)
 Transacts W now commands (Err NoMemory) = Unit {0}
+
+-- the command without its document and without the vector that it expects, neither of which its reply depends on
+abbrev pub bare : Command → Command
+bare (Put id expected body) = Put id AnyVector null
+bare (Delete id expected) = Delete id AnyVector

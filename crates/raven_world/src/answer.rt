@@ -1,11 +1,11 @@
 //! Answers that change nothing.
 ghost use Rattle.std.specs.Prelude.{◌≡◌, IfOk, OnOk, length, map, option_map};
-ghost use Rattle.spec_data.specs.Data.{entries_of, object, text as spec_text};
+ghost use Rattle.spec_data.specs.Data.{text as spec_text};
 ghost use Rattle.spec_data.specs.Rising.{put};
 ghost use Rattle.raven_value.specs.View.{data_of};
 ghost use Rattle.spec_server.specs.Machine.{answer_get, answer_indexes, answer_stale, answer_stats, listing as spec_listing, members_of, shown as spec_shown, shown_metadata as spec_shown_metadata};
 ghost use Rattle.spec_index.specs.World.{serving as spec_serving};
-ghost use Rattle.spec_server.specs.Replies.{NoIndex as NoIndexOf};
+ghost use Rattle.spec_server.specs.Replies.{Document as DocumentOf, NoIndex as NoIndexOf};
 ghost use Rattle.raven_reply.specs.ReplyView.{reply_view};
 
 use crate::choice::is_stale;
@@ -16,7 +16,7 @@ use doc_txn::{BaseId, spelling, vector};
 use index_lang::definition_value;
 use raven_base::NoMemory;
 use raven_reply::{Listing, Listings, Reply, moment_text};
-use raven_value::{Body, Id, Members, Name, Row, Text, Value};
+use raven_value::{Body, Document, Id, Members, Name, Row, Text, Value};
 use std::alloc::Global;
 
 fn put_text(alloc: Global, members: &mut Members, name: &str, text: Text) -> Result<(), NoMemory>
@@ -64,29 +64,17 @@ fn shown_metadata(
     Ok(members)
 }
 
-#[tactic(auto, using(crate::proofs::Pairs::pairs))]
-fn shown_members(
-    alloc: Global,
-    base: &BaseId,
-    row: &Row,
-    members: Members,
-) -> Result<Value, NoMemory>
-    ensures { IfOk result (λ value. data_of value ≡ spec_shown base.now row.now (object (entries_of members))) }
+// The reply that shows a document. It shares the document that is stored.
+#[tactic(auto, using(crate::proofs::Shown::documents))]
+fn shown(alloc: Global, base: &BaseId, row: &Row, document: &Document) -> Result<Reply, NoMemory>
+    ensures { IfOk result (λ reply. reply_view reply ≡ DocumentOf (spec_shown base.now row.now document.now)) }
 {
-    let mut shown = members;
-    let metadata = shown_metadata(alloc, base, row, shown.get("@metadata"))?;
-    shown.put_at(alloc, "@metadata", Value::Map(metadata))?;
-    Ok(Value::Map(shown))
-}
-
-// The document as it is shown.
-fn shown(alloc: Global, base: &BaseId, row: &Row, document: &Value) -> Result<Value, NoMemory>
-    ensures { IfOk result (λ value. data_of value ≡ spec_shown base.now row.now (data_of document.now)) }
-{
-    match document.clone()? {
-        Value::Map(members) => shown_members(alloc, base, row, members),
-        other => Ok(other),
-    }
+    let value = document.value();
+    let metadata = shown_metadata(alloc, base, row, value.get("@metadata"))?;
+    Ok(Reply::Document {
+        document: document.clone()?,
+        metadata: Value::Map(metadata),
+    })
 }
 
 // What is reported of an index.
@@ -131,8 +119,8 @@ impl World {
         let row = self.store.get(id);
         if let Some(row) = row {
             if let Body::Doc(document) = &row.body {
-                let document = shown(alloc, &self.base, row, document.value())?;
-                return Ok(Reply::Document { document });
+                let reply = shown(alloc, &self.base, row, document)?;
+                return Ok(reply);
             }
         }
         let id = spelling(id, row)?;

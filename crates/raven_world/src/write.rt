@@ -7,17 +7,18 @@ ghost use Rattle.doc_txn.specs.CommandView.{command_view};
 ghost use Rattle.doc_txn.specs.FaultView.{kind_view};
 ghost use Rattle.raven_reply.specs.ReplyView.{reply_view, result_view};
 ghost use Rattle.raven_world.specs.WorldView.{change_view, answer_view};
-ghost use Rattle.raven_world.specs.Transacts.{Transacts};
+ghost use Rattle.raven_world.specs.Transacts.{Transacts, bare};
 
 use crate::slot::copies;
 use crate::world::{Change, World, WorldFault};
 use doc_store::Store;
 use doc_txn::{
-    BaseId, Command, Commands, Transaction, TxnFault, TxnKind, Writer, spelling, transact, vector,
+    BaseId, Command, Commands, Expect, Transaction, TxnFault, TxnKind, Writer, spelling, transact,
+    transact_one, vector,
 };
 use raven_base::NoMemory;
 use raven_reply::{BulkResult, BulkResults, Reply};
-use raven_value::Text;
+use raven_value::{Text, Value};
 use std::alloc::Global;
 
 /// The reply to a transaction whose command at this place is refused.
@@ -88,14 +89,46 @@ fn results_of(
     Ok(results)
 }
 
-// The reply to one command.
-fn single(results: Vec<BulkResult>) -> Reply
-    ensures { reply_view result ≡ single_reply (map result_view results.items) }
+// The reply to one command, from its result.
+fn reply_of(done: BulkResult) -> Reply
+    ensures { reply_view result ≡ single_reply (result_view done ∷ []) }
 {
-    match results.into_iter().next() {
-        Some(BulkResult::Put { change_vector, id }) => Reply::Put { change_vector, id },
-        Some(BulkResult::Deleted { deleted, id }) => Reply::Deleted { deleted, id },
-        None => Reply::UnknownLine,
+    match done {
+        BulkResult::Put { change_vector, id } => Reply::Put { change_vector, id },
+        BulkResult::Deleted { deleted, id } => Reply::Deleted { deleted, id },
+    }
+}
+
+// The reply to one command, in a transaction that left this store and took these etags.
+fn single(
+    alloc: Global,
+    base: &BaseId,
+    store: &Store,
+    command: &Command,
+    etags: &[Option<u64>],
+) -> Result<Reply, NoMemory>
+    ensures { IfOk result (λ reply. reply_view reply ≡ single_reply (spec_results_of base.now store.now (command_view command.now ∷ []) etags.now)) }
+{
+    match etags {
+        [] => Ok(Reply::UnknownLine),
+        [etag, ..] => Ok(reply_of(result_of(alloc, base, store, command, *etag)?)),
+    }
+}
+
+// The command without its document, for a reply after the document was moved away.
+fn without_document(command: &Command) -> Result<Command, NoMemory>
+    ensures { IfOk result (λ head. command_view head ≡ bare (command_view command.now)) }
+{
+    match command {
+        Command::Put { id, .. } => Ok(Command::Put {
+            id: id.clone()?,
+            expected: Expect::Any,
+            body: Value::Null,
+        }),
+        Command::Delete { id, .. } => Ok(Command::Delete {
+            id: id.clone()?,
+            expected: Expect::Any,
+        }),
     }
 }
 
@@ -121,6 +154,41 @@ impl World {
             Err(TxnFault::Refused { at, kind }) => Err(WorldFault::Refused(refused_at(at, kind))),
             Err(TxnFault::NoMemory) => Err(WorldFault::NoMemory),
         }
+    }
+
+    fn transact_one(
+        &self,
+        alloc: Global,
+        command: Command,
+        now: u64,
+    ) -> Result<Transaction, WorldFault>
+        ensures { Transacts self.now now (command_view command ∷ []) result }
+    {
+        match transact_one(
+            alloc,
+            &self.store,
+            command,
+            Writer::Client,
+            &self.base,
+            &self.limits,
+            now,
+        ) {
+            Ok(done) => Ok(done),
+            Err(TxnFault::Refused { at, kind }) => Err(WorldFault::Refused(refused_at(at, kind))),
+            Err(TxnFault::NoMemory) => Err(WorldFault::NoMemory),
+        }
+    }
+
+    fn reply_to(
+        &self,
+        alloc: Global,
+        command: &Command,
+        done: &Transaction,
+    ) -> Result<Reply, NoMemory>
+        ensures { IfOk result (λ reply. reply_view reply ≡ single_reply (spec_results_of self.now.setting.base done.now.store (command_view command.now ∷ []) done.now.etags)) }
+    {
+        let etags = done.etags.as_slice();
+        single(alloc, &self.base, &done.store, command, etags)
     }
 
     fn results(
@@ -152,7 +220,7 @@ impl World {
     }
 
     /// Takes one command, and replies to it. A document that it puts is an object at most 100 deep; another would not open again.
-    #[tactic(auto, using(crate::proofs::Steps::writes))]
+    #[tactic(auto, using(crate::proofs::Steps::writes_one))]
     pub fn commit_one(
         &self,
         alloc: Global,
@@ -162,10 +230,9 @@ impl World {
         requires { puts_body (command_view command) ≡ true }
         ensures { IfSome (answer_view result) (λ course. course ≡ write self.now single_reply now (command_view command ∷ [])) }
     {
-        let mut commands = Commands::new(alloc);
-        commands.push(command)?;
-        let done = self.transact(alloc, &commands, now)?;
-        let reply = single(self.results(alloc, &commands, &done)?);
+        let head = without_document(&command)?;
+        let done = self.transact_one(alloc, command, now)?;
+        let reply = self.reply_to(alloc, &head, &done)?;
         Ok(self.changed(alloc, done, reply)?)
     }
 

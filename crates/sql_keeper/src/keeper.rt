@@ -101,7 +101,7 @@ fn begin<'conn, S: Alter>(
 }
 
 fn text_at(row: &Row, at: usize) -> Result<Text, Error> {
-    Ok(Text::of_string(row.get(at)?))
+    Text::of_string(row.get(at)?).map_err(|_| Error::SqliteFailure(ErrorCode::OutOfMemory))
 }
 
 fn body_of(row: &Row) -> Result<Option<Text>, Error> {

@@ -25,7 +25,8 @@ fn after(alloc: Global, value: Scalar) -> Result<Key, NoMemory>
 fn before_texts(alloc: Global) -> Result<Key, NoMemory>
     ensures { IfOk result (λ key. mark_of key ≡ edge.before_texts) }
 {
-    before(alloc, Scalar::Text(Text::of_string(String::new(alloc))))
+    let empty = Text::of(alloc, "")?;
+    before(alloc, Scalar::Text(empty))
 }
 
 /// Before all values that can be in order with this one.

@@ -20,7 +20,8 @@ returns-clause-grows c = λ kept.
 pub loop-at-preserved : goal.loop-at-preserved
 loop-at-preserved c =
     let view = c.args.commands.now in
-    let split : map command_view (drop c.loop-at.at view) ≡ command_view c.command-item.result ∷ map command_view (drop (c.loop-at.at + 1) view) = grind (arith, common_steps) in
+    let first : map command_view (drop c.loop-at.at view) ≡ command_view c.command-item.result ∷ map command_view (drop (c.loop-at.at + 1) view) = grind (arith, common_steps) in
+    let split = first ∙ ap (λ x. x ∷ map command_view (drop (c.loop-at.at + 1) view)) (sym c.in_ok-copy.ensures) in
     let none = c.in_default.is in
     let allowed = sym c.in_ok-kind.ensures.refused ∙ ap (option_map kind_view) none in (
       takes_on c.loop-at.at _ _ c.args.now _ _ _ (written_of c.loop-at.done) (written_of c.take.new.self) _ split c.loop-at.invariant.0 allowed (c.in_ok-kind.ensures.written none),

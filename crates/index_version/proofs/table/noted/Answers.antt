@@ -6,16 +6,18 @@ use Rattle.reference_track.specs.Sets.{id_cmp}
 use Rattle.index_version.proofs.TableLemmas.{noted_document, noted_tombstone}
 use Rattle.index_version.proofs.table.noted.Goals as goal
 
-pub returns-in_ok-with : goal.returns-in_ok-with
-returns-in_ok-with c =
+pub returns-in_ok-put : goal.returns-in_ok-put
+returns-in_ok-put c =
     let r : Row = c.args.row.now in
-    noted_document c.args.rows.now c.in_ok-with.field-0 r (sym c.is_document.ensures ∙ c.if-is_document.true)
-    (c.in_ok-with.ensures.pairs
-    ∙ ap (λ id. insert_entry id_cmp c.args.rows.now id c.in_ok-shared.shared) (c.in_ok-clone-2.ensures.cases ∙ ap (λ (x : Row). x.id) c.row.view_is)
-    ∙ ap (λ v. insert_entry id_cmp c.args.rows.now r.id v) (c.in_ok-shared.ensures ∙ c.in_ok-clone.ensures.cases))
+    let k = c.in_ok-clone-2.field-0 in
+    noted_document c.args.rows c.in_ok-put.field-0 r (sym c.is_document.ensures ∙ c.if-is_document.true)
+    (c.in_ok-put.ensures.pairs
+    ∙ ap (λ es. insert_entry id_cmp es k c.in_ok-shared.shared) c.rows.view_is
+    ∙ ap (λ id. insert_entry id_cmp c.args.rows id c.in_ok-shared.shared) (c.in_ok-clone-2.ensures.cases ∙ ap (λ (x : Row). x.id) c.row.view_is)
+    ∙ ap (λ v. insert_entry id_cmp c.args.rows r.id v) (c.in_ok-shared.ensures ∙ c.in_ok-clone.ensures.cases))
 
-pub returns-in_ok-without : goal.returns-in_ok-without
-returns-in_ok-without c =
+pub returns-in_ok-take_out : goal.returns-in_ok-take_out
+returns-in_ok-take_out c =
     let r : Row = c.args.row.now in
-    noted_tombstone c.args.rows.now c.in_ok-without.field-0 r c.in_ok-without.ensures.rising (sym c.is_document.ensures ∙ c.if-is_document.false)
-    (c.in_ok-without.ensures.pairs ∙ ap (λ id. remove_entry (is_at (id_cmp id)) c.args.rows.now) (ap (λ (x : Row). x.id) c.row.view_is))
+    noted_tombstone c.args.rows c.in_ok-take_out.field-0 r c.in_ok-take_out.ensures.rising (sym c.is_document.ensures ∙ c.if-is_document.false)
+    (c.in_ok-take_out.ensures.pairs ∙ ap (λ id. remove_entry (is_at (id_cmp id)) c.args.rows) (ap (λ (x : Row). x.id) c.row.view_is))

@@ -1,8 +1,6 @@
 use Rattle.std.proofs.Common.{◌≡◌, ◌<◌, ◌-◌, ◌∷◌, [], ◌++◌, ap, subst, sym, ◌∙◌, refl, arith}
-use mathlib.Core.List.{reverse}
 use Rattle.paged_map.specs.Level.{flat, IsCutUp}
 use Rattle.paged_map.specs.Shape.{helds, held}
-use Rattle.paged_map.specs.Merges.{MergesAtMost}
 use Rattle.paged_map.proofs.Cuts.{helds-append}
 use Rattle.paged_map.proofs.Merges.{at_most_then}
 use Rattle.paged_map.proofs.Cutting.{IsCutting, cutting_starts, cutting_goes_on, cutting_ends, cutting_less, helds_reversed}

@@ -20,3 +20,7 @@ returns-in-CollectionChanged c = subst (λ d. OnOk c.write_error_at_with-in-Coll
 pub returns-in-EtagsSpent : goal.returns-in-EtagsSpent
 returns-in-EtagsSpent c = subst (λ r. OnOk c.write_error_at_with-in-EtagsSpent.result (c.write_error_at_with-in-EtagsSpent.new.out.items ≡ c.args.out.now.items ++ text_of (reply_data (reply_view r))))
     (sym c.in-EtagsSpent.is) c.write_error_at_with-in-EtagsSpent.ensures
+
+pub returns-in-Document : goal.returns-in-Document
+returns-in-Document c = subst (λ r. OnOk c.write_document.result (c.write_document.new.out.items ≡ c.args.out.now.items ++ text_of (reply_data (reply_view r))))
+    (sym c.in-Document.is) c.write_document.ensures

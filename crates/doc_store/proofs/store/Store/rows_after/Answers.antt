@@ -1,32 +1,60 @@
-use Rattle.std.proofs.Common.{◌≡◌, ◌<◌, ℕ, List, IsTrue, ◌↔◌, ◌&&◌, filter, take, length, nat_lt, ◌∙◌, ap, subst, arith}
-use Rattle.std.specs.Ordering.{nat_cmp}
+use Rattle.std.proofs.Common.{◌≡◌, [], ◌∷◌, length, take, refl, ◌∙◌, ap, sym, arith}
+use Rattle.std.specs.Option.{option_copied}
+use Rattle.std.proofs.lemmas.List.{length-append}
 use Rattle.spec_data.specs.Rows.{Row}
-use Rattle.spec_store.specs.Store.{Store}
-use Rattle.spec_data.specs.Tables.{Scope, in_scope}
+use Rattle.spec_data.specs.Tables.{in_scope}
 use Rattle.spec_store.specs.Stale.{past}
-use Rattle.paged_map.specs.Range.{between}
-use Rattle.doc_store.specs.Maps.{Shows, rows_in}
-use Rattle.doc_store.proofs.MapLemmas.{shown}
-use Rattle.doc_store.proofs.WalkLemmas.{past_between}
+use Rattle.doc_store.proofs.FilterLemmas.{none_left}
+use Rattle.doc_store.proofs.WalkLemmas.{stepped, walked, all_taken, no_more, first_taken, more_left}
 use Rattle.doc_store.proofs.store.Store.rows_after.Goals as goal
+use Rattle.doc_store.proofs.store.Store.rows_after.Goals.{In-Some}
 
--- the rows of a walk from an etag to the last are those past it
-walked : {ids : List (List ℕ × Row)} {etags : List (ℕ × Row)} {found : List (List ℕ × ℕ)} {last : ℕ} (S : Store) (scope given : Scope) (e : ℕ) (range : List (ℕ × Row))
-    → Shows ids etags found last S.rows → range ≡ between nat_cmp e last etags → given ≡ scope
-    → filter (λ x. in_scope given x && nat_lt e x.etag) (rows_in range) ≡ past scope e S
-walked {last = last} S scope given e range s is same =
-    ap (λ n. filter (λ x. in_scope n x && nat_lt e x.etag) (rows_in range)) same
-    ∙ ap (λ es. filter (λ x. in_scope scope x && nat_lt e x.etag) (rows_in es)) (is ∙ ap (between nat_cmp e last) s.by_etags)
-    ∙ past_between (in_scope scope) e last 0 S.rows s.kept.store.rising (let l = s.last_is in omega arith)
+-- the row that is found, and then those past it
+next : (c : In-Some) → past c.as_slice-collections.result.now c.loop-row.after c.args.self.now ≡ c.in-Some.row.now ∷ past c.as_slice-collections.result.now c.in-Some.row.now.etag c.args.self.now
+next c = stepped (in_scope c.as_slice-collections.result.now) c.loop-row.after 0 c.args.self.now.rows c.in-Some.row.now c.in-Some.ensures.sound.rising (sym c.in-Some.ensures.row)
+
+pub returns-then-len-max-clause-rows : goal.returns-then-len-max-clause-rows
+returns-then-len-max-clause-rows c =
+    first_taken c.loop-row.found _ _ c.args.max (let h = c.if-len-max.true in let l = c.len.ensures in omega arith) c.loop-row.invariant.all
+    ∙ ap (λ scope. take c.args.max (past scope c.args.etag c.args.self.now)) c.as_slice-collections.ensures
+
+pub returns-then-len-max-clause-more : goal.returns-then-len-max-clause-more
+returns-then-len-max-clause-more c =
+    let full = c.if-len-max.true in
+    let len = c.len.ensures in
+    let more = more_left c.loop-row.found _ _ _ c.in-Some.row.now (next (goal.at.returns-then-len-max-clause-more c).In-Some) c.loop-row.invariant.all in
+    let same = ap (λ scope. length (past scope c.args.etag c.args.self.now)) c.as_slice-collections.ensures in
+    (λ _. omega arith, λ _. refl)
+
+pub loop-row-smaller : goal.loop-row-smaller
+loop-row-smaller c =
+    let less = ap length (next (goal.at.loop-row-smaller c).In-Some) in
+    let same = ap (λ (x : Row). length (past c.as_slice-collections.result.now x.etag c.args.self.now)) c.row.view_is in
+    omega arith
+
+pub loop-row-preserved : goal.loop-row-preserved
+loop-row-preserved c = record {
+  all = walked c.loop-row.found _ _ _ c.in-Some.row.now _ _ c.in_ok-push.ensures.ok c.in_ok-clone.ensures.cases
+      (next (goal.at.loop-row-preserved c).In-Some ∙ ap (λ (x : Row). c.in-Some.row.now ∷ past c.as_slice-collections.result.now x.etag c.args.self.now) (sym c.row.view_is))
+      c.loop-row.invariant.all;
+  few =
+      let more = ap length c.in_ok-push.ensures.ok in
+      let room = c.if-len-max.false in
+      let len = c.len.ensures in
+      let few = c.loop-row.invariant.few in
+      omega (arith, length-append c.loop-row.found (c.in_ok-clone.field-0 ∷ []));
+}
 
 pub returns-clause-rows : goal.returns-clause-rows
 returns-clause-rows c =
-    let S : Store = c.args.self.now in
-    let s : Shows c.self.inside.by_id c.self.inside.by_etag c.self.inside.newest c.self.inside.last S.rows = shown _ _ _ _ _ c.self.view_is c.self.invariant in
-    c.of.ensures ∙ c.in_ok-rows.ensures.rows ∙ ap (take c.args.max) (walked S c.args.scope.now _ c.args.etag _ s c.range-later.ensures.pairs c.as_slice.ensures)
+    let none = none_left _ c.args.self.now.rows (sym c.first_past.ensures.row ∙ ap option_copied c.in_default.is) in
+    all_taken c.loop-row.found _ _ c.args.max none c.loop-row.invariant.all c.loop-row.invariant.few
+    ∙ ap (λ scope. take c.args.max (past scope c.args.etag c.args.self.now)) c.as_slice-collections.ensures
 
 pub returns-clause-more : goal.returns-clause-more
 returns-clause-more c =
-    let S : Store = c.args.self.now in
-    let s : Shows c.self.inside.by_id c.self.inside.by_etag c.self.inside.newest c.self.inside.last S.rows = shown _ _ _ _ _ c.self.view_is c.self.invariant in
-    subst (λ (rows : List Row). IsTrue c.in_ok-rows.more ↔ c.args.max < length rows) (walked S c.args.scope.now _ c.args.etag _ s c.range-later.ensures.pairs c.as_slice.ensures) c.in_ok-rows.ensures.more
+    let none = none_left _ c.args.self.now.rows (sym c.first_past.ensures.row ∙ ap option_copied c.in_default.is) in
+    let all = no_more c.loop-row.found _ _ none c.loop-row.invariant.all in
+    let few = c.loop-row.invariant.few in
+    let same = ap (λ scope. length (past scope c.args.etag c.args.self.now)) c.as_slice-collections.ensures in
+    (λ e. absurd cc, λ h. absurd (omega arith))

@@ -10,6 +10,6 @@ write_if-requires-clause-follows c = λ r is.
     let s = setting_of c.args.terms.now.base.now c.args.terms.now.limits.now in
     let w = writer_view c.args.terms.now.writer in
     let S = c.args.self.now.store in
-    let command = command_view c.args.command.now in
+    let command = command_view c.args.command in
     let free : refusal_of s w S command ≡ None = search rules in
-    row_of-follows s w c.args.terms.now.moment S command r free (sym c.in_ok-row.ensures ∙ is)
+    row_of-follows s w c.args.terms.now.moment S command r free (sym c.in_ok-row.ensures.row ∙ is)

@@ -1,0 +1,9 @@
+use Rattle.std.proofs.Common.{◌≡◌, drop}
+use Rattle.std.specs.Option.{option_copied}
+use Rattle.doc_store.specs.Maps.{earlier}
+use Rattle.doc_store.proofs.WalkLemmas.{first_in}
+use Rattle.doc_store.proofs.store.Store.first_past.Given as goal
+
+-- the first so far, or an earlier one of the collections that are left, is the first of all
+abbrev pub invariant-loop-collection : goal.invariant-loop-collection
+invariant-loop-collection l = earlier (option_copied l.first) (first_in (drop l.collection-index l.scope) l.etag l.self.rows) ≡ first_in l.scope l.etag l.self.rows

@@ -1,0 +1,173 @@
+//! Rows by etag.
+ghost use Rattle.std.specs.Prelude.{◌≡◌, ◌↔◌, ◌<◌, [], IfOk, IsTrue, filter, length, nat_le, nat_lt, option_map};
+ghost use Rattle.std.specs.Option.{option_copied};
+ghost use Rattle.std.specs.List.{find};
+ghost use Rattle.spec_data.specs.Rows.{key};
+ghost use Rattle.spec_store.specs.Store.{AreRising, last_of, put};
+ghost use Rattle.spec_store.specs.Stale.{up_to};
+ghost use Rattle.doc_store.specs.Maps.{etag_at, rows_in, without_etag};
+
+use paged_map::{PagedMap, Pairs};
+use raven_base::{NoMemory, Shared};
+use raven_value::Row;
+use std::alloc::{AllocError, Global};
+use std::marker::Model;
+
+/// Rows in order of etag, one for each id, seen by contracts as their list.
+///
+/// A change makes new ones and leaves the old ones, with which they share most of their pages.
+#[derive(Drop)]
+pub struct RowsByEtag {
+    rows: PagedMap<u64, Shared<Row>>,
+    /// The greatest etag, or 0.
+    last: u64,
+}
+
+impl Model for RowsByEtag {
+    ghost use Rattle.std.specs.Prelude.{List};
+    ghost use Rattle.std.specs.Coded.{coded_list};
+    ghost use Rattle.spec_data.specs.Codes.{row_code};
+    ghost use Rattle.spec_data.specs.Rows as spec_rows;
+    ghost use Rattle.doc_store.specs.Maps.{ShowsByEtag, rows_in};
+
+    ghost Value = { List spec_rows.Row };
+
+    ghost coded = { coded_list row_code };
+
+    ghost view = { λ a. rows_in a.rows };
+
+    ghost invariant = { λ a. ShowsByEtag a.rows a.last (rows_in a.rows) };
+}
+
+/// The row in a map.
+fn row_of(pair: Option<&(u64, Shared<Row>)>) -> Option<&Row>
+    ensures { option_copied result ≡ option_map (λ e. e.1) (option_copied pair.entry) }
+{
+    match pair {
+        Some(pair) => Some(pair.1.get()),
+        None => None,
+    }
+}
+
+/// A map without an etag, if one is given.
+fn without_etag(
+    alloc: Global,
+    rows: &PagedMap<u64, Shared<Row>>,
+    etag: Option<u64>,
+) -> Result<PagedMap<u64, Shared<Row>>, NoMemory>
+    ensures { IfOk result (λ left. left ≡ without_etag etag rows.now) }
+{
+    match etag {
+        Some(etag) => Ok(rows.without(alloc, &etag)?),
+        None => Ok(rows.clone()?),
+    }
+}
+
+impl RowsByEtag {
+    /// No rows.
+    pub fn new(alloc: Global) -> Result<RowsByEtag, NoMemory>
+        ensures { IfOk result (λ rows. rows ≡ []) }
+    {
+        Ok(RowsByEtag {
+            rows: PagedMap::new(alloc)?,
+            last: 0,
+        })
+    }
+
+    /// How many rows there are.
+    pub fn len(&self) -> u64
+        ensures { result ≡ length self.now }
+    {
+        self.rows.len()
+    }
+
+    /// Whether there are no rows.
+    pub fn is_empty(&self) -> bool
+        ensures { IsTrue result ↔ (self.now ≡ []) }
+    {
+        self.rows.is_empty()
+    }
+
+    /// All rows, in order.
+    pub fn iter(&self) -> Pairs<'_, u64, Shared<Row>>
+        ensures { rows_in result ≡ self.now }
+    {
+        self.rows.iter()
+    }
+
+    /// The first row past an etag.
+    pub fn first_after(&self, etag: u64) -> Option<&Row>
+        ensures row { option_copied result ≡ find (λ r. nat_lt etag r.etag) self.now }
+        ensures rising { AreRising 0 self.now }
+    {
+        row_of(self.rows.first_after(&etag))
+    }
+
+    /// The greatest etag, or 0.
+    pub fn last(&self) -> u64
+        ensures { result ≡ last_of 0 self.now }
+    {
+        self.last
+    }
+
+    /// The greatest etag up to a bound, or 0.
+    pub fn last_up_to(&self, bound: Option<u64>) -> u64
+        ensures { result ≡ last_of 0 (filter (λ r. up_to bound r.etag) self.now) }
+    {
+        match bound {
+            None => self.last,
+            Some(most) => if self.last <= most {
+                self.last
+            } else {
+                self.last_at_most(most)
+            },
+        }
+    }
+
+    /// The greatest etag that is at most this one, or 0. The map has no search from above, so each turn halves the etags
+    /// between which it can be.
+    fn last_at_most(&self, most: u64) -> u64
+        ensures { result ≡ last_of 0 (filter (λ r. nat_le r.etag most) self.now) }
+    {
+        let mut low = 0;
+        let mut high = most;
+        while low < high {
+            let middle = low + (high - low) / 2;
+            match self.first_after(middle) {
+                Some(row) if row.etag <= high => low = row.etag,
+                _ => high = middle,
+            }
+        }
+        low
+    }
+
+    /// The rows with this one at the end, in place of the one of its id, whose etag is given. Its etag is past theirs.
+    pub fn with(
+        &self,
+        alloc: Global,
+        row: &Shared<Row>,
+        replaced: Option<u64>,
+    ) -> Result<RowsByEtag, NoMemory>
+        requires replaced { replaced ≡ etag_at (key row.now) self.now }
+        requires newer { last_of 0 self.now < row.now.etag }
+        ensures { IfOk result (λ rows. rows ≡ put row.now self.now) }
+    {
+        let etag = row.get().etag;
+        let beside = without_etag(alloc, &self.rows, replaced)?;
+        Ok(RowsByEtag {
+            rows: beside.with(alloc, etag, row.clone()?)?,
+            last: etag,
+        })
+    }
+}
+
+impl Clone for RowsByEtag {
+    ghost is_clone = { λ s t. t ≡ s };
+
+    fn clone(&self) -> Result<RowsByEtag, AllocError> {
+        Ok(RowsByEtag {
+            rows: self.rows.clone()?,
+            last: self.last,
+        })
+    }
+}
