@@ -131,7 +131,7 @@ impl World {
     pub fn stale(&self, alloc: Global, name: &Name, cutoff: Option<u64>) -> Result<Reply, NoMemory>
         ensures { IfOk result (λ reply. reply_view reply ≡ answer_stale self.now name.now cutoff (spec_serving self.now.slots name.now)) }
     {
-        let Some(slot) = serving(&self.slots, name.as_str()) else {
+        let Some(slot) = serving(self.live(), name.as_str()) else {
             return no_index(alloc, name);
         };
         let scope = slot.version.scope(alloc)?;
@@ -148,7 +148,7 @@ impl World {
     pub fn indexes(&self, alloc: Global) -> Result<Reply, NoMemory>
         ensures { IfOk result (λ reply. reply_view reply ≡ answer_indexes self.now) }
     {
-        let results = Listings::of(listings(alloc, &self.store, &self.slots)?);
+        let results = Listings::of(listings(alloc, &self.store, self.live())?);
         Ok(Reply::Indexes { results })
     }
 
@@ -159,7 +159,7 @@ impl World {
         let counts = self.store.counts_beside("@indexes");
         Reply::Stats {
             count_of_documents: u64::from(counts.documents),
-            count_of_indexes: self.slots.len() as u64,
+            count_of_indexes: self.live().len() as u64,
             count_of_tombstones: u64::from(counts.tombstones),
             last_doc_etag: self.store.last(),
         }

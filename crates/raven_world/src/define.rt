@@ -19,7 +19,7 @@ use crate::write::refused_at;
 use doc_txn::{Command, Commands, Expect, TxnFault, Writer, commit};
 use index_definition::{Definition, same};
 use index_lang::row_body;
-use raven_base::NoMemory;
+use raven_base::{NoMemory, Shared};
 use raven_reply::Reply;
 use raven_value::{MAX_INDEX_NAME, Name};
 use std::alloc::Global;
@@ -81,7 +81,7 @@ impl World {
     pub(crate) fn is_crowded(&self) -> bool
         ensures { result ≡ nat_le self.now.setting.max_slots (length self.now.slots) }
     {
-        self.limits.slots as usize <= self.slots.len()
+        self.limits.slots as usize <= self.live().len()
     }
 
     /// The number that an index gets that is made now.
@@ -113,7 +113,7 @@ impl World {
             now,
         ) {
             Ok((store, rows)) => {
-                let world = self.with(store, slots)?;
+                let world = self.with(store, Shared::of(alloc, slots)?)?;
                 Ok(Change { world, rows, reply })
             }
             Err(TxnFault::Refused { at, kind }) => Err(WorldFault::Refused(refused_at(at, kind))),
@@ -127,7 +127,7 @@ impl World {
     {
         let name = definition.name.clone()?;
         let slot = fresh_slot(alloc, self.next_number(), name, definition)?;
-        let mut slots = copies(alloc, &self.slots)?;
+        let mut slots = copies(alloc, self.live())?;
         slots.push(slot)?;
         Ok(slots)
     }
@@ -166,7 +166,7 @@ impl World {
             let len = name.len() as u64;
             return Err(WorldFault::Refused(Reply::NameTooLong { len }));
         }
-        let Some(slot) = serving(&self.slots, name) else {
+        let Some(slot) = serving(self.live(), name) else {
             return self.add_if_room(alloc, definition, now);
         };
         if same(&definition, slot.version.definition()) {
@@ -194,11 +194,11 @@ impl World {
     pub fn remove(&self, alloc: Global, name: &Name, now: u64) -> Result<Change, WorldFault>
         ensures { IfSome (answer_view result) (λ course. course ≡ course_of self.now now (Remove name.now)) }
     {
-        let Some(slot) = serving(&self.slots, name.as_str()) else {
+        let Some(slot) = serving(self.live(), name.as_str()) else {
             return Err(WorldFault::Refused(no_index(alloc, name)?));
         };
         let commands = deleting(alloc, &slot.name)?;
-        let slots = others(alloc, &self.slots, name)?;
+        let slots = others(alloc, self.live(), name)?;
         let reply = removed_reply(&slot.name)?;
         self.rewrite(alloc, &commands, slots, reply, now)
     }

@@ -47,7 +47,7 @@ impl World {
     ) -> Result<Reply, NoMemory>
         ensures { IfOk result (λ reply. reply_view reply ≡ answer_find self.now index.now field.now words.now (spec_serving self.now.slots index.now)) }
     {
-        match serving(&self.slots, index.as_str()) {
+        match serving(self.live(), index.as_str()) {
             Some(slot) => found(alloc, &self.store, slot, field, words),
             None => no_index(alloc, index),
         }

@@ -23,7 +23,7 @@ impl World {
         ensures { IfOk result (λ name. name ≡ name_of self.now.slots (last self.now.store + 1) (one_field collection.now field.now)) }
     {
         let _roomy = &self.store;
-        auto_name(alloc, &self.slots, self.next_number(), collection, field)
+        auto_name(alloc, self.live(), self.next_number(), collection, field)
     }
 
     /// Makes an automatic index for a query of one field of a collection. The field can be a part of a path; an index of another would not
@@ -43,7 +43,7 @@ impl World {
             return Err(WorldFault::Refused(Reply::TooManyIndexes));
         }
         let name = self.new_name(alloc, collection, field)?;
-        if is_served(&self.slots, name.as_str()) {
+        if is_served(self.live(), name.as_str()) {
             return Err(WorldFault::Refused(Reply::UnknownLine));
         }
         let definition = auto_definition(alloc, name, collection, field)?;
@@ -59,7 +59,7 @@ impl World {
     ) -> Result<Answered, NoMemory>
         ensures { IfOk result (AnswersQuery self.now collection.now field.now) }
     {
-        match pick(alloc, &self.store, &self.slots, collection, field)? {
+        match pick(alloc, &self.store, self.live(), collection, field)? {
             Choice::Use(slot) => Ok(Answered::Reply(index_reply(&slot.name)?)),
             Choice::Make => Ok(Answered::MustMake),
             Choice::Merge => Ok(Answered::Reply(Reply::UnknownLine)),

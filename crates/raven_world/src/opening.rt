@@ -7,6 +7,7 @@ ghost use Rattle.spec_server.specs.Opening.{is_defining as spec_is_defining, is_
 ghost use Rattle.index_definition.specs.DefinitionView.{definition_view};
 ghost use Rattle.index_lang.specs.Openings.{IsReadRow, OpensAs};
 ghost use Rattle.raven_world.specs.Opened.{TakesRow, TellsBadRow, read_as};
+ghost use Rattle.spec_index.specs.World.{new_version};
 ghost use Rattle.spec_server.specs.Machine.{machine_of};
 
 use crate::naming::read_name;
@@ -17,8 +18,8 @@ use doc_txn::{BaseId, Limits, is_index_id};
 use index_definition::{DefBody, Definition};
 use index_lang::of_row_body;
 use index_version::is_document;
-use raven_base::NoMemory;
-use raven_value::{Body, Id, Row, Rows};
+use raven_base::{NoMemory, Shared};
+use raven_value::{Body, Id, Name, Row, Rows};
 use std::alloc::Global;
 use std::sync::Arc;
 
@@ -68,20 +69,27 @@ fn name_in(id: &Id) -> &str
     &id.as_str()[FRONT..]
 }
 
-// The index of the row of this definition, or nothing if it cannot have its name.
-fn slot_of(alloc: Global, row: &Row, body: DefBody) -> Result<Option<Slot>, NoMemory>
-    requires { IsTrue (spec_is_index_id row.now.id) }
-    ensures { IfOk result (λ slot. (slots : List Slot) → option_map (λ s. slots ++ s ∷ []) slot ≡ with_slot slots row.now (Some (definition_view body))) }
+// The index of the row of a definition of this name.
+fn named_slot(alloc: Global, row: &Row, name: Name, body: DefBody) -> Result<Slot, NoMemory>
+    ensures { IfOk result (λ slot. slot ≡ record { number = row.now.etag; name = name; version = new_version (definition_view body); row = row.now.etag }) }
 {
-    let Some(name) = read_name(alloc, &body, name_in(&row.id))? else {
-        return Ok(None);
-    };
     let definition = Definition {
         name: name.clone()?,
         body,
     };
     let definition = Arc::new(alloc, definition)?;
-    Ok(Some(fresh_slot(alloc, row.etag, name, definition)?))
+    fresh_slot(alloc, row.etag, name, definition)
+}
+
+// The index of the row of this definition, or nothing if it cannot have its name.
+fn slot_of(alloc: Global, row: &Row, body: DefBody) -> Result<Option<Slot>, NoMemory>
+    requires { IsTrue (spec_is_index_id row.now.id) }
+    ensures { IfOk result (λ slot. (slots : List Slot) → option_map (λ s. slots ++ s ∷ []) slot ≡ with_slot slots row.now (Some (definition_view body))) }
+{
+    match read_name(alloc, &body, name_in(&row.id))? {
+        Some(name) => Ok(Some(named_slot(alloc, row, name, body)?)),
+        None => Ok(None),
+    }
 }
 
 // Adds the index of a row of a definition. It returns false if there is none, and adds nothing then.
@@ -162,7 +170,7 @@ impl World {
         }
         Ok(World {
             store,
-            slots,
+            slots: Shared::of(alloc, slots)?,
             base,
             limits,
         })

@@ -179,7 +179,7 @@ impl World {
     ) -> Result<Change, NoMemory>
         ensures { IfOk result (λ change. change_view change ≡ one_change (PumpedAll pumped) [] (in_world self.now self.now.store slots.items)) }
     {
-        let world = self.with_slots(slots)?;
+        let world = self.with_slots(alloc, slots)?;
         let reply = Reply::Pumped { pumped };
         let rows = Rows::new(alloc);
         Ok(Change { world, rows, reply })
@@ -215,7 +215,7 @@ impl World {
         ensures merges { steps.new.merges ≡ steps.old.merges }
         ensures reads { steps.new.reads ≡ steps.old.reads }
     {
-        let (slots, pumped) = all_brought_on(alloc, &self.store, max, &self.slots, steps)?;
+        let (slots, pumped) = all_brought_on(alloc, &self.store, max, self.live(), steps)?;
         self.after_batches(alloc, slots, pumped)
     }
 
@@ -232,7 +232,7 @@ impl World {
         ensures merges { steps.new.merges ≡ steps.old.merges }
         ensures reads { steps.new.reads ≡ steps.old.reads }
     {
-        let (slots, pumped) = one_brought_on(alloc, &self.store, max, name, &self.slots, steps)?;
+        let (slots, pumped) = one_brought_on(alloc, &self.store, max, name, self.live(), steps)?;
         self.after_one(alloc, name, slots, pumped)
     }
 }

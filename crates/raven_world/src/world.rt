@@ -5,10 +5,10 @@ ghost use Rattle.raven_reply.specs.ReplyView.{reply_view};
 ghost use Rattle.raven_world.specs.WorldView.{change_view};
 ghost use Rattle.raven_world.specs.declared.world.WorldFault.TheVariants.{NoMemory as OutOfMemory};
 
-use crate::slot::{Slot, copies};
+use crate::slot::Slot;
 use doc_store::Store;
 use doc_txn::{BaseId, Limits};
-use raven_base::NoMemory;
+use raven_base::{NoMemory, Shared};
 use raven_reply::Reply;
 use raven_value::Rows;
 use std::alloc::Global;
@@ -18,7 +18,8 @@ use std::marker::Model;
 #[derive(Drop)]
 pub struct World {
     pub(crate) store: Store,
-    pub(crate) slots: Vec<Slot>,
+    /// The indexes, which the worlds after a change of documents share.
+    pub(crate) slots: Shared<Vec<Slot>>,
     pub(crate) base: BaseId,
     pub(crate) limits: Limits,
 }
@@ -77,8 +78,15 @@ pub enum Answered {
 }
 
 impl World {
+    /// The live indexes.
+    pub(crate) fn live(&self) -> &[Slot]
+        ensures { result.now ≡ self.now.slots }
+    {
+        self.slots.get().as_slice()
+    }
+
     /// The world with this store and these slots.
-    pub(crate) fn with(&self, store: Store, slots: Vec<Slot>) -> Result<World, NoMemory>
+    pub(crate) fn with(&self, store: Store, slots: Shared<Vec<Slot>>) -> Result<World, NoMemory>
         ensures { IfOk result (λ world. world ≡ in_world self.now store slots.items) }
     {
         Ok(World {
@@ -90,17 +98,17 @@ impl World {
     }
 
     /// The world with these slots over its store.
-    pub(crate) fn with_slots(&self, slots: Vec<Slot>) -> Result<World, NoMemory>
+    pub(crate) fn with_slots(&self, alloc: Global, slots: Vec<Slot>) -> Result<World, NoMemory>
         ensures { IfOk result (λ world. world ≡ in_world self.now self.now.store slots.items) }
     {
-        self.with(self.store.clone()?, slots)
+        self.with(self.store.clone()?, Shared::of(alloc, slots)?)
     }
 
     /// The same world, with a reply.
     pub(crate) fn unchanged(&self, alloc: Global, reply: Reply) -> Result<Change, NoMemory>
         ensures { IfOk result (λ change. change_view change ≡ one_change (reply_view reply) [] self.now) }
     {
-        let world = self.with_slots(copies(alloc, &self.slots)?)?;
+        let world = self.with(self.store.clone()?, self.slots.clone()?)?;
         let rows = Rows::new(alloc);
         Ok(Change { world, rows, reply })
     }

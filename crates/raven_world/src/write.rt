@@ -9,7 +9,6 @@ ghost use Rattle.raven_reply.specs.ReplyView.{reply_view, result_view};
 ghost use Rattle.raven_world.specs.WorldView.{change_view, answer_view};
 ghost use Rattle.raven_world.specs.Transacts.{Transacts, bare};
 
-use crate::slot::copies;
 use crate::world::{Change, World, WorldFault};
 use doc_store::Store;
 use doc_txn::{
@@ -211,7 +210,7 @@ impl World {
     fn changed(&self, alloc: Global, done: Transaction, reply: Reply) -> Result<Change, NoMemory>
         ensures { IfOk result (λ change. change_view change ≡ one_change (reply_view reply) done.rows (in_world self.now done.store self.now.slots)) }
     {
-        let world = self.with(done.store, copies(alloc, &self.slots)?)?;
+        let world = self.with(done.store, self.slots.clone()?)?;
         Ok(Change {
             world,
             rows: done.rows,

@@ -9,20 +9,20 @@ use Rattle.raven_world.proofs.world.World.pump.Goals as goal
 pub returns-in_err-slots-clause-maps : goal.returns-in_err-slots-clause-maps
 returns-in_err-slots-clause-maps g c =
     let kept = ap (λ (V : World). V.store) c.self.view_is in
-    let own = c.deref.ensures.value ∙ ap (λ (V : World). V.slots) c.self.view_is in
-    touched_same c.self.inside.store c.args.self.now.store c.args.max c.deref.result.now c.args.self.now.slots _ _ kept own c.all_brought_on.ensures.maps
+    let own = c.live.ensures in
+    touched_same c.self.inside.store c.args.self.now.store c.args.max c.live.result.now c.args.self.now.slots _ _ kept own c.all_brought_on.ensures.maps
 
 pub returns-clause-maps : goal.returns-clause-maps
 returns-clause-maps g c =
     let kept = ap (λ (V : World). V.store) c.self.view_is in
-    let own = c.deref.ensures.value ∙ ap (λ (V : World). V.slots) c.self.view_is in
-    touched_same c.self.inside.store c.args.self.now.store c.args.max c.deref.result.now c.args.self.now.slots _ _ kept own c.in_ok-slots.ensures.maps
+    let own = c.live.ensures in
+    touched_same c.self.inside.store c.args.self.now.store c.args.max c.live.result.now c.args.self.now.slots _ _ kept own c.in_ok-slots.ensures.maps
 
 pub returns-clause-change : goal.returns-clause-change
 returns-clause-change g c =
     let W = c.args.self.now in
     let kept = ap (λ (V : World). V.store) c.self.view_is in
-    let own = c.deref.ensures.value ∙ ap (λ (V : World). V.slots) c.self.view_is in
+    let own = c.live.ensures in
     let slots : c.in_ok-slots.slots.items ≡ map (after_batch W.store c.args.max) W.slots = c.in_ok-slots.ensures.slots ∙ (λ i. map (after_batch (kept i) c.args.max) (own i)) in
     let pumped : c.in_ok-slots.pumped ≡ map (pumping W.store c.args.max) W.slots = c.in_ok-slots.ensures.pumped ∙ (λ i. map (pumping (kept i) c.args.max) (own i)) in
     let same : one_change (Pumped c.in_ok-slots.pumped) [] (in_world W W.store c.in_ok-slots.slots.items) ≡ pump W c.args.max = λ i. one_change (Pumped (pumped i)) [] (in_world W W.store (slots i)) in

@@ -11,22 +11,22 @@ pub returns-in_err-slots-clause-maps : goal.returns-in_err-slots-clause-maps
 returns-in_err-slots-clause-maps g c =
     let named = filter (is_named c.args.name.now) in
     let kept = ap (λ (V : World). V.store) c.self.view_is in
-    let own = c.deref.ensures.value ∙ ap (λ (V : World). V.slots) c.self.view_is in
-    touched_same c.self.inside.store c.args.self.now.store c.args.max (named c.deref.result.now) (named c.args.self.now.slots) _ _ kept (ap named own) c.one_brought_on.ensures.maps
+    let own = c.live.ensures in
+    touched_same c.self.inside.store c.args.self.now.store c.args.max (named c.live.result.now) (named c.args.self.now.slots) _ _ kept (ap named own) c.one_brought_on.ensures.maps
 
 pub returns-clause-maps : goal.returns-clause-maps
 returns-clause-maps g c =
     let named = filter (is_named c.args.name.now) in
     let kept = ap (λ (V : World). V.store) c.self.view_is in
-    let own = c.deref.ensures.value ∙ ap (λ (V : World). V.slots) c.self.view_is in
-    touched_same c.self.inside.store c.args.self.now.store c.args.max (named c.deref.result.now) (named c.args.self.now.slots) _ _ kept (ap named own) c.in_ok-slots.ensures.maps
+    let own = c.live.ensures in
+    touched_same c.self.inside.store c.args.self.now.store c.args.max (named c.live.result.now) (named c.args.self.now.slots) _ _ kept (ap named own) c.in_ok-slots.ensures.maps
 
 pub returns-clause-course : goal.returns-clause-course
 returns-clause-course g c =
     let W = c.args.self.now in
     let name = c.args.name.now in
     let kept = ap (λ (V : World). V.store) c.self.view_is in
-    let own = c.deref.ensures.value ∙ ap (λ (V : World). V.slots) c.self.view_is in
+    let own = c.live.ensures in
     let slots : c.in_ok-slots.slots.items ≡ map (after_batch_if_named W.store c.args.max name) W.slots = c.in_ok-slots.ensures.slots ∙ (λ i. map (after_batch_if_named (kept i) c.args.max name) (own i)) in
     let pumped : c.in_ok-slots.pumped ≡ option_map (pumping W.store c.args.max) (serving W.slots name) = c.in_ok-slots.ensures.pumped ∙ (λ i. option_map (pumping (kept i) c.args.max) (serving (own i) name)) in
     let same : pumped_one W name c.in_ok-slots.slots.items c.in_ok-slots.pumped ≡ pump_at W c.args.max name (serving W.slots name) = (λ i. pumped_one W name (slots i) (pumped i)) ∙ pumped_at W c.args.max name (serving W.slots name) in
