@@ -37,12 +37,23 @@ struct Statements {
 ///
 /// Each call that is refused is a fault, unless it ran out of memory. So is a load that meets a row whose columns do not fit a
 /// stored row, or whose etag is not past the one before it.
-#[derive(Drop)]
 pub struct SqlKeeper<S: Alter + Drop> {
     alloc: Global,
     conn: Connection<S>,
     statements: Statements,
     faults: u64,
+}
+
+// By hand, so that a proof about what drops a keeper need not go through the parts of a connection.
+impl<S: Alter + Drop> Drop for SqlKeeper<S> {
+    fn drop(self) {
+        let SqlKeeper {
+            alloc: _,
+            conn: _conn,
+            statements: _statements,
+            faults: _,
+        } = self;
+    }
 }
 
 fn fault_of(error: Error) -> KeeperFault {
