@@ -4,6 +4,3 @@
 mod keeper;
 
 pub use keeper::SqlKeeper;
-
-#[cfg(test)]
-mod tests;

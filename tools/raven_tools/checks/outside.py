@@ -6,6 +6,7 @@ import subprocess
 import tempfile
 
 from raven_tools import model
+from raven_tools.checks.files import files
 from raven_tools.making import MAKERS
 from raven_tools.programs import STATUSES, first_difference, run
 
@@ -92,4 +93,4 @@ def openings(program: str, seed: int, lines: int) -> int:
 
 
 def outside(program: str, seed: int, lines: int) -> int:
-    return statuses(program) + options(program) + openings(program, seed, lines)
+    return statuses(program) + options(program) + openings(program, seed, lines) + files(program)

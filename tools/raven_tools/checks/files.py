@@ -1,0 +1,140 @@
+"""What a file keeps, seen by the library of SQLite; and which files are left as they were."""
+
+import collections.abc
+import contextlib
+import pathlib
+import resource
+import signal
+import sqlite3
+import subprocess
+import tempfile
+
+from raven_tools import model
+from raven_tools.checks.killable import PATIENCE, Run
+from raven_tools.making.lines import bulk, delete, get, put, put_command
+from raven_tools.model import keeping
+from raven_tools.programs import STATUSES, run
+
+COLUMNS = "key, etag, id, collection, body, changed"
+# One that has the name of ours, but not its columns.
+OTHER_COLUMNS = "CREATE TABLE kept (key TEXT PRIMARY KEY, etag INTEGER) STRICT"
+OTHER_TABLE = "CREATE TABLE other (a INTEGER) STRICT"
+# More rows than are loaded at once.
+MANY = keeping.PAGE + 476
+# The greatest size of a file for a run that is to find its disk full, in bytes.
+FULL = 524_288
+
+
+def script_of(lines: collections.abc.Iterable[str]) -> bytes:
+    return "".join(line + "\n" for line in lines).encode()
+
+
+def is_so(holds: bool, name: str, found: object) -> bool:
+    if not holds:
+        print(f"{name}: {found!r}")
+    return holds
+
+
+def has_status(ended: subprocess.CompletedProcess[bytes], wanted: int, name: str) -> bool:
+    said = f"raven: {STATUSES[wanted]}".encode() in ended.stderr
+    return is_so(ended.returncode == wanted and said, name, (ended.returncode, ended.stderr))
+
+
+def answers(program: str, file: pathlib.Path, lines: list[str], database: model.Database, name: str) -> bool:
+    """Whether the program over the file gives the replies of the model."""
+    expected = model.replies(script_of(lines), database)
+    ended = run(program, script_of(lines), "--data", file)
+    return has_status(ended, 0, name) and is_so(model.at_no_moment(ended.stdout) == expected, name, ended.stdout[:500])
+
+
+def make(file: pathlib.Path, sql: str) -> None:
+    with contextlib.closing(sqlite3.connect(file)) as connection:
+        connection.execute(sql)
+        connection.commit()
+
+
+def rows_in(file: pathlib.Path) -> list[tuple]:
+    """The rows in order of etag, each with whether it has a moment in place of the moment."""
+    with contextlib.closing(sqlite3.connect(file)) as connection:
+        found = connection.execute(f"SELECT {COLUMNS} FROM kept ORDER BY etag").fetchall()
+    return [(*row[:-1], row[-1] > 0) for row in found]
+
+
+def wanted_rows(database: model.Database) -> list[tuple]:
+    kept = [keeping.kept(row) for row in database.store.rows.values()]
+    return [(model.folded(row.id), row.etag, row.id, row.collection, row.body, True) for row in kept]
+
+
+def rows(program: str, folder: pathlib.Path) -> bool:
+    """A row for each id: what was written last, under the spelling of the first write, and a tombstone for a deletion."""
+    file, database = folder / "rows", model.Database()
+    user = '{"Name":"Zoé","@metadata":{"@collection":"Users"}}'
+    lines = [put("Users/1", user), put("é", "{}"), put("c", "{}"), delete("C"), put("users/1", user), bulk(put_command("b"), put_command("É"))]
+    written = answers(program, file, lines, database, "rows in a file")
+    return written and is_so(rows_in(file) == wanted_rows(database), "the table", rows_in(file))
+
+
+def many(program: str, folder: pathlib.Path) -> bool:
+    """More rows than are loaded at once open again."""
+    file, database = folder / "many", model.Database()
+    puts = [put_command(f"d/{number}", f'{{"Number":{number}}}') for number in range(MANY)]
+    filled = answers(program, file, [bulk(*puts[first : first + 500]) for first in range(0, MANY, 500)], database, "many rows")
+    asked = ["STATS", *(get(f"d/{number}") for number in range(MANY))]
+    return filled and answers(program, file, asked, database.opened(), "many rows opened again")
+
+
+def is_left(program: str, file: pathlib.Path) -> bool:
+    """Whether a file is refused, and left byte for byte as it was."""
+    before = file.read_bytes()
+    refused = has_status(run(program, script_of([put("a")]), "--data", file), 5, file.name)
+    return refused and is_so(file.read_bytes() == before, f"{file.name} was changed", len(before))
+
+
+def others(program: str, folder: pathlib.Path) -> bool:
+    """A file of another kind is left as it was."""
+    text, table, columns, ours = (folder / name for name in ("text", "table", "columns", "ours"))
+    text.write_bytes(b"This is no database, but a text that goes on for a while.")
+    make(table, OTHER_TABLE)
+    make(columns, OTHER_COLUMNS)
+    made = answers(program, ours, [put("a")], model.Database(), "a file with another table")
+    make(ours, OTHER_TABLE)
+    return made and all([is_left(program, file) for file in (text, table, columns, ours)])
+
+
+def alone(program: str, folder: pathlib.Path) -> bool:
+    """A file that is open is refused to another program, which changes nothing."""
+    file = folder / "alone"
+    first = Run(program, file, [put(f"d/{number}").encode() for number in range(50_000)])
+    runs = first.read_until(1, PATIENCE)
+    refused = has_status(run(program, script_of([put("other")]), "--data", file), 5, "a file that is open")
+    still = is_so(first.kill(), "the first program ended too soon", first.message)
+    return runs and refused and still and is_so("other" not in [row[0] for row in rows_in(file)], "a row of the second program", file)
+
+
+def fill_up() -> None:
+    """Files of the process may have so many bytes; a write past them fails, as on a full disk."""
+    signal.signal(signal.SIGXFSZ, signal.SIG_IGN)
+    resource.setrlimit(resource.RLIMIT_FSIZE, (FULL, FULL))
+
+
+def whole(program: str, folder: pathlib.Path) -> bool:
+    """A transaction that the disk does not hold leaves nothing, and the database goes on without it."""
+    file = folder / "whole"
+    text = "x" * 1_000
+    much = bulk(*(put_command(f"d/{number}", f'{{"Text":"{text}"}}') for number in range(1_000)))
+    script = script_of([put("a"), much, get("d/0")])
+    command = [program, "run", "--data", str(file)]
+    ended = subprocess.run(command, input=script, capture_output=True, timeout=PATIENCE, preexec_fn=fill_up)
+    replies = ended.stdout.split(b"\n")[1:3]
+    refused = is_so(replies == [b'{"Error":"KeeperFault"}', b'{"Error":"NoDocument","Id":"d/0"}'], "a full disk", replies)
+    opened = run(program, b"STATS\n", "--data", file)
+    return refused and has_status(opened, 0, "a file after a full disk") and is_so([row[0] for row in rows_in(file)] == ["a"], "rows", rows_in(file))
+
+
+def files(program: str) -> int:
+    """How many of these checks find something wrong."""
+    wrong = 0
+    for check in (rows, many, others, alone, whole):
+        with tempfile.TemporaryDirectory() as folder:
+            wrong += not check(program, pathlib.Path(folder))
+    return wrong
