@@ -17,18 +17,25 @@ PUT = Line("Instructions of a `PUT` among 16,000 documents in memory", "SQLite i
 LINES = (PUT,)
 
 
-def counted(command: list[str], script: bytes) -> int:
-    """How many instructions it takes. The hashes of python3 are the same each time."""
-    messages = harness.run(["env", "PYTHONHASHSEED=0", *COUNTED, *command], script).messages
-    found = re.search(rb"I\s+refs:\s+([0-9,]+)", messages)
+def needed() -> None:
+    """Missing if nothing counts instructions here."""
+    if not shutil.which(COUNTED[0]):
+        raise harness.Missing("valgrind, which counts instructions")
+
+
+def counted(command: list[str], script: bytes, last: str = "") -> int:
+    """How many instructions it takes. The hashes of python3 are the same each time. Wrong if the output ends otherwise."""
+    ended = harness.run(["env", "PYTHONHASHSEED=0", *COUNTED, *command], script)
+    found = re.search(rb"I\s+refs:\s+([0-9,]+)", ended.messages)
     if not found:
-        raise harness.Wrong(f"cachegrind counts nothing: {messages[-200:]!r}")
+        raise harness.Wrong(f"cachegrind counts nothing: {ended.messages[-200:]!r}")
+    if not ended.output.decode().rstrip("\n").endswith(last):
+        raise harness.Wrong(f"{ended.output[-200:]!r} in place of {last!r}")
     return int(found[1].replace(b",", b""))
 
 
 def measure(bench: Bench) -> collections.abc.Iterator[Figure]:
-    if not shutil.which(COUNTED[0]):
-        raise harness.Missing("valgrind, which counts instructions")
+    needed()
     count, more = bench.size(DOCUMENTS), bench.size(PUTS)
     first = documents.filling(count)
     fills, puts = script_of(first), script_of([*first, *documents.put_lines(more, count)])
