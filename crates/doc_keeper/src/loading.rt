@@ -101,10 +101,9 @@ impl Loaded {
         requires etag { row.etag ≤ max_etag }
         ensures { IfOk result (λ loaded. loaded ≡ self ++ row ∷ []) }
     {
-        let Loaded { rows, store } = self;
-        let store = store.with_row(alloc, &row)?;
-        let mut rows = rows;
-        rows.push(row)?;
+        let Loaded { mut rows, store } = self;
+        rows.push(row.clone()?)?;
+        let store = store.put_row(alloc, row)?;
         Ok(Loaded { rows, store })
     }
 

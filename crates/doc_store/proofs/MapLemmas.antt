@@ -16,8 +16,8 @@ use Rattle.spec_data.specs.Rows.{Row, key}
 use Rattle.spec_store.specs.Store.{row_at, put, last_of, AreRising, AreApart, Store, IsStore, with_row}
 use Rattle.spec_store.proofs.StoreLemmas.{row_at-put, found_etag, found_passing, passing_found, none_still, same_means, same_row, last_of-put, AreRising-put, AreApart-put, AreRising-filter, last_of-filter}
 use Rattle.spec_store.proofs.KeyedLemmas.{key_ties}
-use Rattle.paged_map.specs.Pairs.{AllAnswer}
-use Rattle.paged_map.proofs.Laws.{lookup-insert_entry, insert_last}
+use Rattle.paged_map.specs.Pairs.{AllAnswer, IsRising}
+use Rattle.paged_map.proofs.Laws.{lookup-insert_entry, lookup-remove_entry, insert_last}
 use Rattle.doc_store.specs.Maps.{id_cmp, AreFiled, rows_in, by_etag, without_etag, etag_at, is_of, rows_of, ShowsByEtag, Shows}
 use Rattle.doc_store.specs.Steps.{MayStand}
 use Rattle.doc_store.specs.Bounds.{IsWithin}
@@ -158,22 +158,31 @@ filter-put p r rows apart same =
           | Some x ↦ λ is. absurd (let f = found_passing p (key r) rows x apart is in let g = sym (same x f.0 ∙ e) ∙ f.1 in cc)
         ] refl
 
-read : (b : Bool) (found : List Row) (o : Option (List Row)) → unwrap_or (cond b (Some found) o) [] ≡ cond b found (unwrap_or o [])
+read : (b : Bool) (found : List Row) (o : Option (List Row)) → unwrap_or (cond b (Some found) (cond b None o)) [] ≡ cond b found (unwrap_or o [])
 read true found o = refl
 read false found o = refl
 
-collections-with : (collections : List (List ℕ × List Row)) (r : Row) (rows found : List Row) → AreApart rows → ((x : Row) → row_at (key r) rows ≡ Some x → x.collection ≡ r.collection)
-    → ((c : List ℕ) → rows_of collections c ≡ filter (is_of c) rows) → found ≡ put r (filter (is_of r.collection) rows)
-    → (c : List ℕ) → rows_of (insert_entry key_cmp collections r.collection found) c ≡ filter (is_of c) (put r rows)
-collections-with collections r rows found apart same h is c =
-    ap (λ o. unwrap_or o []) (lookup-insert_entry key_cmp nat_list_cmp_total c r.collection found collections)
-    ∙ read (is_eq (key_cmp c r.collection)) found (lookup (is_at (key_cmp c)) collections)
-    ∙ ap (λ b. cond b found (rows_of collections c)) (is_eq-slice_cmp c r.collection ∙ nat_list_eq_equiv.symm c r.collection)
-    ∙ elim (is_of c r) as (λ b. is_of c r ≡ b → cond b found (rows_of collections c) ≡ cond b (put r (filter (is_of c) rows)) (filter (is_of c) rows)) [
-      | true ↦ λ e. is ∙ ap (λ d. put r (filter (is_of d) rows)) ((bytes_eq-Decides r.collection c).0 e)
-      | false ↦ λ e. h c
+-- the rows of a collection are taken out, and those with the new one put back
+pub put_among_is : (collections changed : List (List ℕ × List Row)) (r : Row) (name : List ℕ) (found new : List Row) → IsRising key_cmp collections → name ≡ r.collection → found ≡ rows_of collections name → new ≡ put r found
+    → changed ≡ insert_entry key_cmp (remove_entry (is_at (key_cmp name)) collections) name new
+    → (c : List ℕ) → rows_of changed c ≡ cond (is_of c r) (put r (rows_of collections c)) (rows_of collections c)
+put_among_is collections changed r name found new up named is made all c =
+    ap (λ pairs. rows_of pairs c) all
+    ∙ ap (λ o. unwrap_or o [])
+    (lookup-insert_entry key_cmp nat_list_cmp_total c name new (remove_entry (is_at (key_cmp name)) collections)
+    ∙ ap (cond (is_eq (key_cmp c name)) (Some new)) (lookup-remove_entry key_cmp nat_list_cmp_total c name collections up))
+    ∙ read (is_eq (key_cmp c name)) new (lookup (is_at (key_cmp c)) collections)
+    ∙ ap (λ b. cond b new (rows_of collections c)) (is_eq-slice_cmp c name ∙ nat_list_eq_equiv.symm c name ∙ ap (λ n. bytes_eq n c) named)
+    ∙ elim (is_of c r) as (λ b. is_of c r ≡ b → cond b new (rows_of collections c) ≡ cond b (put r (rows_of collections c)) (rows_of collections c)) [
+      | true ↦ λ e. made ∙ ap (put r) (is ∙ ap (rows_of collections) (named ∙ (bytes_eq-Decides r.collection c).0 e))
+      | false ↦ λ e. refl
     ] refl
-    ∙ sym (filter-put (is_of c) r rows apart (λ x old. ap (λ w. bytes_eq w c) (same x old)))
+
+collections-with : (collections changed : List (List ℕ × List Row)) (r : Row) (rows : List Row) → AreApart rows → ((x : Row) → row_at (key r) rows ≡ Some x → x.collection ≡ r.collection)
+    → ((c : List ℕ) → rows_of collections c ≡ filter (is_of c) rows) → ((c : List ℕ) → rows_of changed c ≡ cond (is_of c r) (put r (rows_of collections c)) (rows_of collections c))
+    → (c : List ℕ) → rows_of changed c ≡ filter (is_of c) (put r rows)
+collections-with collections changed r rows apart same h is c =
+    is c ∙ ap (λ xs. cond (is_of c r) (put r xs) xs) (h c) ∙ sym (filter-put (is_of c) r rows apart (λ x old. ap (λ w. bytes_eq w c) (same x old)))
 
 -- the row of an id is among those of its collection
 pub etag_at-of : (rows : List Row) (r : Row) → AreApart rows → ((x : Row) → row_at (key r) rows ≡ Some x → x.collection ≡ r.collection)
@@ -190,29 +199,27 @@ pub shown : (ids : List (List ℕ × Row)) (collections : List (List ℕ × List
     → Shows ids collections rows → Shows ids collections S.rows
 shown ids collections rows S is s = subst (λ (T : Store). Shows ids collections T.rows) is s
 
--- what the row of a collection's map has to meet
-pub replaced_among : (ids : List (List ℕ × Row)) (collections : List (List ℕ × List Row)) (S : Store) (r : Row) (found : List Row) (replaced : Option ℕ)
-    → Shows ids collections S.rows → MayStand S r → found ≡ rows_of collections r.collection → replaced ≡ etag_at (key r) S.rows → replaced ≡ etag_at (key r) found
-replaced_among ids collections S r found replaced s m is e =
-    e ∙ etag_at-of S.rows r s.kept.store.apart m.same ∙ ap (etag_at (key r)) (sym (is ∙ s.by_collections r.collection))
+-- what the row has to meet among those of its collection
+pub replaced_among : (ids : List (List ℕ × Row)) (collections : List (List ℕ × List Row)) (S : Store) (r : Row) (replaced : Option ℕ)
+    → Shows ids collections S.rows → MayStand S r → replaced ≡ etag_at (key r) S.rows → replaced ≡ etag_at (key r) (rows_of collections r.collection)
+replaced_among ids collections S r replaced s m e =
+    e ∙ etag_at-of S.rows r s.kept.store.apart m.same ∙ ap (etag_at (key r)) (sym (s.by_collections r.collection))
 
-pub newer_than : (ids : List (List ℕ × Row)) (collections : List (List ℕ × List Row)) (S : Store) (r : Row) (found : List Row)
-    → Shows ids collections S.rows → MayStand S r → found ≡ rows_of collections r.collection → last_of 0 found < r.etag
-newer_than ids collections S r found s m is =
-    let same = ap (last_of 0) (is ∙ s.by_collections r.collection) in
+pub newer_than : (ids : List (List ℕ × Row)) (collections : List (List ℕ × List Row)) (S : Store) (r : Row)
+    → Shows ids collections S.rows → MayStand S r → last_of 0 (rows_of collections r.collection) < r.etag
+newer_than ids collections S r s m =
+    let same = ap (last_of 0) (s.by_collections r.collection) in
     let no_more = last_of-filter 0 0 (is_of r.collection) S.rows s.kept.store.rising (omega arith) in
     let newer = m.newer in omega arith
 
-pub grown : (ids : List (List ℕ × Row)) (collections : List (List ℕ × List Row)) (S : Store) (r : Row) (found : List Row)
-    (ids2 : List (List ℕ × Row)) (collections2 : List (List ℕ × List Row)) (rows2 new : List Row)
-    → Shows ids collections S.rows → MayStand S r → IsWithin (with_row S r) → found ≡ rows_of collections r.collection → new ≡ put r found
-    → ids2 ≡ insert_entry id_cmp ids r.id r → collections2 ≡ insert_entry key_cmp collections r.collection new → rows2 ≡ put r S.rows
+pub grown : (ids : List (List ℕ × Row)) (collections : List (List ℕ × List Row)) (S : Store) (r : Row) (ids2 : List (List ℕ × Row)) (collections2 : List (List ℕ × List Row)) (rows2 : List Row)
+    → Shows ids collections S.rows → MayStand S r → IsWithin (with_row S r) → ids2 ≡ insert_entry id_cmp ids r.id r
+    → ((c : List ℕ) → rows_of collections2 c ≡ cond (is_of c r) (put r (rows_of collections c)) (rows_of collections c)) → rows2 ≡ put r S.rows
     → Shows ids2 collections2 rows2
-grown ids collections S r found ids2 collections2 rows2 new s m w is made a b c =
+grown ids collections S r ids2 collections2 rows2 s m w a b c =
     subst (Shows ids2 collections2) (sym c) (record {
       kept = record { store = IsStore-put S.rows r s.kept.store m.newer; within = w };
       by_ids = λ q. ap (lookup (is_at (id_cmp q))) a ∙ ids-with ids r S.rows s.by_ids q;
       filed = subst AreFiled (sym a) (AreFiled-with ids r s.filed);
-      by_collections = λ q. ap (λ pairs. rows_of pairs q) b
-          ∙ collections-with collections r S.rows new s.kept.store.apart m.same s.by_collections (made ∙ ap (put r) (is ∙ s.by_collections r.collection)) q;
+      by_collections = collections-with collections collections2 r S.rows s.kept.store.apart m.same s.by_collections b;
     })

@@ -1,11 +1,11 @@
 -- How the rows in scope past an etag are found, one after another.
-use Rattle.std.proofs.Common.{◌≡◌, ℕ, ◌<◌, ◌≤◌, ◌+◌, List, [], ◌∷◌, ◌++◌, Bool, true, false, cond, ◌&&◌, ◌||◌, Option, Some, None, nat_lt, filter, length, take, drop, get_or, option_map, append-nil, refl, sym, ap, ◌∙◌, subst, arith}
+use Rattle.std.proofs.Common.{◌≡◌, ℕ, ◌<◌, ◌≤◌, ◌+◌, ◌*◌, List, [], ◌∷◌, ◌++◌, Bool, true, false, cond, ◌&&◌, ◌||◌, Option, Some, None, nat_lt, filter, length, take, drop, get_or, option_map, append-nil, refl, sym, ap, ◌∙◌, subst, arith, mul-le-mul_right}
 use Rattle.std.specs.List.{find}
 use Rattle.std.specs.declared.cmp.Ordering.TheVariants.{Less, Equal, Greater}
 use Rattle.std.specs.Ordering.{nat_cmp, is_lt}
 use Rattle.std.specs.Cmp.{ranked}
 use Rattle.std.proofs.lemmas.Bool.{ltb-true, ltb-false, lt-ltb, le-ltb}
-use Rattle.std.proofs.lemmas.List.{drop_all, drop_more, length-append, take_all, take-append-le}
+use Rattle.std.proofs.lemmas.List.{drop_all, drop_more, length-append, length-take, take_all, take-append-le}
 use Rattle.spec_data.specs.Rows.{Row}
 use Rattle.spec_store.specs.Store.{AreRising}
 use Rattle.spec_data.specs.Tables.{Scope, in_scope}
@@ -217,3 +217,20 @@ first_taken found rest all max full was =
 
 pub more_left : (found rest more all : List Row) (r : Row) → rest ≡ r ∷ more → found ++ rest ≡ all → length found < length all
 more_left found rest more all r next was = let a = ap length (sym was ∙ ap (λ xs. found ++ xs) next) in omega (arith, length-append found (r ∷ more))
+
+-- HOW OFTEN A WALK LOOKS
+
+-- it has looked through the scope once for each row that it found, and once more
+pub looks : (found rest all : List Row) (max n old so_far reads : ℕ) → length found ≤ max → found ++ rest ≡ all → so_far ≡ old + length found * n → reads ≡ so_far + n
+    → reads ≤ old + (length (take max all) + 1) * n
+looks found rest all max n old so_far reads few was counted once =
+    let longer : length all ≡ length found + length rest = ap length (sym was) ∙ length-append found rest in
+    let least : length found ≤ length (take max all) = omega (arith, length-take max all) in
+    let most : length found * n ≤ length (take max all) * n = mul-le-mul_right n least in
+    omega arith
+
+pub one_row_more : (found found2 : List Row) (r : Row) (n old so_far reads : ℕ) → found2 ≡ found ++ r ∷ [] → so_far ≡ old + length found * n → reads ≡ so_far + n → reads ≡ old + length found2 * n
+one_row_more found found2 r n old so_far reads made counted once =
+    let more : length found2 ≡ length found + 1 = ap length made ∙ length-append found (r ∷ []) in
+    let total : reads ≡ old + (length found + 1) * n = omega arith in
+    total ∙ ap (λ k. old + k * n) (sym more)

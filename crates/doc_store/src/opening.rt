@@ -60,7 +60,7 @@ impl Store {
             if !is_sound_after(&store, row) {
                 return Err(OpenFault::KeptBad { etag: row.etag });
             }
-            store = store.with_row(alloc, row)?;
+            store = store.put_copy(alloc, row)?;
         }
         Ok(store)
     }

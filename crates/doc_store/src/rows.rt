@@ -1,18 +1,20 @@
 //! Walks over the rows of a store's maps.
-ghost use Rattle.std.specs.Prelude.{◌≡◌, ◌<◌, ◌^◌, ◌&&◌, IfOk, filter, length, nat_lt, not};
+ghost use Rattle.std.specs.Prelude.{◌≡◌, ◌<◌, ◌^◌, ◌&&◌, ℕ, List, IfOk, filter, if◌then◌else◌, length, nat_lt, not};
 ghost use Rattle.std.specs.List.{find};
 ghost use Rattle.std.specs.Option.{option_copied};
 ghost use Rattle.std.specs.Str.{bytes_eq};
-ghost use Rattle.spec_data.specs.Rows.{is_document};
-ghost use Rattle.spec_store.specs.Store.{last_of};
+ghost use Rattle.raven_base.specs.Counts.{one_read_more};
+ghost use Rattle.spec_data.specs.Rows.{is_document, key};
+ghost use Rattle.spec_store.specs.Store.{last_of, put};
 ghost use Rattle.spec_store.specs.Stale.{up_to};
-ghost use Rattle.doc_store.specs.Maps.{earlier, rows_in, rows_of};
+ghost use Rattle.doc_store.specs.Maps.{earlier, etag_at, is_of, rows_in, rows_of};
 
 use crate::rows_by_etag::RowsByEtag;
 use paged_map::{PagedMap, Pairs};
-use raven_base::{NoMemory, Shared};
+use raven_base::{NoMemory, Shared, Steps};
 use raven_value::{Body, Id, Row, Text};
 use std::alloc::Global;
+use std::sync::ledger::Ledger;
 
 /// The etag of the last row, or 0 if there is none.
 pub fn last_etag(rows: &[Row]) -> u64
@@ -50,7 +52,7 @@ pub fn earlier<'a>(a: Option<&'a Row>, b: Option<&'a Row>) -> Option<&'a Row>
 }
 
 /// The rows of a collection.
-pub fn rows_of(
+fn rows_of(
     alloc: Global,
     collections: &PagedMap<Text, RowsByEtag>,
     collection: &Text,
@@ -63,14 +65,37 @@ pub fn rows_of(
     }
 }
 
-/// The first row of a collection past an etag.
-pub fn first_of<'a>(
+/// The rows of all collections, with this one put among those of its collection, in place of the one of its id, whose etag is
+/// given. Its etag is past theirs.
+pub fn put_among(
+    alloc: Global,
+    collections: PagedMap<Text, RowsByEtag>,
+    row: Shared<Row>,
+    replaced: Option<u64>,
+) -> Result<PagedMap<Text, RowsByEtag>, NoMemory>
+    requires replaced { replaced ≡ etag_at (key row) (rows_of collections row.collection) }
+    requires newer { last_of 0 (rows_of collections row.collection) < row.etag }
+    ensures { IfOk result (λ changed. (c : List ℕ) → rows_of changed c ≡ (if is_of c row then put row (rows_of collections c) else rows_of collections c)) }
+{
+    let name = row.get().collection.clone()?;
+    let rows = rows_of(alloc, &collections, &name)?;
+    // They are taken out before they change. As long as the map has them too, their pages have two owners and would be copied.
+    let others = collections.take_out(alloc, &name)?;
+    let changed = rows.put(alloc, row, replaced)?;
+    Ok(others.put(alloc, name, changed)?)
+}
+
+/// The first row of a collection past an etag. The look for it is counted as a row read, whether there is one or not.
+pub fn first_of<'a, L: Ledger>(
     collections: &'a PagedMap<Text, RowsByEtag>,
     collection: &Text,
     etag: u64,
+    steps: &mut Steps<L>,
 ) -> Option<&'a Row>
-    ensures { option_copied result ≡ find (λ r. nat_lt etag r.etag) (rows_of collections.now collection.now) }
+    ensures row { option_copied result ≡ find (λ r. nat_lt etag r.etag) (rows_of collections.now collection.now) }
+    ensures counted { steps.new ≡ one_read_more steps.old }
 {
+    steps.row_read();
     match collections.get(collection) {
         Some(rows) => rows.first_after(etag),
         None => None,

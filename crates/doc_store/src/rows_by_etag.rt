@@ -15,7 +15,7 @@ use std::marker::Model;
 
 /// Rows in order of etag, one for each id, seen by contracts as their list.
 ///
-/// A change makes new ones and leaves the old ones, with which they share most of their pages.
+/// A clone shares all pages, and a change copies only pages that others have too.
 #[derive(Drop)]
 pub struct RowsByEtag {
     rows: PagedMap<u64, Shared<Row>>,
@@ -52,14 +52,14 @@ fn row_of(pair: Option<&(u64, Shared<Row>)>) -> Option<&Row>
 /// A map without an etag, if one is given.
 fn without_etag(
     alloc: Global,
-    rows: &PagedMap<u64, Shared<Row>>,
+    rows: PagedMap<u64, Shared<Row>>,
     etag: Option<u64>,
 ) -> Result<PagedMap<u64, Shared<Row>>, NoMemory>
-    ensures { IfOk result (λ left. left ≡ without_etag etag rows.now) }
+    ensures { IfOk result (λ left. left ≡ without_etag etag rows) }
 {
     match etag {
-        Some(etag) => Ok(rows.without(alloc, &etag)?),
-        None => Ok(rows.clone()?),
+        Some(etag) => Ok(rows.take_out(alloc, &etag)?),
+        None => Ok(rows),
     }
 }
 
@@ -142,20 +142,21 @@ impl RowsByEtag {
     }
 
     /// The rows with this one at the end, in place of the one of its id, whose etag is given. Its etag is past theirs.
-    pub fn with(
-        &self,
+    pub fn put(
+        self,
         alloc: Global,
-        row: &Shared<Row>,
+        row: Shared<Row>,
         replaced: Option<u64>,
     ) -> Result<RowsByEtag, NoMemory>
-        requires replaced { replaced ≡ etag_at (key row.now) self.now }
-        requires newer { last_of 0 self.now < row.now.etag }
-        ensures { IfOk result (λ rows. rows ≡ put row.now self.now) }
+        requires replaced { replaced ≡ etag_at (key row) self }
+        requires newer { last_of 0 self < row.etag }
+        ensures { IfOk result (λ rows. rows ≡ put row self) }
     {
+        let RowsByEtag { rows, .. } = self;
         let etag = row.get().etag;
-        let beside = without_etag(alloc, &self.rows, replaced)?;
+        let beside = without_etag(alloc, rows, replaced)?;
         Ok(RowsByEtag {
-            rows: beside.with(alloc, etag, row.clone()?)?,
+            rows: beside.put(alloc, etag, row)?,
             last: etag,
         })
     }

@@ -1,6 +1,6 @@
 //! The store.
 ghost use Rattle.std.specs.Str.{bytes_eq};
-ghost use Rattle.std.specs.Prelude.{◌≡◌, ◌≤◌, ◌<◌, ◌&&◌, ◌↔◌, ℕ, IfOk, IsTrue, filter, length, nat_lt, not, option_copied};
+ghost use Rattle.std.specs.Prelude.{◌≡◌, ◌≤◌, ◌<◌, ◌+◌, ◌*◌, ◌&&◌, ◌↔◌, ℕ, IfOk, IsTrue, filter, length, nat_lt, not, option_copied};
 ghost use Rattle.std.specs.List.{find};
 ghost use Rattle.spec_data.specs.Folding.{folded};
 ghost use Rattle.spec_data.specs.Limits.{max_etag};
@@ -14,19 +14,20 @@ ghost use Rattle.doc_store.specs.Bounds.{IsWithin};
 ghost use Rattle.doc_store.specs.Maps.{etag_at};
 ghost use Rattle.doc_store.specs.Steps.{MayStand};
 
-use crate::rows::{Counts, copies, counts_of, earlier, first_of, newest_of, rows_of};
+use crate::rows::{Counts, copies, counts_of, earlier, first_of, newest_of, put_among};
 use crate::rows_by_etag::RowsByEtag;
 use paged_map::PagedMap;
-use raven_base::{NoMemory, Shared};
+use raven_base::{NoMemory, Shared, Steps};
 use raven_value::{Id, Row, Rows, Scope, Text};
 use std::alloc::{AllocError, Global};
 use std::marker::Model;
+use std::sync::ledger::Ledger;
 
 /// The rows of a database, one for each id, seen by contracts as their list in order of etag.
 /// Etags are from 1 to 9,007,199,254,740,991, and there are fewer than 2^32 rows.
 ///
-/// A store and one that was made from it share most of their pages, so a change takes time and memory that grow with
-/// the logarithm of the number of rows, and a clone takes none.
+/// A clone shares all pages and takes no memory, and a change copies only pages that others have too. So a change takes time
+/// and memory that grow with the logarithm of the number of rows.
 #[derive(Drop)]
 pub struct Store {
     by_id: PagedMap<Id, Shared<Row>>,
@@ -110,22 +111,27 @@ impl Store {
 
     /// The first `max` rows in scope past an etag, by etag, and whether more remain.
     ///
-    /// For each row that it gives, and once more, it reads at most one row of each collection of the scope, and none of others.
-    /// Each is found in time that grows with the logarithm of the number of rows.
-    pub fn rows_after(
+    /// For each row that it gives, and once more, it looks for the first row of each collection of the scope, and each look is
+    /// counted as a row read. It looks at no other collection. A look takes time that grows with the logarithm of the number of
+    /// rows.
+    pub fn rows_after<L: Ledger>(
         &self,
         alloc: Global,
         etag: u64,
         scope: &Scope,
         max: u32,
+        steps: &mut Steps<L>,
     ) -> Result<(Rows, bool), NoMemory>
         ensures rows { IfOk result (λ r. r.0 ≡ batch_rows scope.now etag self.now max) }
         ensures more { IfOk result (λ r. IsTrue r.1 ↔ (max < length (past scope.now etag self.now))) }
+        ensures maps { steps.new.maps ≡ steps.old.maps }
+        ensures merges { steps.new.merges ≡ steps.old.merges }
+        ensures reads { steps.new.reads ≤ steps.old.reads + (length (batch_rows scope.now etag self.now max) + 1) * length scope.now }
     {
         let collections = scope.as_slice();
         let mut found = Rows::new(alloc);
         let mut after = etag;
-        while let Some(row) = self.first_past(after, collections) {
+        while let Some(row) = self.first_past(after, collections, steps) {
             if found.len() == max as usize {
                 return Ok((found, true));
             }
@@ -136,14 +142,17 @@ impl Store {
     }
 
     /// The first row in scope past an etag. It takes no memory.
-    fn first_past(&self, etag: u64, scope: &[Text]) -> Option<&Row>
+    fn first_past<L: Ledger>(&self, etag: u64, scope: &[Text], steps: &mut Steps<L>) -> Option<&Row>
         ensures row { option_copied result ≡ find (λ r. in_scope scope.now r && nat_lt etag r.etag) self.now.rows }
         ensures sound { IsStore self.now }
+        ensures maps { steps.new.maps ≡ steps.old.maps }
+        ensures merges { steps.new.merges ≡ steps.old.merges }
+        ensures reads { steps.new.reads ≡ steps.old.reads + length scope.now }
     {
         let collections = &self.by_collection;
         let mut first = None;
         for collection in scope {
-            first = earlier(first, first_of(collections, collection, etag));
+            first = earlier(first, first_of(collections, collection, etag, steps));
         }
         first
     }
@@ -181,21 +190,42 @@ impl Store {
 
     /// The store with one row more, in place of an earlier row of its id. Its etag is past all others, and it is in the
     /// collection of the earlier row.
-    pub fn with_row(&self, alloc: Global, row: &Row) -> Result<Store, NoMemory>
-        requires stands { MayStand self.now row.now }
-        requires within { IsWithin (with_row self.now row.now) }
-        ensures { IfOk result (λ store. store ≡ with_row self.now row.now) }
+    ///
+    /// Pages that no other store has are changed in place, and the others are copied. If it runs out of memory, this store is
+    /// gone, and its clones stay.
+    pub fn put_row(self, alloc: Global, row: Row) -> Result<Store, NoMemory>
+        requires stands { MayStand self row }
+        requires within { IsWithin (with_row self row) }
+        ensures { IfOk result (λ store. store ≡ with_row self row) }
     {
-        let shared = Shared::of(alloc, row.clone()?)?;
-        let replaced = self.etag_of(&row.id);
-        let beside = rows_of(alloc, &self.by_collection, &row.collection)?;
-        let changed = beside.with(alloc, &shared, replaced)?;
-        let name = row.collection.clone()?;
+        let shared = Shared::of(alloc, row)?;
+        let kept = shared.get();
+        let replaced = self.etag_of(&kept.id);
+        let id = kept.id.clone()?;
+        let under_id = shared.clone()?;
+        let under_etag = shared.clone()?;
+        let Store {
+            by_id,
+            by_etag,
+            by_collection,
+        } = self;
+        let ids = by_id.put(alloc, id, under_id)?;
+        let etags = by_etag.put(alloc, under_etag, replaced)?;
+        let collections = put_among(alloc, by_collection, shared, replaced)?;
         Ok(Store {
-            by_id: self.by_id.with(alloc, row.id.clone()?, shared.clone()?)?,
-            by_etag: self.by_etag.with(alloc, &shared, replaced)?,
-            by_collection: self.by_collection.with(alloc, name, changed)?,
+            by_id: ids,
+            by_etag: etags,
+            by_collection: collections,
         })
+    }
+
+    /// As `put_row`, of a copy of the row.
+    pub(crate) fn put_copy(self, alloc: Global, row: &Row) -> Result<Store, NoMemory>
+        requires stands { MayStand self row.now }
+        requires within { IsWithin (with_row self row.now) }
+        ensures { IfOk result (λ store. store ≡ with_row self row.now) }
+    {
+        self.put_row(alloc, row.clone()?)
     }
 
     /// A new store with further rows, one after another, each in place of an earlier row of its id.
@@ -206,7 +236,7 @@ impl Store {
     {
         let mut store = self.clone()?;
         for row in rows.as_slice() {
-            store = store.with_row(alloc, row)?;
+            store = store.put_copy(alloc, row)?;
         }
         Ok(store)
     }

@@ -1,5 +1,5 @@
 -- What the refusals of the program are.
-use Rattle.std.specs.Prelude.{◌≡◌, Result, Err}
+use Rattle.std.specs.Prelude.{◌≡◌, ℕ, Option, Some, Result, Err}
 use Rattle.spec_store.specs.Commit as is
 use Rattle.doc_txn.specs.declared.fault.TxnKind.{TxnKind}
 use Rattle.doc_txn.specs.declared.fault.TxnKind.TheVariants as k
@@ -18,3 +18,8 @@ kind_view (k.EtagsSpent last) = is.EtagsSpent last
 abbrev pub Refuses : TxnFault → Result is.Written is.Refused → Type 0
 Refuses (f.Refused at kind) outcome = outcome ≡ Err (record { at = at; kind = kind_view kind })
 Refuses f.NoMemory outcome = Unit {0}
+
+-- the same of the command at this place, by the first of the tests that refuses it
+abbrev pub RefusesAt : ℕ → TxnFault → Option is.Refusal → Type 0
+RefusesAt place (f.Refused at kind) refusal = (at ≡ place) × (refusal ≡ Some (kind_view kind))
+RefusesAt place f.NoMemory refusal = Unit {0}

@@ -5,7 +5,6 @@ ghost use Rattle.doc_txn.specs.CommandView.{command_view};
 
 use raven_base::Sequence;
 use raven_value::{Id, Text, Value};
-use std::alloc::AllocError;
 
 /// Who writes. A client may not write the definitions of indexes.
 #[derive(Clone, Copy, Debug, PartialEq, Eq)]
@@ -56,35 +55,6 @@ impl Command {
     {
         match self {
             Command::Put { id, .. } | Command::Delete { id, .. } => id,
-        }
-    }
-}
-
-impl Clone for Expect {
-    ghost is_clone = { λ s t. t ≡ s };
-
-    fn clone(&self) -> Result<Expect, AllocError> {
-        match self {
-            Expect::Any => Ok(Expect::Any),
-            Expect::Vector(vector) => Ok(Expect::Vector(vector.clone()?)),
-        }
-    }
-}
-
-impl Clone for Command {
-    ghost is_clone = { λ s t. t ≡ s };
-
-    fn clone(&self) -> Result<Command, AllocError> {
-        match self {
-            Command::Put { id, expected, body } => Ok(Command::Put {
-                id: id.clone()?,
-                expected: expected.clone()?,
-                body: body.clone()?,
-            }),
-            Command::Delete { id, expected } => Ok(Command::Delete {
-                id: id.clone()?,
-                expected: expected.clone()?,
-            }),
         }
     }
 }

@@ -1,12 +1,12 @@
 //! Transactions: commands that are all taken, or none of them.
-ghost use Rattle.std.specs.Prelude.{◌≡◌, ◌∷◌, ◌++◌, [], IfOk, IfErr, None, OnOk, Some, Ok, map, option_map};
+ghost use Rattle.std.specs.Prelude.{◌≡◌, ◌∷◌, ◌++◌, [], IfOk, IfErr, None, Some, Ok, length, map, option_map};
 ghost use Rattle.std.specs.Option.{ForSome};
 ghost use Rattle.spec_store.specs.Store.{IsStore, with_row};
 ghost use Rattle.spec_store.specs.Later.{MayFollow};
 ghost use Rattle.spec_store.specs.Commit.{Commits, etags_taken, refusal_of as spec_refusal_of, row_of as spec_row_of, with_option, with_written};
 ghost use Rattle.doc_store.specs.Bounds.{IsWithin};
 ghost use Rattle.doc_txn.specs.CommandView.{command_view, writer_view};
-ghost use Rattle.doc_txn.specs.FaultView.{Refuses, kind_view};
+ghost use Rattle.doc_txn.specs.FaultView.{Refuses, RefusesAt, kind_view};
 ghost use Rattle.doc_txn.specs.TermsView.{setting_in};
 ghost use Rattle.doc_txn.specs.TransactionView.{outcome, written_of};
 
@@ -49,45 +49,55 @@ impl Transaction {
         })
     }
 
-    fn write(&mut self, alloc: Global, row: Row) -> Result<(), NoMemory>
-        requires follows { MayFollow self.old.store row }
-        requires within { IsWithin (with_row self.old.store row) }
-        ensures written { OnOk result (written_of self.new ≡ with_written (Some row) (written_of self.old)) }
-        ensures etags { OnOk result (self.new.etags ≡ self.old.etags ++ Some row.etag ∷ []) }
+    fn write(self, alloc: Global, row: Row) -> Result<Transaction, NoMemory>
+        requires follows { MayFollow self.store row }
+        requires within { IsWithin (with_row self.store row) }
+        ensures written { IfOk result (λ done. written_of done ≡ with_written (Some row) (written_of self)) }
+        ensures etags { IfOk result (λ done. done.etags ≡ self.etags ++ Some row.etag ∷ []) }
     {
-        self.store = self.store.with_row(alloc, &row)?;
-        self.etags.push(Some(row.etag))?;
-        self.rows.push(row)
+        let Transaction {
+            store,
+            mut rows,
+            mut etags,
+        } = self;
+        etags.push(Some(row.etag))?;
+        rows.push(row.clone()?)?;
+        Ok(Transaction {
+            store: store.put_row(alloc, row)?,
+            rows,
+            etags,
+        })
     }
 
-    fn write_if(&mut self, alloc: Global, row: Option<Row>) -> Result<(), NoMemory>
-        requires follows { ForSome row (λ r. MayFollow self.old.store r) }
-        requires within { IsWithin (with_option self.old.store row) }
-        ensures written { OnOk result (written_of self.new ≡ with_written row (written_of self.old)) }
-        ensures etags { OnOk result (self.new.etags ≡ self.old.etags ++ option_map (λ r. r.etag) row ∷ []) }
+    fn write_if(self, alloc: Global, row: Option<Row>) -> Result<Transaction, NoMemory>
+        requires follows { ForSome row (λ r. MayFollow self.store r) }
+        requires within { IsWithin (with_option self.store row) }
+        ensures written { IfOk result (λ done. written_of done ≡ with_written row (written_of self)) }
+        ensures etags { IfOk result (λ done. done.etags ≡ self.etags ++ option_map (λ r. r.etag) row ∷ []) }
     {
         match row {
             Some(row) => self.write(alloc, row),
-            None => self.etags.push(None),
+            None => {
+                let mut done = self;
+                done.etags.push(None)?;
+                Ok(done)
+            }
         }
     }
 
-    /// Takes a command, or returns why it is refused.
-    fn take(
-        &mut self,
-        alloc: Global,
-        command: Command,
-        terms: &Terms,
-    ) -> Result<Option<TxnKind>, NoMemory>
-        ensures refused { IfOk result (λ kind. option_map kind_view kind ≡ spec_refusal_of (setting_in terms.entry.now) (writer_view terms.entry.now.writer) self.old.store (command_view command)) }
-        ensures written { IfOk result (λ kind. kind ≡ None → written_of self.new ≡ with_written (spec_row_of terms.entry.now.moment self.old.store (command_view command)) (written_of self.old)) }
-        ensures etags { IfOk result (λ kind. kind ≡ None → self.new.etags ≡ self.old.etags ++ option_map (λ r. r.etag) (spec_row_of terms.entry.now.moment self.old.store (command_view command)) ∷ []) }
+    /// The transaction with a further command, or why it is not taken. Its place is the number of those before it.
+    fn take(self, alloc: Global, command: Command, terms: &Terms) -> Result<Transaction, TxnFault>
+        ensures allowed { IfOk result (λ _. spec_refusal_of (setting_in terms.entry.now) (writer_view terms.entry.now.writer) self.store (command_view command) ≡ None) }
+        ensures written { IfOk result (λ done. written_of done ≡ with_written (spec_row_of terms.entry.now.moment self.store (command_view command)) (written_of self)) }
+        ensures etags { IfOk result (λ done. done.etags ≡ self.etags ++ option_map (λ r. r.etag) (spec_row_of terms.entry.now.moment self.store (command_view command)) ∷ []) }
+        ensures refused { IfErr result (λ fault. RefusesAt (length self.etags) fault (spec_refusal_of (setting_in terms.entry.now) (writer_view terms.entry.now.writer) self.store (command_view command))) }
     {
         let (row, refusal) = judged(alloc, &self.store, command, terms)?;
-        if refusal.is_none() {
-            self.write_if(alloc, row)?;
+        if let Some(kind) = refusal {
+            let at = self.etags.len() as u64;
+            return Err(TxnFault::Refused { at, kind });
         }
-        Ok(refusal)
+        Ok(self.write_if(alloc, row)?)
     }
 }
 
@@ -109,26 +119,22 @@ fn judged(
     Ok((draft.row, refusal))
 }
 
-// A copy, for what takes commands by value.
-fn copied(command: &Command) -> Result<Command, NoMemory>
-    ensures { IfOk result (λ copy. command_view copy ≡ command_view command.now) }
-{
-    Ok(command.clone()?)
-}
-
 /// Takes the commands in order, each on the store that those before it leave. The first that is refused refuses all of them.
+/// The documents are moved into the rows.
+///
+/// Pages of the store are copied once at most: what the first commands copied is changed in place by the later ones.
 pub fn transact(
     alloc: Global,
     store: &Store,
-    commands: &Commands,
+    commands: Commands,
     writer: Writer,
     base: &BaseId,
     limits: &Limits,
     now: u64,
 ) -> Result<Transaction, TxnFault>
-    ensures ok { IfOk result (λ done. outcome base.now limits.now writer now commands.now store.now ≡ Ok (written_of done)) }
-    ensures refused { IfErr result (λ fault. Refuses fault (outcome base.now limits.now writer now commands.now store.now)) }
-    ensures etags { IfOk result (λ done. done.etags ≡ etags_taken now (map command_view commands.now) store.now) }
+    ensures ok { IfOk result (λ done. outcome base.now limits.now writer now commands store.now ≡ Ok (written_of done)) }
+    ensures refused { IfErr result (λ fault. Refuses fault (outcome base.now limits.now writer now commands store.now)) }
+    ensures etags { IfOk result (λ done. done.etags ≡ etags_taken now (map command_view commands) store.now) }
     ensures grows { IfOk result (λ done. IsStore store.now → Commits store.now (written_of done)) }
 {
     let terms = Terms {
@@ -138,18 +144,16 @@ pub fn transact(
         moment: now,
     };
     let mut done = Transaction::start(alloc, store)?;
-    for (at, command) in commands.as_slice().iter().enumerate() {
-        let copy = copied(command)?;
-        if let Some(kind) = done.take(alloc, copy, &terms)? {
-            let at = at as u64;
-            return Err(TxnFault::Refused { at, kind });
-        }
+    for command in commands.into_vec() {
+        done = match done.take(alloc, command, &terms) {
+            Ok(more) => more,
+            Err(fault) => return Err(fault),
+        };
     }
     Ok(done)
 }
 
-/// As `transact` of this command alone, whose body is moved into the store and not copied.
-#[tactic(auto, using(crate::proofs::Taking::one))]
+/// As `transact` of this command alone, without a list of it.
 pub fn transact_one(
     alloc: Global,
     store: &Store,
@@ -170,25 +174,22 @@ pub fn transact_one(
         limits,
         moment: now,
     };
-    let mut done = Transaction::start(alloc, store)?;
-    if let Some(kind) = done.take(alloc, command, &terms)? {
-        return Err(TxnFault::Refused { at: 0, kind });
-    }
-    Ok(done)
+    let start = Transaction::start(alloc, store)?;
+    start.take(alloc, command, &terms)
 }
 
 /// As `transact`, without the etags.
 pub fn commit(
     alloc: Global,
     store: &Store,
-    commands: &Commands,
+    commands: Commands,
     writer: Writer,
     base: &BaseId,
     limits: &Limits,
     now: u64,
 ) -> Result<(Store, Rows), TxnFault>
-    ensures ok { IfOk result (λ done. outcome base.now limits.now writer now commands.now store.now ≡ Ok (record { store = done.0; rows = done.1 })) }
-    ensures refused { IfErr result (λ fault. Refuses fault (outcome base.now limits.now writer now commands.now store.now)) }
+    ensures ok { IfOk result (λ done. outcome base.now limits.now writer now commands store.now ≡ Ok (record { store = done.0; rows = done.1 })) }
+    ensures refused { IfErr result (λ fault. Refuses fault (outcome base.now limits.now writer now commands store.now)) }
     ensures grows { IfOk result (λ done. IsStore store.now → Commits store.now (record { store = done.0; rows = done.1 })) }
 {
     let done = transact(alloc, store, commands, writer, base, limits, now)?;

@@ -1,7 +1,7 @@
 -- What a batch makes of the rows that it takes.
-use Rattle.std.proofs.Common.{◌≡◌, ◌<◌, ◌≤◌, ◌↔◌, ◌&&◌, ◌||◌, ℕ, List, [], ◌∷◌, length, take, drop, filter, Bool, true, false, cond, nat_lt, IsTrue, Some, None, Option, refl, sym, ap, ◌∙◌, arith}
+use Rattle.std.proofs.Common.{◌≡◌, ◌+◌, ◌*◌, ◌<◌, ◌≤◌, ◌↔◌, ◌&&◌, ◌||◌, ℕ, List, [], ◌∷◌, length, take, drop, filter, Bool, true, false, cond, nat_lt, IsTrue, Some, None, Option, refl, sym, ap, ◌∙◌, subst, arith}
 use Rattle.std.specs.List.{list_any}
-use Rattle.std.proofs.lemmas.Bool.{le-ltb}
+use Rattle.std.proofs.lemmas.Bool.{le-ltb, lt-ltb}
 use Rattle.std.proofs.lemmas.Grind.{common_steps}
 use Rattle.std.proofs.lemmas.List.{take_all}
 use Rattle.spec_data.specs.Rows.{Row}
@@ -32,6 +32,18 @@ batch-fresh v S max fresh = batch-none v S max [] (sym (ap (take max) (none_past
 
 pub is_fresh : (v : Version) (S : Store) (scope : Scope) (e n : ℕ) → scope ≡ reads v → e ≡ v.etag → ((etag : ℕ) → stale S scope etag None ≡ nat_lt etag n) → n ≤ e → stale S (reads v) v.etag None ≡ false
 is_fresh v S scope e n of_v at_v tells le = (λ i. stale S (sym of_v i) (sym at_v i) None) ∙ tells e ∙ le-ltb e n le
+
+pub is_behind : (v : Version) (S : Store) (scope : Scope) (e n : ℕ) → scope ≡ reads v → e ≡ v.etag → ((etag : ℕ) → stale S scope etag None ≡ nat_lt etag n) → e < n → stale S (reads v) v.etag None ≡ true
+is_behind v S scope e n of_v at_v tells lt = (λ i. stale S (sym of_v i) (sym at_v i) None) ∙ tells e ∙ lt-ltb e n lt
+
+-- HOW MANY ROWS ARE READ
+
+pub read_of : (v : Version) (S : Store) (scope : Scope) (e max before after : ℕ) → scope ≡ reads v → e ≡ v.etag
+    → after ≤ before + (length (batch_rows scope e S max) + 1) * length scope → after ≤ before + (length (batch_rows (reads v) v.etag S max) + 1) * length (reads v)
+read_of v S scope e max before after of_v at_v most =
+    let same : (length (batch_rows scope e S max) + 1) * length scope ≡ (length (batch_rows (reads v) v.etag S max) + 1) * length (reads v) =
+    λ i. (length (batch_rows (of_v i) (at_v i) S max) + 1) * length (of_v i) in
+    subst (λ n. after ≤ before + n) same most
 
 -- IF ROWS ARE TAKEN
 

@@ -1,5 +1,5 @@
 //! Batches: how an index catches up.
-ghost use Rattle.std.specs.Prelude.{◌≡◌, ◌+◌, ◌≤◌, IfOk, IfSome, None, cond, false, length, option_map};
+ghost use Rattle.std.specs.Prelude.{◌≡◌, ◌+◌, ◌*◌, ◌≤◌, IfOk, IfSome, None, cond, false, length, option_map};
 ghost use Rattle.spec_store.specs.Stale.{batch_rows, stale};
 ghost use Rattle.spec_store.specs.Store.{last, last_of};
 ghost use Rattle.spec_index.specs.World.{batch, reads};
@@ -23,8 +23,9 @@ fn etag_after(taken: &[Row], more: bool, store: &Store) -> u64
 /// The index after the first `max` rows that it has not seen, or nothing if there are none.
 /// Its etag is that of the last of them if more remain, else the store's last.
 ///
-/// The mapper maps the documents that these rows touch, each at most once, and no others. For an index that is not stale nothing
-/// is counted and no row is read: one search for each collection that it reads finds that.
+/// The mapper maps the documents that these rows touch, each at most once, and no others. For each row that is taken, and once
+/// more, at most one row of each collection that the index reads is read. For an index that is not stale nothing is counted and
+/// no row is read: one search for each of these collections finds that.
 pub fn next<M: Mapper, L: Ledger>(
     alloc: Global,
     index: &IndexVersion,
@@ -38,7 +39,7 @@ pub fn next<M: Mapper, L: Ledger>(
     ensures next { IfOk result (λ next. option_map (λ new. new.version) next ≡ batch index.now.version store.now max) }
     ensures maps { let v = index.now.version in steps.new.maps ≤ steps.old.maps + length (touched_documents v (batch_rows (reads v) v.etag store.now max)) }
     ensures merges { steps.new.merges ≡ steps.old.merges }
-    ensures reads { steps.new.reads ≡ steps.old.reads }
+    ensures reads { let v = index.now.version in steps.new.reads ≤ steps.old.reads + (length (batch_rows (reads v) v.etag store.now max) + 1) * length (reads v) }
     ensures idle { let v = index.now.version in stale store.now (reads v) v.etag None ≡ false → steps.new ≡ steps.old }
 {
     let scope = index.scope(alloc)?;
@@ -46,7 +47,7 @@ pub fn next<M: Mapper, L: Ledger>(
     if store.newest(&scope, None) <= seen {
         return Ok(None);
     }
-    let (taken, more) = store.rows_after(alloc, seen, &scope, max)?;
+    let (taken, more) = store.rows_after(alloc, seen, &scope, max, steps)?;
     if taken.is_empty() {
         return Ok(None);
     }

@@ -115,7 +115,7 @@ pub fn outcome_of(
             let command = Command::Delete { id, expected };
             settled(world.commit_one(alloc, command, now))
         }
-        Request::Bulk { commands } => settled(world.commit(alloc, &commands, now)),
+        Request::Bulk { commands } => settled(world.commit(alloc, commands, now)),
         Request::Get { id } => Ok(unchanged(world.get(alloc, &id)?)),
         Request::Auto { collection, field } => picked(alloc, world, now, &collection, &field),
         Request::Find { index, field, text } => {

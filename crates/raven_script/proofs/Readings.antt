@@ -1,7 +1,12 @@
 -- One reading after another.
-use Rattle.std.proofs.Common.{◌≡◌, ℕ, List, [], ◌∷◌, ◌++◌, Option, Some, None, Result, Ok, Err, refl, ap, ◌∙◌, sym, subst, append_assoc, map}
+use Rattle.std.proofs.Common.{◌≡◌, ◌+◌, ℕ, suc, List, [], ◌∷◌, ◌++◌, length, Option, Some, None, Result, Ok, Err, refl, ap, ◌∙◌, sym, subst, append_assoc, map, arith}
+use Rattle.std.proofs.lemmas.List.{append-nil, map-append}
 use Rattle.spec_data.specs.Faults.{Fault}
 use Rattle.raven_value.specs.Refusal.{fault_in}
+use Rattle.raven_value.specs.View.{data_of}
+use Rattle.raven_value.specs.declared.value.Value.{Value}
+use Rattle.doc_txn.specs.CommandView.{command_view}
+use Rattle.doc_txn.specs.declared.command.Command as program
 use Rattle.spec_server.specs.Script as read
 use Rattle.spec_data.specs.Data.{Data, array, items_of, list_of}
 use Rattle.spec_store.specs.Commit.{Command}
@@ -65,23 +70,54 @@ pub ruleset members = (bad_member, read_list, refused_list)
 
 -- COMMANDS IN A LIST
 
-abbrev in_front : List Command → Result (List Command) read.ReadRefusal → Result (List Command) read.ReadRefusal
-in_front done r = then_read r (λ more. Ok (done ++ more))
+abbrev in_front : List program.Command → Result (List Command) read.ReadRefusal → Result (List Command) read.ReadRefusal
+in_front done r = then_read r (λ more. Ok (map command_view done ++ more))
 
-pub none_left : (done : List Command) (ds : List Data) → ds ≡ [] → commands_read ds ≡ Ok []
-none_left done ds h = ap commands_read h
-
--- the first refusal counts
-pub refused_here : (why : ReadRefusal) (done : List Command) (d : Data) (ds : List Data) (all : Result (List Command) read.ReadRefusal) → in_front done (commands_read (d ∷ ds)) ≡ all → Refuses why (command_read d) → Refuses why all
-refused_here why done d ds all e h =
-    subst (Refuses why) e (refused_on why (commands_read (d ∷ ds)) (λ more. Ok (done ++ more)) (refused_on why (command_read d) (λ c. then_read (commands_read ds) (λ cs. Ok (c ∷ cs))) h))
-
-pub one_more : (done : List Command) (c : Command) (d : Data) (ds : List Data) (all : Result (List Command) read.ReadRefusal) → in_front done (commands_read (d ∷ ds)) ≡ all → command_read d ≡ Ok c
-    → in_front (done ++ c ∷ []) (commands_read ds) ≡ all
-one_more done c d ds all e h = by (commands_read ds) ∙ ap (λ r. in_front done (then_read r (λ x. then_read (commands_read ds) (λ cs. Ok (x ∷ cs))))) (sym h) ∙ e
+-- none of them is read yet
+pub none_read : (done : List program.Command) (all left : List Value) → done ≡ [] → left ≡ all → in_front done (commands_read (map data_of left)) ≡ commands_read (map data_of all)
+none_read done all left none h =
+    ap (λ cs. in_front cs (commands_read (map data_of left))) none
+    ∙ by (commands_read (map data_of left)) ∙ ap (λ vs. commands_read (map data_of vs)) h
   where
-    by : (r : Result (List Command) read.ReadRefusal) → in_front (done ++ c ∷ []) r ≡ in_front done (then_read r (λ cs. Ok (c ∷ cs)))
-    by (Ok cs) = ap Ok (append_assoc done (c ∷ []) cs)
+    by : (r : Result (List Command) read.ReadRefusal) → in_front [] r ≡ r
+    by (Ok cs) = refl
     by (Err refusal) = refl
 
-pub ruleset lists = (none_left, refused_here, one_more)
+pub one_fewer : (left rest : List Value) (v : Value) (count fewer : ℕ) → count ≡ length left → left ≡ v ∷ rest → fewer + 1 ≡ count → fewer ≡ length rest
+one_fewer left rest v count fewer long split less =
+    let longer : length left ≡ suc (length rest) = ap length split in
+    omega arith
+
+-- where some are read and these are left
+module _ (done : List program.Command) (left : List Value) (all : Result (List Command) read.ReadRefusal) (so_far : in_front done (commands_read (map data_of left)) ≡ all) where
+  pub none_left : (count : ℕ) → count ≡ length left → count ≡ 0 → all ≡ Ok (map command_view done)
+  none_left count long none = by left so_far (sym long ∙ none)
+    where
+      by : (vs : List Value) → in_front done (commands_read (map data_of vs)) ≡ all → length vs ≡ 0 → all ≡ Ok (map command_view done)
+      by [] h empty = sym h ∙ ap Ok (append-nil (map command_view done))
+      by (v ∷ vs) h empty = absurd (omega arith)
+
+  module _ (v : Value) (rest : List Value) (split : left ≡ v ∷ rest) where
+    abbrev later : Result (List Command) read.ReadRefusal
+    later = commands_read (map data_of rest)
+
+    here : in_front done (commands_read (data_of v ∷ map data_of rest)) ≡ all
+    here = ap (λ vs. in_front done (commands_read (map data_of vs))) (sym split) ∙ so_far
+
+    -- the first refusal counts
+    pub refused_here : (why : ReadRefusal) → Refuses why (command_read (data_of v)) → Refuses why all
+    refused_here why h =
+        subst (Refuses why) here
+        (refused_on why (commands_read (data_of v ∷ map data_of rest)) (λ more. Ok (map command_view done ++ more))
+        (refused_on why (command_read (data_of v)) (λ c. then_read later (λ cs. Ok (c ∷ cs))) h))
+
+    pub one_more : (c : program.Command) (new : List program.Command) → command_read (data_of v) ≡ Ok (command_view c) → new ≡ done ++ c ∷ [] → in_front new later ≡ all
+    one_more c new h is =
+        ap (λ cs. in_front cs later) is ∙ by later
+        ∙ ap (λ r. in_front done (then_read r (λ x. then_read later (λ cs. Ok (x ∷ cs))))) (sym h) ∙ here
+      where
+        by : (r : Result (List Command) read.ReadRefusal) → in_front (done ++ c ∷ []) r ≡ in_front done (then_read r (λ cs. Ok (command_view c ∷ cs)))
+        by (Ok cs) = ap (λ front. Ok (front ++ cs)) (map-append command_view done (c ∷ [])) ∙ ap Ok (append_assoc (map command_view done) (command_view c ∷ []) cs)
+        by (Err refusal) = refl
+
+pub ruleset lists = (none_read, none_left, one_fewer, refused_here, one_more)

@@ -1,5 +1,5 @@
 //! Ids and bodies.
-ghost use Rattle.std.specs.Prelude.{Some};
+ghost use Rattle.std.specs.Prelude.{option_map};
 ghost use Rattle.spec_data.specs.Json.{reading};
 ghost use Rattle.spec_server.specs.Script.{delete_read, id_read, json_read, name_read, object_read, put_read};
 ghost use Rattle.doc_txn.specs.CommandView.{expect_view};
@@ -57,13 +57,13 @@ pub fn bad_member(alloc: Global, name: &str) -> ReadRefusal
     }
 }
 
-/// The body that has to be an object.
+/// This value, which has to be an object. A refusal has this name.
 #[tactic(auto, using(crate::proofs::Readings::members))]
-fn object_of(alloc: Global, name: &str, value: Value) -> Result<Value, ReadRefusal>
-    ensures { Reads (λ object. data_of object) result (object_read name.now (Some (data_of value))) }
+pub fn object_of(alloc: Global, name: &str, value: Option<Value>) -> Result<Value, ReadRefusal>
+    ensures { Reads (λ object. data_of object) result (object_read name.now (option_map (λ v. data_of v) value)) }
 {
     match value {
-        Value::Map(members) => Ok(Value::Map(members)),
+        Some(Value::Map(members)) => Ok(Value::Map(members)),
         _ => Err(bad_member(alloc, name)),
     }
 }
@@ -81,7 +81,7 @@ pub fn put_of(alloc: Global, id: &str, expected: Expect, body: &str) -> Result<R
         Ok(id) => id,
         Err(refusal) => return Err(refusal),
     };
-    match object_of(alloc, "body", value) {
+    match object_of(alloc, "body", Some(value)) {
         Ok(body) => Ok(Request::Put { id, expected, body }),
         Err(refusal) => Err(refusal),
     }

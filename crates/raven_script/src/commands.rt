@@ -1,6 +1,6 @@
 //! The commands of a transaction, in JSON.
 ghost use Rattle.std.specs.Prelude.{◌≡◌, IfOk, Some, codes, map, option_map};
-ghost use Rattle.spec_data.specs.Data.{entries_of, items_of};
+ghost use Rattle.spec_data.specs.Data.{array, entries_of, items_of};
 ghost use Rattle.spec_data.specs.Json.{reading};
 ghost use Rattle.spec_data.specs.Members.{member};
 ghost use Rattle.spec_server.specs.Script.{bulk_read, command_read, commands_of as spec_commands_of, commands_read as spec_commands_read, delete_command as spec_delete_command, id_member as spec_id_member, list_member, object_read, put_command as spec_put_command, typed_command as spec_typed_command, vector_member as spec_vector_member};
@@ -8,11 +8,11 @@ ghost use Rattle.raven_value.specs.View.{data_of};
 ghost use Rattle.doc_txn.specs.CommandView.{command_view, expect_view};
 ghost use Rattle.raven_script.specs.RequestView.{Reads, request_view};
 
-use crate::body::{bad_member, id_of, json_of};
+use crate::body::{bad_member, id_of, json_of, object_of};
 use crate::request::{ReadRefusal, Request};
 use doc_txn::{Command, Commands, Expect};
 use raven_base::NoMemory;
-use raven_value::{Id, Members, Value};
+use raven_value::{Id, Members, Text, Value, Values};
 use std::alloc::Global;
 
 #[tactic(auto, using(crate::proofs::Readings::members))]
@@ -36,28 +36,25 @@ fn vector_member(alloc: Global, value: Option<&Value>) -> Result<Expect, ReadRef
     }
 }
 
-fn copy(value: &Value) -> Result<Value, NoMemory>
-    ensures { IfOk result (λ copy. copy ≡ value.now) }
+// The value of the member of this name, which is moved out of the object.
+fn taken(alloc: Global, members: Members, name: &str) -> Result<Option<Value>, NoMemory>
+    ensures { IfOk result (λ value. option_map (λ v. data_of v) value ≡ member name.now (entries_of members)) }
 {
-    Ok(value.clone()?)
+    let mut left = members;
+    let name = Text::of(alloc, name)?;
+    Ok(left.remove(&name))
 }
 
-#[tactic(auto, using(crate::proofs::Readings::members))]
-fn document_member(alloc: Global, value: Option<&Value>) -> Result<Value, ReadRefusal>
-    ensures { Reads (λ document. data_of document) result (object_read (codes "Document") (option_map (λ v. data_of v.now) value.entry)) }
+fn document_member(alloc: Global, members: Members) -> Result<Value, ReadRefusal>
+    ensures { Reads (λ document. data_of document) result (object_read (codes "Document") (member (codes "Document") (entries_of members))) }
 {
-    let Some(value) = value else {
-        return Err(bad_member(alloc, "Document"));
-    };
-    match value {
-        Value::Map(_) => Ok(copy(value)?),
-        _ => Err(bad_member(alloc, "Document")),
-    }
+    object_of(alloc, "Document", taken(alloc, members, "Document")?)
 }
 
+// A put, into which the document is moved.
 #[tactic(auto, using(crate::proofs::Readings::readings))]
-fn put_command(alloc: Global, members: &Members) -> Result<Command, ReadRefusal>
-    ensures { Reads command_view result (spec_put_command (entries_of members.now)) }
+fn put_command(alloc: Global, members: Members) -> Result<Command, ReadRefusal>
+    ensures { Reads command_view result (spec_put_command (entries_of members)) }
 {
     let id = match id_member(alloc, members.get("Id")) {
         Ok(id) => id,
@@ -67,7 +64,7 @@ fn put_command(alloc: Global, members: &Members) -> Result<Command, ReadRefusal>
         Ok(expected) => expected,
         Err(refusal) => return Err(refusal),
     };
-    match document_member(alloc, members.get("Document")) {
+    match document_member(alloc, members) {
         Ok(body) => Ok(Command::Put { id, expected, body }),
         Err(refusal) => Err(refusal),
     }
@@ -88,19 +85,26 @@ fn delete_command(alloc: Global, members: &Members) -> Result<Command, ReadRefus
 }
 
 #[tactic(auto, using(crate::proofs::Readings::members))]
-fn typed_command(alloc: Global, members: &Members) -> Result<Command, ReadRefusal>
-    ensures { Reads command_view result (spec_typed_command (member (codes "Type") (entries_of members.now)) (entries_of members.now)) }
+fn typed_command(alloc: Global, members: Members) -> Result<Command, ReadRefusal>
+    ensures { Reads command_view result (spec_typed_command (member (codes "Type") (entries_of members)) (entries_of members)) }
 {
-    match members.get("Type") {
-        Some(Value::Text(text)) if text.as_str() == "PUT" => put_command(alloc, members),
-        Some(Value::Text(text)) if text.as_str() == "DELETE" => delete_command(alloc, members),
-        _ => Err(bad_member(alloc, "Type")),
+    let Some(Value::Text(text)) = members.get("Type") else {
+        return Err(bad_member(alloc, "Type"));
+    };
+    let is_put = text.as_str() == "PUT";
+    let is_delete = text.as_str() == "DELETE";
+    if is_put {
+        put_command(alloc, members)
+    } else if is_delete {
+        delete_command(alloc, &members)
+    } else {
+        Err(bad_member(alloc, "Type"))
     }
 }
 
 #[tactic(auto, using(crate::proofs::Readings::members))]
-fn command_of(alloc: Global, value: &Value) -> Result<Command, ReadRefusal>
-    ensures { Reads command_view result (command_read (data_of value.now)) }
+fn command_of(alloc: Global, value: Value) -> Result<Command, ReadRefusal>
+    ensures { Reads command_view result (command_read (data_of value)) }
 {
     match value {
         Value::Map(members) => typed_command(alloc, members),
@@ -109,8 +113,8 @@ fn command_of(alloc: Global, value: &Value) -> Result<Command, ReadRefusal>
 }
 
 #[tactic(auto, using(crate::proofs::Readings::lists))]
-fn commands_read(alloc: Global, values: &[Value]) -> Result<Vec<Command>, ReadRefusal>
-    ensures { Reads (λ commands. map command_view commands.items) result (spec_commands_read (map data_of values.now)) }
+fn commands_read(alloc: Global, values: Vec<Value>) -> Result<Vec<Command>, ReadRefusal>
+    ensures { Reads (λ commands. map command_view commands.items) result (spec_commands_read (map data_of values.items)) }
 {
     let mut commands = Vec::new(alloc);
     for value in values {
@@ -126,35 +130,32 @@ fn commands_read(alloc: Global, values: &[Value]) -> Result<Vec<Command>, ReadRe
 }
 
 #[tactic(auto, using(crate::proofs::Readings::members))]
-fn listed(alloc: Global, value: &Value) -> Result<Commands, ReadRefusal>
-    ensures { Reads (λ commands. map command_view commands) result (list_member (Some (data_of value.now))) }
+fn listed(alloc: Global, values: Values) -> Result<Commands, ReadRefusal>
+    ensures { Reads (λ commands. map command_view commands) result (list_member (Some (array (items_of values)))) }
 {
-    let Value::List(values) = value else {
-        return Err(bad_member(alloc, "Commands"));
-    };
-    match commands_read(alloc, values.as_slice()) {
+    match commands_read(alloc, values.into_vec()) {
         Ok(commands) => Ok(Commands::of(commands)),
         Err(refusal) => Err(refusal),
     }
 }
 
 #[tactic(auto, using(crate::proofs::Readings::members))]
-fn commands_in(alloc: Global, value: Option<&Value>) -> Result<Commands, ReadRefusal>
-    ensures { Reads (λ commands. map command_view commands) result (list_member (option_map (λ v. data_of v.now) value.entry)) }
+fn commands_in(alloc: Global, value: Option<Value>) -> Result<Commands, ReadRefusal>
+    ensures { Reads (λ commands. map command_view commands) result (list_member (option_map (λ v. data_of v) value)) }
 {
     match value {
-        Some(value) => listed(alloc, value),
-        None => Err(bad_member(alloc, "Commands")),
+        Some(Value::List(values)) => listed(alloc, values),
+        _ => Err(bad_member(alloc, "Commands")),
     }
 }
 
-/// The commands of a body that has them in its member `Commands`.
+/// The commands of a body that has them in its member `Commands`. Their documents are moved out of the body.
 #[tactic(auto, using(crate::proofs::Readings::members))]
-pub fn commands_of(alloc: Global, value: &Value) -> Result<Commands, ReadRefusal>
-    ensures { Reads (λ commands. map command_view commands) result (spec_commands_of (data_of value.now)) }
+pub fn commands_of(alloc: Global, value: Value) -> Result<Commands, ReadRefusal>
+    ensures { Reads (λ commands. map command_view commands) result (spec_commands_of (data_of value)) }
 {
     match value {
-        Value::Map(members) => commands_in(alloc, members.get("Commands")),
+        Value::Map(members) => commands_in(alloc, taken(alloc, members, "Commands")?),
         _ => Err(bad_member(alloc, "body")),
     }
 }
@@ -168,7 +169,7 @@ pub fn bulk_of(alloc: Global, text: &str) -> Result<Request, ReadRefusal>
         Ok(value) => value,
         Err(refusal) => return Err(refusal),
     };
-    match commands_of(alloc, &value) {
+    match commands_of(alloc, value) {
         Ok(commands) => Ok(Request::Bulk { commands }),
         Err(refusal) => Err(refusal),
     }

@@ -1,9 +1,14 @@
 //! Stores.
+ghost use Rattle.std.specs.Prelude.{◌≡◌, ◌≤◌};
+
 use doc_store::Store;
 use doc_txn::{BaseId, Command, Commands, Expect, Limits, TxnFault, TxnKind, Writer, commit};
+use raven_base::{NoMemory, Steps};
 use raven_json::read;
 use raven_value::{Body, Id, Row, Rows, Scope, Text};
 use std::alloc::Global;
+use std::marker::Brand;
+use std::sync::ledger::{Blank, Ledger};
 use std::test::Fail;
 
 fn row(alloc: Global, etag: u64, id: &str, collection: &str) -> Result<Row, Fail> {
@@ -64,6 +69,23 @@ fn the_newest_row_of_a_collection_is_up_to_an_etag(rt: HostRuntime) -> Result<()
     Ok(())
 }
 
+// The first rows in scope past an etag, and whether more remain. How many were read is not looked at.
+fn first_rows<L: Ledger>(
+    alloc: Global,
+    store: &Store,
+    etag: u64,
+    scope: &Scope,
+    max: u32,
+    blank: Blank,
+) -> Result<(Rows, bool), NoMemory>
+    requires name { blank.name ≡ L.name }
+    requires parts { blank.parts ≡ L.parts }
+    requires enough { 3 ≤ blank.parts }
+{
+    let mut steps = Steps::<L>::new(blank);
+    store.rows_after(alloc, etag, scope, max, &mut steps)
+}
+
 // The etags of the first rows of some collections past an etag, and whether more remain.
 fn etags_after(
     alloc: Global,
@@ -75,7 +97,8 @@ fn etags_after(
     for collection in collections {
         scope.push(Text::of(alloc, collection)?)?;
     }
-    let (rows, more) = store(alloc)?.rows_after(alloc, etag, &scope, max)?;
+    let store = store(alloc)?;
+    let (rows, more) = first_rows::<Brand>(alloc, &store, etag, &scope, max, Blank::new(3))?;
     let mut etags = Vec::new(alloc);
     for row in rows.as_slice() {
         etags.push(row.etag)?;
@@ -120,7 +143,7 @@ fn fault_of(alloc: Global, ids: &[&str]) -> Result<Option<TxnFault>, Fail> {
     let commands = puts(alloc, ids)?;
     let base = BaseId::program(alloc)?;
     let store = Store::empty(alloc)?;
-    Ok(commit(alloc, &store, &commands, Writer::Client, &base, &limits, 0).err())
+    Ok(commit(alloc, &store, commands, Writer::Client, &base, &limits, 0).err())
 }
 
 #[test]

@@ -1,13 +1,16 @@
 -- Walks over the slots of which batches are made.
-use Rattle.std.proofs.Common.{◌≡◌, ◌<◌, ◌≤◌, ◌+◌, ℕ, List, [], ◌∷◌, ◌++◌, length, drop, map, Bool, true, false, cond, filter, get_or, Option, Some, None, refl, sym, ap, ◌∙◌, subst, arith, append_assoc, length-append}
+use Rattle.std.proofs.Common.{◌≡◌, ◌<◌, ◌≤◌, ◌+◌, ◌*◌, ℕ, List, [], ◌∷◌, ◌++◌, length, drop, map, Bool, true, false, cond, filter, get_or, Option, Some, None, refl, sym, ap, ◌∙◌, subst, arith, append_assoc, length-append}
 use Rattle.std.specs.Prelude.{option_map}
 use Rattle.std.specs.Option.{option_or}
 use Rattle.std.proofs.lemmas.List.{drop_all, drop_more}
+use Rattle.std.proofs.lemmas.List.Sums.{sum_by-cons}
+use Rattle.raven_base.specs.Counts.{Counts}
+use Rattle.spec_store.specs.Stale.{batch_rows, stale}
 use Rattle.spec_store.specs.Store.{Store}
-use Rattle.spec_index.specs.World.{Slot, World, is_named, serving}
+use Rattle.spec_index.specs.World.{Slot, Version, World, is_named, reads, serving}
 use Rattle.spec_server.specs.Machine.{after_batch_if_named, pump_at, pumping}
 use Rattle.spec_server.specs.Replies.{Pumping}
-use Rattle.raven_world.specs.Batches.{pumped_one, touched_by, touched_by_all}
+use Rattle.raven_world.specs.Batches.{pumped_one, read_by, read_by_all, touched_by, touched_by_all}
 
 -- THE ELEMENTS THAT ARE LEFT
 
@@ -76,4 +79,35 @@ named_left S max name slots i s within at =
 pub touched_same : (S T : Store) (max : ℕ) (xs ys : List Slot) (before after : ℕ) → S ≡ T → xs ≡ ys → after ≤ before + length (touched_by_all S max xs) → after ≤ before + length (touched_by_all T max ys)
 touched_same S T max xs ys before after same_store same_slots most =
     let same : length (touched_by_all S max xs) ≡ length (touched_by_all T max ys) = λ i. length (touched_by_all (same_store i) max (same_slots i)) in
+    subst (λ n. after ≤ before + n) same most
+
+-- HOW MANY ROWS ARE LEFT TO READ
+
+-- one that is not stale reads nothing
+pub read_if_stale : (S : Store) (max : ℕ) (v : Version) (before after : Counts) → after.reads ≤ before.reads + (length (batch_rows (reads v) v.etag S max) + 1) * length (reads v)
+    → (stale S (reads v) v.etag None ≡ false → after ≡ before)
+    → after.reads ≤ before.reads + cond (stale S (reads v) v.etag None) ((length (batch_rows (reads v) v.etag S max) + 1) * length (reads v)) 0
+read_if_stale S max v before after most idle =
+    elim (stale S (reads v) v.etag None) as (λ b. stale S (reads v) v.etag None ≡ b → after.reads ≤ before.reads + cond b ((length (batch_rows (reads v) v.etag S max) + 1) * length (reads v)) 0) [
+      | true ↦ λ e. most
+      | false ↦ λ e. let same = ap (λ (n : Counts). n.reads) (idle e) in omega (arith, same)
+    ] refl
+
+pub read_left : (S : Store) (max : ℕ) (slots : List Slot) (i : ℕ) (s : Slot) → i < length slots → s ≡ get_or slots i s
+    → read_by_all S max (drop i slots) ≡ read_by S max s + read_by_all S max (drop (i + 1) slots)
+read_left S max slots i s within at = ap (read_by_all S max) (left_is slots i s within at) ∙ sum_by-cons (read_by S max) s (drop (i + 1) slots)
+
+pub named_read_left : (S : Store) (max : ℕ) (name : List ℕ) (slots : List Slot) (i : ℕ) (s : Slot) → i < length slots → s ≡ get_or slots i s
+    → read_by_all S max (filter (is_named name) (drop i slots)) ≡ cond (is_named name s) (read_by S max s) 0 + read_by_all S max (filter (is_named name) (drop (i + 1) slots))
+named_read_left S max name slots i s within at =
+    ap (λ xs. read_by_all S max (filter (is_named name) xs)) (left_is slots i s within at)
+    ∙ by_name (filter (is_named name) (drop (i + 1) slots)) (is_named name s)
+  where
+    by_name : (more : List Slot) (b : Bool) → read_by_all S max (cond b (s ∷ more) more) ≡ cond b (read_by S max s) 0 + read_by_all S max more
+    by_name more true = sum_by-cons (read_by S max) s more
+    by_name more false = omega arith
+
+pub read_same : (S T : Store) (max : ℕ) (xs ys : List Slot) (before after : ℕ) → S ≡ T → xs ≡ ys → after ≤ before + read_by_all S max xs → after ≤ before + read_by_all T max ys
+read_same S T max xs ys before after same_store same_slots most =
+    let same : read_by_all S max xs ≡ read_by_all T max ys = λ i. read_by_all (same_store i) max (same_slots i) in
     subst (λ n. after ≤ before + n) same most

@@ -1,5 +1,5 @@
 -- The changes that a world makes.
-use Rattle.std.proofs.Common.{◌≡◌, ◌<◌, ◌+◌, ◌^◌, ℕ, List, [], ◌∷◌, length, Bool, true, false, cond, nat_le, Option, Some, None, is_some, Ok, Err, refl, sym, ap, ◌∙◌, arith}
+use Rattle.std.proofs.Common.{◌≡◌, ◌<◌, ◌+◌, ◌^◌, ℕ, List, [], ◌∷◌, length, Bool, true, false, cond, nat_le, map, Option, Some, None, is_some, Ok, Err, refl, sym, ap, ◌∙◌, arith}
 use Rattle.std.proofs.lemmas.Grind.{common_steps}
 use Rattle.std.specs.Prelude.{filter, not, nat_lt}
 use Rattle.spec_store.specs.Store.{Store, last}
@@ -10,7 +10,7 @@ use Rattle.spec_server.specs.Replies as replies
 use Rattle.index_tree.specs.Definitions.{Definition, same_definition}
 use Rattle.spec_index.specs.Optimiser.{Make, pick, name_of}
 use Rattle.spec_index.specs.World.{World, Slot, NameServes, NameTooLong, ReservedName, TooManyIndexes, added, added_if_room, define_at, index_id, is_named, is_reserved_name, removed, serving, unless_refused}
-use Rattle.spec_server.specs.Machine.{Course, Define, Remove, Auto as AutoOne, in_world, one_change, only_reply, one_field, refused_at, change_of_slots, results_of, rewrote, single_reply, use_or_make, wrote, write, course_of}
+use Rattle.spec_server.specs.Machine.{Course, Define, Remove, Auto as AutoOne, in_world, one_change, only_reply, one_field, refused_at, change_of_slots, result_of, results_of, rewrote, single_reply, use_or_make, wrote, write, course_of}
 use Rattle.raven_world.specs.Transacts.{bare}
 
 -- WRITES
@@ -28,21 +28,34 @@ write-done W reply now commands w told etags is taken tells =
     change_with : Reply → Course
     change_with r = one_change r w.rows (in_world W w.store W.slots)
 
-pub ruleset writes = (write-refused, write-done)
+-- what a command did is told by its head alone
+bare-result : (base : List ℕ) (N : Store) (c : Command) (etag : Option ℕ) → result_of base N (bare c) etag ≡ result_of base N c etag
+bare-result base N (Put id expected body) None = refl
+bare-result base N (Put id expected body) (Some etag) = refl
+bare-result base N (Delete id expected) etag = refl
 
-bare-results : (base : List ℕ) (N : Store) (c : Command) (etags : List (Option ℕ)) → results_of base N (bare c ∷ []) etags ≡ results_of base N (c ∷ []) etags
-bare-results base N (Put id expected body) [] = refl
-bare-results base N (Put id expected body) (None ∷ etags) = refl
-bare-results base N (Put id expected body) (Some etag ∷ etags) = refl
-bare-results base N (Delete id expected) [] = refl
-bare-results base N (Delete id expected) (etag ∷ etags) = refl
+bare-results : (base : List ℕ) (N : Store) (cs : List Command) (etags : List (Option ℕ)) → results_of base N (map bare cs) etags ≡ results_of base N cs etags
+bare-results base N [] etags = refl
+bare-results base N (c ∷ cs) [] = refl
+bare-results base N (c ∷ cs) (etag ∷ etags) = λ i. (bare-result base N c etag) i ∷ (bare-results base N cs etags) i
+
+pub write-all : (W : World) (now : ℕ) (commands heads : List Command) (w : Written) (etags : List (Option ℕ)) (course : Course) → commit W.setting Client now commands W.store ≡ Ok w
+    → etags ≡ etags_taken now commands W.store → heads ≡ map bare commands
+    → course ≡ one_change (replies.Bulk (results_of W.setting.base w.store heads etags)) w.rows (in_world W w.store W.slots) → course ≡ write W replies.Bulk now commands
+write-all W now commands heads w etags course is taken bares tells =
+    let base = W.setting.base in
+    tells
+    ∙ write-done W replies.Bulk now commands w (replies.Bulk (results_of base w.store heads etags)) etags is taken
+    (ap (λ hs. replies.Bulk (results_of base w.store hs etags)) bares ∙ ap replies.Bulk (bare-results base w.store commands etags))
+
+pub ruleset writes_all = (write-refused, write-all)
 
 pub write-one : (W : World) (now : ℕ) (c head : Command) (w : Written) (told : Reply) (etags : List (Option ℕ)) → commit W.setting Client now (c ∷ []) W.store ≡ Ok w
     → etags ≡ etags_taken now (c ∷ []) W.store → head ≡ bare c → told ≡ single_reply (results_of W.setting.base w.store (head ∷ []) etags)
     → one_change told w.rows (in_world W w.store W.slots) ≡ write W single_reply now (c ∷ [])
 write-one W now c head w told etags is taken bares tells =
     write-done W single_reply now (c ∷ []) w told etags is taken
-    (tells ∙ ap (λ h. single_reply (results_of W.setting.base w.store (h ∷ []) etags)) bares ∙ ap single_reply (bare-results W.setting.base w.store c etags))
+    (tells ∙ ap (λ h. single_reply (results_of W.setting.base w.store (h ∷ []) etags)) bares ∙ ap single_reply (bare-results W.setting.base w.store (c ∷ []) etags))
 
 pub ruleset writes_one = (write-refused, write-one)
 

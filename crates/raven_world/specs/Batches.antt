@@ -1,6 +1,7 @@
--- Which documents batches touch, and what a request for one batch leaves.
-use Rattle.std.specs.Prelude.{ℕ, List, [], ◌∷◌, Option, Some, None, flat_map}
-use Rattle.spec_store.specs.Stale.{batch_rows}
+-- Which documents batches touch, how many rows they read, and what a request for one batch leaves.
+use Rattle.std.specs.Prelude.{ℕ, ◌+◌, ◌*◌, List, [], ◌∷◌, Option, Some, None, flat_map, if◌then◌else◌, length}
+use Rattle.std.specs.List.{sum_by}
+use Rattle.spec_store.specs.Stale.{batch_rows, stale}
 use Rattle.spec_store.specs.Store.{Store}
 use Rattle.spec_index.specs.World.{Slot, World, reads}
 use Rattle.spec_server.specs.Machine.{Course, in_world, one_change, only_reply}
@@ -14,6 +15,15 @@ touched_by S max s = touched_documents s.version (batch_rows (reads s.version) s
 -- those that the next batches of several indexes touch, one index after another: a document is there once for each index that touches it
 abbrev pub touched_by_all : Store → ℕ → List Slot → List (List ℕ)
 touched_by_all S max slots = flat_map (touched_by S max) slots
+
+-- how many rows the next batch of an index reads at most: for each that it takes, and once more, one of each collection that the index reads; none if it is not stale
+abbrev pub read_by : Store → ℕ → Slot → ℕ
+read_by S max s =
+    if stale S (reads s.version) s.version.etag None then (length (batch_rows (reads s.version) s.version.etag S max) + 1) * length (reads s.version) else 0
+
+-- how many the next batches of several indexes read at most, one index after another
+abbrev pub read_by_all : Store → ℕ → List Slot → ℕ
+read_by_all S max slots = sum_by (read_by S max) slots
 
 -- a request for a batch of the index of a name: these are the slots after it, and this is what it did; nothing if no index serves the name
 abbrev pub pumped_one : World → List ℕ → List Slot → Option Pumping → Course

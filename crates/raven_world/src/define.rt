@@ -96,12 +96,12 @@ impl World {
     fn rewrite(
         &self,
         alloc: Global,
-        commands: &Commands,
+        commands: Commands,
         slots: Vec<Slot>,
         reply: Reply,
         now: u64,
     ) -> Result<Change, WorldFault>
-        ensures { IfSome (answer_view result) (λ course. course ≡ rewrote self.now (reply_view reply) slots.items (spec_commit self.now.setting Server now (map command_view commands.now) self.now.store)) }
+        ensures { IfSome (answer_view result) (λ course. course ≡ rewrote self.now (reply_view reply) slots.items (spec_commit self.now.setting Server now (map command_view commands) self.now.store)) }
     {
         match commit(
             alloc,
@@ -144,7 +144,7 @@ impl World {
         let commands = putting(alloc, &definition)?;
         let reply = index_reply(&definition.name)?;
         let slots = self.with_new(alloc, definition)?;
-        self.rewrite(alloc, &commands, slots, reply, now)
+        self.rewrite(alloc, commands, slots, reply, now)
     }
 
     /// Defines an index by name. If the name serves with the same definition, nothing changes. The definition is by the text of a map: that of
@@ -200,6 +200,6 @@ impl World {
         let commands = deleting(alloc, &slot.name)?;
         let slots = others(alloc, self.live(), name)?;
         let reply = removed_reply(&slot.name)?;
-        self.rewrite(alloc, &commands, slots, reply, now)
+        self.rewrite(alloc, commands, slots, reply, now)
     }
 }

@@ -3,7 +3,7 @@ ghost use Rattle.std.specs.Prelude.{◌≡◌, ◌+◌, ◌≤◌, [], None, Som
 ghost use Rattle.spec_server.specs.Machine.{after_batch as spec_after_batch, after_batch_if_named as spec_after_batch_if_named, in_world, one_change, pump, pump_at, pumping};
 ghost use Rattle.spec_server.specs.Replies.{Pumped as PumpedAll};
 ghost use Rattle.spec_index.specs.World.{batch, is_named as spec_is_named, serving as spec_serving};
-ghost use Rattle.raven_world.specs.Batches.{pumped_one, touched_by, touched_by_all};
+ghost use Rattle.raven_world.specs.Batches.{pumped_one, read_by, read_by_all, touched_by, touched_by_all};
 ghost use Rattle.raven_world.specs.WorldView.{change_view, answer_view};
 
 use crate::answer::no_index;
@@ -30,7 +30,7 @@ fn next_batch<L: Ledger>(
     ensures version { IfOk result (λ next. option_map (λ index. index.version) next ≡ batch slot.now.version store.now max) }
     ensures maps { steps.new.maps ≤ steps.old.maps + length (touched_by store.now max slot.now) }
     ensures merges { steps.new.merges ≡ steps.old.merges }
-    ensures reads { steps.new.reads ≡ steps.old.reads }
+    ensures reads { steps.new.reads ≤ steps.old.reads + read_by store.now max slot.now }
 {
     let version = &slot.version;
     let mapper = DefinitionMapper {
@@ -60,7 +60,7 @@ fn after_batch<L: Ledger>(
     ensures slot { IfOk result (λ new. new ≡ spec_after_batch store.now max slot.now) }
     ensures maps { steps.new.maps ≤ steps.old.maps + length (touched_by store.now max slot.now) }
     ensures merges { steps.new.merges ≡ steps.old.merges }
-    ensures reads { steps.new.reads ≡ steps.old.reads }
+    ensures reads { steps.new.reads ≤ steps.old.reads + read_by store.now max slot.now }
 {
     let Some(version) = next_batch(alloc, store, max, slot, steps)? else {
         return Ok(slot.clone()?);
@@ -91,7 +91,7 @@ fn brought_on<L: Ledger>(
     ensures pumped { IfOk result (λ new. new.1 ≡ pumping store.now max slot.now) }
     ensures maps { steps.new.maps ≤ steps.old.maps + length (touched_by store.now max slot.now) }
     ensures merges { steps.new.merges ≡ steps.old.merges }
-    ensures reads { steps.new.reads ≡ steps.old.reads }
+    ensures reads { steps.new.reads ≤ steps.old.reads + read_by store.now max slot.now }
 {
     let brought = after_batch(alloc, store, max, slot, steps)?;
     let pumped = pumping_of(slot, &brought)?;
@@ -109,7 +109,7 @@ fn all_brought_on<L: Ledger>(
     ensures pumped { IfOk result (λ new. new.1 ≡ map (pumping store.now max) slots.now) }
     ensures maps { steps.new.maps ≤ steps.old.maps + length (touched_by_all store.now max slots.now) }
     ensures merges { steps.new.merges ≡ steps.old.merges }
-    ensures reads { steps.new.reads ≡ steps.old.reads }
+    ensures reads { steps.new.reads ≤ steps.old.reads + read_by_all store.now max slots.now }
 {
     let mut new = Vec::with_capacity(alloc, slots.len())?;
     let mut all = Pumpings::new(alloc);
@@ -134,7 +134,7 @@ fn brought_on_if<L: Ledger>(
     ensures pumped { IfOk result (λ new. new.1 ≡ cond (spec_is_named name.now slot.now) (Some (pumping store.now max slot.now)) None) }
     ensures maps { steps.new.maps ≤ steps.old.maps + cond (spec_is_named name.now slot.now) (length (touched_by store.now max slot.now)) 0 }
     ensures merges { steps.new.merges ≡ steps.old.merges }
-    ensures reads { steps.new.reads ≡ steps.old.reads }
+    ensures reads { steps.new.reads ≤ steps.old.reads + cond (spec_is_named name.now slot.now) (read_by store.now max slot.now) 0 }
 {
     if !is_named(slot, name.as_str()) {
         return Ok((slot.clone()?, None));
@@ -157,7 +157,7 @@ fn one_brought_on<L: Ledger>(
     ensures pumped { IfOk result (λ new. new.1 ≡ option_map (pumping store.now max) (spec_serving slots.now name.now)) }
     ensures maps { steps.new.maps ≤ steps.old.maps + length (touched_by_all store.now max (filter (spec_is_named name.now) slots.now)) }
     ensures merges { steps.new.merges ≡ steps.old.merges }
-    ensures reads { steps.new.reads ≡ steps.old.reads }
+    ensures reads { steps.new.reads ≤ steps.old.reads + read_by_all store.now max (filter (spec_is_named name.now) slots.now) }
 {
     let mut new = Vec::with_capacity(alloc, slots.len())?;
     let mut first: Option<Pumping> = None;
@@ -203,7 +203,8 @@ impl World {
         Ok(self.after_batches(alloc, slots, all)?)
     }
 
-    /// Each index catches up by one batch of at most `max` rows. A document that several of them map counts for each.
+    /// Each index catches up by one batch of at most `max` rows. A document that several of them map counts for each, and so does
+    /// a row that several of them read.
     pub fn pump<L: Ledger>(
         &self,
         alloc: Global,
@@ -213,7 +214,7 @@ impl World {
         ensures change { IfOk result (λ change. change_view change ≡ pump self.now max) }
         ensures maps { steps.new.maps ≤ steps.old.maps + length (touched_by_all self.now.store max self.now.slots) }
         ensures merges { steps.new.merges ≡ steps.old.merges }
-        ensures reads { steps.new.reads ≡ steps.old.reads }
+        ensures reads { steps.new.reads ≤ steps.old.reads + read_by_all self.now.store max self.now.slots }
     {
         let (slots, pumped) = all_brought_on(alloc, &self.store, max, self.live(), steps)?;
         self.after_batches(alloc, slots, pumped)
@@ -230,7 +231,7 @@ impl World {
         ensures course { IfSome (answer_view result) (λ course. course ≡ pump_at self.now max name.now (spec_serving self.now.slots name.now)) }
         ensures maps { steps.new.maps ≤ steps.old.maps + length (touched_by_all self.now.store max (filter (spec_is_named name.now) self.now.slots)) }
         ensures merges { steps.new.merges ≡ steps.old.merges }
-        ensures reads { steps.new.reads ≡ steps.old.reads }
+        ensures reads { steps.new.reads ≤ steps.old.reads + read_by_all self.now.store max (filter (spec_is_named name.now) self.now.slots) }
     {
         let (slots, pumped) = one_brought_on(alloc, &self.store, max, name, self.live(), steps)?;
         self.after_one(alloc, name, slots, pumped)

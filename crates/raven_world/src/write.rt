@@ -131,14 +131,25 @@ fn without_document(command: &Command) -> Result<Command, NoMemory>
     }
 }
 
+// The commands without their documents, for replies after these were moved away.
+fn without_documents(alloc: Global, commands: &Commands) -> Result<Commands, NoMemory>
+    ensures { IfOk result (λ heads. map command_view heads ≡ map bare (map command_view commands.now)) }
+{
+    let mut heads = Vec::with_capacity(alloc, commands.len())?;
+    for command in commands.as_slice() {
+        heads.push(without_document(command)?)?;
+    }
+    Ok(Commands::of(heads))
+}
+
 impl World {
     fn transact(
         &self,
         alloc: Global,
-        commands: &Commands,
+        commands: Commands,
         now: u64,
     ) -> Result<Transaction, WorldFault>
-        ensures { Transacts self.now now (map command_view commands.now) result }
+        ensures { Transacts self.now now (map command_view commands) result }
     {
         match transact(
             alloc,
@@ -218,6 +229,19 @@ impl World {
         })
     }
 
+    // What commands changed, with the reply to each.
+    fn replied(
+        &self,
+        alloc: Global,
+        commands: &Commands,
+        done: Transaction,
+    ) -> Result<Change, NoMemory>
+        ensures { IfOk result (λ change. change_view change ≡ one_change (Bulk (spec_results_of self.now.setting.base done.store (map command_view commands.now) done.etags)) done.rows (in_world self.now done.store self.now.slots)) }
+    {
+        let results = BulkResults::of(self.results(alloc, commands, &done)?);
+        self.changed(alloc, done, Reply::Bulk { results })
+    }
+
     /// Takes one command, and replies to it. A document that it puts is an object at most 100 deep; another would not open again.
     #[tactic(auto, using(crate::proofs::Steps::writes_one))]
     pub fn commit_one(
@@ -235,14 +259,14 @@ impl World {
         Ok(self.changed(alloc, done, reply)?)
     }
 
-    /// Takes commands in order, all of them or none, and replies to each. The documents are as for `commit_one`.
-    #[tactic(auto, using(crate::proofs::Steps::writes))]
-    pub fn commit(&self, alloc: Global, commands: &Commands, now: u64) -> Result<Change, WorldFault>
-        requires { put_bodies (map command_view commands.now) ≡ true }
-        ensures { IfSome (answer_view result) (λ course. course ≡ write self.now Bulk now (map command_view commands.now)) }
+    /// Takes commands in order, all of them or none, and replies to each. The documents are as for `commit_one`, and are moved into the store.
+    #[tactic(auto, using(crate::proofs::Steps::writes_all))]
+    pub fn commit(&self, alloc: Global, commands: Commands, now: u64) -> Result<Change, WorldFault>
+        requires { put_bodies (map command_view commands) ≡ true }
+        ensures { IfSome (answer_view result) (λ course. course ≡ write self.now Bulk now (map command_view commands)) }
     {
+        let heads = without_documents(alloc, &commands)?;
         let done = self.transact(alloc, commands, now)?;
-        let results = BulkResults::of(self.results(alloc, commands, &done)?);
-        Ok(self.changed(alloc, done, Reply::Bulk { results })?)
+        Ok(self.replied(alloc, &heads, done)?)
     }
 }

@@ -1,9 +1,10 @@
-use Rattle.std.proofs.Common.{◌+◌, ◌≤◌, cond, length, ◌∙◌, ap, subst, Some}
+use Rattle.std.proofs.Common.{◌+◌, ◌*◌, ◌≤◌, cond, length, ◌∙◌, ap, sym, subst, Some}
 use Rattle.spec_store.specs.Stale.{batch_rows}
 use Rattle.spec_data.specs.Tables.{note_rows}
 use Rattle.spec_store.specs.Store.{last, last_of}
+use Rattle.spec_index.specs.World.{reads}
 use Rattle.index_version.specs.Renewed.{touched_documents}
-use Rattle.index_batch.proofs.Batches.{batch-fresh, batch-none, batch-some, is_fresh}
+use Rattle.index_batch.proofs.Batches.{batch-fresh, batch-none, batch-some, is_behind, is_fresh, read_of}
 use Rattle.index_batch.proofs.batch.next.Goals as goal
 
 pub returns-then-newest-seen-clause-next : goal.returns-then-newest-seen-clause-next
@@ -34,4 +35,36 @@ returns-clause-maps g c =
     let v = c.args.index.now.version in
     subst (λ rows. c.after.new.steps.maps ≤ c.args.steps.now.maps + length (touched_documents v rows))
     (c.as_slice-2.ensures ∙ c.in_ok-taken.ensures.rows ∙ λ i. batch_rows (c.in_ok-scope.ensures i) (c.etag-seen.ensures i) c.args.store.now c.args.max)
-    c.in_ok-next.ensures.maps
+    (subst (λ n. c.after.new.steps.maps ≤ n + length (touched_documents v c.as_slice-2.result.now)) c.in_ok-taken.ensures.maps c.in_ok-next.ensures.maps)
+
+pub returns-in_err-taken-clause-reads : goal.returns-in_err-taken-clause-reads
+returns-in_err-taken-clause-reads g c =
+    read_of c.args.index.now.version c.args.store.now c.in_ok-scope.scope c.etag-seen.result c.args.max _ _ c.in_ok-scope.ensures c.etag-seen.ensures c.rows_after.ensures.reads
+
+pub returns-then-is_empty-clause-reads : goal.returns-then-is_empty-clause-reads
+returns-then-is_empty-clause-reads g c =
+    read_of c.args.index.now.version c.args.store.now c.in_ok-scope.scope c.etag-seen.result c.args.max _ _ c.in_ok-scope.ensures c.etag-seen.ensures c.in_ok-taken.ensures.reads
+
+pub returns-in_err-next-clause-reads : goal.returns-in_err-next-clause-reads
+returns-in_err-next-clause-reads g c =
+    let v = c.args.index.now.version in
+    subst (λ n. n ≤ c.args.steps.now.reads + (length (batch_rows (reads v) v.etag c.args.store.now c.args.max) + 1) * length (reads v)) (sym c.after.ensures.reads)
+    (read_of v c.args.store.now c.in_ok-scope.scope c.etag-seen.result c.args.max _ _ c.in_ok-scope.ensures c.etag-seen.ensures c.in_ok-taken.ensures.reads)
+
+pub returns-clause-reads : goal.returns-clause-reads
+returns-clause-reads g c =
+    let v = c.args.index.now.version in
+    subst (λ n. n ≤ c.args.steps.now.reads + (length (batch_rows (reads v) v.etag c.args.store.now c.args.max) + 1) * length (reads v)) (sym c.in_ok-next.ensures.reads)
+    (read_of v c.args.store.now c.in_ok-scope.scope c.etag-seen.result c.args.max _ _ c.in_ok-scope.ensures c.etag-seen.ensures c.in_ok-taken.ensures.reads)
+
+pub returns-in_err-taken-clause-idle : goal.returns-in_err-taken-clause-idle
+returns-in_err-taken-clause-idle g c = λ fresh. absurd (
+    let behind = is_behind c.args.index.now.version c.args.store.now c.in_ok-scope.scope c.etag-seen.result c.newest.result c.in_ok-scope.ensures c.etag-seen.ensures c.newest.ensures.stale c.if-newest-seen.false in
+    cc
+    )
+
+pub returns-then-is_empty-clause-idle : goal.returns-then-is_empty-clause-idle
+returns-then-is_empty-clause-idle g c = λ fresh. absurd (
+    let behind = is_behind c.args.index.now.version c.args.store.now c.in_ok-scope.scope c.etag-seen.result c.newest.result c.in_ok-scope.ensures c.etag-seen.ensures c.newest.ensures.stale c.if-newest-seen.false in
+    cc
+    )

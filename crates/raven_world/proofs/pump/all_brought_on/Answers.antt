@@ -1,6 +1,6 @@
 use Rattle.std.proofs.Common.{◌∙◌, arith}
 use Rattle.spec_server.specs.Machine.{after_batch, pumping}
-use Rattle.raven_world.proofs.Batches.{touched_left, walked_more}
+use Rattle.raven_world.proofs.Batches.{read_left, touched_left, walked_more}
 use Rattle.raven_world.proofs.pump.all_brought_on.Goals as goal
 
 pub loop-slot-preserved : goal.loop-slot-preserved
@@ -10,6 +10,7 @@ loop-slot-preserved g c =
     let i = c.loop-slot.slot-index in
     let within = c.loop-slot-test.true in
     let left = touched_left S c.args.max slots i _ within c.slot-item.is in
+    let left_to_read = read_left S c.args.max slots i _ within c.slot-item.is in
     let so_far = c.loop-slot.invariant.maps in
     let here = c.in_ok-brought.ensures.maps in
     record {
@@ -17,7 +18,7 @@ loop-slot-preserved g c =
       pumped = walked_more (pumping S c.args.max) slots i _ c.loop-slot.all _ c.in_ok-brought.pumped within c.slot-item.is c.in_ok-brought.ensures.pumped c.in_ok-push-2.ensures.ok c.loop-slot.invariant.pumped;
       maps = omega (arith, left, so_far, here);
       merges = c.in_ok-brought.ensures.merges ∙ c.loop-slot.invariant.merges;
-      reads = c.in_ok-brought.ensures.reads ∙ c.loop-slot.invariant.reads;
+      reads = let read_so_far = c.loop-slot.invariant.reads in let read_here = c.in_ok-brought.ensures.reads in omega (arith, left_to_read, read_so_far, read_here);
     }
 
 pub returns-in_err-brought-clause-maps : goal.returns-in_err-brought-clause-maps
@@ -34,3 +35,18 @@ pub returns-in_err-push-2-clause-maps : goal.returns-in_err-push-2-clause-maps
 returns-in_err-push-2-clause-maps g c =
     let left = touched_left c.args.store.now c.args.max c.args.slots.now c.loop-slot.slot-index _ c.loop-slot-test.true c.slot-item.is in
     omega (arith, left, c.loop-slot.invariant.maps, c.in_ok-brought.ensures.maps)
+
+pub returns-in_err-brought-clause-reads : goal.returns-in_err-brought-clause-reads
+returns-in_err-brought-clause-reads g c =
+    let left = read_left c.args.store.now c.args.max c.args.slots.now c.loop-slot.slot-index _ c.loop-slot-test.true c.slot-item.is in
+    omega (arith, left, c.loop-slot.invariant.reads, c.brought_on.ensures.reads)
+
+pub returns-in_err-push-clause-reads : goal.returns-in_err-push-clause-reads
+returns-in_err-push-clause-reads g c =
+    let left = read_left c.args.store.now c.args.max c.args.slots.now c.loop-slot.slot-index _ c.loop-slot-test.true c.slot-item.is in
+    omega (arith, left, c.loop-slot.invariant.reads, c.in_ok-brought.ensures.reads)
+
+pub returns-in_err-push-2-clause-reads : goal.returns-in_err-push-2-clause-reads
+returns-in_err-push-2-clause-reads g c =
+    let left = read_left c.args.store.now c.args.max c.args.slots.now c.loop-slot.slot-index _ c.loop-slot-test.true c.slot-item.is in
+    omega (arith, left, c.loop-slot.invariant.reads, c.in_ok-brought.ensures.reads)

@@ -1,6 +1,6 @@
 use Rattle.std.proofs.Common.{◌≡◌, ◌+◌, ◌≤◌, ◌++◌, drop, length, map}
 use Rattle.spec_server.specs.Machine.{after_batch, pumping}
-use Rattle.raven_world.specs.Batches.{touched_by_all}
+use Rattle.raven_world.specs.Batches.{read_by_all, touched_by_all}
 use Rattle.raven_world.proofs.pump.all_brought_on.Given as goal
 
 abbrev pub invariant-loop-slot : goal.invariant-loop-slot
@@ -9,5 +9,5 @@ invariant-loop-slot g l = record {
   pumped : l.all ++ map (pumping l.store l.max) (drop l.slot-index l.slots) ≡ map (pumping l.store l.max) l.slots;
   maps : l.steps.maps + length (touched_by_all l.store l.max (drop l.slot-index l.slots)) ≤ l.fn.steps.maps + length (touched_by_all l.store l.max l.slots);
   merges : l.steps.merges ≡ l.fn.steps.merges;
-  reads : l.steps.reads ≡ l.fn.steps.reads;
+  reads : l.steps.reads + read_by_all l.store l.max (drop l.slot-index l.slots) ≤ l.fn.steps.reads + read_by_all l.store l.max l.slots;
 }

@@ -1,5 +1,5 @@
-use Rattle.std.proofs.Common.{◌∙◌, ◌+◌, ◌≤◌, ap, length, subst, sym}
-use Rattle.spec_store.specs.Stale.{batch_rows}
+use Rattle.std.proofs.Common.{◌∙◌, ◌+◌, ◌*◌, ◌≤◌, None, ap, cond, length, subst, sym}
+use Rattle.spec_store.specs.Stale.{batch_rows, stale}
 use Rattle.spec_index.specs.World.{Slot, Version, reads}
 use Rattle.index_definition.specs.DefinitionView.{definition_view}
 use Rattle.index_definition.specs.declared.definition.Definition.{Definition}
@@ -7,6 +7,7 @@ use Rattle.index_version.specs.Meaning.{Means, found_meaning}
 use Rattle.index_version.specs.Named.{NamedVersion}
 use Rattle.index_version.specs.Renewed.{touched_documents}
 use Rattle.index_version.proofs.Meanings.{definition_means}
+use Rattle.raven_world.proofs.Batches.{read_if_stale}
 use Rattle.raven_world.proofs.pump.next_batch.Goals as goal
 
 pub next-requires : goal.next-requires
@@ -22,3 +23,9 @@ pub returns-clause-maps : goal.returns-clause-maps
 returns-clause-maps g c =
     let own = ap (λ (v : NamedVersion). v.version) c.deref-3.ensures ∙ ap (λ (s : Slot). s.version) c.slot.view_is in
     subst (λ (v : Version). c.next.new.steps.maps ≤ c.args.steps.now.maps + length (touched_documents v (batch_rows (reads v) v.etag c.args.store.now c.args.max))) own c.next.ensures.maps
+
+pub returns-clause-reads : goal.returns-clause-reads
+returns-clause-reads g c =
+    let own = ap (λ (v : NamedVersion). v.version) c.deref-3.ensures ∙ ap (λ (s : Slot). s.version) c.slot.view_is in
+    subst (λ (v : Version). c.next.new.steps.reads ≤ c.args.steps.now.reads + cond (stale c.args.store.now (reads v) v.etag None) ((length (batch_rows (reads v) v.etag c.args.store.now c.args.max) + 1) * length (reads v)) 0) own
+    (read_if_stale c.args.store.now c.args.max c.deref-3.result.now.version c.args.steps.now c.next.new.steps c.next.ensures.reads c.next.ensures.idle)

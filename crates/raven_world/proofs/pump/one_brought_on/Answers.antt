@@ -1,6 +1,6 @@
 use Rattle.std.proofs.Common.{◌∙◌, arith}
 use Rattle.spec_server.specs.Machine.{after_batch_if_named}
-use Rattle.raven_world.proofs.Batches.{first_all, first_more, named_left, walked_more}
+use Rattle.raven_world.proofs.Batches.{first_all, first_more, named_left, named_read_left, walked_more}
 use Rattle.raven_world.proofs.pump.one_brought_on.Goals as goal
 
 pub loop-slot-preserved : goal.loop-slot-preserved
@@ -11,6 +11,7 @@ loop-slot-preserved g c =
     let i = c.loop-slot.slot-index in
     let within = c.loop-slot-test.true in
     let left = named_left S c.args.max name slots i _ within c.slot-item.is in
+    let left_to_read = named_read_left S c.args.max name slots i _ within c.slot-item.is in
     let so_far = c.loop-slot.invariant.maps in
     let here = c.in_ok-brought.ensures.maps in
     record {
@@ -18,7 +19,7 @@ loop-slot-preserved g c =
       pumped = first_more S c.args.max name slots i _ c.loop-slot.first c.in_ok-brought.pumped _ within c.slot-item.is c.in_ok-brought.ensures.pumped c.or-first.ensures c.loop-slot.invariant.pumped;
       maps = omega (arith, left, so_far, here);
       merges = c.in_ok-brought.ensures.merges ∙ c.loop-slot.invariant.merges;
-      reads = c.in_ok-brought.ensures.reads ∙ c.loop-slot.invariant.reads;
+      reads = let read_so_far = c.loop-slot.invariant.reads in let read_here = c.in_ok-brought.ensures.reads in omega (arith, left_to_read, read_so_far, read_here);
     }
 
 pub returns-in_err-brought-clause-maps : goal.returns-in_err-brought-clause-maps
@@ -33,3 +34,13 @@ returns-in_err-push-clause-maps g c =
 
 pub returns-clause-pumped : goal.returns-clause-pumped
 returns-clause-pumped g c = first_all c.args.store.now c.args.max c.args.name.now c.args.slots.now c.loop-slot.slot-index c.loop-slot.first c.loop-slot-test.false c.loop-slot.invariant.pumped
+
+pub returns-in_err-brought-clause-reads : goal.returns-in_err-brought-clause-reads
+returns-in_err-brought-clause-reads g c =
+    let left = named_read_left c.args.store.now c.args.max c.args.name.now c.args.slots.now c.loop-slot.slot-index _ c.loop-slot-test.true c.slot-item.is in
+    omega (arith, left, c.loop-slot.invariant.reads, c.brought_on_if.ensures.reads)
+
+pub returns-in_err-push-clause-reads : goal.returns-in_err-push-clause-reads
+returns-in_err-push-clause-reads g c =
+    let left = named_read_left c.args.store.now c.args.max c.args.name.now c.args.slots.now c.loop-slot.slot-index _ c.loop-slot-test.true c.slot-item.is in
+    omega (arith, left, c.loop-slot.invariant.reads, c.in_ok-brought.ensures.reads)

@@ -3,7 +3,7 @@ use Rattle.std.specs.Prelude.{option_map}
 use Rattle.std.specs.Option.{option_or}
 use Rattle.spec_index.specs.World.{is_named, serving}
 use Rattle.spec_server.specs.Machine.{after_batch_if_named, pumping}
-use Rattle.raven_world.specs.Batches.{touched_by_all}
+use Rattle.raven_world.specs.Batches.{read_by_all, touched_by_all}
 use Rattle.raven_world.proofs.pump.one_brought_on.Given as goal
 
 -- the first of the name is among those so far, or among those that are left
@@ -13,5 +13,5 @@ invariant-loop-slot g l = record {
   pumped : option_or l.first (option_map (pumping l.store l.max) (serving (drop l.slot-index l.slots) l.name)) ≡ option_map (pumping l.store l.max) (serving l.slots l.name);
   maps : l.steps.maps + length (touched_by_all l.store l.max (filter (is_named l.name) (drop l.slot-index l.slots))) ≤ l.fn.steps.maps + length (touched_by_all l.store l.max (filter (is_named l.name) l.slots));
   merges : l.steps.merges ≡ l.fn.steps.merges;
-  reads : l.steps.reads ≡ l.fn.steps.reads;
+  reads : l.steps.reads + read_by_all l.store l.max (filter (is_named l.name) (drop l.slot-index l.slots)) ≤ l.fn.steps.reads + read_by_all l.store l.max (filter (is_named l.name) l.slots);
 }

@@ -2,8 +2,8 @@ use Rattle.std.proofs.Common.{length, ◌∙◌, ap, sym, arith}
 use Rattle.doc_store.proofs.OpeningLemmas.{opens_within, opens_on, first_bad_on}
 use Rattle.doc_store.proofs.store.Store.open.Goals as goal
 
-pub with_row-requires-clause-within : goal.with_row-requires-clause-within
-with_row-requires-clause-within c =
+pub put_copy-requires-clause-within : goal.put_copy-requires-clause-within
+put_copy-requires-clause-within c =
     opens_within c.loop-row.store c.as_slice-row-items.result.now c.loop-row.row-index c.row-item.result c.loop-row.invariant.so_far c.loop-row-test.true
     (let e = ap length c.as_slice-row-items.ensures in let f = c.requires.few in omega arith) (sym c.is_sound_after.ensures ∙ c.if-not-is_sound_after.false)
 

@@ -3,7 +3,7 @@ use Rattle.spec_server.specs.Machine.{after_batch, in_world, one_change, pump, p
 use Rattle.spec_server.specs.Replies.{Pumped}
 use Rattle.spec_index.specs.World.{World}
 use Rattle.raven_world.specs.WorldView.{change_view}
-use Rattle.raven_world.proofs.Batches.{touched_same}
+use Rattle.raven_world.proofs.Batches.{read_same, touched_same}
 use Rattle.raven_world.proofs.world.World.pump.Goals as goal
 
 pub returns-in_err-slots-clause-maps : goal.returns-in_err-slots-clause-maps
@@ -12,11 +12,23 @@ returns-in_err-slots-clause-maps g c =
     let own = c.live.ensures in
     touched_same c.self.inside.store c.args.self.now.store c.args.max c.live.result.now c.args.self.now.slots _ _ kept own c.all_brought_on.ensures.maps
 
+pub returns-in_err-slots-clause-reads : goal.returns-in_err-slots-clause-reads
+returns-in_err-slots-clause-reads g c =
+    let kept = ap (λ (V : World). V.store) c.self.view_is in
+    let own = c.live.ensures in
+    read_same c.self.inside.store c.args.self.now.store c.args.max c.live.result.now c.args.self.now.slots _ _ kept own c.all_brought_on.ensures.reads
+
 pub returns-clause-maps : goal.returns-clause-maps
 returns-clause-maps g c =
     let kept = ap (λ (V : World). V.store) c.self.view_is in
     let own = c.live.ensures in
     touched_same c.self.inside.store c.args.self.now.store c.args.max c.live.result.now c.args.self.now.slots _ _ kept own c.in_ok-slots.ensures.maps
+
+pub returns-clause-reads : goal.returns-clause-reads
+returns-clause-reads g c =
+    let kept = ap (λ (V : World). V.store) c.self.view_is in
+    let own = c.live.ensures in
+    read_same c.self.inside.store c.args.self.now.store c.args.max c.live.result.now c.args.self.now.slots _ _ kept own c.in_ok-slots.ensures.reads
 
 pub returns-clause-change : goal.returns-clause-change
 returns-clause-change g c =

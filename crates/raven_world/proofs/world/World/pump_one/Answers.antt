@@ -4,7 +4,7 @@ use Rattle.spec_server.specs.Machine.{after_batch_if_named, pump_at, pumping}
 use Rattle.spec_index.specs.World.{World, is_named, serving}
 use Rattle.raven_world.specs.Batches.{pumped_one}
 use Rattle.raven_world.specs.WorldView.{answer_view}
-use Rattle.raven_world.proofs.Batches.{pumped_at, touched_same}
+use Rattle.raven_world.proofs.Batches.{pumped_at, read_same, touched_same}
 use Rattle.raven_world.proofs.world.World.pump_one.Goals as goal
 
 pub returns-in_err-slots-clause-maps : goal.returns-in_err-slots-clause-maps
@@ -14,12 +14,26 @@ returns-in_err-slots-clause-maps g c =
     let own = c.live.ensures in
     touched_same c.self.inside.store c.args.self.now.store c.args.max (named c.live.result.now) (named c.args.self.now.slots) _ _ kept (ap named own) c.one_brought_on.ensures.maps
 
+pub returns-in_err-slots-clause-reads : goal.returns-in_err-slots-clause-reads
+returns-in_err-slots-clause-reads g c =
+    let named = filter (is_named c.args.name.now) in
+    let kept = ap (λ (V : World). V.store) c.self.view_is in
+    let own = c.live.ensures in
+    read_same c.self.inside.store c.args.self.now.store c.args.max (named c.live.result.now) (named c.args.self.now.slots) _ _ kept (ap named own) c.one_brought_on.ensures.reads
+
 pub returns-clause-maps : goal.returns-clause-maps
 returns-clause-maps g c =
     let named = filter (is_named c.args.name.now) in
     let kept = ap (λ (V : World). V.store) c.self.view_is in
     let own = c.live.ensures in
     touched_same c.self.inside.store c.args.self.now.store c.args.max (named c.live.result.now) (named c.args.self.now.slots) _ _ kept (ap named own) c.in_ok-slots.ensures.maps
+
+pub returns-clause-reads : goal.returns-clause-reads
+returns-clause-reads g c =
+    let named = filter (is_named c.args.name.now) in
+    let kept = ap (λ (V : World). V.store) c.self.view_is in
+    let own = c.live.ensures in
+    read_same c.self.inside.store c.args.self.now.store c.args.max (named c.live.result.now) (named c.args.self.now.slots) _ _ kept (ap named own) c.in_ok-slots.ensures.reads
 
 pub returns-clause-course : goal.returns-clause-course
 returns-clause-course g c =

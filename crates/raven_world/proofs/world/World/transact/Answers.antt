@@ -8,7 +8,7 @@ use Rattle.raven_world.proofs.world.World.transact.Goals as goal
 
 pub returns-in-Err-Refused : goal.returns-in-Err-Refused
 returns-in-Err-Refused c =
-    let commands = map command_view c.args.commands.now in
+    let commands = map command_view c.args.commands in
     record {
       refused = record { at = c.in-Err-Refused.at; kind = kind_view c.in-Err-Refused.kind };
       cause = subst (λ (W : World). commit W.setting Client c.args.now commands W.store ≡ Err (record { at = c.in-Err-Refused.at; kind = kind_view c.in-Err-Refused.kind })) c.self.view_is
