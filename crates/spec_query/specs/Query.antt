@@ -64,7 +64,7 @@ pub record Ask : Type 0 where
   pub waits : Bool
   pub looks : ℕ
 
-abbrev is_empty : {X : Type 0} → List X → Bool
+abbrev pub is_empty : {X : Type 0} → List X → Bool
 is_empty [] = true
 is_empty (x ∷ xs) = false
 

@@ -1,0 +1,9 @@
+pub mod Taking
+pub mod Heads
+pub mod Chains
+pub mod FieldKeeps
+pub mod FieldMeets
+pub mod ConditionKeeps
+pub mod ConditionMeets
+pub mod QueryKeeps
+pub mod QueryMeets

@@ -1,0 +1,10 @@
+use Rattle.std.proofs.Common.{rules, arith}
+use Rattle.std.proofs.lemmas.Grind.{common_steps}
+use Rattle.rql_parser.proofs.Rules.{field_is}
+use Rattle.rql_parser.proofs.fields.field.Goals as goal
+
+pub returns-in_err-count_field : goal.returns-in_err-count_field
+returns-in_err-count_field c = rw (field_is c.args.tokens.now.count c.args.tokens.now.rest.now) (first_of (search rules, grind (arith, common_steps)))
+
+pub returns : goal.returns
+returns c = rw (field_is c.args.tokens.now.count c.args.tokens.now.rest.now) (first_of (search rules, grind (arith, common_steps)))

@@ -1,0 +1,10 @@
+pub mod MarkLemmas
+pub mod RunLemmas
+pub mod NumberLemmas
+pub mod QuotedLemmas
+pub mod Longest
+pub mod TextLemmas
+pub mod PrefixLemmas
+pub mod TurnLemmas
+pub mod LawLemmas
+pub mod WordLemmas

@@ -1,0 +1,13 @@
+use Rattle.std.proofs.Common.{◌≡◌, ◌+◌, length}
+use Rattle.rql_tokens.specs.Spelling.{is_number_byte}
+use Rattle.index_tokens.specs.Passes.{run}
+use Rattle.rql_tokens.proofs.classes.number_len.Given as goal
+
+abbrev pub invariant-loop-byte : goal.invariant-loop-byte
+invariant-loop-byte l = record {
+  passed : l.len + run is_number_byte l.rest ≡ run is_number_byte l.bytes;
+  fits : l.len + length l.rest ≡ length l.bytes;
+}
+
+abbrev pub decreases-loop-byte : goal.decreases-loop-byte
+decreases-loop-byte l = length l.rest

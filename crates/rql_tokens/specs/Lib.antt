@@ -1,0 +1,5 @@
+pub mod KeyWords
+pub mod Spelling
+pub mod Tokens
+pub mod Passes
+pub mod Words

@@ -1,0 +1,55 @@
+//! The tokens and their places.
+use crate::key_words::KeyWord;
+use raven_value::Text;
+
+/// A token of a query.
+#[derive(Debug, Drop)]
+pub enum Token {
+    /// A name, which is no key word, as it is spelled.
+    Name(Text),
+    /// A key word, in upper case or lower case.
+    Key(KeyWord),
+    /// A number of 64 bits.
+    Number(i64),
+    /// A number outside 64 bits, or digits that a letter, `_` or a point follows at once.
+    BadNumber,
+    /// A text, by its value.
+    Quoted(Text),
+    /// `(`
+    Open,
+    /// `)`
+    Close,
+    /// `,`
+    Comma,
+    /// `.`
+    Point,
+    /// `$`
+    Dollar,
+    /// `=` or `==`
+    Equal,
+    /// `!=` or `<>`
+    NotEqual,
+    /// `<`
+    Below,
+    /// `<=`
+    AtMost,
+    /// `>`
+    Above,
+    /// `>=`
+    AtLeast,
+    /// What no rule takes: all that is left, if no token begins there.
+    Bad,
+    /// The end of the text, the last token of each.
+    End,
+}
+
+/// A token and its place.
+#[derive(Debug, Drop)]
+pub struct Placed {
+    /// The place of the token's first byte, counted from 0. The end is after the last byte.
+    pub at: usize,
+    /// The token.
+    pub token: Token,
+    /// Whether the next token is `(`. So a name that is a call is known by itself.
+    pub called: bool,
+}
