@@ -1,4 +1,3 @@
-pub mod FoldedMaps
 pub mod Ordered
 pub mod Keeping
 pub mod Untouched
@@ -7,3 +6,5 @@ pub mod TableLemmas
 pub mod Taking
 pub mod Meanings
 pub mod Walking
+pub mod Tallies
+pub mod Words

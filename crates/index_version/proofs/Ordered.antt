@@ -12,7 +12,7 @@ use Rattle.spec_data.specs.Folding.{key_cmp}
 use Rattle.spec_store.proofs.KeyedLemmas.{key_ties}
 use Rattle.paged_map.specs.Pairs.{AllAnswer, IsRising}
 use Rattle.paged_map.proofs.Rising.{lookup_none}
-use Rattle.index_version.proofs.FoldedMaps.{total, found, entries-rising, same_results}
+use Rattle.reference_track.proofs.FoldedMaps.{total, found, entries-rising, same_results}
 
 is_less : (r : _) → is_lt r ≡ true → r ≡ Less
 is_less Less h = refl

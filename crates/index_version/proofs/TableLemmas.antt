@@ -10,9 +10,9 @@ use Rattle.spec_data.specs.Tables.{note_row}
 use Rattle.spec_store.proofs.TableLemmas.{tied}
 use Rattle.paged_map.specs.Pairs.{IsRising}
 use Rattle.reference_track.specs.Sets.{id_cmp, is_one_of}
-use Rattle.index_version.specs.Folded.{by_folded}
+use Rattle.reference_track.specs.Folded.{by_folded}
 use Rattle.index_version.specs.Kept.{Given, is_loaded}
-use Rattle.index_version.proofs.FoldedMaps.{by_folded-with, by_folded-without, total}
+use Rattle.reference_track.proofs.FoldedMaps.{by_folded-with, by_folded-without, total}
 use Rattle.index_version.proofs.Touching.{one_of_folded}
 
 pub noted_document : (es new : List (List ℕ × Row)) (r : Row) → is_document r ≡ true → new ≡ insert_entry id_cmp es r.id r → by_folded new ≡ note_row (by_folded es) r

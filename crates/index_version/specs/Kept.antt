@@ -1,8 +1,9 @@
 -- What an index stores of what its map has given.
-use Rattle.std.specs.Prelude.{◌≡◌, ℕ, List, Bool, true, false, Option, Some, None, if◌then◌else◌, refl}
+use Rattle.std.specs.Prelude.{◌≡◌, ℕ, List, Bool, true, false, Option, Some, None, if◌then◌else◌, length, refl}
 use Rattle.std.specs.Coded.{Coded, coded×, code_by}
 use Rattle.std.specs.FinMap.{FinMap, get}
-use Rattle.std.specs.List.{list_any}
+use Rattle.std.specs.List.{count_by, filter_map, list_any}
+use Rattle.std.specs.Map.{values_of}
 use Rattle.std.specs.Option.{option_and_then}
 use Rattle.spec_data.specs.Codes.{text_code}
 use Rattle.spec_data.specs.Folding.{folded, key_cmp, same_key}
@@ -11,7 +12,9 @@ use Rattle.spec_data.specs.Tables.{Table}
 use Rattle.spec_index.specs.Find.{field_is_text}
 use Rattle.index_tree.specs.Meaning.{Fields, Outcome, Entry, NoEntry, Failed, Mapped}
 use Rattle.index_tree.specs.Mapper.{Mapper, is_mapped}
-use Rattle.spec_index.specs.Mapping.{entry_of}
+use Rattle.spec_index.specs.Mapping.{entry_of, has_failed}
+use Rattle.paged_map.specs.Pairs.{IsRising}
+use Rattle.reference_track.specs.Sets.{id_cmp}
 use Rattle.reference_track.specs.Tracks.{Track, is_pair}
 use Rattle.index_version.specs.Codes.{mapped_code}
 
@@ -45,6 +48,31 @@ outcome_has_words name words Failed = false
 -- the entry of a document, if it has one
 abbrev pub entry_given : Given → Option (List ℕ × Fields)
 entry_given g = entry_of g.id g.mapped.outcome
+
+abbrev pub is_entry : Given → Bool
+is_entry g = has_entry g.mapped.outcome
+
+abbrev pub is_failure : Given → Bool
+is_failure g = has_failed g.mapped.outcome
+
+-- what a result counts for, if there is one: 1 if it passes the test
+abbrev pub one_if : (Given → Bool) → Option Given → ℕ
+one_if test None = 0
+one_if test (Some g) = if test g then 1 else 0
+
+-- how many of these are entries
+abbrev pub entries_among : List (List ℕ × Given) → ℕ
+entries_among pairs = length (filter_map entry_given (values_of pairs))
+
+-- how many of these are failures
+abbrev pub failures_among : List (List ℕ × Given) → ℕ
+failures_among pairs = count_by is_failure (values_of pairs)
+
+-- they are in order of their folded ids, and so many of them are entries and failures
+pub record AreCounted (pairs : List (List ℕ × Given)) (entries errors : ℕ) : Type 0 where
+  pub rising : IsRising id_cmp pairs
+  pub entries_are : entries ≡ entries_among pairs
+  pub errors_are : errors ≡ failures_among pairs
 
 -- each row is under its own folded id
 abbrev pub IsFiled : Table → Type 0

@@ -1,4 +1,3 @@
-pub mod Folded
 pub mod Codes
 pub mod Meaning
 pub mod Named

@@ -1,16 +1,29 @@
 //! What the map of an index has given for a document.
-ghost use Rattle.std.specs.Prelude.{◌≡◌, false, map};
+ghost use Rattle.std.specs.Prelude.{◌≡◌, Some, false, map};
 ghost use Rattle.spec_data.specs.Folding.{folded};
 ghost use Rattle.spec_data.specs.Scalars.{holds, Is, words as spec_words};
 ghost use Rattle.spec_index.specs.Find.{field_is_text};
-ghost use Rattle.spec_index.specs.Mapping.{has_failed};
 ghost use Rattle.raven_value.specs.ScalarView.{scalar_view};
 ghost use Rattle.map_stage.specs.MappedView.{mapped_view, outcome_view};
-ghost use Rattle.index_version.specs.Kept.{has_entry, outcome_has_words};
+ghost use Rattle.map_stage.specs.Words.{OutcomeHasWords};
+ghost use Rattle.index_version.specs.Kept.{is_entry, is_failure, one_if, outcome_has_words};
 
 use map_stage::{Entry, Mapped, Outcome};
 use raven_value::{Id, Ids, Scalar};
 use std::marker::Model;
+
+/// How many entries there are, and how many failures.
+#[derive(Clone, Copy)]
+pub struct Tally {
+    pub entries: u64,
+    pub errors: u64,
+}
+
+/// What nothing counts for.
+pub const NOTHING: Tally = Tally {
+    entries: 0,
+    errors: 0,
+};
 
 /// The id of a document, and what the map gave for it.
 #[derive(Drop)]
@@ -30,14 +43,18 @@ impl Model for Given {
 
     ghost coded = { kept.given_code };
 
-    ghost use Rattle.map_stage.specs.MappedView.{mapped_view};
+    ghost use Rattle.map_stage.specs.MappedView.{mapped_view, outcome_view};
+    ghost use Rattle.map_stage.specs.Words.{OutcomeHasWords};
 
     ghost view = { λ a. record { id = a.id; mapped = mapped_view a.mapped } };
+
+    ghost invariant = { λ a. OutcomeHasWords (outcome_view a.mapped.outcome) };
 }
 
 impl Given {
     /// What the map gave for the document of this id.
     pub fn of(id: Id, mapped: Mapped) -> Given
+        requires words { OutcomeHasWords (mapped_view mapped).outcome }
         ensures { result ≡ record { id = id; mapped = mapped_view mapped } }
     {
         Given { id, mapped }
@@ -57,18 +74,22 @@ impl Given {
         &self.mapped.loads
     }
 
-    /// Whether it has an entry.
-    pub fn has_entry(&self) -> bool
-        ensures { result ≡ has_entry self.now.mapped.outcome }
+    /// What it counts for.
+    pub fn tally(&self) -> Tally
+        ensures entries { result.entries ≡ one_if is_entry (Some self.now) }
+        ensures errors { result.errors ≡ one_if is_failure (Some self.now) }
     {
-        matches!(self.mapped.outcome, Outcome::Entry(_))
-    }
-
-    /// Whether its entry could not be computed.
-    pub fn has_failed(&self) -> bool
-        ensures { result ≡ has_failed self.now.mapped.outcome }
-    {
-        matches!(self.mapped.outcome, Outcome::Failed)
+        match self.mapped.outcome {
+            Outcome::Entry(_) => Tally {
+                entries: 1,
+                errors: 0,
+            },
+            Outcome::Nothing => NOTHING,
+            Outcome::Failed => Tally {
+                entries: 0,
+                errors: 1,
+            },
+        }
     }
 
     /// Whether it has an entry whose field of that name is that text, without regard to case.

@@ -9,12 +9,12 @@ ghost use Rattle.std.specs.Map.{values_of};
 ghost use Rattle.paged_map.specs.Pairs.{IsRising};
 ghost use Rattle.reference_track.specs.Sets.{id_cmp, is_id};
 ghost use Rattle.reference_track.specs.Tracks.{is_pair};
-ghost use Rattle.index_version.specs.Folded.{by_folded};
+ghost use Rattle.reference_track.specs.Folded.{by_folded};
 ghost use Rattle.index_version.specs.Kept.{entry_given, is_loaded};
 
 use crate::given::Given;
-use paged_map::PagedMap;
-use raven_base::{NoMemory, Shared};
+use crate::results::Results;
+use raven_base::NoMemory;
 use raven_value::{Id, Ids};
 use reference_track::Referrers;
 use std::alloc::Global;
@@ -24,7 +24,7 @@ use std::alloc::Global;
 /// A copy shares all pages, and a change copies only pages that others have too.
 #[derive(Drop)]
 pub struct Kept {
-    pub given: PagedMap<Id, Shared<Given>>,
+    pub given: Results,
     pub referrers: Referrers,
 }
 
@@ -35,7 +35,7 @@ impl Kept {
         ensures pairs { IfOk result (λ kept. (x y : List ℕ) → is_pair x y kept.referrers ≡ false) }
     {
         Ok(Kept {
-            given: PagedMap::new(alloc)?,
+            given: Results::new(alloc)?,
             referrers: Referrers::new(alloc)?,
         })
     }
@@ -70,9 +70,8 @@ impl Kept {
             referrers,
         } = self;
         let referrers = referrers.replace(alloc, id, given.loads().as_slice())?;
-        let shared = Shared::of(alloc, given)?;
         Ok(Kept {
-            given: all.put(alloc, id.clone()?, shared)?,
+            given: all.put(alloc, id.clone()?, given)?,
             referrers,
         })
     }
@@ -89,37 +88,19 @@ impl Kept {
     }
 
     /// How many entries there are.
-    #[tactic(auto, using(crate::proofs::Walking::entries_step))]
     pub fn entries(&self) -> u64
         ensures count { result ≡ length (filter_map entry_given (values_of self.now.given)) }
         ensures rising { IsRising id_cmp self.now.given }
     {
-        // The number of all bounds that of some.
-        let _all = self.given.len();
-        let mut entries = 0;
-        for pair in self.given.iter() {
-            if pair.1.get().has_entry() {
-                entries += 1;
-            }
-        }
-        entries
+        self.given.entries()
     }
 
     /// How many documents failed.
-    #[tactic(auto, using(crate::proofs::Walking::errors_step))]
     pub fn errors(&self) -> u64
         ensures count { result ≡ count_by (λ g. has_failed g.mapped.outcome) (values_of self.now.given) }
         ensures rising { IsRising id_cmp self.now.given }
     {
-        // The number of all bounds that of some.
-        let _all = self.given.len();
-        let mut errors = 0;
-        for pair in self.given.iter() {
-            if pair.1.get().has_failed() {
-                errors += 1;
-            }
-        }
-        errors
+        self.given.errors()
     }
 
     /// The ids of the entries whose field of that name is that text, without regard to case.

@@ -5,6 +5,7 @@ mod given;
 mod kept;
 mod mapping;
 mod renewal;
+mod results;
 mod table;
 mod touched;
 mod version;

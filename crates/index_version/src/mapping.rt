@@ -2,6 +2,7 @@
 ghost use Rattle.std.specs.Prelude.{◌≡◌, IfOk, []};
 ghost use Rattle.std.specs.FinMap.{empty};
 ghost use Rattle.map_stage.specs.MappedView.{mapped_view};
+ghost use Rattle.map_stage.specs.Words.{HasWords, IsWord, OutcomeHasWords};
 ghost use Rattle.raven_value.specs.RowView.{body_of};
 ghost use Rattle.raven_value.specs.ScalarView.{scalar_view};
 ghost use Rattle.index_tree.specs.Mapper.{auto_meaning, field_of, fields_at, mapper_of};
@@ -9,7 +10,7 @@ ghost use Rattle.index_definition.specs.DefinitionView.{definition_view};
 ghost use Rattle.index_version.specs.Meaning.{found_local, found_meaning};
 
 use index_definition::{DefBody, Definition, joined_name};
-use map_stage::{Entry, LangMapper, Lookup, Mapped, Mapper, Outcome};
+use map_stage::{Entry, LangMapper, Lookup, Mapped, Mapper, Outcome, scalar_of};
 use raven_base::{NoMemory, Steps};
 use raven_value::{Body, Ids, Path, Row, Scalar, Text};
 use std::alloc::Global;
@@ -57,7 +58,8 @@ pub fn mapped_collection(definition: &Definition) -> &Text
 }
 
 fn auto_mapped(alloc: Global, paths: &[Path], row: &Row) -> Result<Mapped, NoMemory>
-    ensures { IfOk result (λ mapped. mapped_view mapped ≡ auto_meaning paths.now row.now empty) }
+    ensures mapped { IfOk result (λ mapped. mapped_view mapped ≡ auto_meaning paths.now row.now empty) }
+    ensures words { IfOk result (λ mapped. OutcomeHasWords (mapped_view mapped).outcome) }
 {
     let entry = auto_entry(alloc, paths, &row.body)?;
     Ok(Mapped {
@@ -67,7 +69,8 @@ fn auto_mapped(alloc: Global, paths: &[Path], row: &Row) -> Result<Mapped, NoMem
 }
 
 fn auto_entry(alloc: Global, paths: &[Path], body: &Body) -> Result<Entry, NoMemory>
-    ensures { IfOk result (λ entry. entry ≡ fields_at (body_of body.now) [] paths.now) }
+    ensures fields { IfOk result (λ entry. entry ≡ fields_at (body_of body.now) [] paths.now) }
+    ensures words { IfOk result HasWords }
 {
     let mut entry = Entry::new(alloc);
     for path in paths {
@@ -77,13 +80,14 @@ fn auto_entry(alloc: Global, paths: &[Path], body: &Body) -> Result<Entry, NoMem
 }
 
 fn field_at(body: &Body, path: &Path) -> Result<Scalar, NoMemory>
-    ensures { IfOk result (λ scalar. scalar_view scalar ≡ field_of (body_of body.now) path.now) }
+    ensures scalar { IfOk result (λ scalar. scalar_view scalar ≡ field_of (body_of body.now) path.now) }
+    ensures word { IfOk result (λ scalar. IsWord (scalar_view scalar)) }
 {
     let Body::Doc(document) = body else {
         return Ok(Scalar::Null);
     };
     match document.value().at(path) {
-        Some(value) => value.scalar(),
+        Some(value) => scalar_of(value),
         None => Ok(Scalar::Null),
     }
 }

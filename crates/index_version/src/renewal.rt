@@ -3,7 +3,7 @@ ghost use Rattle.std.specs.Prelude.{◌≡◌, ◌+◌, ◌≤◌, IfOk, cond, i
 ghost use Rattle.spec_data.specs.Folding.{folded};
 ghost use Rattle.index_tree.specs.Mapper.{mapper_of};
 ghost use Rattle.index_definition.specs.DefinitionView.{definition_view};
-ghost use Rattle.index_version.specs.Folded.{by_folded};
+ghost use Rattle.reference_track.specs.Folded.{by_folded};
 ghost use Rattle.index_version.specs.Kept.{given_at};
 ghost use Rattle.index_version.specs.Meaning.{Means};
 ghost use Rattle.index_version.specs.Renewed.{ArePaired, AreRenewed, mapped_among};

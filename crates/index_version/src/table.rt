@@ -3,7 +3,7 @@ ghost use Rattle.std.specs.Prelude.{◌≡◌, IfOk};
 ghost use Rattle.std.specs.FinMap.{empty, get};
 ghost use Rattle.spec_data.specs.Rows as model;
 ghost use Rattle.spec_data.specs.Tables.{note_row, note_rows};
-ghost use Rattle.index_version.specs.Folded.{by_folded};
+ghost use Rattle.reference_track.specs.Folded.{by_folded};
 
 use map_stage::Lookup;
 use paged_map::PagedMap;
@@ -24,7 +24,7 @@ pub struct Table {
 impl Model for Table {
     ghost use Rattle.spec_data.specs.Tables as index;
     ghost use Rattle.spec_data.specs.Codes.{table_code};
-    ghost use Rattle.index_version.specs.Folded.{by_folded};
+    ghost use Rattle.reference_track.specs.Folded.{by_folded};
 
     ghost Value = { index.Table };
 

@@ -43,7 +43,7 @@ pub struct IndexVersion {
 impl Model for IndexVersion {
     ghost use Rattle.index_version.specs.Named.{NamedVersion, named_version_code};
     ghost use Rattle.index_tree.specs.Mapper.{mapper_of};
-    ghost use Rattle.index_version.specs.Folded.{by_folded};
+    ghost use Rattle.reference_track.specs.Folded.{by_folded};
     ghost use Rattle.index_version.specs.Kept.{AreKept};
 
     ghost Value = { NamedVersion };

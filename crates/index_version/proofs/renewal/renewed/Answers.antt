@@ -5,7 +5,7 @@ use Rattle.index_tree.specs.Mapper.{mapper_of}
 use Rattle.index_definition.specs.DefinitionView.{definition_view}
 use Rattle.reference_track.specs.Sets.{is_id}
 use Rattle.reference_track.specs.Tracks.{is_pair}
-use Rattle.index_version.specs.Folded.{by_folded}
+use Rattle.reference_track.specs.Folded.{by_folded}
 use Rattle.index_version.specs.Kept.{given_at, is_loaded}
 use Rattle.index_version.specs.Renewed.{ArePaired, AreRenewed, mapped_among}
 use Rattle.index_version.proofs.Keeping.{mapped_left, folded_more, paired_more, renewed_more}

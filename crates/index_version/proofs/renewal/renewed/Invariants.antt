@@ -2,7 +2,7 @@ use Rattle.std.proofs.Common.{◌≡◌, ◌+◌, ◌≤◌, drop, length, map, 
 use Rattle.spec_data.specs.Folding.{folded}
 use Rattle.index_tree.specs.Mapper.{mapper_of}
 use Rattle.index_definition.specs.DefinitionView.{definition_view}
-use Rattle.index_version.specs.Folded.{by_folded}
+use Rattle.reference_track.specs.Folded.{by_folded}
 use Rattle.index_version.specs.Renewed.{ArePaired, AreRenewed, mapped_among}
 use Rattle.index_version.proofs.renewal.renewed.Given as goal
 

@@ -1,6 +1,6 @@
 use Rattle.std.proofs.Common.{◌≡◌, drop}
 use Rattle.spec_data.specs.Tables.{note_rows}
-use Rattle.index_version.specs.Folded.{by_folded}
+use Rattle.reference_track.specs.Folded.{by_folded}
 use Rattle.index_version.proofs.table.all_noted.Given as goal
 
 abbrev pub invariant-loop-row : goal.invariant-loop-row

@@ -8,10 +8,9 @@ use Rattle.index_version.proofs.kept.Kept.put_given.Goals as goal
 pub returns-clause-results : goal.returns-clause-results
 returns-clause-results c =
     results_with c.args.self.given c.in_ok-put.field-0 c.args.id.now c.args.given
-    (c.in_ok-put.ensures.pairs
-    ∙ ap (λ es. insert_entry id_cmp es c.in_ok-clone.field-0 c.in_ok-shared.shared) c.all.view_is
-    ∙ ap (λ id. insert_entry id_cmp c.args.self.given id c.in_ok-shared.shared) c.in_ok-clone.ensures.cases
-    ∙ ap (λ g. insert_entry id_cmp c.args.self.given c.args.id.now g) c.in_ok-shared.ensures)
+    (c.in_ok-put.ensures
+    ∙ ap (λ es. insert_entry id_cmp es c.in_ok-clone.field-0 c.args.given) c.all.view_is
+    ∙ ap (λ id. insert_entry id_cmp c.args.self.given id c.args.given) c.in_ok-clone.ensures.cases)
 
 pub returns-clause-pairs : goal.returns-clause-pairs
 returns-clause-pairs c = λ x y.

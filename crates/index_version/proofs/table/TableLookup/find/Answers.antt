@@ -2,7 +2,7 @@ use Rattle.std.proofs.Common.{Some, sym, ap, ◌∙◌}
 use Rattle.std.specs.FinMap.{get}
 use Rattle.spec_data.specs.Folding.{folded}
 use Rattle.spec_data.specs.Tables.{Table}
-use Rattle.index_version.proofs.FoldedMaps.{get-by_folded}
+use Rattle.reference_track.proofs.FoldedMaps.{get-by_folded}
 use Rattle.index_version.proofs.table.TableLookup.find.Goals as goal
 
 pub returns-in-Some : goal.returns-in-Some

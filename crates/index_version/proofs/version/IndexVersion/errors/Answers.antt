@@ -4,7 +4,7 @@ use Rattle.spec_index.specs.Mapping.{failures, has_failed}
 use Rattle.index_tree.specs.Mapper.{mapper_of}
 use Rattle.index_version.specs.Kept.{Given}
 use Rattle.index_version.specs.Named.{NamedVersion}
-use Rattle.index_version.proofs.FoldedMaps.{values-by_folded}
+use Rattle.reference_track.proofs.FoldedMaps.{values-by_folded}
 use Rattle.index_version.proofs.Keeping.{failures_kept}
 use Rattle.index_version.proofs.version.IndexVersion.errors.Goals as goal
 

@@ -4,7 +4,7 @@ use Rattle.spec_index.specs.Find.{found, found_in}
 use Rattle.index_tree.specs.Mapper.{mapper_of}
 use Rattle.index_version.specs.Kept.{entry_given}
 use Rattle.index_version.specs.Named.{NamedVersion}
-use Rattle.index_version.proofs.FoldedMaps.{values-by_folded}
+use Rattle.reference_track.proofs.FoldedMaps.{values-by_folded}
 use Rattle.index_version.proofs.Keeping.{entries_kept}
 use Rattle.index_version.proofs.version.IndexVersion.find.Goals as goal
 

@@ -11,7 +11,7 @@ use Rattle.spec_data.specs.Folding.{folded, key_cmp}
 use Rattle.paged_map.specs.Pairs.{AllAnswer, IsRising}
 use Rattle.paged_map.proofs.Laws.{lookup-insert_entry, lookup-remove_entry}
 use Rattle.reference_track.specs.Sets.{id_cmp}
-use Rattle.index_version.specs.Folded.{folded_entries, by_folded}
+use Rattle.reference_track.specs.Folded.{folded_entries, by_folded}
 
 pub total : IsTotalOrder key_cmp
 total = nat_list_cmp_total
