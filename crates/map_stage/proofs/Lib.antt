@@ -1,2 +1,3 @@
 pub mod EqualLemmas
 pub mod FieldLemmas
+pub mod WordLemmas

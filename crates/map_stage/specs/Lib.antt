@@ -2,3 +2,4 @@ pub mod HeldView
 pub mod Reached
 pub mod FieldView
 pub mod MappedView
+pub mod Words

@@ -1,11 +1,12 @@
 //! The entries of documents.
-ghost use Rattle.std.specs.Prelude.{◌≡◌, IfOk, [], map, option_map};
+ghost use Rattle.std.specs.Prelude.{◌≡◌, IfOk, IfSome, [], map, option_map};
 ghost use Rattle.spec_data.specs.Folding.{folded};
 ghost use Rattle.raven_value.specs.RowView.{body_of};
 ghost use Rattle.index_tree.specs.Evaluate.{document_of};
 ghost use Rattle.index_tree.specs.Meaning.{bound_after, bound_by, entry_of, fields_with, mapped};
 ghost use Rattle.map_stage.specs.MappedView.{outcome_view};
 ghost use Rattle.map_stage.specs.Reached.{bindings_of, bound_if, from_there};
+ghost use Rattle.map_stage.specs.Words.{HasWords, OutcomeHasWords};
 
 use crate::fields::Entry;
 use crate::load::document_of;
@@ -55,7 +56,8 @@ impl<'a, T: Lookup> Scene<'a, T> {
 
     /// The fields of the members, which are computed in their order; or nothing if the document fails.
     fn entry(&self, members: &'a [MapMember], asked: &mut Ids) -> Result<Option<Entry>, NoMemory>
-        ensures { IfOk result (λ entry. record { outcome = entry; loads = map folded asked.new } ≡ from_there asked.old (fields_with (T.rows self.now.rows.now) (bindings_of self.now.bound.items) [] members.now)) }
+        ensures words { IfOk result (λ entry. IfSome entry HasWords) }
+        ensures fields { IfOk result (λ entry. record { outcome = entry; loads = map folded asked.new } ≡ from_there asked.old (fields_with (T.rows self.now.rows.now) (bindings_of self.now.bound.items) [] members.now)) }
     {
         let mut entry = Entry::new(self.alloc);
         for member in members {
@@ -76,7 +78,8 @@ pub fn outcome_of<T: Lookup>(
     rows: &T,
     asked: &mut Ids,
 ) -> Result<Outcome, NoMemory>
-    ensures { IfOk result (λ outcome. record { outcome = outcome_view outcome; loads = map folded asked.new } ≡ mapped (from_there asked.old (entry_of query.now (document_of doc.now.body) (T.rows rows.now)))) }
+    ensures words { IfOk result (λ outcome. OutcomeHasWords (outcome_view outcome)) }
+    ensures mapped { IfOk result (λ outcome. record { outcome = outcome_view outcome; loads = map folded asked.new } ≡ mapped (from_there asked.old (entry_of query.now (document_of doc.now.body) (T.rows rows.now)))) }
 {
     let mut scene = Scene {
         alloc,

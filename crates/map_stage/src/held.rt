@@ -1,10 +1,12 @@
 //! Values while a document is mapped.
-ghost use Rattle.std.specs.Prelude.{◌≡◌, IfOk};
-ghost use Rattle.spec_data.specs.Scalars.{scalar_of};
+ghost use Rattle.std.specs.Prelude.{◌≡◌, FitsSigned, IfOk};
+ghost use Rattle.std.specs.Int.{w64};
+ghost use Rattle.spec_data.specs.Scalars.{number, scalar_of};
 ghost use Rattle.raven_value.specs.ScalarView.{scalar_view};
 ghost use Rattle.raven_value.specs.View.{data_of};
 ghost use Rattle.index_tree.specs.Operators.{is_true};
 ghost use Rattle.map_stage.specs.HeldView.{held_of};
+ghost use Rattle.map_stage.specs.Words.{IsWord};
 
 use raven_base::NoMemory;
 use raven_value::{Members, Scalar, Text, Value, Values};
@@ -19,6 +21,14 @@ pub enum Held<'a> {
     Text(Cow<'a, Text>),
     List(&'a Values),
     Map(&'a Members),
+}
+
+/// A number of 64 bits as a scalar, whose numbers are wider.
+fn wide(n: i64) -> Scalar
+    ensures scalar { scalar_view result ≡ number n }
+    ensures fits { FitsSigned w64 n }
+{
+    Scalar::Num(i128::from(n))
 }
 
 impl<'a> Held<'a> {
@@ -59,13 +69,22 @@ impl<'a> Held<'a> {
 
     /// The scalar of the same meaning, and null for a list or an object. A text is shared.
     pub fn scalar(&self) -> Result<Scalar, NoMemory>
-        ensures { IfOk result (λ scalar. scalar_view scalar ≡ scalar_of (held_of self.now)) }
+        ensures scalar { IfOk result (λ scalar. scalar_view scalar ≡ scalar_of (held_of self.now)) }
+        ensures word { IfOk result (λ scalar. IsWord (scalar_view scalar)) }
     {
-        Ok(match self {
-            Held::Flag(flag) => Scalar::Flag(*flag),
-            Held::Num(number) => Scalar::Num(i128::from(*number)),
-            Held::Text(text) => Scalar::Text(text.as_ref().clone()?),
-            Held::Null | Held::List(_) | Held::Map(_) => Scalar::Null,
-        })
+        match self {
+            Held::Flag(flag) => Ok(Scalar::Flag(*flag)),
+            Held::Num(n) => Ok(wide(*n)),
+            Held::Text(text) => Ok(Scalar::Text(text.as_ref().clone()?)),
+            Held::Null | Held::List(_) | Held::Map(_) => Ok(Scalar::Null),
+        }
     }
+}
+
+/// The scalar of a value, null for a list or an object. A text is shared, and a number has 64 bits.
+pub fn scalar_of(value: &Value) -> Result<Scalar, NoMemory>
+    ensures scalar { IfOk result (λ scalar. scalar_view scalar ≡ scalar_of (data_of value.now)) }
+    ensures word { IfOk result (λ scalar. IsWord (scalar_view scalar)) }
+{
+    Held::of(value).scalar()
 }

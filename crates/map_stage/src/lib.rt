@@ -15,6 +15,7 @@ mod operator;
 mod scene;
 
 pub use fields::Entry;
+pub use held::scalar_of;
 pub use lang_mapper::LangMapper;
 pub use lookup::Lookup;
 pub use mapper::{Mapped, Mapper, Outcome};

@@ -5,6 +5,7 @@ ghost use Rattle.index_tree.specs.Asking as asking;
 ghost use Rattle.index_tree.specs.Meaning as meaning;
 ghost use Rattle.raven_base.specs.Counts.{one_map_more};
 ghost use Rattle.map_stage.specs.MappedView.{mapped_view};
+ghost use Rattle.map_stage.specs.Words.{OutcomeHasWords};
 
 use crate::fields::Entry;
 use crate::lookup::Lookup;
@@ -38,7 +39,7 @@ pub trait Mapper {
     /// What it gives for a row, over rows by their folded ids.
     ghost meaning: { Self → is.Row → asking.Lookup → meaning.Mapped };
 
-    /// The result for a document. What is not a document is taken as null.
+    /// The result for a document. What is not a document is taken as null. Each number of an entry has 64 bits.
     ///
     /// Each call counts one map, whatever it gives, also if no memory was found. It does not count the rows that are looked up.
     fn map<T: Lookup, L: Ledger>(
@@ -49,6 +50,7 @@ pub trait Mapper {
         steps: &mut Steps<L>,
     ) -> Result<Mapped, NoMemory>
         ensures mapped { IfOk result (λ mapped. mapped_view mapped ≡ meaning self.now doc.now (T.rows rows.now)) }
+        ensures words { IfOk result (λ mapped. OutcomeHasWords (mapped_view mapped).outcome) }
         ensures counted { steps.new ≡ one_map_more steps.old };
 
     /// It depends on the document and on what the lookups give, and on nothing else.

@@ -72,13 +72,13 @@ abs_sum : (vs : List Scalar) → AreWords vs → unsigned_abs (sum_of vs) ≤ le
 abs_sum [] a = omega arith
 abs_sum (v ∷ vs) a = let r = abs_sum vs a.1 in omega (arith, r, a.0, abs_add (addend v) (sum_of vs))
 
-exact : (k : FoldKind) (vs : List Scalar) → AreWords vs → length vs < 4294967296 → wrapped k vs ≡ as_one k vs
+exact : (k : FoldKind) (vs : List Scalar) → AreWords vs → length vs < 18446744073709551616 → wrapped k vs ≡ as_one k vs
 exact kind.Sum vs a l = ap number (int_wrap_fits w128 (sum_of vs) (fits_signed_from_abs w128 (sum_of vs) (omega (arith, abs_sum vs a, l))))
 exact kind.Min vs a l = refl
 exact kind.Max vs a l = refl
 
-pub exact_fold : (fold : FieldFold) (entries : List Fields) → AreWords (column fold.field entries) → length entries < 2 ^ 32 →
+pub exact_fold : (fold : FieldFold) (entries : List Fields) → AreWords (column fold.field entries) → length entries < 2 ^ 64 →
     fold_of (cell_of fold) (no_cell fold) merged_cell entries ≡ (fold.kind, as_one fold.kind (column fold.field entries))
 exact_fold fold entries a l =
-    let few : length (column fold.field entries) < 4294967296 = omega (arith, length-map entries (value_at fold.field), l) in
+    let few : length (column fold.field entries) < 18446744073709551616 = omega (arith, length-map entries (value_at fold.field), l) in
     fold_is fold entries ∙ ap (λ v. (fold.kind, v)) (exact fold.kind (column fold.field entries) a few)

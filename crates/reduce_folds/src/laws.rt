@@ -23,9 +23,9 @@ pub fn parts_give_the_whole()
         ≡ both kind (as_one kind (column field (group names key entries))) (as_one kind (column field (group names key others))) }
 {}
 
-/// The fold of a field gives what the definition gives for its values: sums are exact for fewer than 2^32 entries of numbers of 64 bits.
+/// The fold of a field gives what the definition gives for its values: sums are exact for fewer than 2^64 entries of numbers of 64 bits.
 pub fn sums_are_exact()
-    ensures { (fold : FieldFold) (entries : List Fields) → AreWords (column fold.field entries) → length entries < 2 ^ 32 →
+    ensures { (fold : FieldFold) (entries : List Fields) → AreWords (column fold.field entries) → length entries < 2 ^ 64 →
         fold_of (cell_of fold) (no_cell fold) merged_cell entries ≡ (fold.kind, as_one fold.kind (column fold.field entries)) }
 {}
 

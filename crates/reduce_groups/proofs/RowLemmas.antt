@@ -1,5 +1,5 @@
 -- The rows of groups are those of the entries by themselves.
-use Rattle.std.proofs.Common.{◌≡◌, ◌<◌, Bool, true, false, cond, ◌&&◌, ◌||◌, Option, Some, None, List, [], ◌∷◌, ◌++◌, filter, length, map, option_map, refl, sym, ap, subst, ◌∙◌, arith, append_assoc}
+use Rattle.std.proofs.Common.{◌≡◌, ℕ, zero, suc, ◌-◌, ◌<◌, ◌^◌, Bool, true, false, cond, ◌&&◌, ◌||◌, Option, Some, None, List, [], ◌∷◌, ◌++◌, filter, length, map, option_map, slice_get, refl, sym, ap, subst, ◌∙◌, arith, append_assoc}
 use lib.Dec.{T}
 use Rattle.std.specs.declared.cmp.Ordering.{Ordering}
 use Rattle.std.specs.declared.cmp.Ordering.TheVariants.{Less, Equal, Greater}
@@ -39,6 +39,31 @@ module _ {F G K E R : Type 0} (lifted : F → E → R) (none : F → R) (merged 
   pub no_row_more : None ≡ result_of (lifted t.1.fold) (none t.1.fold) merged (values t.1.entries) → rows ++ rows_in lifted none merged ts ≡ rows ++ rows_in lifted none merged left
   no_row_more o = ap (λ x. rows ++ tree_rows x) o ∙ ap (λ l. rows ++ rows_in lifted none merged l) (sym is)
 
+-- to a place, one tree after another
+module _ {F G K E R : Type 0} (lifted : F → E → R) (none : F → R) (merged : R → R → R) (t : G × Tree F K E) (ts left : List (G × Tree F K E)) (is : left ≡ t ∷ ts) where
+  abbrev found_rows : Option R → List (G × R)
+  found_rows o = cons_option (option_map (λ row. (t.0, row)) o) (rows_in lifted none merged ts)
+
+  pub here : (place : ℕ) (r : R) → place ≡ 0 → Some r ≡ result_of (lifted t.1.fold) (none t.1.fold) merged (values t.1.entries) → Some (t.0, r) ≡ slice_get (rows_in lifted none merged left) place
+  here place r e o = ap (slice_get (found_rows (Some r))) (sym e) ∙ ap (λ x. slice_get (found_rows x) place) o ∙ ap (λ l. slice_get (rows_in lifted none merged l) place) (sym is)
+
+  pub later : (place next : ℕ) (r : R) → place ≡ suc next → Some r ≡ result_of (lifted t.1.fold) (none t.1.fold) merged (values t.1.entries) → slice_get (rows_in lifted none merged ts) next ≡ slice_get (rows_in lifted none merged left) place
+  later place next r e o = ap (slice_get (found_rows (Some r))) (sym e) ∙ ap (λ x. slice_get (found_rows x) place) o ∙ ap (λ l. slice_get (rows_in lifted none merged l) place) (sym is)
+
+  pub without_row : (place : ℕ) → None ≡ result_of (lifted t.1.fold) (none t.1.fold) merged (values t.1.entries) → slice_get (rows_in lifted none merged ts) place ≡ slice_get (rows_in lifted none merged left) place
+  without_row place o = ap (λ x. slice_get (found_rows x) place) o ∙ ap (λ l. slice_get (rows_in lifted none merged l) place) (sym is)
+
+pub ruleset places = (here, later, without_row)
+
+-- no group has more entries than can be counted
+pub few_at : {F G K E : Type 0} (cmp : G → G → Ordering) (f : F) (q : G) (ts : List (G × Tree F K E)) → AreSound f ts → length (entries_at cmp q ts) < 2 ^ 64
+few_at cmp f q [] s = omega arith
+few_at cmp f q (t ∷ ts) s = by (is_eq (cmp q t.0)) (few_at cmp f q ts s.1)
+  where
+    by : (b : Bool) → length (entries_at cmp q ts) < 2 ^ 64 → length (entries_of_tree (cond b (Some t.1) (lookup (is_at (cmp q)) ts))) < 2 ^ 64
+    by true h = s.0.3
+    by false h = h
+
 abbrev folded : {F E R : Type 0} → (F → E → R) → (F → R) → (R → R → R) → F → List E → R
 folded lifted none merged f es = fold_of (lifted f) (none f) merged es
 
@@ -57,6 +82,14 @@ module _ {F G K E R : Type 0} (cmp : G → G → Ordering) (lifted : F → E →
   all_rows : (ts : List (G × Tree F K E)) → AreSound f ts → rows_in lifted none merged ts ≡ map row ts
   all_rows [] s = refl
   all_rows (t ∷ ts) s = ap (λ o. cons_option o (rows_in lifted none merged ts)) (in_tree t s.0.0 s.0.1) ∙ ap (λ l. row t ∷ l) (all_rows ts s.1)
+
+  long : (ts : List (G × Tree F K E)) → length (map row ts) ≡ length ts
+  long [] = refl
+  long (t ∷ ts) = ap suc (long ts)
+
+  -- each tree gives a row
+  pub rows_long : (ts : List (G × Tree F K E)) → AreSound f ts → length (rows_in lifted none merged ts) ≡ length ts
+  rows_long ts s = ap length (all_rows ts s) ∙ long ts
 
   below : (k : G) (ts : List (G × Tree F K E)) → AllAnswer cmp k Less ts → T (below_all cmp k (map row ts))
   below k [] a = tt

@@ -80,13 +80,13 @@ module _ {F G K E : Type 0} where
         ] refl
 
   module _ (R : G → G → Ordering) (f : F) (g : G) (t : Tree F K E) where
-    pub sound_inserted : (ts : List (G × Tree F K E)) → AreSound f ts → t.fold ≡ f → 0 < length t.entries → IsFilledTree t → AreSound f (insert_entry R ts g t)
-    sound_inserted [] s a b c = ((a, b, c), tt)
-    sound_inserted (p ∷ ts) s a b c = by (sound_inserted ts s.1 a b c) (R g p.0)
+    pub sound_inserted : (ts : List (G × Tree F K E)) → AreSound f ts → t.fold ≡ f → 0 < length t.entries → IsFilledTree t → length t.entries < 2 ^ 64 → AreSound f (insert_entry R ts g t)
+    sound_inserted [] s a b c d = ((a, b, c, d), tt)
+    sound_inserted (p ∷ ts) s a b c d = by (sound_inserted ts s.1 a b c d) (R g p.0)
       where
         by : AreSound f (insert_entry R ts g t) → (r : Ordering) → AreSound f (match_ordering r ((g, t) ∷ p ∷ ts) ((p.0, t) ∷ ts) (p ∷ insert_entry R ts g t))
-        by h Less = ((a, b, c), (s.0, s.1))
-        by h Equal = ((a, b, c), s.1)
+        by h Less = ((a, b, c, d), (s.0, s.1))
+        by h Equal = ((a, b, c, d), s.1)
         by h Greater = (s.0, h)
 
     pub low_inserted : (h : ℕ) (ts : List (G × Tree F K E)) → t.levels ≤ h → AllLevels h ts → AllLevels h (insert_entry R ts g t)

@@ -19,10 +19,10 @@ abbrev pub groups_code : {F G K E : Type 0} → Coded F → Coded G → Coded K 
 groups_code {F} {G} {K} {E} f g k e =
     code_by (F × List (G × Tree F K E)) (coded× f (coded_list (coded× g (tree_code f k e)))) (λ a. (a.fold, a.trees)) (λ p. record { fold = p.0; trees = p.1 }) (λ _. refl)
 
--- each tree folds in this way, has an entry, and is filled
+-- each tree folds in this way, has an entry, is filled, and has no more entries than a number of 64 bits can count
 abbrev pub AreSound : {F G K E : Type 0} → F → List (G × Tree F K E) → Type 0
 AreSound f [] = Unit {0}
-AreSound f (p ∷ ps) = ((p.1.fold ≡ f) × (0 < length p.1.entries) × IsFilledTree p.1) × AreSound f ps
+AreSound f (p ∷ ps) = ((p.1.fold ≡ f) × (0 < length p.1.entries) × IsFilledTree p.1 × (length p.1.entries < 2 ^ 64)) × AreSound f ps
 
 -- no tree has more than h levels
 abbrev pub AllLevels : {F G K E : Type 0} → ℕ → List (G × Tree F K E) → Type 0

@@ -1,5 +1,5 @@
 //! The groups.
-ghost use Rattle.std.specs.Prelude.{◌≡◌, ◌≤◌, ◌+◌, ◌*◌, ℕ, List, [], cond, length, map, IfOk};
+ghost use Rattle.std.specs.Prelude.{◌≡◌, ◌≤◌, ◌+◌, ◌*◌, ℕ, List, [], cond, length, map, option_map, slice_get, IfOk};
 ghost use Rattle.std.specs.Map.{remove_entry};
 ghost use Rattle.std.specs.BTreeMap.{insert_entry, is_at};
 ghost use Rattle.std.specs.Option.{option_copied};
@@ -11,7 +11,7 @@ ghost use Rattle.reduce_groups.specs.Grouping.{AreGrouped, AreNew, AreThere, all
 ghost use Rattle.reduce_groups.specs.Groups.{AllLevels, AllSmall, AreSound, after_insertions, after_removals, entries_at, rows_in};
 ghost use Rattle.reduce_tree.specs.Folding.{fold_of, result_of};
 
-use crate::trees::{rows_in, tree_with, trees_with};
+use crate::trees::{row_at, rows_in, tree_with, trees_with};
 use paged_map::PagedMap;
 use raven_base::{Exact, NoMemory, Shared, Steps};
 use reduce_tree::{Fold, ReduceTree};
@@ -174,6 +174,7 @@ impl<G: Ord, K: Ord, E, F: Fold<E>> Groups<G, K, E, F> {
     /// How many groups there are.
     pub fn len(&self) -> u64
         ensures count { result ≡ length self.now.trees }
+        ensures rising { IsRising G.cmp self.now.trees }
         ensures sound { AreSound self.now.fold self.now.trees }
     {
         self.trees.len()
@@ -187,6 +188,17 @@ impl<G: Ord, K: Ord, E, F: Fold<E>> Groups<G, K, E, F> {
             Some(tree) => tree.get().result(),
             None => None,
         }
+    }
+
+    /// The row at a place in the order of the keys, under its key. There is none if there are no more groups than that.
+    ///
+    /// It walks to that place.
+    pub fn nth(&self, place: u64) -> Option<(&G, &F::Row)>
+        ensures row { option_map (λ r. (r.0.now, r.1.now)) result ≡ slice_get (rows_in F.lifted F.none F.merged self.now.trees) place }
+        ensures grouped { IsAntisymmetric G.cmp → (key : E → G) (es : List (K × E)) → AreGrouped G.cmp key es self.now.trees →
+            option_map (λ r. (r.0.now, r.1.now)) result ≡ slice_get (entries (rows_of G.cmp key (fold_of (F.lifted self.now.fold) (F.none self.now.fold) F.merged) es)) place }
+    {
+        row_at(&self.trees, place)
     }
 }
 

@@ -1,5 +1,5 @@
 //! The trees of groups, as one of them changes.
-ghost use Rattle.std.specs.Prelude.{◌≡◌, ◌≤◌, ◌<◌, ◌+◌, ◌*◌, ℕ, cond, length, IfOk, OnOk};
+ghost use Rattle.std.specs.Prelude.{◌≡◌, ◌≤◌, ◌<◌, ◌+◌, ◌*◌, ℕ, cond, length, option_map, slice_get, IfOk, OnOk};
 ghost use Rattle.std.specs.BTreeMap.{insert_entry};
 ghost use Rattle.std.specs.Ordering.{is_eq};
 ghost use Rattle.paged_map.specs.Merges.{MergesAtMost};
@@ -61,6 +61,8 @@ pub fn trees_with<G: Ord + Exact + Drop, K: Ord + Drop, E: Drop, F: Fold<E>>(
     ensures lower { IfOk result (λ ts. (h : ℕ) → tree.levels ≤ h → AllLevels h trees.now → AllLevels h ts) }
     ensures upper { IfOk result (λ ts. (h : ℕ) → 0 < length tree.entries → levels_at G.cmp group.now trees.now ≤ tree.levels → AllLevels h ts → (tree.levels ≤ h) × AllLevels h trees.now) }
 {
+    // The proof needs it: the entries can be counted.
+    let _entries = tree.len();
     if tree.is_empty() {
         return trees.without(alloc, group);
     }
@@ -77,6 +79,27 @@ fn trees_and<G: Ord + Exact + Drop, K: Ord + Drop, E: Drop, F: Fold<E>>(
     ensures { IfOk result (λ ts. ts ≡ insert_entry G.cmp trees.now group.now tree) }
 {
     trees.with(alloc, group.clone()?, Shared::of(alloc, tree)?)
+}
+
+/// The row at a place, under the key of its group. There is none if there are no more rows than that.
+#[tactic(auto, using(crate::proofs::RowLemmas::places))]
+pub fn row_at<G: Ord, K: Ord, E, F: Fold<E>>(
+    trees: &PagedMap<G, Shared<ReduceTree<K, E, F>>>,
+    place: u64,
+) -> Option<(&G, &F::Row)>
+    ensures row { option_map (λ r. (r.0.now, r.1.now)) result ≡ slice_get (rows_in F.lifted F.none F.merged trees.now) place }
+    ensures rising { IsRising G.cmp trees.now }
+{
+    let mut left = place;
+    for pair in trees.iter() {
+        if let Some(row) = pair.1.get().result() {
+            if left == 0 {
+                return Some((&pair.0, row));
+            }
+            left -= 1;
+        }
+    }
+    None
 }
 
 /// The rows of the trees, each under the key of its group.

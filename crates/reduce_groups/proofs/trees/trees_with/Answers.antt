@@ -1,4 +1,4 @@
-use Rattle.std.proofs.Common.{◌≡◌, ◌<◌, [], cond, length, refl, sym, ap, subst, ◌∙◌}
+use Rattle.std.proofs.Common.{◌≡◌, ◌<◌, ◌^◌, [], cond, length, refl, sym, ap, subst, ◌∙◌, arith}
 use Rattle.std.proofs.lemmas.Result.{IfOk-weaker}
 use Rattle.std.specs.Ordering.{is_eq}
 use Rattle.reduce_groups.specs.Groups.{AreSound, AllLevels, entries_at}
@@ -21,7 +21,8 @@ returns-then-is_empty-clause-lower g c = IfOk-weaker c.without.result _ _ (λ ts
 pub returns-clause-sound : goal.returns-clause-sound
 returns-clause-sound g c =
     let some : 0 < length c.args.tree.entries = some_from c.args.tree.entries (λ e. cc (c.if-is_empty.ensures.1 e)) in
-    let all = sound_inserted g.G.Ord.cmp c.args.fold.now c.args.group.now c.args.tree c.args.trees.now c.requires.sound c.requires.fold some c.requires.filled in
+    let few : length c.args.tree.entries < 2 ^ 64 = omega (arith, c.len-entries.ensures) in
+    let all = sound_inserted g.G.Ord.cmp c.args.fold.now c.args.group.now c.args.tree c.args.trees.now c.requires.sound c.requires.fold some c.requires.filled few in
     IfOk-weaker c.trees_and.result _ _ (λ ts e. subst (AreSound c.args.fold.now) (sym e) all) c.trees_and.ensures
 
 pub returns-clause-entries : goal.returns-clause-entries

@@ -1,0 +1,11 @@
+-- The order of keys is total, and only equal keys are alike.
+use Rattle.std.specs.Cmp.{IsTotalOrder}
+use Rattle.std.specs.FinMap.{IsAntisymmetric}
+use Rattle.spec_reduce.specs.Rows.{key_order}
+use Rattle.spec_reduce.proofs.Ties.{key_order-total, key_ties}
+
+pub keys_total : IsTotalOrder key_order
+keys_total = key_order-total
+
+pub keys_tie : IsAntisymmetric key_order
+keys_tie = key_ties

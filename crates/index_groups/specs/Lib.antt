@@ -1,0 +1,4 @@
+pub mod KeyLaws
+pub mod Cells
+pub mod Groups
+pub mod Trees

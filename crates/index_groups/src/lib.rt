@@ -1,0 +1,9 @@
+//! The groups of an index whose definition has a reduce, and the rows that they give.
+#![tactic(auto)]
+
+mod groups;
+mod key;
+mod query;
+mod row;
+
+pub use groups::IndexGroups;
