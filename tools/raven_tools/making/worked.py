@@ -1,5 +1,5 @@
 """Cases of the language of definitions that were worked out by hand. `tools/test_language.py` compares the language with them,
-`tools/check-index-cases.py` the table of `crates/index_cases`, and `case_scripts` makes scripts of them."""
+`tools/check-text-cases.py` the table of `crates/text_cases`, and `case_scripts` makes scripts of them."""
 
 from raven_tools import language
 

@@ -1,4 +1,5 @@
-//! A table of definitions, and the answers to its lines.
+//! A table of texts, and the answers to its lines.
+use crate::queries::query_answer;
 use anyhow::{Context, Result, bail};
 use index_lang::{DefBody, Definition, LangRefusal, fields, parse, row_body, same, scope};
 use index_print::{print_map, print_reduce};
@@ -44,6 +45,7 @@ impl Table {
             "reads" => list(alloc, &scope(alloc, self.last()?)?),
             "fields" => list(alloc, &fields(alloc, self.last()?)?),
             "row" => written(alloc, &row_body(alloc, self.last()?)?),
+            "query" => query_answer(alloc, text),
             _ => bail!("no line of a table begins with {word:?}"),
         }
     }

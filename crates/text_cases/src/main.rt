@@ -1,4 +1,4 @@
-//! The program `index_cases`: it reads a table of definitions, and prints each line and, indented, what the language answers to it.
+//! The program `text_cases`: it reads a table of texts of definitions and queries, and prints each line and, indented, what the answer to it is.
 //!
 //! | Line | Answer |
 //! |---|---|
@@ -9,12 +9,14 @@
 //! | `reads` | the collections that the last definition reads |
 //! | `fields` | the names of its fields |
 //! | `row` | the body of the row that is put for it |
+//! | `query TEXT` | the canonical text of this query, or `refused Query PLACE KIND` |
 //!
 //! An empty line and one that begins with `#` have no answer; any other line ends the program with an error. In each line `⟨XX⟩` means
 //! bytes, two hex digits each, and `⟨N*TEXT⟩` for N copies of the text.
 #![tactic(auto)]
 
 mod marks;
+mod queries;
 mod table;
 
 use anyhow::Result;

@@ -1,16 +1,16 @@
-"""Compares the table of `crates/index_cases` with a second reading of the rules of the language."""
+"""Compares the table of `crates/text_cases` with a second reading of the rules of both languages."""
 
 import collections.abc
 import difflib
 import re
 import sys
 
-from raven_tools import language
+from raven_tools import language, queries
 from raven_tools.language import definitions, reduces
-from raven_tools.making import worked
+from raven_tools.making import worked, worked_queries
 from raven_tools.places import CRATES
 
-CRATE = CRATES / "index_cases"
+CRATE = CRATES / "text_cases"
 
 MARK = re.compile("⟨(?:([0-9]+)\\*([^⟩]*)|([0-9a-f]+))⟩")
 
@@ -37,6 +37,8 @@ class Table:
             return self.read(None)
         if word == "reduce":
             return self.read(text)
+        if word == "query":
+            return query(text)
         if word == "auto":
             collection, *paths = text.split(" ")
             self.definitions.append(definitions.Auto(collection, tuple(path.split(".") for path in paths)))
@@ -55,6 +57,13 @@ class Table:
         if definition.reduce:
             return "reduce " + reduces.printed(definition.reduce)
         return "map " + language.printed(definition.map)
+
+
+def query(text: str) -> str:
+    try:
+        return "query " + queries.printed(queries.parse(text))
+    except queries.Refusal as refusal:
+        return refused("Query", refusal.at, refusal.kind)
 
 
 def answers(lines: collections.abc.Iterable[str]) -> list[str | None]:
@@ -90,6 +99,10 @@ def by_hand() -> collections.abc.Iterator[tuple[list[str], str]]:
         yield ["map " + worked.REDUCED_MAP, line_of("reduce", text)], refused(*refusal)
     for map_text, reduce_text, *refusal in worked.BOTH:
         yield ["map " + map_text, "reduce " + reduce_text], refused(*refusal)
+    for text, printed in worked_queries.PRINTED:
+        yield ["query " + text], "query " + printed
+    for text, at, kind in worked_queries.REFUSED:
+        yield [line_of("query", text)], refused("Query", at, kind)
 
 
 def disagreements(lines: list[str]) -> collections.abc.Iterator[str]:

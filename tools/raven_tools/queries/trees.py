@@ -1,0 +1,29 @@
+"""What a query says, as a tree."""
+
+import dataclasses
+
+Path = tuple[str, ...]
+# ("path", parts), ("count",) or ("sum", parts)
+Field = tuple
+# ("text", t), ("number", n), ("true",), ("false",), ("null",) or ("parameter", name)
+Value = tuple
+# ("or", a, b), ("and", a, b), ("not", a), ("exact", a), ("true",), ("startsWith", field, value), ("exists", field),
+# ("compare", field, sign, value), ("between", field, value, value) or ("in", field, values)
+Condition = tuple
+
+
+@dataclasses.dataclass
+class Sort:
+    field: Field
+    is_long: bool = False
+    is_down: bool = False
+
+
+@dataclasses.dataclass
+class Query:
+    origin: tuple[str, str]  # ("index" or "collection", its name)
+    groups: list[Path] = dataclasses.field(default_factory=list)
+    condition: Condition | None = None
+    sorts: list[Sort] = dataclasses.field(default_factory=list)
+    columns: list[tuple[Field, str | None]] = dataclasses.field(default_factory=list)
+    includes: list[Path] = dataclasses.field(default_factory=list)
