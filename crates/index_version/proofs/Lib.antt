@@ -8,3 +8,5 @@ pub mod Meanings
 pub mod Walking
 pub mod Tallies
 pub mod Words
+pub mod GroupChanges
+pub mod Reducing

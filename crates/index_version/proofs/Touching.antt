@@ -12,6 +12,7 @@ use Rattle.std.proofs.lemmas.List.Folds.{list_any-append}
 use Rattle.spec_data.specs.Folding.{folded, key_cmp, same_key}
 use Rattle.spec_data.specs.Rows.{Row, key}
 use Rattle.spec_data.specs.Tables.{Table, note_rows}
+use Rattle.spec_store.specs.Store.{row_at}
 use Rattle.index_tree.specs.Mapper.{Mapper, is_mapped}
 use Rattle.spec_index.specs.Mapping.{is_in_batch, loads_taken, touched}
 use Rattle.spec_store.proofs.TableLemmas.{tied}
@@ -21,6 +22,7 @@ use Rattle.paged_map.specs.Pairs.{IsRising}
 use Rattle.reference_track.specs.Sets.{AreInOrder, IsBelowAll, is_one_of}
 use Rattle.reference_track.specs.Tracks.{Track, is_pair}
 use Rattle.index_version.specs.Kept.{AreKept, Given, IsFiled, given_at, given_of, is_loaded}
+use Rattle.index_version.specs.Reduced.{KeepCollections}
 use Rattle.index_version.specs.Renewed.{documents_among, mapped_among}
 use Rattle.index_version.proofs.Keeping.{filed_rows}
 use Rattle.index_version.proofs.Ordered.{entries_rise, none_past}
@@ -163,6 +165,20 @@ covered true taken loads f h = refl
 covered false true loads f h = absurd (f refl refl)
 covered false false loads f h = h
 
+-- the row of an id is among the rows that are mapped, if it is mapped
+among_mapped : (m : Mapper) (rows : List Row) (q : List ℕ) (r : Row) → row_at q rows ≡ Some r → is_mapped m r ≡ true → list_any (same_key q) (map key (filter (is_mapped m) rows)) ≡ true
+among_mapped m [] q r is mapped = absurd (cc is)
+among_mapped m (x ∷ rows) q r is mapped =
+    elim (same_key q (key x)) as (λ b. same_key q (key x) ≡ b → cond b (Some x) (row_at q rows) ≡ Some r → list_any (same_key q) (map key (cond (is_mapped m x) (x ∷ filter (is_mapped m) rows) (filter (is_mapped m) rows))) ≡ true) [
+      | true ↦ λ e g. let same : x ≡ r = cc g in
+          ap (λ b. list_any (same_key q) (map key (cond b (x ∷ filter (is_mapped m) rows) (filter (is_mapped m) rows)))) (ap (is_mapped m) same ∙ mapped) ∙ ap (λ b. b || list_any (same_key q) (map key (filter (is_mapped m) rows))) e
+      | false ↦ λ e g. passed (is_mapped m x) (among_mapped m rows q r g mapped)
+    ] refl is
+  where
+    passed : (b : Bool) → list_any (same_key q) (map key (filter (is_mapped m) rows)) ≡ true → list_any (same_key q) (map key (cond b (x ∷ filter (is_mapped m) rows) (filter (is_mapped m) rows))) ≡ true
+    passed true h = elim (same_key q (key x)) as (λ b. (b || list_any (same_key q) (map key (filter (is_mapped m) rows))) ≡ true) [ true ↦ refl | false ↦ h ]
+    passed false h = h
+
 -- those of them that are mapped afterwards are touched
 pub mapped_touched : (m : Mapper) (T : Table) (G : FinMap key_cmp Given) (L : Track) (rows : List Row) (ids : List (List ℕ)) → AreKept m T G L → AreTouched L rows ids
     → (q : List ℕ) → is_some (given_at m (note_rows T rows) q) ≡ true → list_any (same_key q) (map folded ids) ≡ true → list_any (same_key q) (touched m T rows) ≡ true
@@ -179,17 +195,45 @@ mapped_touched m T G L rows ids kept are q some h = elim (same_key q (folded q))
     test : Row → Bool
     test d = is_mapped m d && loads_taken m T rows d && not (is_in_batch rows (key d))
 
+-- those of them that were mapped before are touched too, if no row is of another collection than the document of its id
+pub touched_before : (m : Mapper) (T : Table) (G : FinMap key_cmp Given) (L : Track) (rows : List Row) (ids : List (List ℕ)) → AreKept m T G L → AreTouched L rows ids → KeepCollections m T rows
+    → (q : List ℕ) → is_some (given_at m T q) ≡ true → list_any (same_key q) (map folded ids) ≡ true → list_any (same_key q) (touched m T rows) ≡ true
+touched_before m T G L rows ids kept are keeps q some h = elim (same_key q (folded q)) as (λ b. same_key q (folded q) ≡ b → list_any (same_key q) (touched m T rows) ≡ true) [
+  | true ↦ λ e.
+      list_any-append (same_key q) (map key (filter (is_mapped m) rows)) (map key (filter test (values T)))
+      ∙ ap (λ b. list_any (same_key q) (map key (filter (is_mapped m) rows)) || b) (any_value test q T kept.filed ∙ loading m T rows q kept.filed)
+      ∙ covered (list_any (same_key q) (map key (filter (is_mapped m) rows))) (is_in_batch rows q) (list_any (λ r. is_loaded (key r) (given_at m T q)) rows)
+      (λ taken none. let one = mapped_row (row_at q rows) refl taken in let f = sym none ∙ among_mapped m rows q one.0 one.1.0 one.1.1 in cc)
+      (sym (reached m T G L rows ids kept are q (same_means q (folded q) e)) ∙ h)
+  | false ↦ λ e. absurd (let none = none_unfolded q ids e in cc)
+] refl
+  where
+    test : Row → Bool
+    test d = is_mapped m d && loads_taken m T rows d && not (is_in_batch rows (key d))
+
+    if_given : (t : Row) (b : Bool) → is_some (let given : Option Given = cond b (Some (record { id = t.id; mapped = m.meaning t T })) None in given) ≡ true → b ≡ true
+    if_given t true g = refl
+    if_given t false g = g
+
+    mapped_here : (t : Option Row) → get T q ≡ t → is_some (option_and_then (given_of m T) t) ≡ true → (r : Row) → row_at q rows ≡ Some r → is_mapped m r ≡ true
+    mapped_here None e g r is = absurd (cc g)
+    mapped_here (Some t) e g r is = sym (keeps q r t is e) ∙ if_given t (is_mapped m t) g
+
+    mapped_row : (o : Option Row) → row_at q rows ≡ o → is_some o ≡ true → (r : Row) × ((row_at q rows ≡ Some r) × (is_mapped m r ≡ true))
+    mapped_row None e g = absurd (cc g)
+    mapped_row (Some r) e g = (r, (e, mapped_here (get T q) refl some r e))
+
 -- HOW MANY
 
 abbrev AreOnce : List (List ℕ) → Type 0
 AreOnce [] = Unit {0}
 AreOnce (x ∷ xs) = (list_any (same_key x) xs ≡ false) × AreOnce xs
 
-below_none : (x : List ℕ) (ids : List (List ℕ)) → IsBelowAll x ids → list_any (same_key (folded x)) (map folded ids) ≡ false
+pub below_none : (x : List ℕ) (ids : List (List ℕ)) → IsBelowAll x ids → list_any (same_key (folded x)) (map folded ids) ≡ false
 below_none x [] h = refl
 below_none x (y ∷ ids) h = ap (λ b. b || list_any (same_key (folded x)) (map folded ids)) (differ_less (folded x) (folded y) h.0) ∙ below_none x ids h.1
 
-once : (ids : List (List ℕ)) → AreInOrder ids → AreOnce (map folded ids)
+pub once : (ids : List (List ℕ)) → AreInOrder ids → AreOnce (map folded ids)
 once [] h = tt
 once (x ∷ ids) h = (below_none x ids h.0, once ids h.1)
 
@@ -222,7 +266,7 @@ still_there q x (y ∷ ys) n h = elim (same_key x y) as (λ b. same_key x y ≡ 
   | false ↦ λ e. elim (same_key q y) as (λ b. (b || list_any (same_key q) ys) ≡ true → (b || list_any (same_key q) (beside x ys)) ≡ true) [ true ↦ λ g. refl | false ↦ λ g. still_there q x ys n g ] h
 ] refl
 
-few : (p : List ℕ → Bool) (xs ys : List (List ℕ)) → AreOnce xs → ((q : List ℕ) → p q ≡ true → list_any (same_key q) xs ≡ true → list_any (same_key q) ys ≡ true) → length (filter p xs) ≤ length (filter p ys)
+pub few : (p : List ℕ → Bool) (xs ys : List (List ℕ)) → AreOnce xs → ((q : List ℕ) → p q ≡ true → list_any (same_key q) xs ≡ true → list_any (same_key q) ys ≡ true) → length (filter p xs) ≤ length (filter p ys)
 few p [] ys o all = omega arith
 few p (x ∷ xs) ys o all =
     let rest : length (filter p xs) ≤ length (filter p (beside x ys)) = few p xs (beside x ys) o.1 (λ q is h. still_there q x ys (other q h) (all q is (there q h))) in

@@ -1,5 +1,5 @@
 -- What an index stores of what its map has given.
-use Rattle.std.specs.Prelude.{◌≡◌, ℕ, List, Bool, true, false, Option, Some, None, if◌then◌else◌, length, refl}
+use Rattle.std.specs.Prelude.{◌≡◌, ℕ, List, [], Bool, true, false, Option, Some, None, if◌then◌else◌, length, refl}
 use Rattle.std.specs.Coded.{Coded, coded×, code_by}
 use Rattle.std.specs.FinMap.{FinMap, get}
 use Rattle.std.specs.List.{count_by, filter_map, list_any}
@@ -38,6 +38,12 @@ abbrev pub has_entry : Outcome → Bool
 has_entry (Entry fields) = true
 has_entry NoEntry = false
 has_entry Failed = false
+
+-- the fields of its entry, none if it has no entry
+abbrev pub outcome_fields : Outcome → Fields
+outcome_fields (Entry fields) = fields
+outcome_fields NoEntry = []
+outcome_fields Failed = []
 
 -- it has an entry whose field is that text, without regard to case
 abbrev pub outcome_has_words : List ℕ → List ℕ → Outcome → Bool

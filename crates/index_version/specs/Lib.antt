@@ -3,3 +3,4 @@ pub mod Meaning
 pub mod Named
 pub mod Kept
 pub mod Renewed
+pub mod Reduced

@@ -1,7 +1,8 @@
 -- What is mapped again when an index takes rows, and how often the map is asked.
-use Rattle.std.specs.Prelude.{◌≡◌, ℕ, List, cond, is_some, filter}
+use Rattle.std.specs.Prelude.{◌≡◌, ◌≤◌, ◌+◌, ℕ, List, cond, is_some, filter}
 use Rattle.std.specs.FinMap.{FinMap, get}
 use Rattle.std.specs.List.{list_any}
+use Rattle.raven_base.specs.Counts.{Counts}
 use Rattle.spec_data.specs.Folding.{folded, key_cmp, same_key}
 use Rattle.spec_data.specs.Rows.{Row}
 use Rattle.spec_data.specs.Tables.{Table, note_rows}
@@ -30,3 +31,9 @@ documents_among T ids = filter (λ q. is_some (get T q)) ids
 -- the documents that these rows touch, once the index has taken them
 abbrev pub touched_documents : Version → List Row → List (List ℕ)
 touched_documents v taken = documents_among (note_rows v.table taken) (touched (mapper_of v.definition) v.table taken)
+
+-- at most so many maps were counted, and nothing else
+pub record MapsAtMost (most : ℕ) (before after : Counts) : Type 0 where
+  pub maps : after.maps ≤ before.maps + most
+  pub merges : after.merges ≡ before.merges
+  pub reads : after.reads ≡ before.reads

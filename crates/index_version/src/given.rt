@@ -1,15 +1,18 @@
 //! What the map of an index has given for a document.
-ghost use Rattle.std.specs.Prelude.{◌≡◌, Some, false, map};
+ghost use Rattle.std.specs.Prelude.{◌≡◌, Some, false, map, option_map};
 ghost use Rattle.spec_data.specs.Folding.{folded};
 ghost use Rattle.spec_data.specs.Scalars.{holds, Is, words as spec_words};
 ghost use Rattle.spec_index.specs.Find.{field_is_text};
 ghost use Rattle.raven_value.specs.ScalarView.{scalar_view};
+ghost use Rattle.index_tree.specs.Meaning.{field_named};
 ghost use Rattle.map_stage.specs.MappedView.{mapped_view, outcome_view};
 ghost use Rattle.map_stage.specs.Words.{OutcomeHasWords};
-ghost use Rattle.index_version.specs.Kept.{is_entry, is_failure, one_if, outcome_has_words};
+ghost use Rattle.index_version.specs.Kept.{has_entry, is_entry, is_failure, one_if, outcome_fields, outcome_has_words};
+ghost use Rattle.index_version.specs.Reduced.{fields_given};
 
 use map_stage::{Entry, Mapped, Outcome};
-use raven_value::{Id, Ids, Scalar};
+use raven_value::{Id, Ids, Scalar, Text};
+use reduce_folds::HasFields;
 use std::marker::Model;
 
 /// How many entries there are, and how many failures.
@@ -74,6 +77,14 @@ impl Given {
         &self.mapped.loads
     }
 
+    /// Whether it has an entry.
+    pub fn has_entry(&self) -> bool
+        ensures entry { result ≡ has_entry self.now.mapped.outcome }
+        ensures words { OutcomeHasWords self.now.mapped.outcome }
+    {
+        matches!(self.mapped.outcome, Outcome::Entry(_))
+    }
+
     /// What it counts for.
     pub fn tally(&self) -> Tally
         ensures entries { result.entries ≡ one_if is_entry (Some self.now) }
@@ -97,6 +108,24 @@ impl Given {
         ensures { result ≡ outcome_has_words field.now words.now self.now.mapped.outcome }
     {
         outcome_has_words(&self.mapped.outcome, field, words)
+    }
+}
+
+/// A document without an entry has no fields.
+impl HasFields for Given {
+    ghost fields = { fields_given };
+
+    fn field(&self, name: &Text) -> Option<&Scalar> {
+        field_in(&self.mapped.outcome, name)
+    }
+}
+
+fn field_in<'a>(outcome: &'a Outcome, name: &Text) -> Option<&'a Scalar>
+    ensures { option_map (λ v. scalar_view v.now) result ≡ field_named name.now (outcome_fields (outcome_view outcome.now)) }
+{
+    match outcome {
+        Outcome::Entry(entry) => entry.get(name.as_str()),
+        _ => None,
     }
 }
 

@@ -4,6 +4,7 @@
 mod given;
 mod kept;
 mod mapping;
+mod regrouping;
 mod renewal;
 mod results;
 mod table;

@@ -2,6 +2,7 @@
 ghost use Rattle.std.specs.Prelude.{◌≡◌, [], length, IfOk};
 ghost use Rattle.std.specs.List.{count_by, filter_map};
 ghost use Rattle.std.specs.Map.{lookup, remove_entry, values_of};
+ghost use Rattle.std.specs.Option.{option_copied};
 ghost use Rattle.std.specs.BTreeMap.{insert_entry, is_at};
 ghost use Rattle.paged_map.specs.Pairs.{IsRising};
 ghost use Rattle.reference_track.specs.Sets.{id_cmp};
@@ -94,6 +95,13 @@ impl Results {
             given: all.take_out(alloc, id)?,
             tally: Tally { entries, errors },
         })
+    }
+
+    /// The result at an id, if there is one.
+    pub fn get(&self, id: &Id) -> Option<&Shared<Given>>
+        ensures { option_copied result ≡ lookup (is_at (id_cmp id.now)) self.now }
+    {
+        self.given.get(id)
     }
 
     /// How many entries there are.

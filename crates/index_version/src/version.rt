@@ -1,21 +1,24 @@
 //! How far an index has come.
-ghost use Rattle.std.specs.Prelude.{◌≡◌, ◌+◌, ◌≤◌, IfOk, length};
+ghost use Rattle.std.specs.Prelude.{◌≡◌, ◌+◌, ◌*◌, ◌≤◌, ℕ, None, IfOk, OnOk, length};
+ghost use Rattle.std.specs.List.{slice_get};
 ghost use Rattle.spec_data.specs.Tables.{note_rows};
 ghost use Rattle.spec_index.specs.Find.{found_in};
-ghost use Rattle.spec_index.specs.Mapping.{failures, scratch};
+ghost use Rattle.spec_index.specs.Mapping.{failures, scratch, touched};
 ghost use Rattle.index_tree.specs.Mapper.{mapper_of};
 ghost use Rattle.spec_index.specs.World.{new_version, reads};
 ghost use Rattle.index_definition.specs.DefinitionView.{definition_view};
 ghost use Rattle.index_version.specs.Meaning.{Means};
-ghost use Rattle.index_version.specs.Renewed.{touched_documents};
+ghost use Rattle.index_version.specs.Reduced.{HasSmallGroups, KeepCollections, reduce_of, rows_of};
+ghost use Rattle.index_version.specs.Renewed.{MapsAtMost, touched_documents};
 
 use crate::kept::Kept;
+use crate::regrouping::{GivenGroups, no_groups, regrouped};
 use crate::renewal::renewed;
 use crate::table::Table;
 use crate::touched::touched_ids;
 use index_definition::{Definition, scope};
-use map_stage::Mapper;
-use raven_base::{NoMemory, Steps};
+use map_stage::{Entry, Mapper};
+use raven_base::{NoMemory, Sequence, Steps};
 use raven_value::{Ids, Row, Scope};
 use std::alloc::Global;
 use std::marker::Model;
@@ -31,13 +34,15 @@ fn share(definition: &Arc<Definition>) -> Result<Arc<Definition>, NoMemory>
 
 /// An index as far as it has come, seen by contracts as its definition with its name, its etag and the documents that it has
 /// recorded.
-/// Its entries are those that its map gives over these documents from scratch, and its errors those that fail there.
+/// Its entries are those that its map gives over these documents from scratch, and its errors those that fail there. If the
+/// definition has a reduce, its rows are those that the reduce gives for these entries.
 #[derive(Drop)]
 pub struct IndexVersion {
     definition: Arc<Definition>,
     etag: u64,
     table: Table,
     kept: Kept,
+    groups: Option<GivenGroups>,
 }
 
 impl Model for IndexVersion {
@@ -45,6 +50,7 @@ impl Model for IndexVersion {
     ghost use Rattle.index_tree.specs.Mapper.{mapper_of};
     ghost use Rattle.reference_track.specs.Folded.{by_folded};
     ghost use Rattle.index_version.specs.Kept.{AreKept};
+    ghost use Rattle.index_version.specs.Reduced.{AreReduced, reduce_of};
 
     ghost Value = { NamedVersion };
 
@@ -57,7 +63,7 @@ impl Model for IndexVersion {
       version = record { definition = definition_view a.definition.value.body; etag = a.etag; table = a.table };
     } };
 
-    ghost invariant = { λ a. AreKept (mapper_of (definition_view a.definition.value.body)) a.table (by_folded a.kept.given) a.kept.referrers };
+    ghost invariant = { λ a. AreKept (mapper_of (definition_view a.definition.value.body)) a.table (by_folded a.kept.given) a.kept.referrers × AreReduced (reduce_of (definition_view a.definition.value.body)) (by_folded a.kept.given) a.groups };
 }
 
 impl IndexVersion {
@@ -66,11 +72,13 @@ impl IndexVersion {
         ensures name { IfOk result (λ index. index.name ≡ definition.value.name) }
         ensures version { IfOk result (λ index. index.version ≡ new_version (definition_view definition.value.body)) }
     {
+        let groups = no_groups(alloc, &definition)?;
         Ok(IndexVersion {
             definition,
             etag: 0,
             table: Table::new(alloc)?,
             kept: Kept::new(alloc)?,
+            groups,
         })
     }
 
@@ -78,7 +86,8 @@ impl IndexVersion {
     ///
     /// The map is asked for the documents that these rows touch, each at most once, and for no others: for those that are taken,
     /// and for those that have looked a taken id up. Time and memory grow with the number of these, times the logarithm of the
-    /// number of documents.
+    /// number of documents. If the definition has a reduce, rows are merged on the way from each changed entry to the root of the
+    /// tree of its group; if not, none are.
     pub fn after<M: Mapper, L: Ledger>(
         &self,
         alloc: Global,
@@ -90,20 +99,24 @@ impl IndexVersion {
         requires means { Means (M.meaning mapper.now) self.now.version.definition }
         ensures name { IfOk result (λ index. index.name ≡ self.now.name) }
         ensures version { IfOk result (λ index. index.version ≡ record self.now.version { etag = etag; table = note_rows self.now.version.table taken.now }) }
-        ensures maps { steps.new.maps ≤ steps.old.maps + length (touched_documents self.now.version taken.now) }
-        ensures merges { steps.new.merges ≡ steps.old.merges }
-        ensures reads { steps.new.reads ≡ steps.old.reads }
+        ensures maps { OnOk result (steps.new.maps ≤ steps.old.maps + length (touched_documents self.now.version taken.now)) }
+        ensures reads { OnOk result (steps.new.reads ≡ steps.old.reads) }
+        ensures plain { reduce_of self.now.version.definition ≡ None → MapsAtMost (length (touched_documents self.now.version taken.now)) steps.old steps.new }
+        ensures merges { IfOk result (λ index. (h : ℕ) → 1 ≤ h → KeepCollections (mapper_of self.now.version.definition) self.now.version.table taken.now → HasSmallGroups h self.now.version → HasSmallGroups h index.version →
+            steps.new.merges ≤ steps.old.merges + 128 * length (touched (mapper_of self.now.version.definition) self.now.version.table taken.now) * (h + 1)) }
     {
         let definition = &self.definition;
         let ids = touched_ids(alloc, &self.kept.referrers, taken)?;
         let table = self.table.after(alloc, taken)?;
         let ids = ids.as_slice();
         let kept = renewed(alloc, &self.kept, ids, &table, definition, mapper, steps)?;
+        let groups = regrouped(alloc, &self.groups, &self.kept, &kept, ids, steps)?;
         Ok(IndexVersion {
             definition: share(definition)?,
             etag,
             table,
             kept,
+            groups,
         })
     }
 
@@ -136,14 +149,14 @@ impl IndexVersion {
         scope(alloc, &self.definition)
     }
 
-    /// How many entries it has. It walks over what the map has given.
+    /// How many entries it has. The number is kept.
     pub fn entries(&self) -> u64
         ensures { result ≡ length (scratch (mapper_of self.now.version.definition) self.now.version.table) }
     {
         self.kept.entries()
     }
 
-    /// How many of its documents have no entry because their map failed. It walks over what the map has given.
+    /// How many of its documents have no entry because their map failed. The number is kept.
     pub fn errors(&self) -> u64
         ensures { result ≡ failures (mapper_of self.now.version.definition) self.now.version.table }
     {
@@ -155,5 +168,35 @@ impl IndexVersion {
         ensures { IfOk result (λ ids. ids ≡ found_in (mapper_of self.now.version.definition) self.now.version.table field.now words.now) }
     {
         Ok(self.kept.find(alloc, field, words)?)
+    }
+
+    /// How many rows it has, 0 if the definition has no reduce.
+    pub fn groups(&self) -> u64
+        ensures { result ≡ length (rows_of self.now.version.definition self.now.version.table) }
+    {
+        match &self.groups {
+            Some(groups) => groups.len(),
+            None => 0,
+        }
+    }
+
+    /// The row at a place in the order of the keys. There is none if there are no more rows than that. It walks to that place.
+    pub fn row(&self, alloc: Global, place: u64) -> Result<Option<Entry>, NoMemory>
+        ensures { IfOk result (λ row. row ≡ slice_get (rows_of self.now.version.definition self.now.version.table) place) }
+    {
+        match &self.groups {
+            Some(groups) => groups.row(alloc, place),
+            None => Ok(None),
+        }
+    }
+
+    /// The rows that the reduce gives for its entries, in the order of their keys; none if the definition has no reduce.
+    pub fn rows(&self, alloc: Global) -> Result<Sequence<Entry>, NoMemory>
+        ensures { IfOk result (λ rows. rows ≡ rows_of self.now.version.definition self.now.version.table) }
+    {
+        match &self.groups {
+            Some(groups) => groups.rows(alloc),
+            None => Ok(Sequence::new(alloc)),
+        }
     }
 }

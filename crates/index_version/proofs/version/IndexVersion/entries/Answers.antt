@@ -12,5 +12,5 @@ pub returns : goal.returns
 returns c =
     c.entries.ensures.count
     ∙ ap (λ gs. length (filter_map entry_given gs)) (sym (values-by_folded c.self.inside.kept.given c.entries.ensures.rising))
-    ∙ ap length (entries_kept _ _ _ c.self.inside.kept.referrers c.self.invariant)
+    ∙ ap length (entries_kept _ _ _ c.self.inside.kept.referrers c.self.invariant.0)
     ∙ ap (λ (v : NamedVersion). length (scratch (mapper_of v.version.definition) v.version.table)) c.self.view_is

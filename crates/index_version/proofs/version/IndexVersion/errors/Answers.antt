@@ -12,5 +12,5 @@ pub returns : goal.returns
 returns c =
     c.errors.ensures.count
     ∙ ap (count_by (λ (g : Given). has_failed g.mapped.outcome)) (sym (values-by_folded c.self.inside.kept.given c.errors.ensures.rising))
-    ∙ failures_kept _ _ _ c.self.inside.kept.referrers c.self.invariant
+    ∙ failures_kept _ _ _ c.self.inside.kept.referrers c.self.invariant.0
     ∙ ap (λ (v : NamedVersion). failures (mapper_of v.version.definition) v.version.table) c.self.view_is

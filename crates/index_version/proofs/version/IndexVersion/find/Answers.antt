@@ -12,5 +12,5 @@ pub returns : goal.returns
 returns c =
     c.in_ok-find.ensures.ids
     ∙ ap (λ gs. found (filter_map entry_given gs) c.args.field.now c.args.words.now) (sym (values-by_folded c.self.inside.kept.given c.in_ok-find.ensures.rising))
-    ∙ ap (λ es. found es c.args.field.now c.args.words.now) (entries_kept _ _ _ c.self.inside.kept.referrers c.self.invariant)
+    ∙ ap (λ es. found es c.args.field.now c.args.words.now) (entries_kept _ _ _ c.self.inside.kept.referrers c.self.invariant.0)
     ∙ ap (λ (v : NamedVersion). found_in (mapper_of v.version.definition) v.version.table c.args.field.now c.args.words.now) c.self.view_is
