@@ -42,25 +42,3 @@ small_trees {V} query f fold trees g is rises seen h small = all_small h trees (
         let long : length (entries_at key_order q trees) ≡ length (group query.key q (map f (values_of is.all))) =
         ap length (is.grouped q) ∙ sym (as_long (λ (e : List ℕ × V). e.1) own) ∙ sym (as_long f (values_of own)) ∙ ap length (group_is f query.key q is.all) in
         omega (arith, long, here q)
-
--- SOME BOUND
-
--- a power of 16 is past its exponent
-large : (n : ℕ) → n ≤ 16 ^ n
-large zero = omega arith
-large (suc zero) = omega arith
-large (suc (suc n)) = let r = large (suc n) in omega (arith, r)
-
-bounded : {F G V : Type 0} (h : ℕ) (ts : List (G × Tree F (List ℕ) V)) → length (all_entries ts) ≤ h → AllSmall h ts
-bounded h [] l = tt
-bounded h (t ∷ ts) l =
-    let both : length (t.1.entries ++ all_entries ts) ≡ length t.1.entries + length (all_entries ts) = length-append t.1.entries (all_entries ts) in
-    (omega (arith, both, l, large h), bounded h ts (omega (arith, both, l)))
-
--- a change counts merges alone, however large the groups are
-pub only_merges : {F G V : Type 0} (before after : List (G × Tree F (List ℕ) V)) (old new : Counts) (most : ℕ → ℕ) →
-    ((h : ℕ) → 1 ≤ h → AllSmall h before → AllSmall h after → MergesAtMost (most h) old new) → (new.maps ≡ old.maps) × (new.reads ≡ old.reads)
-only_merges before after old new most told =
-    let h = suc (length (all_entries before) + length (all_entries after)) in
-    let m = told h (omega arith) (bounded h before (omega arith)) (bounded h after (omega arith)) in
-    (m.maps, m.reads)

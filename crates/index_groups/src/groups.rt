@@ -1,5 +1,5 @@
 //! The groups.
-ghost use Rattle.std.specs.Prelude.{◌≡◌, ◌≤◌, ◌+◌, ◌*◌, ℕ, IfOk, OnOk, length, map};
+ghost use Rattle.std.specs.Prelude.{◌≡◌, ◌≤◌, ◌+◌, ◌*◌, ℕ, IfOk, length, map};
 ghost use Rattle.std.specs.FinMap.{empty, values};
 ghost use Rattle.std.specs.List.{slice_get};
 ghost use Rattle.paged_map.specs.Merges.{MergesAtMost};
@@ -122,8 +122,8 @@ impl<E: HasFields + Exact + Drop> IndexGroups<E> {
         ensures query { IfOk result (λ groups. groups.query ≡ self.now.query) }
         ensures entries { IfOk result (λ groups. groups.entries ≡ with_all (without_all self.now.entries (fields_of E.fields gone.items)) (fields_of E.fields come.items)) }
         ensures merges { IfOk result (λ groups. (m h : ℕ) → length gone.items ≤ m → length come.items ≤ m → 1 ≤ h → AreSmall h self.now → AreSmall h groups → MergesAtMost (128 * m * (h + 1)) steps.old steps.new) }
-        ensures maps { OnOk result (steps.new.maps ≡ steps.old.maps) }
-        ensures reads { OnOk result (steps.new.reads ≡ steps.old.reads) }
+        ensures maps { steps.new.maps ≡ steps.old.maps }
+        ensures reads { steps.new.reads ≡ steps.old.reads }
     {
         let names = self.query.get().key.as_slice();
         let removed = removals(alloc, names, gone)?;

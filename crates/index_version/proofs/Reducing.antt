@@ -22,7 +22,7 @@ use Rattle.index_groups.specs.Groups.{AreSmall, Entries, Grouped}
 use Rattle.reference_track.specs.Folded.{by_folded}
 use Rattle.index_version.specs.Kept.{AreKept, Given, entry_given, given_at}
 use Rattle.index_version.specs.Reduced.{AreReduced, AreSmallBy, HasEntries, HasSmallGroups, KeepCollections, entries_at, entries_of, fields_given, no_entries, reduce_of, rows_by, with_entry}
-use Rattle.index_version.specs.Renewed.{AreRenewed, MapsAtMost}
+use Rattle.index_version.specs.Renewed.{AreRenewed}
 use Rattle.index_version.proofs.Keeping.{entries_kept}
 use Rattle.index_version.proofs.Ordered.{values_derived}
 use Rattle.index_version.proofs.GroupChanges.{few_entries}
@@ -128,9 +128,6 @@ module _ (m : Mapper) (T : Table) (L : Track) (rows : List Row) (ids : List (Lis
 
 -- WHAT IS COUNTED
 
-pub nothing_counted : (most : ℕ) (a : Counts) → MapsAtMost most a a
-nothing_counted most a = record { maps = omega arith; merges = refl; reads = refl }
-
 -- groups that are not there cost nothing
 pub ungrouped : (query : Option ReduceQuery) (G : FinMap key_cmp Given) (groups : Option Grouped) → AreReduced query G groups → query ≡ None → groups ≡ None
 ungrouped query G groups is none = by groups (is.queries ∙ none)
@@ -148,10 +145,10 @@ pub reduced_taken : (d shared : Definition) (before after : List (List ℕ × Gi
     → IfSome new (HasEntries (by_folded after)) → AreReduced (reduce_of shared) (by_folded after) new
 reduced_taken d shared before after groups new is same queries entries = record { queries = queries ∙ is.queries ∙ ap reduce_of (sym same); entries = entries }
 
--- without a reduce the groups cost nothing
-pub plain_taken : (d : Definition) (w : Version) (G : FinMap key_cmp Given) (groups : Option Grouped) (most : ℕ) (old middle new : Counts) → AreReduced (reduce_of d) G groups → d ≡ w.definition → (groups ≡ None → new ≡ middle)
-    → MapsAtMost most old middle → reduce_of w.definition ≡ None → MapsAtMost most old new
-plain_taken d w G groups most old middle new is same costs counted none = subst (MapsAtMost most old) (sym (costs (ungrouped (reduce_of d) G groups is (ap reduce_of same ∙ none)))) counted
+-- without a reduce nothing is merged
+pub plain_taken : (d : Definition) (w : Version) (G : FinMap key_cmp Given) (groups : Option Grouped) (old middle new : ℕ) → AreReduced (reduce_of d) G groups → d ≡ w.definition → (groups ≡ None → new ≡ middle)
+    → middle ≡ old → reduce_of w.definition ≡ None → new ≡ old
+plain_taken d w G groups old middle new is same costs counted none = costs (ungrouped (reduce_of d) G groups is (ap reduce_of same ∙ none)) ∙ counted
 
 pub merges_taken : (v w x : Version) (before after : List (List ℕ × Given)) (L M : Track) (rows : List Row) (ids items : List (List ℕ)) (groups new : Option Grouped) (old middle end : Counts) → v ≡ w
     → AreKept (mapper_of v.definition) v.table (by_folded before) L → AreTouched L rows ids → AreInOrder ids → items ≡ ids → x.definition ≡ v.definition → x.table ≡ note_rows v.table rows → AreKept (mapper_of x.definition) x.table (by_folded after) M

@@ -31,9 +31,3 @@ documents_among T ids = filter (λ q. is_some (get T q)) ids
 -- the documents that these rows touch, once the index has taken them
 abbrev pub touched_documents : Version → List Row → List (List ℕ)
 touched_documents v taken = documents_among (note_rows v.table taken) (touched (mapper_of v.definition) v.table taken)
-
--- at most so many maps were counted, and nothing else
-pub record MapsAtMost (most : ℕ) (before after : Counts) : Type 0 where
-  pub maps : after.maps ≤ before.maps + most
-  pub merges : after.merges ≡ before.merges
-  pub reads : after.reads ≡ before.reads

@@ -100,9 +100,9 @@ pub fn regrouped<L: Ledger>(
     ensures queries { IfOk result (λ new. option_map (λ g. g.query) new ≡ option_map (λ g. g.query) groups.now) }
     ensures entries { IfOk result (λ new. IfSome new (HasEntries (by_folded after.now.given))) }
     ensures merges { IfOk result (λ new. (m h : ℕ) → length (entries_at before.now.given ids.now) ≤ m → length (entries_at after.now.given ids.now) ≤ m → 1 ≤ h → IfSome groups.now (AreSmall h) → IfSome new (AreSmall h) → MergesAtMost (128 * m * (h + 1)) steps.old steps.new) }
-    ensures maps { OnOk result (steps.new.maps ≡ steps.old.maps) }
-    ensures reads { OnOk result (steps.new.reads ≡ steps.old.reads) }
-    ensures plain { groups.now ≡ None → steps.new ≡ steps.old }
+    ensures plain { groups.now ≡ None → steps.new.merges ≡ steps.old.merges }
+    ensures maps { steps.new.maps ≡ steps.old.maps }
+    ensures reads { steps.new.reads ≡ steps.old.reads }
 {
     match groups {
         Some(groups) => {

@@ -1,5 +1,5 @@
 //! How far an index has come.
-ghost use Rattle.std.specs.Prelude.{◌≡◌, ◌+◌, ◌*◌, ◌≤◌, ℕ, None, IfOk, OnOk, length};
+ghost use Rattle.std.specs.Prelude.{◌≡◌, ◌+◌, ◌*◌, ◌≤◌, ℕ, None, IfOk, length};
 ghost use Rattle.std.specs.List.{slice_get};
 ghost use Rattle.spec_data.specs.Tables.{note_rows};
 ghost use Rattle.spec_index.specs.Find.{found_in};
@@ -9,7 +9,7 @@ ghost use Rattle.spec_index.specs.World.{new_version, reads};
 ghost use Rattle.index_definition.specs.DefinitionView.{definition_view};
 ghost use Rattle.index_version.specs.Meaning.{Means};
 ghost use Rattle.index_version.specs.Reduced.{HasSmallGroups, KeepCollections, reduce_of, rows_of};
-ghost use Rattle.index_version.specs.Renewed.{MapsAtMost, touched_documents};
+ghost use Rattle.index_version.specs.Renewed.{touched_documents};
 
 use crate::kept::Kept;
 use crate::regrouping::{GivenGroups, no_groups, regrouped};
@@ -99,9 +99,9 @@ impl IndexVersion {
         requires means { Means (M.meaning mapper.now) self.now.version.definition }
         ensures name { IfOk result (λ index. index.name ≡ self.now.name) }
         ensures version { IfOk result (λ index. index.version ≡ record self.now.version { etag = etag; table = note_rows self.now.version.table taken.now }) }
-        ensures maps { OnOk result (steps.new.maps ≤ steps.old.maps + length (touched_documents self.now.version taken.now)) }
-        ensures reads { OnOk result (steps.new.reads ≡ steps.old.reads) }
-        ensures plain { reduce_of self.now.version.definition ≡ None → MapsAtMost (length (touched_documents self.now.version taken.now)) steps.old steps.new }
+        ensures maps { steps.new.maps ≤ steps.old.maps + length (touched_documents self.now.version taken.now) }
+        ensures reads { steps.new.reads ≡ steps.old.reads }
+        ensures plain { reduce_of self.now.version.definition ≡ None → steps.new.merges ≡ steps.old.merges }
         ensures merges { IfOk result (λ index. (h : ℕ) → 1 ≤ h → KeepCollections (mapper_of self.now.version.definition) self.now.version.table taken.now → HasSmallGroups h self.now.version → HasSmallGroups h index.version →
             steps.new.merges ≤ steps.old.merges + 128 * length (touched (mapper_of self.now.version.definition) self.now.version.table taken.now) * (h + 1)) }
     {

@@ -171,7 +171,9 @@ impl<K: Ord + Clone + Drop, V: Drop, S: Summary<V>> SummedMap<K, V, S> {
     ) -> Result<SummedMap<K, V, S>, NoMemory>
         requires keys { (x y : K) → K.is_clone x y → y ≡ x }
         requires rising { IsRising K.cmp pairs.items }
-        ensures { IfOk result (λ m. m.pairs ≡ pairs.items) }
+        ensures pairs { IfOk result (λ m. m.pairs ≡ pairs.items) }
+        ensures maps { steps.new.maps ≡ steps.old.maps }
+        ensures reads { steps.new.reads ≡ steps.old.reads }
     {
         let len = pairs.len() as u64;
         Ok(SummedMap {
@@ -202,6 +204,8 @@ impl<K: Ord + Clone + Drop, V: Clone + Drop, S: Summary<V>> SummedMap<K, V, S> {
         ensures rising { IsRising K.cmp self.pairs }
         ensures levels { IfOk result (λ m. (self.levels ≤ m.levels) × (m.levels ≤ self.levels + 1)) }
         ensures merges { OnOk result (MergesAtMost (33 * self.levels + 2) steps.old steps.new) }
+        ensures maps { steps.new.maps ≡ steps.old.maps }
+        ensures reads { steps.new.reads ≡ steps.old.reads }
     {
         let SummedMap { root, len } = self;
         let more = if root.get(&key).is_some() { 0 } else { 1 };
@@ -231,6 +235,8 @@ impl<K: Ord + Clone + Drop, V: Clone + Drop, S: Summary<V>> SummedMap<K, V, S> {
         ensures rising { IsRising K.cmp self.pairs }
         ensures levels { IfOk result (λ m. m.levels ≤ self.levels) }
         ensures merges { OnOk result (MergesAtMost (47 * self.levels) steps.old steps.new) }
+        ensures maps { steps.new.maps ≡ steps.old.maps }
+        ensures reads { steps.new.reads ≡ steps.old.reads }
     {
         let SummedMap { root, len } = self;
         if root.get(key).is_none() {
@@ -259,6 +265,8 @@ impl<K: Ord + Clone + Drop, V: Clone + Drop, S: Summary<V>> SummedMap<K, V, S> {
         ensures rising { IsRising K.cmp self.now.pairs }
         ensures levels { IfOk result (λ m. (self.now.levels ≤ m.levels) × (m.levels ≤ self.now.levels + 1)) }
         ensures merges { OnOk result (MergesAtMost (33 * self.now.levels + 2) steps.old steps.new) }
+        ensures maps { steps.new.maps ≡ steps.old.maps }
+        ensures reads { steps.new.reads ≡ steps.old.reads }
     {
         let map = self.another()?;
         map.put(alloc, summary, key, value, steps)
@@ -278,6 +286,8 @@ impl<K: Ord + Clone + Drop, V: Clone + Drop, S: Summary<V>> SummedMap<K, V, S> {
         ensures rising { IsRising K.cmp self.now.pairs }
         ensures levels { IfOk result (λ m. m.levels ≤ self.now.levels) }
         ensures merges { OnOk result (MergesAtMost (47 * self.now.levels) steps.old steps.new) }
+        ensures maps { steps.new.maps ≡ steps.old.maps }
+        ensures reads { steps.new.reads ≡ steps.old.reads }
     {
         let map = self.another()?;
         map.take_out(alloc, summary, key, steps)

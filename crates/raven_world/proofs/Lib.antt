@@ -5,3 +5,4 @@ pub mod Openings
 pub mod Choices
 pub mod Batches
 pub mod Shown
+pub mod Merging

@@ -1,9 +1,11 @@
 //! One batch for each index, or for one.
-ghost use Rattle.std.specs.Prelude.{◌≡◌, ◌+◌, ◌≤◌, [], None, Some, IfOk, IfSome, cond, filter, length, map, option_map};
+ghost use Rattle.std.specs.Prelude.{◌≡◌, ◌+◌, ◌≤◌, [], ◌∷◌, None, Some, IfOk, IfSome, OnOk, cond, filter, length, map, option_map};
+ghost use Rattle.spec_store.specs.Store.{IsStore};
 ghost use Rattle.spec_server.specs.Machine.{after_batch as spec_after_batch, after_batch_if_named as spec_after_batch_if_named, in_world, one_change, pump, pump_at, pumping};
 ghost use Rattle.spec_server.specs.Replies.{Pumped as PumpedAll};
 ghost use Rattle.spec_index.specs.World.{batch, is_named as spec_is_named, serving as spec_serving};
-ghost use Rattle.raven_world.specs.Batches.{pumped_one, read_by, read_by_all, touched_by, touched_by_all};
+ghost use Rattle.spec_server.specs.Sound.{Sound};
+ghost use Rattle.raven_world.specs.Batches.{AllFit, HaveNoReduce, MergesFew, pumped_one, read_by, read_by_all, touched_by, touched_by_all};
 ghost use Rattle.raven_world.specs.WorldView.{change_view, answer_view};
 
 use crate::answer::no_index;
@@ -29,7 +31,8 @@ fn next_batch<L: Ledger>(
 ) -> Result<Option<IndexVersion>, NoMemory>
     ensures version { IfOk result (λ next. option_map (λ index. index.version) next ≡ batch slot.now.version store.now max) }
     ensures maps { steps.new.maps ≤ steps.old.maps + length (touched_by store.now max slot.now) }
-    ensures merges { steps.new.merges ≡ steps.old.merges }
+    ensures plain { HaveNoReduce (slot.now ∷ []) → steps.new.merges ≡ steps.old.merges }
+    ensures merges { OnOk result (IsStore store.now → AllFit store.now (slot.now ∷ []) → MergesFew store.now max (slot.now ∷ []) steps.old steps.new) }
     ensures reads { steps.new.reads ≤ steps.old.reads + read_by store.now max slot.now }
 {
     let version = &slot.version;
@@ -59,7 +62,8 @@ fn after_batch<L: Ledger>(
 ) -> Result<Slot, NoMemory>
     ensures slot { IfOk result (λ new. new ≡ spec_after_batch store.now max slot.now) }
     ensures maps { steps.new.maps ≤ steps.old.maps + length (touched_by store.now max slot.now) }
-    ensures merges { steps.new.merges ≡ steps.old.merges }
+    ensures plain { HaveNoReduce (slot.now ∷ []) → steps.new.merges ≡ steps.old.merges }
+    ensures merges { OnOk result (IsStore store.now → AllFit store.now (slot.now ∷ []) → MergesFew store.now max (slot.now ∷ []) steps.old steps.new) }
     ensures reads { steps.new.reads ≤ steps.old.reads + read_by store.now max slot.now }
 {
     let Some(version) = next_batch(alloc, store, max, slot, steps)? else {
@@ -90,7 +94,8 @@ fn brought_on<L: Ledger>(
     ensures slot { IfOk result (λ new. new.0 ≡ spec_after_batch store.now max slot.now) }
     ensures pumped { IfOk result (λ new. new.1 ≡ pumping store.now max slot.now) }
     ensures maps { steps.new.maps ≤ steps.old.maps + length (touched_by store.now max slot.now) }
-    ensures merges { steps.new.merges ≡ steps.old.merges }
+    ensures plain { HaveNoReduce (slot.now ∷ []) → steps.new.merges ≡ steps.old.merges }
+    ensures merges { OnOk result (IsStore store.now → AllFit store.now (slot.now ∷ []) → MergesFew store.now max (slot.now ∷ []) steps.old steps.new) }
     ensures reads { steps.new.reads ≤ steps.old.reads + read_by store.now max slot.now }
 {
     let brought = after_batch(alloc, store, max, slot, steps)?;
@@ -108,7 +113,8 @@ fn all_brought_on<L: Ledger>(
     ensures slots { IfOk result (λ new. new.0.items ≡ map (spec_after_batch store.now max) slots.now) }
     ensures pumped { IfOk result (λ new. new.1 ≡ map (pumping store.now max) slots.now) }
     ensures maps { steps.new.maps ≤ steps.old.maps + length (touched_by_all store.now max slots.now) }
-    ensures merges { steps.new.merges ≡ steps.old.merges }
+    ensures plain { HaveNoReduce slots.now → steps.new.merges ≡ steps.old.merges }
+    ensures merges { OnOk result (IsStore store.now → AllFit store.now slots.now → MergesFew store.now max slots.now steps.old steps.new) }
     ensures reads { steps.new.reads ≤ steps.old.reads + read_by_all store.now max slots.now }
 {
     let mut new = Vec::with_capacity(alloc, slots.len())?;
@@ -133,7 +139,8 @@ fn brought_on_if<L: Ledger>(
     ensures slot { IfOk result (λ new. new.0 ≡ spec_after_batch_if_named store.now max name.now slot.now) }
     ensures pumped { IfOk result (λ new. new.1 ≡ cond (spec_is_named name.now slot.now) (Some (pumping store.now max slot.now)) None) }
     ensures maps { steps.new.maps ≤ steps.old.maps + cond (spec_is_named name.now slot.now) (length (touched_by store.now max slot.now)) 0 }
-    ensures merges { steps.new.merges ≡ steps.old.merges }
+    ensures plain { HaveNoReduce (filter (spec_is_named name.now) (slot.now ∷ [])) → steps.new.merges ≡ steps.old.merges }
+    ensures merges { OnOk result (IsStore store.now → AllFit store.now (filter (spec_is_named name.now) (slot.now ∷ [])) → MergesFew store.now max (filter (spec_is_named name.now) (slot.now ∷ [])) steps.old steps.new) }
     ensures reads { steps.new.reads ≤ steps.old.reads + cond (spec_is_named name.now slot.now) (read_by store.now max slot.now) 0 }
 {
     if !is_named(slot, name.as_str()) {
@@ -156,7 +163,8 @@ fn one_brought_on<L: Ledger>(
     ensures slots { IfOk result (λ new. new.0.items ≡ map (spec_after_batch_if_named store.now max name.now) slots.now) }
     ensures pumped { IfOk result (λ new. new.1 ≡ option_map (pumping store.now max) (spec_serving slots.now name.now)) }
     ensures maps { steps.new.maps ≤ steps.old.maps + length (touched_by_all store.now max (filter (spec_is_named name.now) slots.now)) }
-    ensures merges { steps.new.merges ≡ steps.old.merges }
+    ensures plain { HaveNoReduce (filter (spec_is_named name.now) slots.now) → steps.new.merges ≡ steps.old.merges }
+    ensures merges { OnOk result (IsStore store.now → AllFit store.now (filter (spec_is_named name.now) slots.now) → MergesFew store.now max (filter (spec_is_named name.now) slots.now) steps.old steps.new) }
     ensures reads { steps.new.reads ≤ steps.old.reads + read_by_all store.now max (filter (spec_is_named name.now) slots.now) }
 {
     let mut new = Vec::with_capacity(alloc, slots.len())?;
@@ -204,7 +212,7 @@ impl World {
     }
 
     /// Each index catches up by one batch of at most `max` rows. A document that several of them map counts for each, and so does
-    /// a row that several of them read.
+    /// a row that several of them read. Entries are merged only for definitions with a reduce.
     pub fn pump<L: Ledger>(
         &self,
         alloc: Global,
@@ -213,7 +221,8 @@ impl World {
     ) -> Result<Change, NoMemory>
         ensures change { IfOk result (λ change. change_view change ≡ pump self.now max) }
         ensures maps { steps.new.maps ≤ steps.old.maps + length (touched_by_all self.now.store max self.now.slots) }
-        ensures merges { steps.new.merges ≡ steps.old.merges }
+        ensures plain { HaveNoReduce self.now.slots → steps.new.merges ≡ steps.old.merges }
+        ensures merges { OnOk result (Sound self.now → MergesFew self.now.store max self.now.slots steps.old steps.new) }
         ensures reads { steps.new.reads ≤ steps.old.reads + read_by_all self.now.store max self.now.slots }
     {
         let (slots, pumped) = all_brought_on(alloc, &self.store, max, self.live(), steps)?;
@@ -230,7 +239,8 @@ impl World {
     ) -> Result<Change, WorldFault>
         ensures course { IfSome (answer_view result) (λ course. course ≡ pump_at self.now max name.now (spec_serving self.now.slots name.now)) }
         ensures maps { steps.new.maps ≤ steps.old.maps + length (touched_by_all self.now.store max (filter (spec_is_named name.now) self.now.slots)) }
-        ensures merges { steps.new.merges ≡ steps.old.merges }
+        ensures plain { HaveNoReduce (filter (spec_is_named name.now) self.now.slots) → steps.new.merges ≡ steps.old.merges }
+        ensures merges { OnOk result (Sound self.now → MergesFew self.now.store max (filter (spec_is_named name.now) self.now.slots) steps.old steps.new) }
         ensures reads { steps.new.reads ≤ steps.old.reads + read_by_all self.now.store max (filter (spec_is_named name.now) self.now.slots) }
     {
         let (slots, pumped) = one_brought_on(alloc, &self.store, max, name, self.live(), steps)?;

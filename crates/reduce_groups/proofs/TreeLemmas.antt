@@ -37,7 +37,7 @@ some_inserted R k v (e ∷ es) = by (R k e.0)
     by Greater = omega arith
 
 pub at_most : {a b : Counts} {m : ℕ} (n : ℕ) → MergesAtMost m a b → m ≤ n → MergesAtMost n a b
-at_most n h l = record { merges = omega (arith, h.merges, l); maps = h.maps; reads = h.reads }
+at_most n h l = record { merges = omega (arith, h.merges, l) }
 
 module _ {F G K E : Type 0} where
   -- a tree that is found is one of them
@@ -162,22 +162,22 @@ low_trees f h (p ∷ ts) one s a = (low_tree h p.1 one s.0.2 a.0, low_trees f h 
 
 -- ---- changes, one after another
 pub none_yet : (a : Counts) (b : ℕ) → MergesAtMost (0 * b) a a
-none_yet a b = record { merges = omega arith; maps = refl; reads = refl }
+none_yet a b = record { merges = omega arith }
 
 pub one_more : {s t u : Counts} (i b : ℕ) → MergesAtMost (i * b) s t → MergesAtMost b t u → MergesAtMost ((i + 1) * b) s u
-one_more i b f g = record { merges = omega (arith, f.merges, g.merges); maps = g.maps ∙ f.maps; reads = g.reads ∙ f.reads }
+one_more i b f g = record { merges = omega (arith, f.merges, g.merges) }
 
 pub all_done : {s t : Counts} (i n b : ℕ) → i ≡ n → MergesAtMost (i * b) s t → MergesAtMost (n * b) s t
 all_done {s} {t} i n b e f = subst (λ x. MergesAtMost (x * b) s t) e f
 
 pub both_done : {s t u : Counts} (m n b : ℕ) → MergesAtMost (m * b) s t → MergesAtMost (n * b) t u → MergesAtMost ((m + n) * b) s u
-both_done m n b f g = record { merges = omega (arith, f.merges, g.merges); maps = g.maps ∙ f.maps; reads = g.reads ∙ f.reads }
+both_done m n b f g = record { merges = omega (arith, f.merges, g.merges) }
 
 -- of m touched ids at most m entries are removals and at most m have insertions
 pub touched : {s t : Counts} (m removals insertions h : ℕ) → removals ≤ m → insertions ≤ m → MergesAtMost ((removals + insertions) * (64 * (h + 1))) s t → MergesAtMost (128 * m * (h + 1)) s t
 touched m removals insertions h a b f =
     let most : (removals + insertions) * (64 * (h + 1)) ≤ (m + m) * (64 * (h + 1)) = times (removals + insertions) (m + m) (64 * (h + 1)) (omega (arith, a, b)) in
-    record { merges = omega (arith, f.merges, most); maps = f.maps; reads = f.reads }
+    record { merges = omega (arith, f.merges, most) }
   where
     times : (a b c : ℕ) → a ≤ b → a * c ≤ b * c
     times zero b c l = omega arith

@@ -82,6 +82,8 @@ impl<G: Ord + Exact + Drop, K: Ord + Exact + Drop, E: Exact + Drop, F: Fold<E>> 
             AreNew K.cmp key (all_removed K.cmp es removals.now) insertions.now → AreGrouped G.cmp key (all_inserted K.cmp (all_removed K.cmp es removals.now) insertions.now) r.trees) }
         ensures merges { IfOk result (λ r. (h : ℕ) → 1 ≤ h → AllSmall h self.now.trees → AllSmall h r.trees → MergesAtMost ((length removals.now + length insertions.now) * (64 * (h + 1))) steps.old steps.new) }
         ensures touched { IfOk result (λ r. (m h : ℕ) → length removals.now ≤ m → length insertions.now ≤ m → 1 ≤ h → AllSmall h self.now.trees → AllSmall h r.trees → MergesAtMost (128 * m * (h + 1)) steps.old steps.new) }
+        ensures maps { steps.new.maps ≡ steps.old.maps }
+        ensures reads { steps.new.reads ≡ steps.old.reads }
     {
         let left = self.without_all(alloc, removals, steps)?;
         let groups = left.with_all(alloc, insertions, steps)?;
@@ -103,6 +105,8 @@ impl<G: Ord + Exact + Drop, K: Ord + Exact + Drop, E: Exact + Drop, F: Fold<E>> 
         ensures fold { IfOk result (λ r. r.fold ≡ self.now.fold) }
         ensures entries { IfOk result (λ r. (q : G) → entries_at G.cmp q r.trees ≡ cond (is_eq (G.cmp q group.now)) (insert_entry K.cmp (entries_at G.cmp q self.now.trees) key.now entry.now) (entries_at G.cmp q self.now.trees)) }
         ensures merges { IfOk result (λ r. (h : ℕ) → AllLevels h r.trees → AllLevels h self.now.trees × MergesAtMost (64 * (h + 1)) steps.old steps.new) }
+        ensures maps { steps.new.maps ≡ steps.old.maps }
+        ensures reads { steps.new.reads ≡ steps.old.reads }
     {
         let tree = tree_with(alloc, &self.fold, &self.trees, group, key, entry, steps)?;
         Ok(Groups {
@@ -122,6 +126,8 @@ impl<G: Ord + Exact + Drop, K: Ord + Exact + Drop, E: Exact + Drop, F: Fold<E>> 
         ensures fold { IfOk result (λ r. r.fold ≡ self.now.fold) }
         ensures entries { IfOk result (λ r. (q : G) → entries_at G.cmp q r.trees ≡ cond (is_eq (G.cmp q group.now)) (remove_entry (is_at (K.cmp key.now)) (entries_at G.cmp q self.now.trees)) (entries_at G.cmp q self.now.trees)) }
         ensures merges { IfOk result (λ r. (h : ℕ) → AllLevels h self.now.trees → AllLevels h r.trees × MergesAtMost (64 * (h + 1)) steps.old steps.new) }
+        ensures maps { steps.new.maps ≡ steps.old.maps }
+        ensures reads { steps.new.reads ≡ steps.old.reads }
     {
         let Some(tree) = self.trees.get(group) else {
             return Ok(self.clone()?);
@@ -143,6 +149,8 @@ impl<G: Ord + Exact + Drop, K: Ord + Exact + Drop, E: Exact + Drop, F: Fold<E>> 
         ensures fold { IfOk result (λ r. r.fold ≡ self.now.fold) }
         ensures entries { IfOk result (λ r. (q : G) → entries_at G.cmp q r.trees ≡ after_removals G.cmp K.cmp q (entries_at G.cmp q self.now.trees) removals.now) }
         ensures merges { IfOk result (λ r. (h : ℕ) → AllLevels h self.now.trees → AllLevels h r.trees × MergesAtMost (length removals.now * (64 * (h + 1))) steps.old steps.new) }
+        ensures maps { steps.new.maps ≡ steps.old.maps }
+        ensures reads { steps.new.reads ≡ steps.old.reads }
     {
         let mut groups = self.clone()?;
         for change in removals {
@@ -161,6 +169,8 @@ impl<G: Ord + Exact + Drop, K: Ord + Exact + Drop, E: Exact + Drop, F: Fold<E>> 
         ensures fold { IfOk result (λ r. r.fold ≡ self.now.fold) }
         ensures entries { IfOk result (λ r. (q : G) → entries_at G.cmp q r.trees ≡ after_insertions G.cmp K.cmp q (entries_at G.cmp q self.now.trees) insertions.now) }
         ensures merges { IfOk result (λ r. (h : ℕ) → AllLevels h r.trees → AllLevels h self.now.trees × MergesAtMost (length insertions.now * (64 * (h + 1))) steps.old steps.new) }
+        ensures maps { steps.new.maps ≡ steps.old.maps }
+        ensures reads { steps.new.reads ≡ steps.old.reads }
     {
         let mut groups = self.clone()?;
         for change in insertions {

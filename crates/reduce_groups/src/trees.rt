@@ -35,6 +35,8 @@ pub fn tree_with<
     ensures levels { IfOk result (λ t. levels_at G.cmp group.now trees.now ≤ t.levels) }
     ensures filled { IfOk result IsFilledTree }
     ensures merges { OnOk result (MergesAtMost (33 * levels_at G.cmp group.now trees.now + 2) steps.old steps.new) }
+    ensures maps { steps.new.maps ≡ steps.old.maps }
+    ensures reads { steps.new.reads ≡ steps.old.reads }
 {
     match trees.get(group) {
         Some(tree) => Ok(tree.get().with(alloc, key, entry, steps)?),

@@ -64,6 +64,8 @@ impl<K: Ord + Exact + Drop, E: Exact + Drop, F: Fold<E>> ReduceTree<K, E, F> {
         ensures entries { IfOk result (λ t. t.entries ≡ changed K.cmp self.now.entries changes.now) }
         ensures filled { IfOk result IsFilledTree }
         ensures merges { IfOk result (λ t. (h : ℕ) → self.now.levels ≤ h → t.levels ≤ h → MergesAtMost (length changes.now * (64 * (h + 1))) steps.old steps.new) }
+        ensures maps { steps.new.maps ≡ steps.old.maps }
+        ensures reads { steps.new.reads ≡ steps.old.reads }
     {
         let left = members_without(alloc, &self.rows, &self.members, changes, steps)?;
         let members = members_with(alloc, &self.rows, &left, changes, steps)?;
@@ -83,6 +85,8 @@ impl<K: Ord + Exact + Drop, E: Exact + Drop, F: Fold<E>> ReduceTree<K, E, F> {
         ensures levels { IfOk result (λ t. self.now.levels ≤ t.levels) }
         ensures filled { IfOk result IsFilledTree }
         ensures merges { OnOk result (MergesAtMost (33 * self.now.levels + 2) steps.old steps.new) }
+        ensures maps { steps.new.maps ≡ steps.old.maps }
+        ensures reads { steps.new.reads ≡ steps.old.reads }
     {
         let members = with_entry(alloc, &self.rows, &self.members, key, entry, steps)?;
         tree_of(&self.rows, members)
@@ -100,6 +104,8 @@ impl<K: Ord + Exact + Drop, E: Exact + Drop, F: Fold<E>> ReduceTree<K, E, F> {
         ensures levels { IfOk result (λ t. t.levels ≤ self.now.levels) }
         ensures filled { IfOk result IsFilledTree }
         ensures merges { OnOk result (MergesAtMost (47 * self.now.levels) steps.old steps.new) }
+        ensures maps { steps.new.maps ≡ steps.old.maps }
+        ensures reads { steps.new.reads ≡ steps.old.reads }
     {
         let members = self.members.without(alloc, &self.rows, key, steps)?;
         tree_of(&self.rows, members)
@@ -168,6 +174,8 @@ fn with_entry<K: Ord + Exact + Drop, E: Exact + Drop, F: Fold<E>, L: Ledger>(
     ensures pairs { IfOk result (λ m. m.pairs ≡ insert_entry K.cmp members.now.pairs key.now (member_of (F.lifted rows.now.fold) entry.now)) }
     ensures levels { IfOk result (λ m. members.now.levels ≤ m.levels) }
     ensures merges { OnOk result (MergesAtMost (33 * members.now.levels + 2) steps.old steps.new) }
+    ensures maps { steps.new.maps ≡ steps.old.maps }
+    ensures reads { steps.new.reads ≡ steps.old.reads }
 {
     let row = rows.fold.get().lift(alloc, entry)?;
     let member = Member {
@@ -188,6 +196,8 @@ fn members_without<K: Ord + Exact + Drop, E: Exact + Drop, F: Fold<E>, L: Ledger
     ensures pairs { IfOk result (λ m. m.pairs ≡ removed K.cmp members.now.pairs changes.now) }
     ensures levels { IfOk result (λ m. m.levels ≤ members.now.levels) }
     ensures merges { OnOk result (MergesAtMost (removals changes.now * (64 * (members.now.levels + 1))) steps.old steps.new) }
+    ensures maps { steps.new.maps ≡ steps.old.maps }
+    ensures reads { steps.new.reads ≡ steps.old.reads }
 {
     let mut left = members.clone()?;
     for change in changes {
@@ -210,6 +220,8 @@ fn members_with<K: Ord + Exact + Drop, E: Exact + Drop, F: Fold<E>, L: Ledger>(
     ensures pairs { IfOk result (λ m. m.pairs ≡ inserted K.cmp (member_of (F.lifted rows.now.fold)) members.now.pairs changes.now) }
     ensures levels { IfOk result (λ m. members.now.levels ≤ m.levels) }
     ensures merges { IfOk result (λ m. (h : ℕ) → m.levels ≤ h → MergesAtMost (insertions changes.now * (64 * (h + 1))) steps.old steps.new) }
+    ensures maps { steps.new.maps ≡ steps.old.maps }
+    ensures reads { steps.new.reads ≡ steps.old.reads }
 {
     let mut grown = members.clone()?;
     for change in changes {

@@ -1,10 +1,14 @@
-use Rattle.std.proofs.Common.{◌+◌, ◌*◌, ◌≤◌, cond, length, ◌∙◌, ap, sym, subst, Some}
+use Rattle.std.proofs.Common.{◌≡◌, ◌+◌, ◌*◌, ◌≤◌, cond, length, ◌∙◌, ap, sym, subst, arith, Some}
 use Rattle.spec_store.specs.Stale.{batch_rows}
 use Rattle.spec_data.specs.Tables.{note_rows}
 use Rattle.spec_store.specs.Store.{last, last_of}
+use Rattle.index_tree.specs.Mapper.{mapper_of}
+use Rattle.spec_index.specs.Mapping.{touched}
 use Rattle.spec_index.specs.World.{reads}
+use Rattle.index_version.specs.Reduced.{KeepCollections}
 use Rattle.index_version.specs.Renewed.{touched_documents}
 use Rattle.index_batch.proofs.Batches.{batch-fresh, batch-none, batch-some, is_behind, is_fresh, read_of}
+use Rattle.index_batch.proofs.Merging.{keeps_collections}
 use Rattle.index_batch.proofs.batch.next.Goals as goal
 
 pub returns-then-newest-seen-clause-next : goal.returns-then-newest-seen-clause-next
@@ -68,3 +72,21 @@ returns-then-is_empty-clause-idle g c = λ fresh. absurd (
     let behind = is_behind c.args.index.now.version c.args.store.now c.in_ok-scope.scope c.etag-seen.result c.newest.result c.in_ok-scope.ensures c.etag-seen.ensures c.newest.ensures.stale c.if-newest-seen.false in
     cc
     )
+
+pub returns-in_err-next-clause-plain : goal.returns-in_err-next-clause-plain
+returns-in_err-next-clause-plain g c = λ none. c.after.ensures.plain none ∙ c.in_ok-taken.ensures.merges
+
+pub returns-clause-plain : goal.returns-clause-plain
+returns-clause-plain g c = λ none. c.in_ok-next.ensures.plain none ∙ c.in_ok-taken.ensures.merges
+
+pub returns-then-is_empty-clause-merges : goal.returns-then-is_empty-clause-merges
+returns-then-is_empty-clause-merges g c = λ h one store agrees small small_too. let same = c.in_ok-taken.ensures.merges in omega (arith, same)
+
+pub returns-clause-merges : goal.returns-clause-merges
+returns-clause-merges g c = λ h one store agrees small small_too.
+    let v = c.args.index.now.version in
+    let m = mapper_of v.definition in
+    let rows : c.as_slice-2.result.now ≡ batch_rows (reads v) v.etag c.args.store.now c.args.max = c.as_slice-2.ensures ∙ c.in_ok-taken.ensures.rows ∙ λ i. batch_rows (c.in_ok-scope.ensures i) (c.etag-seen.ensures i) c.args.store.now c.args.max in
+    let keeps = subst (KeepCollections m v.table) (sym rows) (keeps_collections v c.args.store.now c.args.max store agrees) in
+    subst (λ rs. c.after.new.steps.merges ≤ c.args.steps.now.merges + 128 * length (touched m v.table rs) * (h + 1)) rows
+    (subst (λ n. c.after.new.steps.merges ≤ n + 128 * length (touched m v.table c.as_slice-2.result.now) * (h + 1)) c.in_ok-taken.ensures.merges (c.in_ok-next.ensures.merges h one keeps small small_too))

@@ -14,14 +14,14 @@ loop-change-preserved g c =
     let kept = member_of (g.F.Fold.lifted c.args.rows.now.fold) in
     elim c.match-change.branch [
       | in-Some+in_ok-grown-2 w ↦
-          let m = w.in_ok-grown-2.ensures.merges in
+          let m = w.in_ok-grown-2.ensures in
           record {
             pairs = ap (λ t. inserted g.K.Ord.cmp kept t.pairs (drop (i + 1) cs)) w.grown-is ∙ ap (λ t. inserted g.K.Ord.cmp kept t (drop (i + 1) cs)) w.in_ok-grown-2.ensures.pairs ∙ in_some cs i d c.change-item.is c.loop-change-test.true g.K.Ord.cmp old.pairs kept w.in-Some.entry w.in-Some.is ∙ c.loop-change.invariant.pairs;
             levels = omega (arith, ap (λ t. t.levels) w.grown-is, w.in_ok-grown-2.ensures.levels, c.loop-change.invariant.levels);
             merges = λ h low.
                 let up : old.levels ≤ h = omega (arith, low, ap (λ t. t.levels) w.grown-is, w.in_ok-grown-2.ensures.levels) in
                 step_taken c.loop-change.steps.merges c.match-change.steps.merges c.args.steps.now.merges (insertions cs) (64 * (h + 1)) (33 * old.levels + 2) (insertions (drop i cs)) (insertions (drop (i + 1) cs))
-                (c.loop-change.invariant.merges h up) (in_fewer cs i d c.change-item.is c.loop-change-test.true w.in-Some.entry w.in-Some.is) (omega (arith, ap (λ t. t.merges) w.steps-is, m.merges)) (omega (arith, up));
+                (c.loop-change.invariant.merges h up) (in_fewer cs i d c.change-item.is c.loop-change-test.true w.in-Some.entry w.in-Some.is) (omega (arith, ap (λ t. t.merges) w.steps-is, m.merges.merges)) (omega (arith, up));
             maps = ap (λ t. t.maps) w.steps-is ∙ m.maps ∙ c.loop-change.invariant.maps;
             reads = ap (λ t. t.reads) w.steps-is ∙ m.reads ∙ c.loop-change.invariant.reads;
           }
@@ -40,4 +40,4 @@ loop-change-preserved g c =
 pub returns-clause-merges : goal.returns-clause-merges
 returns-clause-merges g c = λ h low.
     let most = c.loop-change.invariant.merges h low in
-    record { merges = omega (arith, most); maps = c.loop-change.invariant.maps; reads = c.loop-change.invariant.reads }
+    record { merges = omega (arith, most) }

@@ -13,13 +13,13 @@ loop-change-preserved g c =
     let b = 64 * (c.args.members.now.levels + 1) in
     elim c.match-change.branch [
       | in-None+in_ok-left-in-None w ↦
-          let m = w.in_ok-left-in-None.ensures.merges in
+          let m = w.in_ok-left-in-None.ensures in
           record {
             pairs = ap (λ t. removed g.K.Ord.cmp t.pairs (drop (i + 1) cs)) w.left-is ∙ ap (λ t. removed g.K.Ord.cmp t (drop (i + 1) cs)) w.in_ok-left-in-None.ensures.pairs ∙ out_none cs i d c.change-item.is c.loop-change-test.true g.K.Ord.cmp old.pairs w.in-None.is ∙ c.loop-change.invariant.pairs;
             levels = omega (arith, ap (λ t. t.levels) w.left-is, w.in_ok-left-in-None.ensures.levels, c.loop-change.invariant.levels);
             merges =
                 step_taken c.loop-change.steps.merges c.match-change.steps.merges c.args.steps.now.merges (removals cs) b (47 * old.levels) (removals (drop i cs)) (removals (drop (i + 1) cs))
-                c.loop-change.invariant.merges (out_fewer cs i d c.change-item.is c.loop-change-test.true w.in-None.is) (omega (arith, ap (λ t. t.merges) w.steps-is, m.merges)) (omega (arith, c.loop-change.invariant.levels));
+                c.loop-change.invariant.merges (out_fewer cs i d c.change-item.is c.loop-change-test.true w.in-None.is) (omega (arith, ap (λ t. t.merges) w.steps-is, m.merges.merges)) (omega (arith, c.loop-change.invariant.levels));
             maps = ap (λ t. t.maps) w.steps-is ∙ m.maps ∙ c.loop-change.invariant.maps;
             reads = ap (λ t. t.reads) w.steps-is ∙ m.reads ∙ c.loop-change.invariant.reads;
           }

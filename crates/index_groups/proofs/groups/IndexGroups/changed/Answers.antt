@@ -3,7 +3,7 @@ use Rattle.index_tree.specs.declared.reduce_query.ReduceQuery.{ReduceQuery}
 use Rattle.index_groups.specs.Groups.{Grouped}
 use Rattle.index_groups.specs.Trees.{entries_in, removal, insertion}
 use Rattle.index_groups.proofs.Changing.{entries_after, still_indexed}
-use Rattle.index_groups.proofs.Sizes.{as_long, only_merges, small_trees}
+use Rattle.index_groups.proofs.Sizes.{as_long, small_trees}
 use Rattle.index_groups.proofs.groups.IndexGroups.changed.Goals as goal
 
 pub invariant_of-result : goal.invariant_of-result
@@ -32,9 +32,3 @@ returns-clause-merges g c = λ m h few less one small small_too.
     c.in_ok-groups.ensures.touched m h (omega (arith, out, few)) (omega (arith, inn, less)) one
     (small_trees c.self.inside.query f c.self.inside.groups.fold c.self.inside.groups.trees c.args.self.now c.self.invariant c.len-before.ensures.rising (sym c.self.view_is) h small)
     (small_trees c.in_ok-clone.field-0 f c.in_ok-groups.groups.fold c.in_ok-groups.groups.trees (record { query = c.in_ok-clone.field-0; entries = entries_in f c.in_ok-groups.groups.trees }) is c.len-after.ensures.rising refl h small_too)
-
-pub returns-clause-maps : goal.returns-clause-maps
-returns-clause-maps g c = (only_merges _ _ _ _ (λ h. (length c.deref.result.now + length c.deref-2.result.now) * (64 * (h + 1))) c.in_ok-groups.ensures.merges).0
-
-pub returns-clause-reads : goal.returns-clause-reads
-returns-clause-reads g c = (only_merges _ _ _ _ (λ h. (length c.deref.result.now + length c.deref-2.result.now) * (64 * (h + 1))) c.in_ok-groups.ensures.merges).1

@@ -4,56 +4,47 @@ use Rattle.index_definition.specs.declared.definition.Definition.{Definition}
 use Rattle.index_definition.specs.DefinitionView.{definition_view}
 use Rattle.spec_index.specs.World.{Version}
 use Rattle.index_version.specs.Named.{NamedVersion}
-use Rattle.index_version.proofs.Reducing.{merges_taken, nothing_counted, others_taken, plain_taken, reduced_taken}
+use Rattle.index_version.proofs.Reducing.{merges_taken, others_taken, plain_taken, reduced_taken}
 use Rattle.index_version.proofs.Taking.{kept_taken, maps_taken}
 use Rattle.index_version.proofs.version.IndexVersion.after.Goals as goal
 
 pub regrouped-requires-clause-others : goal.regrouped-requires-clause-others
 regrouped-requires-clause-others g c = others_taken (mapper_of (definition_view c.deref.result.now.body)) _ _ _ _ c.in_ok-kept.ensures.results
 
-pub returns-in_err-ids-clause-plain : goal.returns-in_err-ids-clause-plain
-returns-in_err-ids-clause-plain g c = λ none. nothing_counted _ _
+pub returns-in_err-kept-clause-maps : goal.returns-in_err-kept-clause-maps
+returns-in_err-kept-clause-maps g c =
+    maps_taken _ c.args.self.now.version _ c.self.inside.kept.referrers c.args.taken.now c.in_ok-ids.ids c.as_slice-ids.result.now _ _ _ _ (ap (λ (v : NamedVersion). v.version) c.self.view_is) c.self.invariant.0
+    c.in_ok-ids.ensures.ids c.in_ok-ids.ensures.once c.as_slice-ids.ensures c.in_ok-table.ensures (ap (λ (d : Definition). definition_view d.body) c.deref.ensures) c.renewed.ensures.maps
 
-pub returns-in_err-table-clause-plain : goal.returns-in_err-table-clause-plain
-returns-in_err-table-clause-plain g c = λ none. nothing_counted _ _
+pub returns-in_err-groups-clause-maps : goal.returns-in_err-groups-clause-maps
+returns-in_err-groups-clause-maps g c =
+    let most =
+    maps_taken _ c.args.self.now.version _ c.self.inside.kept.referrers c.args.taken.now c.in_ok-ids.ids c.as_slice-ids.result.now _ _ _ _ (ap (λ (v : NamedVersion). v.version) c.self.view_is) c.self.invariant.0
+    c.in_ok-ids.ensures.ids c.in_ok-ids.ensures.once c.as_slice-ids.ensures c.in_ok-table.ensures (ap (λ (d : Definition). definition_view d.body) c.deref.ensures) c.renewed.ensures.maps in
+    omega (arith, most, c.regrouped.ensures.maps)
 
-pub returns-in_err-kept-clause-plain : goal.returns-in_err-kept-clause-plain
-returns-in_err-kept-clause-plain g c = λ none. record {
-  maps = maps_taken _ c.args.self.now.version _ c.self.inside.kept.referrers c.args.taken.now c.in_ok-ids.ids c.as_slice-ids.result.now _ _ _ _ (ap (λ (v : NamedVersion). v.version) c.self.view_is) c.self.invariant.0
-      c.in_ok-ids.ensures.ids c.in_ok-ids.ensures.once c.as_slice-ids.ensures c.in_ok-table.ensures (ap (λ (d : Definition). definition_view d.body) c.deref.ensures) c.renewed.ensures.maps;
-  merges = c.renewed.ensures.merges;
-  reads = c.renewed.ensures.reads;
-}
-
-pub returns-in_err-groups-clause-plain : goal.returns-in_err-groups-clause-plain
-returns-in_err-groups-clause-plain g c = plain_taken (definition_view c.self.inside.definition.value.body) c.args.self.now.version _ c.self.inside.groups _ _ _ _ c.self.invariant.1 (ap (λ (v : NamedVersion). v.version.definition) c.self.view_is) c.regrouped.ensures.plain (record {
-  maps = maps_taken _ c.args.self.now.version _ c.self.inside.kept.referrers c.args.taken.now c.in_ok-ids.ids c.as_slice-ids.result.now _ _ _ _ (ap (λ (v : NamedVersion). v.version) c.self.view_is) c.self.invariant.0
-      c.in_ok-ids.ensures.ids c.in_ok-ids.ensures.once c.as_slice-ids.ensures c.in_ok-table.ensures (ap (λ (d : Definition). definition_view d.body) c.deref.ensures) c.renewed.ensures.maps;
-  merges = c.renewed.ensures.merges;
-  reads = c.renewed.ensures.reads;
-})
-
-pub returns-in_err-share-clause-plain : goal.returns-in_err-share-clause-plain
-returns-in_err-share-clause-plain g c = plain_taken (definition_view c.self.inside.definition.value.body) c.args.self.now.version _ c.self.inside.groups _ _ _ _ c.self.invariant.1 (ap (λ (v : NamedVersion). v.version.definition) c.self.view_is) c.in_ok-groups.ensures.plain (record {
-  maps = maps_taken _ c.args.self.now.version _ c.self.inside.kept.referrers c.args.taken.now c.in_ok-ids.ids c.as_slice-ids.result.now _ _ _ _ (ap (λ (v : NamedVersion). v.version) c.self.view_is) c.self.invariant.0
-      c.in_ok-ids.ensures.ids c.in_ok-ids.ensures.once c.as_slice-ids.ensures c.in_ok-table.ensures (ap (λ (d : Definition). definition_view d.body) c.deref.ensures) c.renewed.ensures.maps;
-  merges = c.renewed.ensures.merges;
-  reads = c.renewed.ensures.reads;
-})
-
-pub returns-clause-plain : goal.returns-clause-plain
-returns-clause-plain g c = plain_taken (definition_view c.self.inside.definition.value.body) c.args.self.now.version _ c.self.inside.groups _ _ _ _ c.self.invariant.1 (ap (λ (v : NamedVersion). v.version.definition) c.self.view_is) c.in_ok-groups.ensures.plain (record {
-  maps = maps_taken _ c.args.self.now.version _ c.self.inside.kept.referrers c.args.taken.now c.in_ok-ids.ids c.as_slice-ids.result.now _ _ _ _ (ap (λ (v : NamedVersion). v.version) c.self.view_is) c.self.invariant.0
-      c.in_ok-ids.ensures.ids c.in_ok-ids.ensures.once c.as_slice-ids.ensures c.in_ok-table.ensures (ap (λ (d : Definition). definition_view d.body) c.deref.ensures) c.renewed.ensures.maps;
-  merges = c.renewed.ensures.merges;
-  reads = c.renewed.ensures.reads;
-})
+pub returns-in_err-share-clause-maps : goal.returns-in_err-share-clause-maps
+returns-in_err-share-clause-maps g c =
+    let most =
+    maps_taken _ c.args.self.now.version _ c.self.inside.kept.referrers c.args.taken.now c.in_ok-ids.ids c.as_slice-ids.result.now _ _ _ _ (ap (λ (v : NamedVersion). v.version) c.self.view_is) c.self.invariant.0
+    c.in_ok-ids.ensures.ids c.in_ok-ids.ensures.once c.as_slice-ids.ensures c.in_ok-table.ensures (ap (λ (d : Definition). definition_view d.body) c.deref.ensures) c.renewed.ensures.maps in
+    omega (arith, most, c.in_ok-groups.ensures.maps)
 
 pub returns-clause-maps : goal.returns-clause-maps
 returns-clause-maps g c =
-    let most = maps_taken _ c.args.self.now.version _ c.self.inside.kept.referrers c.args.taken.now c.in_ok-ids.ids c.as_slice-ids.result.now _ _ _ _ (ap (λ (v : NamedVersion). v.version) c.self.view_is) c.self.invariant.0
+    let most =
+    maps_taken _ c.args.self.now.version _ c.self.inside.kept.referrers c.args.taken.now c.in_ok-ids.ids c.as_slice-ids.result.now _ _ _ _ (ap (λ (v : NamedVersion). v.version) c.self.view_is) c.self.invariant.0
     c.in_ok-ids.ensures.ids c.in_ok-ids.ensures.once c.as_slice-ids.ensures c.in_ok-table.ensures (ap (λ (d : Definition). definition_view d.body) c.deref.ensures) c.renewed.ensures.maps in
     omega (arith, most, c.in_ok-groups.ensures.maps)
+
+pub returns-in_err-groups-clause-plain : goal.returns-in_err-groups-clause-plain
+returns-in_err-groups-clause-plain g c = plain_taken (definition_view c.self.inside.definition.value.body) c.args.self.now.version _ c.self.inside.groups _ _ _ c.self.invariant.1 (ap (λ (v : NamedVersion). v.version.definition) c.self.view_is) c.regrouped.ensures.plain c.renewed.ensures.merges
+
+pub returns-in_err-share-clause-plain : goal.returns-in_err-share-clause-plain
+returns-in_err-share-clause-plain g c = plain_taken (definition_view c.self.inside.definition.value.body) c.args.self.now.version _ c.self.inside.groups _ _ _ c.self.invariant.1 (ap (λ (v : NamedVersion). v.version.definition) c.self.view_is) c.in_ok-groups.ensures.plain c.renewed.ensures.merges
+
+pub returns-clause-plain : goal.returns-clause-plain
+returns-clause-plain g c = plain_taken (definition_view c.self.inside.definition.value.body) c.args.self.now.version _ c.self.inside.groups _ _ _ c.self.invariant.1 (ap (λ (v : NamedVersion). v.version.definition) c.self.view_is) c.in_ok-groups.ensures.plain c.renewed.ensures.merges
 
 pub returns-clause-merges : goal.returns-clause-merges
 returns-clause-merges g c =

@@ -1,9 +1,12 @@
-use Rattle.std.proofs.Common.{◌≡◌, ◌∙◌, [], IfOk, ap, map, subst}
+use Rattle.std.proofs.Common.{◌≡◌, ◌∙◌, [], IfOk, ap, map, subst, sym}
+use Rattle.spec_store.specs.Store.{IsStore}
 use Rattle.spec_server.specs.Machine.{after_batch, in_world, one_change, pump, pumping}
 use Rattle.spec_server.specs.Replies.{Pumped}
 use Rattle.spec_index.specs.World.{World}
+use Rattle.raven_world.specs.Batches.{AllFit, HaveNoReduce}
 use Rattle.raven_world.specs.WorldView.{change_view}
 use Rattle.raven_world.proofs.Batches.{read_same, touched_same}
+use Rattle.raven_world.proofs.Merging.{all_slots, merged_same, with_any}
 use Rattle.raven_world.proofs.world.World.pump.Goals as goal
 
 pub returns-in_err-slots-clause-maps : goal.returns-in_err-slots-clause-maps
@@ -39,3 +42,18 @@ returns-clause-change g c =
     let pumped : c.in_ok-slots.pumped ≡ map (pumping W.store c.args.max) W.slots = c.in_ok-slots.ensures.pumped ∙ (λ i. map (pumping (kept i) c.args.max) (own i)) in
     let same : one_change (Pumped c.in_ok-slots.pumped) [] (in_world W W.store c.in_ok-slots.slots.items) ≡ pump W c.args.max = λ i. one_change (Pumped (pumped i)) [] (in_world W W.store (slots i)) in
     subst (λ x. IfOk c.after_batches.result (λ change. change_view change ≡ x)) same c.after_batches.ensures
+
+pub returns-in_err-slots-clause-plain : goal.returns-in_err-slots-clause-plain
+returns-in_err-slots-clause-plain g c = λ none. c.all_brought_on.ensures.plain (subst HaveNoReduce (sym c.live.ensures) none)
+
+pub returns-clause-plain : goal.returns-clause-plain
+returns-clause-plain g c = λ none. c.in_ok-slots.ensures.plain (subst HaveNoReduce (sym c.live.ensures) none)
+
+pub returns-clause-merges : goal.returns-clause-merges
+returns-clause-merges g c =
+    let W = c.args.self.now in
+    let kept = ap (λ (V : World). V.store) c.self.view_is in
+    let own = c.live.ensures in
+    with_any c.after_batches.result (λ sound.
+    merged_same c.self.inside.store W.store c.args.max c.live.result.now W.slots c.args.steps.now _ kept own
+    (c.in_ok-slots.ensures.merges (subst IsStore (sym kept) sound.store) (subst (λ X. AllFit X c.live.result.now) (sym kept) (subst (AllFit W.store) (sym own) (all_slots _ W.slots sound.fits)))))

@@ -1,4 +1,4 @@
-use Rattle.std.proofs.Common.{◌≡◌, ◌*◌, ◌+◌, ◌∷◌, [], length, drop, sym, ap, subst, ◌∙◌, arith}
+use Rattle.std.proofs.Common.{◌≡◌, ◌*◌, ◌+◌, ◌∷◌, [], length, drop, refl, sym, ap, subst, ◌∙◌, arith}
 use Rattle.std.proofs.lemmas.List.{drop_more, drop_all}
 use Rattle.reduce_groups.specs.Groups.{AllLevels, entries_at, after_insertions}
 use Rattle.reduce_groups.proofs.TreeLemmas.{none_yet, one_more, all_done}
@@ -11,6 +11,8 @@ loop-change-init g c =
       fold = ap (λ t. t.fold) e;
       entries = λ q. ap (λ t. after_insertions g.G.Ord.cmp g.K.Ord.cmp q (entries_at g.G.Ord.cmp q t.trees) c.args.insertions.now) e;
       merges = λ h a. (subst (λ t. AllLevels h t.trees) e a, none_yet c.args.steps.now (64 * (h + 1)));
+      maps = refl;
+      reads = refl;
     }
 
 pub loop-change-preserved : goal.loop-change-preserved
@@ -29,6 +31,8 @@ loop-change-preserved g c =
           let step = c.in_ok-groups-2.ensures.merges h a in
           let before = c.loop-change.invariant.merges h step.0 in
           (before.0, one_more i (64 * (h + 1)) before.1 step.1);
+      maps = c.in_ok-groups-2.ensures.maps ∙ c.loop-change.invariant.maps;
+      reads = c.in_ok-groups-2.ensures.reads ∙ c.loop-change.invariant.reads;
     }
 
 pub returns : goal.returns
@@ -43,4 +47,6 @@ returns g c =
       fold = c.loop-change.invariant.fold;
       entries = λ q. sym (ap (after_insertions R S q (entries_at R q c.loop-change.groups.trees)) none) ∙ c.loop-change.invariant.entries q;
       merges = λ h a. let m = c.loop-change.invariant.merges h a in (m.0, all_done i (length cs) (64 * (h + 1)) end m.1);
+      maps = c.loop-change.invariant.maps;
+      reads = c.loop-change.invariant.reads;
     }

@@ -34,8 +34,4 @@ returns-clause-merges g c =
     let second = c.in_ok-members.ensures.merges h (omega (arith, ap (λ x. x.levels) e, after)) in
     let each : removals cs * (64 * (c.self.inside.members.levels + 1)) ≤ removals cs * (64 * (h + 1)) = more_each (removals cs) _ _ (omega (arith, was, before)) in
     let all = shared_cost (removals cs) (insertions cs) (length cs) (64 * (h + 1)) (kinds cs) in
-    record {
-      merges = omega (arith, first.merges, second.merges, each, all);
-      maps = second.maps ∙ first.maps;
-      reads = second.reads ∙ first.reads;
-    }) c.tree_of.ensures.is
+    record { merges = omega (arith, first.merges, second.merges, each, all) }) c.tree_of.ensures.is
