@@ -1,11 +1,9 @@
 -- How large groups are, and how many merges a change of them makes.
-use Rattle.std.proofs.Common.{◌≡◌, ℕ, zero, suc, ◌+◌, ◌^◌, ◌≤◌, List, [], ◌∷◌, ◌++◌, length, map, refl, sym, ap, subst, ◌∙◌, arith, length-append}
+use Rattle.std.proofs.Common.{◌≡◌, ℕ, suc, ◌^◌, ◌≤◌, List, [], ◌∷◌, length, map, refl, sym, ap, subst, ◌∙◌, arith}
 use Rattle.std.specs.FinMap.{values}
 use Rattle.std.specs.Map.{values_of}
-use Rattle.raven_base.specs.Counts.{Counts}
 use Rattle.index_tree.specs.Meaning.{Fields}
 use Rattle.index_tree.specs.declared.reduce_query.ReduceQuery.{ReduceQuery}
-use Rattle.paged_map.specs.Merges.{MergesAtMost}
 use Rattle.paged_map.specs.Pairs.{IsRising}
 use Rattle.reduce_tree.specs.Tree.{Tree}
 use Rattle.reduce_groups.specs.Groups.{AllSmall, entries_at}
@@ -14,7 +12,7 @@ use Rattle.reduce_folds.specs.declared.row_fold.RowFold.{RowFold}
 use Rattle.spec_reduce.specs.Rows.{Key, group, key_order}
 use Rattle.index_groups.specs.Groups.{AreSmall, Grouped}
 use Rattle.index_groups.specs.KeyLaws.{keys_total}
-use Rattle.index_groups.specs.Trees.{AreIndexed, all_entries, entries_in, key_in}
+use Rattle.index_groups.specs.Trees.{AreIndexed, entries_in, key_in}
 use Rattle.index_groups.proofs.Gathering.{AllTrees, each}
 use Rattle.index_groups.proofs.Rows.{entries_are, group_is}
 

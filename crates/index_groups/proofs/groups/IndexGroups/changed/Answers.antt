@@ -1,4 +1,4 @@
-use Rattle.std.proofs.Common.{length, refl, sym, ap, ◌∙◌, ◌+◌, ◌*◌, arith}
+use Rattle.std.proofs.Common.{length, refl, sym, ap, ◌∙◌, arith}
 use Rattle.index_tree.specs.declared.reduce_query.ReduceQuery.{ReduceQuery}
 use Rattle.index_groups.specs.Groups.{Grouped}
 use Rattle.index_groups.specs.Trees.{entries_in, removal, insertion}
