@@ -96,7 +96,7 @@ fn auto_of(
     Ok(Some(auto_body(alloc, collection, field)?))
 }
 
-// The texts of a map and of a reduce that these four members hold, if they do. For now they hold none of a reduce.
+// The texts of a map and of a reduce, if there is one, that these four members hold, if they do.
 fn texts_of<'a>(
     metadata: Option<&'a Value>,
     kind: Option<&'a Value>,
@@ -112,8 +112,12 @@ fn texts_of<'a>(
         return None;
     };
     let map = text_in(map)?;
+    if kind.as_str() != "static" {
+        return None;
+    }
     match reduce {
-        Some(Value::Null) if kind.as_str() == "static" => Some((map.as_str(), None)),
+        Some(Value::Null) => Some((map.as_str(), None)),
+        Some(Value::Text(reduce)) => Some((map.as_str(), Some(reduce.as_str()))),
         _ => None,
     }
 }

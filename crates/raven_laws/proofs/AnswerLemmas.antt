@@ -13,13 +13,14 @@ use Rattle.spec_store.specs.Stale.{stale}
 use Rattle.spec_store.specs.Store.{row_at}
 use Rattle.spec_data.specs.Tables.{Table}
 use Rattle.spec_index.specs.Index.{documents}
+use Rattle.index_tree.specs.Definitions.{Definition}
 use Rattle.index_tree.specs.Meaning.{Fields, Outcome, Entry, NoEntry, Failed}
 use Rattle.index_tree.specs.Mapper.{mapper_of, is_mapped}
 use Rattle.spec_index.specs.Mapping.{mapped_documents, entry_of, scratch}
 use Rattle.spec_store.specs.Commit.{Setting}
 use Rattle.spec_index.specs.World.{Slot, World, reads, serving}
 use Rattle.spec_server.specs.Replies.{Reply}
-use Rattle.spec_server.specs.Machine.{Machine, Event, AreFromClients, Keeping, Put, Delete, Bulk, Get, Define, Remove, Auto, Find, Pump, Stale, Indexes, Stats, start, run, step, answer_find, answer_stale, is_stale, listing, Line, Do}
+use Rattle.spec_server.specs.Machine.{Machine, Event, AreFromClients, Keeping, Put, Delete, Bulk, Get, Define, Remove, Auto, Find, Pump, Stale, Indexes, Stats, start, run, step, answer_find, answer_stale, has_reduce, ids_found, is_stale, listing, Line, Do}
 use Rattle.spec_index.specs.Find.{field_is_text, found_in}
 use Rattle.spec_server.specs.Sound.{Has, Sound}
 use Rattle.raven_laws.specs.Claims.{Flag, FlagIsExact, IsSpelledAsStored, flag, flags_in, ids_in, find_reply, listed_flag, FreshIsFromScratch, FlagsAreExact, IdsAreSpelledAsStored}
@@ -40,8 +41,19 @@ pub Sound-fresh : (M : Machine) → Sound M.world → FreshIsFromScratch M
 Sound-fresh M o index field ws s h is_fresh =
     let f = o.fits s (served M.world.slots index s h).0 in
     answered M index field ws s h
-    ∙ ap (λ T. Reply.Found (found_in (mapper_of s.version.definition) T field ws) s.version.etag (is_stale M.world.store s)) (fresh_whole (reads s.version) s.version.table M.world.store s.version.etag o.store f.agrees is_fresh)
-    ∙ ap (λ b. Reply.Found (found_in (mapper_of s.version.definition) (documents (reads s.version) M.world.store) field ws) s.version.etag b) is_fresh
+    ∙ ap (λ T. Reply.Found (ids_found s.version.definition T field ws) s.version.etag (is_stale M.world.store s)) (fresh_whole (reads s.version) s.version.table M.world.store s.version.etag o.store f.agrees is_fresh)
+    ∙ ap (λ b. Reply.Found (ids_found s.version.definition (documents (reads s.version) M.world.store) field ws) s.version.etag b) is_fresh
+
+-- what has ids has no reduce
+pub found-ids : (d : Definition) (T : Table) (field ws id : List ℕ) → Has (ids_found d T field ws) id → (has_reduce d ≡ false) × Has (found_in (mapper_of d) T field ws) id
+found-ids d T field ws id h = elim (has_reduce d) as (λ b. has_reduce d ≡ b → Has (cond {A = List (List ℕ)} b [] (found_in (mapper_of d) T field ws)) id
+    → (has_reduce d ≡ false) × Has (found_in (mapper_of d) T field ws) id) [
+      | true ↦ λ e g. absurd g
+      | false ↦ λ e g. (e, g)
+    ] refl h
+
+pub ids-found : (d : Definition) (T : Table) (field ws id : List ℕ) → has_reduce d ≡ false → Has (found_in (mapper_of d) T field ws) id → Has (ids_found d T field ws) id
+ids-found d T field ws id none h = subst (λ b. Has (cond {A = List (List ℕ)} b [] (found_in (mapper_of d) T field ws)) id) (sym none) h
 
 -- FLAGS
 
@@ -173,7 +185,8 @@ Sound-ids M o index field ws id = by (serving M.world.slots index) refl
     by None is h = absurd h
     by (Some s) is h =
         let m = mapper_of s.version.definition in
-        let e = Has-map (λ x. x.0) (filter (λ x. field_is_text field ws x.1) (scratch m s.version.table)) id h in
+        let own = (found-ids s.version.definition s.version.table field ws id h).1 in
+        let e = Has-map (λ x. x.0) (filter (λ x. field_is_text field ws x.1) (scratch m s.version.table)) id own in
         subst (IsSpelledAsStored M.world.store) e.2
         (entries-IsAsKept M.world s e.0 o (served M.world.slots index s is).0 (Has-filter (λ x. field_is_text field ws x.1) (scratch m s.version.table) e.0 e.1))
 

@@ -15,7 +15,7 @@ use Rattle.index_tree.specs.Meaning.{Fields, Outcome, Entry, NoEntry, Failed}
 use Rattle.index_tree.specs.Mapper.{mapper_of, scope_of, is_mapped}
 use Rattle.spec_index.specs.Mapping.{mapped_documents, entry_of, scratch}
 use Rattle.spec_store.specs.Commit.{Setting}
-use Rattle.spec_server.specs.Machine.{Machine, Event, AreFromClients, start, run}
+use Rattle.spec_server.specs.Machine.{Machine, Event, AreFromClients, ids_found, start, run}
 use Rattle.spec_index.specs.Find.{field_is_text, found_in}
 use Rattle.spec_server.specs.Sound.{Has, Sound}
 use Rattle.raven_laws.specs.Claims.{IsMatch, ids_in, FreshIsExact}
@@ -23,7 +23,7 @@ use Rattle.spec_store.proofs.StoreLemmas.{both_true, found_key}
 use Rattle.raven_laws.proofs.IndexLemmas.{get-documents}
 use Rattle.raven_laws.proofs.SlotLemmas.{Has-filter, Has-map, Has-mapped, passes, into-filter}
 use Rattle.raven_laws.proofs.MachineLemmas.{run-Sound}
-use Rattle.raven_laws.proofs.AnswerLemmas.{Has-filter_map, value_found, Sound-fresh}
+use Rattle.raven_laws.proofs.AnswerLemmas.{Has-filter_map, found-ids, ids-found, value_found, Sound-fresh}
 
 -- LISTS
 
@@ -78,11 +78,12 @@ given id (Entry fields) e h = let same : (let x : List ℕ × Fields = (id, fiel
 given id NoEntry e h = absurd cc
 given id Failed e h = absurd cc
 
-found-IsMatch : (S : Store) (d : Definition) (field ws id : List ℕ) → IsStore S → Has (found_in (mapper_of d) (documents (scope_of (mapper_of d)) S) field ws) id → IsMatch S d field ws id
+found-IsMatch : (S : Store) (d : Definition) (field ws id : List ℕ) → IsStore S → Has (ids_found d (documents (scope_of (mapper_of d)) S) field ws) id → IsMatch S d field ws id
 found-IsMatch S d field ws id s h =
     let m = mapper_of d in
     let U = documents (scope_of m) S in
-    let e = Has-map (λ x. x.0) (filter (λ x. field_is_text field ws x.1) (scratch m U)) id h in
+    let own = found-ids d U field ws id h in
+    let e = Has-map (λ x. x.0) (filter (λ x. field_is_text field ws x.1) (scratch m U)) id own.1 in
     let r = Has-filter_map (λ x. entry_of x.id (m.meaning x U).outcome) (mapped_documents m U) e.0 (Has-filter (λ x. field_is_text field ws x.1) (scratch m U) e.0 e.1) in
     let k = document-row (scope_of m) S r.0 s (Has-filter (is_mapped m) (values U) r.0 r.1) in
     let g = given r.0.id (m.meaning r.0 U).outcome e.0 r.2 in
@@ -95,9 +96,10 @@ found-IsMatch S d field ws id s h =
       fields = e.0.1;
       gives = g.1;
       matches = passes (λ x. field_is_text field ws x.1) (scratch m U) e.0 e.1;
+      ungrouped = own.0;
     }
 
-IsMatch-found : (S : Store) (d : Definition) (field ws id : List ℕ) → IsStore S → IsMatch S d field ws id → Has (found_in (mapper_of d) (documents (scope_of (mapper_of d)) S) field ws) id
+IsMatch-found : (S : Store) (d : Definition) (field ws id : List ℕ) → IsStore S → IsMatch S d field ws id → Has (ids_found d (documents (scope_of (mapper_of d)) S) field ws) id
 IsMatch-found S d field ws id s x =
     let m = mapper_of d in
     let U = documents (scope_of m) S in
@@ -105,8 +107,9 @@ IsMatch-found S d field ws id s x =
     let there = row-document (scope_of m) S x.row s (subst (λ q. row_at q S.rows ≡ Some x.row) (ap folded (sym x.spelled)) x.found) inside x.document in
     let listed = into-filter_map (λ y. entry_of y.id (m.meaning y U).outcome) (mapped_documents m U) x.row (x.row.id, x.fields)
     (into-filter (is_mapped m) (values U) x.row there x.mapped) (ap (entry_of x.row.id) x.gives) in
-    subst (Has (found_in m U field ws)) x.spelled
-    (Has-mapped (λ y. y.0) (filter (λ y. field_is_text field ws y.1) (scratch m U)) (x.row.id, x.fields) (into-filter (λ y. field_is_text field ws y.1) (scratch m U) (x.row.id, x.fields) listed x.matches))
+    ids-found d U field ws id x.ungrouped
+    (subst (Has (found_in m U field ws)) x.spelled
+    (Has-mapped (λ y. y.0) (filter (λ y. field_is_text field ws y.1) (scratch m U)) (x.row.id, x.fields) (into-filter (λ y. field_is_text field ws y.1) (scratch m U) (x.row.id, x.fields) listed x.matches)))
 
 pub Sound-exact : (M : Machine) → Sound M.world → FreshIsExact M
 Sound-exact M o index field ws id s h is_fresh =

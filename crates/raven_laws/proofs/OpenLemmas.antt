@@ -306,16 +306,16 @@ record IsStatic (metadata kind map reduce : Option Data) (texts : Texts) : Type 
 same_texts : (a b : Texts) → Some a ≡ Some b → a ≡ b
 same_texts a b h = cc
 
-by_texts : (k s : List ℕ) (texts : Texts) → texts_read (Some (object no_entries)) (Some (text k)) (Some (text s)) (Some null) ≡ Some texts
-    → IsStatic (Some (object no_entries)) (Some (text k)) (Some (text s)) (Some null) texts
-by_texts k s texts h =
-    elim (bytes_eq k (codes "static")) as (λ b. bytes_eq k (codes "static") ≡ b → cond {A = Option Texts} b (Some (s, None)) None ≡ Some texts
-    → IsStatic (Some (object no_entries)) (Some (text k)) (Some (text s)) (Some null) texts) [
+by_texts : (k s : List ℕ) (words : Option (List ℕ)) (texts : Texts) → cond {A = Option Texts} (bytes_eq k (codes "static")) (Some (s, words)) None ≡ Some texts
+    → IsStatic (Some (object no_entries)) (Some (text k)) (Some (text s)) (Some (text_or_null words)) texts
+by_texts k s words texts h =
+    elim (bytes_eq k (codes "static")) as (λ b. bytes_eq k (codes "static") ≡ b → cond {A = Option Texts} b (Some (s, words)) None ≡ Some texts
+    → IsStatic (Some (object no_entries)) (Some (text k)) (Some (text s)) (Some (text_or_null words)) texts) [
       | true ↦ λ e g. record {
         metadata_is = refl;
         kind_is = ap (λ x. Some (text x)) ((bytes_eq-Decides k (codes "static")).0 e);
-        map_is = ap (λ (t : Texts). Some (text t.0)) (same_texts (s, None) texts g);
-        reduce_is = ap (λ (t : Texts). Some (text_or_null t.1)) (same_texts (s, None) texts g);
+        map_is = ap (λ (t : Texts). Some (text t.0)) (same_texts (s, words) texts g);
+        reduce_is = ap (λ (t : Texts). Some (text_or_null t.1)) (same_texts (s, words) texts g);
       }
       | false ↦ λ e g. absurd cc
     ] refl h
@@ -323,10 +323,10 @@ by_texts k s texts h =
 by_reduce : (k s : List ℕ) (r : Option Data) (texts : Texts) → texts_read (Some (object no_entries)) (Some (text k)) (Some (text s)) r ≡ Some texts
     → IsStatic (Some (object no_entries)) (Some (text k)) (Some (text s)) r texts
 by_reduce k s None texts h = absurd cc
-by_reduce k s (Some null) texts h = by_texts k s texts h
+by_reduce k s (Some null) texts h = by_texts k s None texts h
 by_reduce k s (Some (flag b)) texts h = absurd cc
 by_reduce k s (Some (num n)) texts h = absurd cc
-by_reduce k s (Some (text x)) texts h = absurd cc
+by_reduce k s (Some (text words)) texts h = by_texts k s (Some words) texts h
 by_reduce k s (Some (array ds)) texts h = absurd cc
 by_reduce k s (Some (object ms)) texts h = absurd cc
 

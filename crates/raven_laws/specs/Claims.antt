@@ -10,8 +10,8 @@ use Rattle.index_tree.specs.Mapper.{mapper_of, scope_of, is_mapped}
 use Rattle.spec_index.specs.World.{Slot, reads, serving}
 use Rattle.spec_server.specs.Replies.{Reply, Listing, Found}
 use Rattle.spec_server.specs.Replies as replies
-use Rattle.spec_server.specs.Machine.{Machine, Line, Do, Find, Stale, Indexes, Keeping, step, takes_all, is_stale}
-use Rattle.spec_index.specs.Find.{field_is_text, found_in}
+use Rattle.spec_server.specs.Machine.{Machine, Line, Do, Find, Stale, Indexes, Keeping, step, takes_all, has_reduce, ids_found, is_stale}
+use Rattle.spec_index.specs.Find.{field_is_text}
 use Rattle.spec_server.specs.Sound.{Has}
 use Rattle.spec_store.specs.Stale.{Unseen}
 
@@ -21,7 +21,8 @@ pub record IsSpelledAsStored (S : Store) (id : List ℕ) : Type 0 where
   pub found : row_at (folded id) S.rows ≡ Some row
   pub spelled : row.id ≡ id
 
--- a document of the store that the map of the definition gives an entry, and whose field is the text
+-- A document of the store that the map of the definition gives an entry, and whose field is the text. If the definition has a reduce, there is
+-- none: its index has rows in place of documents.
 pub record IsMatch (S : Store) (d : Definition) (field words id : List ℕ) : Type 0 where
   pub row : Row
   pub found : row_at (folded id) S.rows ≡ Some row
@@ -31,6 +32,7 @@ pub record IsMatch (S : Store) (d : Definition) (field words id : List ℕ) : Ty
   pub fields : Fields
   pub gives : ((mapper_of d).meaning row (documents (scope_of (mapper_of d)) S)).outcome ≡ Entry fields
   pub matches : IsTrue (field_is_text field words fields)
+  pub ungrouped : has_reduce d ≡ false
 
 -- the ids of an answer
 abbrev pub ids_in : Reply → List (List ℕ)
@@ -40,10 +42,10 @@ ids_in other = []
 abbrev pub find_reply : Machine → List ℕ → List ℕ → List ℕ → Reply
 find_reply M index field words = (step M takes_all 0 (Do (Find index field words))).reply
 
--- an index that is not stale answers what its map gives for all documents of the store
+-- an index that is not stale answers what its map gives for all documents of the store, and no ids if it has a reduce
 abbrev pub FreshIsFromScratch : Machine → Type 0
 FreshIsFromScratch M = (index field words : List ℕ) (s : Slot) → serving M.world.slots index ≡ Some s → is_stale M.world.store s ≡ false
-    → find_reply M index field words ≡ Found (found_in (mapper_of s.version.definition) (documents (reads s.version) M.world.store) field words) s.version.etag false
+    → find_reply M index field words ≡ Found (ids_found s.version.definition (documents (reads s.version) M.world.store) field words) s.version.etag false
 
 -- so its answer has exactly the ids of the documents that match
 abbrev pub FreshIsExact : Machine → Type 0

@@ -1,11 +1,12 @@
 -- What a line asks is well formed.
-use Rattle.std.proofs.Common.{◌≡◌, ℕ, ◌≤◌, List, [], ◌∷◌, true, ◌&&◌, Some, Ok, refl, ap, ◌∙◌, subst}
+use Rattle.std.proofs.Common.{◌≡◌, ℕ, ◌≤◌, List, [], ◌∷◌, true, false, ◌&&◌, Some, Ok, refl, ap, ◌∙◌, subst}
 use Rattle.std.proofs.lemmas.Bool.{le-leb}
 use Rattle.spec_data.specs.Data.{Data, object, depth}
 use Rattle.spec_store.specs.Commit.{Command}
-use Rattle.index_tree.specs.Definitions.{Definition, Static}
+use Rattle.index_tree.specs.Definitions.{Definition}
+use Rattle.spec_index.specs.World.{is_automatic}
 use Rattle.spec_server.specs.Machine.{Line, Do, Put, Delete, Bulk, Get, Define, Remove, Auto, Find, Pump, Stale, Indexes, Stats}
-use Rattle.spec_server.specs.WellFormed.{IsWellFormed, is_body, is_by_map, put_bodies}
+use Rattle.spec_server.specs.WellFormed.{IsWellFormed, is_body, put_bodies}
 use Rattle.index_lang.specs.Lines.{IsLine}
 use Rattle.raven_reading.specs.Requests.{AreCommands, IsByText, IsRequestBody, IsValidLine}
 use Rattle.raven_reading.proofs.LineLemmas.{line-asked}
@@ -19,11 +20,9 @@ commands-formed [] are = refl
 commands-formed (Command.Put id expected body ∷ commands) are = λ i. body-formed body are.0.1 i && commands-formed commands are.1 i
 commands-formed (Command.Delete id expected ∷ commands) are = commands-formed commands are.1
 
--- a definition by texts is one by the text of a map
-text-formed : (name : List ℕ) (d : Definition) → IsByText name d → is_by_map d ≡ true
-text-formed name d x =
-    let by = x.by_texts in
-    ap is_by_map by.by_texts ∙ ap (λ reduce. is_by_map (Static by.query by.reduce x.texts.0 reduce)) x.no_reduce
+-- a definition by texts is no automatic one
+text-formed : (name : List ℕ) (d : Definition) → IsByText name d → is_automatic d ≡ false
+text-formed name d x = let by = x.by_texts in ap is_automatic by.by_texts
 
 -- what can be stored and read again is well formed
 valid-formed : (asks : Line) → IsValidLine asks → IsWellFormed asks

@@ -1,5 +1,5 @@
 -- What the lines of a script ask to write can be stored.
-use Rattle.std.proofs.Common.{◌≡◌, ℕ, ◌<◌, ◌≤◌, List, [], ◌∷◌, ◌++◌, Bool, true, false, not, cond, ◌&&◌, ◌||◌, ◌==◌, nat_lt, is_none, length, codes, Option, Some, None, Result, Ok, Err, IsUtf8, refl, sym, ap, ◌∙◌, subst, arith}
+use Rattle.std.proofs.Common.{◌≡◌, ℕ, ◌<◌, ◌≤◌, List, [], ◌∷◌, ◌++◌, Bool, true, false, not, cond, ◌&&◌, ◌||◌, ◌==◌, nat_lt, is_none, length, codes, Option, Some, None, IfSome, Result, Ok, Err, IsUtf8, refl, sym, ap, ◌∙◌, subst, arith}
 use Rattle.std.proofs.Math.Utf8.{encode, encodes, scalar, scalars}
 use Rattle.std.proofs.lemmas.Bool.{ltb-true, ltb-false, ne_eqb}
 use Rattle.std.proofs.lemmas.Str.{IsUtf8-append, IsUtf8-encode, IsUtf8-from_is_utf8, IsUtf8-nil, encode_ascii}
@@ -361,7 +361,7 @@ plain-asked (b ∷ bs) = elim (is_utf8 (b ∷ bs)) as (λ t. is_utf8 (b ∷ bs) 
 record AreTexts (given : List ℕ × Texts) : Type 0 where
   pub fit : is_fit max_name given.0 ≡ true
   pub utf8 : IsUtf8 given.1.0
-  pub no_reduce : given.1.1 ≡ None
+  pub reduce_utf8 : IfSome given.1.1 IsUtf8
 
 name-fit : (name out : List ℕ) → name_read name ≡ Ok out → is_fit max_name out ≡ true
 name-fit name out h = elim (fault_of max_name name) as (λ o. fault_of max_name name ≡ o → unless_name_fault o name ≡ Ok out → is_fit max_name out ≡ true) [
@@ -406,15 +406,14 @@ map-member (Some (object ms)) o out f g h = absurd cc
 map-member (Some (array no_items)) o out f g h = absurd cc
 map-member (Some (array (item d more))) o out f g h = map-first d more o out (f (array (item d more)) refl).0 h
 
--- no line has the text of a reduce yet
-reduce-member : (o : Option Data) (out : Option (List ℕ)) → reduce_member o ≡ Ok out → out ≡ None
-reduce-member None out h = sym (same_ok None out h)
-reduce-member (Some null) out h = sym (same_ok None out h)
-reduce-member (Some (flag t)) out h = absurd cc
-reduce-member (Some (num n)) out h = absurd cc
-reduce-member (Some (text s)) out h = absurd cc
-reduce-member (Some (array ds)) out h = absurd cc
-reduce-member (Some (object ms)) out h = absurd cc
+reduce-member : (o : Option Data) (out : Option (List ℕ)) → ((d : Data) → o ≡ Some d → IsFine 100 d) → reduce_member o ≡ Ok out → IfSome out IsUtf8
+reduce-member None out f h = subst (λ x. IfSome x IsUtf8) (same_ok None out h) tt
+reduce-member (Some null) out f h = subst (λ x. IfSome x IsUtf8) (same_ok None out h) tt
+reduce-member (Some (flag t)) out f h = absurd cc
+reduce-member (Some (num n)) out f h = absurd cc
+reduce-member (Some (array ds)) out f h = absurd cc
+reduce-member (Some (object ms)) out f h = absurd cc
+reduce-member (Some (text s)) out f h = subst (λ x. IfSome x IsUtf8) (same_ok (Some s) out h) (f (text s) refl).0
 
 texts-in : (ms : Entries) (given : List ℕ × Texts) → IsFine 100 (object ms) → texts_in ms ≡ Ok given → AreTexts given
 texts-in ms given f h =
@@ -426,7 +425,7 @@ texts-in ms given f h =
     subst AreTexts (same_ok {A = List ℕ × Texts} (n.0, (m.0, r.0)) given r.2) (record {
       fit = name-member (member (codes "Name") ms) n.0 n.1;
       utf8 = map-member (member (codes "Maps") ms) (member (codes "Map") ms) m.0 (λ d e. member-fine (codes "Maps") ms d f e) (λ d e. member-fine (codes "Map") ms d f e) m.1;
-      no_reduce = reduce-member (member (codes "Reduce") ms) r.0 r.1;
+      reduce_utf8 = reduce-member (member (codes "Reduce") ms) r.0 (λ d e. member-fine (codes "Reduce") ms d f e) r.1;
     })
 
 body-texts : (d : Data) (given : List ℕ × Texts) → IsFine 100 d → texts_of_body d ≡ Ok given → AreTexts given
@@ -446,7 +445,7 @@ index-texts words given h =
 defined-asked : (name : List ℕ) (texts : Texts) (answer : Result Definition LangRefusal) → AreTexts (name, texts) → Says texts answer → CanBeKept (defined_by name answer)
 defined-asked name texts (Err refusal) t says = tt
 defined-asked name texts (Ok d) t says =
-    record { commands = tt; indexing = record { fit = t.fit; texts = texts; utf8 = t.utf8; no_reduce = t.no_reduce; by_texts = said-by texts d says; says = says } }
+    record { commands = tt; indexing = record { fit = t.fit; texts = texts; utf8 = t.utf8; reduce_utf8 = t.reduce_utf8; by_texts = said-by texts d says; says = says } }
 
 defining-asked : (r : Result (List ℕ × Texts) ReadRefusal) (read : LineRead) → ((given : List ℕ × Texts) → r ≡ Ok given → AreTexts given) → Comes (asked_to_define r) read → CanBeKept read
 defining-asked (Err refusal) read f is = subst CanBeKept (sym is) tt

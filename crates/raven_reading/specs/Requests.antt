@@ -1,5 +1,5 @@
 -- What a request asks to write: what the program can hold, and can store and read again.
-use Rattle.std.specs.Prelude.{◌≡◌, List, [], ◌∷◌, ℕ, ◌≤◌, None, Ok, IsTrue, IsUtf8}
+use Rattle.std.specs.Prelude.{◌≡◌, List, [], ◌∷◌, ℕ, ◌≤◌, IfSome, Ok, IsTrue, IsUtf8}
 use Rattle.spec_data.specs.Data.{Data, Entries, object, depth}
 use Rattle.spec_data.specs.Faults.{is_fit, max_id, max_name}
 use Rattle.spec_data.specs.Sound.{IsSound}
@@ -25,12 +25,12 @@ abbrev pub AreCommands : List Command → Type 0
 AreCommands [] = Unit {0}
 AreCommands (c ∷ cs) = IsCommand c × AreCommands cs
 
--- The name is valid, and the definition is what some texts say. These have none of a reduce, since a body with one is not read yet.
+-- the name is valid, and the definition is what some texts say
 pub record IsByText (name : List ℕ) (d : Definition) : Type 0 where
   pub fit : IsTrue (is_fit max_name name)
   pub texts : Texts
   pub utf8 : IsUtf8 texts.0
-  pub no_reduce : texts.1 ≡ None
+  pub reduce_utf8 : IfSome texts.1 IsUtf8
   pub by_texts : AgreesWithTexts texts d
   pub says : Says texts (Ok d)
 

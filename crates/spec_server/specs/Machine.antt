@@ -7,6 +7,7 @@ use Rattle.spec_data.specs.Members.{member}
 use Rattle.spec_data.specs.Moments.{moment_text}
 use Rattle.spec_data.specs.Rising.{Pairs, put}
 use Rattle.spec_data.specs.Rows.{Row, doc, gone, is_document}
+use Rattle.spec_data.specs.Tables.{Table}
 use Rattle.spec_store.specs.Store.{Store, row_at, last, empty_store}
 use Rattle.spec_store.specs.Stale.{stale, newest}
 use Rattle.index_tree.specs.Definitions.{Definition}
@@ -263,9 +264,18 @@ pump_for W max (Some name) = pump_at W max name (serving W.slots name)
 abbrev pub is_stale : Store → Slot → Bool
 is_stale S s = stale S (reads s.version) s.version.etag None
 
+-- the definition groups its entries by a reduce
+abbrev pub has_reduce : Definition → Bool
+has_reduce (Definition.Static map reduce map_text reduce_text) = is_some reduce
+has_reduce (Definition.Auto collection fields) = false
+
+-- the ids of what a query finds; the rows of a reduce, which are no documents, have none
+abbrev pub ids_found : Definition → Table → List ℕ → List ℕ → List (List ℕ)
+ids_found d T name ws = if has_reduce d then [] else found_in (mapper_of d) T name ws
+
 abbrev pub answer_find : World → List ℕ → List ℕ → List ℕ → Option Slot → Reply
 answer_find W index name ws None = NoIndex index
-answer_find W index name ws (Some s) = Found (found_in (mapper_of s.version.definition) s.version.table name ws) s.version.etag (is_stale W.store s)
+answer_find W index name ws (Some s) = Found (ids_found s.version.definition s.version.table name ws) s.version.etag (is_stale W.store s)
 
 abbrev pub answer_stale : World → List ℕ → Option ℕ → Option Slot → Reply
 answer_stale W name cutoff None = NoIndex name

@@ -25,9 +25,10 @@ auto_read (Some (object no_entries)) (Some (text collection)) (Some (array (item
     if bytes_eq kind (codes "auto") && is_part field then Some (Auto collection ((field ∷ []) ∷ [])) else None
 auto_read metadata collection fields kind = None
 
--- The texts of an index, from the four members of its body. One with a reduce is not supported yet, so for now no body has the text of one.
+-- the texts of an index, from the four members of its body: that of a map, and that of a reduce or null
 abbrev pub texts_read : Option Data → Option Data → Option Data → Option Data → Option Texts
 texts_read (Some (object no_entries)) (Some (text kind)) (Some (text map)) (Some null) = if bytes_eq kind (codes "static") then Some (map, None) else None
+texts_read (Some (object no_entries)) (Some (text kind)) (Some (text map)) (Some (text reduce)) = if bytes_eq kind (codes "static") then Some (map, Some reduce) else None
 texts_read metadata kind map reduce = None
 
 -- what a body says before its texts are read

@@ -255,11 +255,11 @@ map_member None (Some (json.text map)) = Ok map
 map_member None (Some other) = Err (BadMember (codes "Map"))
 map_member None None = Err (BadMember (codes "Maps"))
 
--- The text of the reduce, if there is one. A definition with a reduce is not supported yet, so for now no line has one.
+-- the text of the reduce; without one, or with null, there is none
 abbrev pub reduce_member : Option Data → Result (Option (List ℕ)) ReadRefusal
 reduce_member None = Ok None
 reduce_member (Some json.null) = Ok None
-reduce_member (Some (json.text reduce)) = Err UnknownLine
+reduce_member (Some (json.text reduce)) = Ok (Some reduce)
 reduce_member other = Err (BadMember (codes "Reduce"))
 
 -- the name and the texts

@@ -1,10 +1,10 @@
 -- What a request has to be for what it writes to open again.
-use Rattle.std.specs.Prelude.{◌≡◌, List, Bool, true, false, nat_le, None}
+use Rattle.std.specs.Prelude.{◌≡◌, List, Bool, true, false, nat_le}
 use Rattle.std.specs.List.{list_all}
 use Rattle.spec_data.specs.Data.{Data, object, depth}
 use Rattle.spec_data.specs.Limits.{max_depth}
 use Rattle.spec_store.specs.Commit.{Command}
-use Rattle.index_tree.specs.Definitions.{Definition, Static}
+use Rattle.spec_index.specs.World.{is_automatic}
 use Rattle.spec_server.specs.Machine.{Line, Do, Put, Bulk, Define, Auto}
 use Rattle.spec_server.specs.Opening.{is_part}
 
@@ -21,15 +21,11 @@ puts_body (Command.Delete id expected) = true
 abbrev pub put_bodies : List Command → Bool
 put_bodies commands = list_all puts_body commands
 
--- a definition by the text of a map alone: an automatic one is the server's, and one with a reduce is not read of a stored row yet
-abbrev pub is_by_map : Definition → Bool
-is_by_map (Static map reduce map_text None) = true
-is_by_map other = false
-
--- Documents are such documents, an index by name is defined by a map, and the field of an automatic index can be a part of a path.
+-- Documents are such documents, an index by name is no automatic one, since those are the server's, and the field of an automatic index can be
+-- a part of a path.
 abbrev pub IsWellFormed : Line → Type 0
 IsWellFormed (Do (Put id expected body)) = is_body body ≡ true
 IsWellFormed (Do (Bulk commands)) = put_bodies commands ≡ true
-IsWellFormed (Do (Define name definition)) = is_by_map definition ≡ true
+IsWellFormed (Do (Define name definition)) = is_automatic definition ≡ false
 IsWellFormed (Do (Auto collection field)) = is_part field ≡ true
 IsWellFormed other = Unit {0}
