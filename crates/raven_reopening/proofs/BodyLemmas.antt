@@ -1,5 +1,5 @@
 -- A stored body is read back.
-use Rattle.std.proofs.Common.{◌≡◌, ℕ, ◌≤◌, List, [], ◌∷◌, Bool, true, false, not, ◌||◌, cond, filter, length, codes, Option, Some, None, IsUtf8, Less, Equal, Greater, refl, sym, ap, ◌∙◌, subst, arith}
+use Rattle.std.proofs.Common.{◌≡◌, ℕ, ◌≤◌, List, [], ◌∷◌, Bool, true, false, not, ◌||◌, cond, filter, length, codes, Option, Some, None, IfSome, IsUtf8, Less, Equal, Greater, refl, sym, ap, ◌∙◌, subst, arith}
 use Rattle.std.proofs.lemmas.Slice.Eq.{bytes_eq-Decides}
 use Rattle.std.specs.List.{list_any}
 use Rattle.std.specs.Ordering.{match_ordering}
@@ -16,7 +16,7 @@ use Rattle.index_tree.specs.declared.map_query.MapQuery.{MapQuery}
 use Rattle.index_tree.specs.declared.reduce_query.ReduceQuery.{ReduceQuery}
 use Rattle.index_tree.specs.Definitions.{Auto, Static}
 use Rattle.spec_server.specs.Opening.{AutoForm, StaticForm, body_form, form_of, is_part}
-use Rattle.spec_index.specs.World.{row_body}
+use Rattle.spec_index.specs.World.{row_body, text_or_null}
 use Rattle.spec_store.proofs.KeyedLemmas.{differ_greater}
 use Rattle.spec_data.proofs.MemberLemmas.{IsRising-put, pairs_of-entries_of}
 use Rattle.raven_reading.specs.Requests.{IsRequestBody}
@@ -167,8 +167,19 @@ definition-body c f u v = record {
   an_object = refl;
 }
 
-pub static-body : (query : MapQuery) (reduce : Option ReduceQuery) (words : List ℕ) → IsUtf8 words → IsRequestBody (row_body (Static query reduce words None))
-static-body query reduce words u = record {
+-- the text of a reduce, or null
+text-sound : (words : Option (List ℕ)) → IfSome words IsUtf8 → IsSound (text_or_null words)
+text-sound None u = tt
+text-sound (Some words) u = u
+
+text-flat : (words : Option (List ℕ)) → depth (text_or_null words) ≡ 0
+text-flat None = refl
+text-flat (Some words) = refl
+
+-- and so is that of a definition by texts
+pub static-body : (query : MapQuery) (reduce : Option ReduceQuery) (words : List ℕ) (reduce_words : Option (List ℕ)) → IsUtf8 words → IfSome reduce_words IsUtf8
+    → IsRequestBody (row_body (Static query reduce words reduce_words))
+static-body query reduce words reduce_words u v = record {
   sound = (
     ((refl, (refl, (refl, tt))), ((refl, (refl, tt)), ((refl, tt), (tt, tt)))),
     (
@@ -181,14 +192,14 @@ static-body query reduce words u = record {
             IsUtf8-are_ascii _ refl,
             (
               IsUtf8-are_ascii _ refl,
-              (u, (IsUtf8-are_ascii _ refl, (tt, tt))),
+              (u, (IsUtf8-are_ascii _ refl, (text-sound reduce_words v, tt))),
             ),
           ),
         ),
       ),
     ),
   );
-  shallow = omega arith;
+  shallow = let flat = text-flat reduce_words in omega arith;
   members = _;
   an_object = refl;
 }
@@ -198,5 +209,7 @@ static-body query reduce words u = record {
 pub auto-back : (c f : List ℕ) → is_part f ≡ true → body_form (stored_body (row_body (Auto c ((f ∷ []) ∷ [])))) ≡ AutoForm (Auto c ((f ∷ []) ∷ []))
 auto-back c f h = ap (λ b. form_of (cond b (Some (Auto c ((f ∷ []) ∷ []))) None) None) h
 
-pub static-back : (query : MapQuery) (words : List ℕ) → body_form (stored_body (row_body (Static query None words None))) ≡ StaticForm (words, None)
-static-back query words = refl
+pub static-back : (query : MapQuery) (reduce : Option ReduceQuery) (words : List ℕ) (reduce_words : Option (List ℕ))
+    → body_form (stored_body (row_body (Static query reduce words reduce_words))) ≡ StaticForm (words, reduce_words)
+static-back query reduce words None = refl
+static-back query reduce words (Some other) = refl

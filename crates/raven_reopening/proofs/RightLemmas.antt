@@ -1,9 +1,9 @@
 -- The definitions of indexes are right: each is read again from the body of its row, and may have its name.
-use Rattle.std.proofs.Common.{◌≡◌, ℕ, ◌≤◌, List, [], ◌∷◌, Bool, true, false, if◌then◌else◌, length, filter, map, Option, Some, None, Ok, IsUtf8, refl, sym, ◌∙◌, subst, inl, inr}
+use Rattle.std.proofs.Common.{◌≡◌, ℕ, ◌≤◌, List, [], ◌∷◌, Bool, true, false, if◌then◌else◌, length, filter, map, Option, Some, IfSome, Ok, IsUtf8, refl, sym, ◌∙◌, subst, inl, inr}
 use Rattle.spec_data.specs.Faults.{max_name}
 use Rattle.spec_data.specs.Rows.{doc}
 use Rattle.spec_store.specs.Commit.{stored_body}
-use Rattle.index_tree.specs.Definitions.{Definition, Static, Auto}
+use Rattle.index_tree.specs.Definitions.{Definition, Static, Auto, Texts}
 use Rattle.index_tree.specs.declared.map_query.MapQuery.{MapQuery}
 use Rattle.index_tree.specs.declared.reduce_query.ReduceQuery.{ReduceQuery}
 use Rattle.spec_server.specs.Opening.{is_auto_name, is_static_name, may_be_named}
@@ -16,7 +16,7 @@ use Rattle.raven_laws.proofs.SlotLemmas.{Has-append, Has-filter, Has-map}
 use Rattle.index_lang.specs.Openings.{IsInBody, IsOfForm}
 use Rattle.index_lang.specs.Says.{Says}
 use Rattle.raven_reading.specs.Requests.{IsRequestBody, IsByText, IsIndexing}
-use Rattle.raven_reopening.proofs.BodyLemmas.{auto-back, definition-body, static-body}
+use Rattle.raven_reopening.proofs.BodyLemmas.{auto-back, definition-body, static-back, static-body}
 use Rattle.raven_reopening.proofs.FitLemmas.{static_name-fit}
 
 -- what is read of the body that the server stores for a definition is that definition
@@ -43,21 +43,21 @@ auto-new name c f fits named =
     let d = Auto c ((f ∷ []) ∷ []) in
     record { body = definition-body c f fits.0 fits.1.0; read = subst (λ form. IsOfForm form (Some d)) (sym (auto-back c f fits.1.1)) refl; named = named }
 
--- a body with the text of a reduce is not read yet
-texts-new : (name : List ℕ) (query : MapQuery) (reduce : Option ReduceQuery) (words : List ℕ) (other : Option (List ℕ)) → other ≡ None → IsUtf8 words
-    → Says (words, other) (Ok (Static query reduce words other)) → is_static_name name ≡ true → IsNew name (Static query reduce words other)
-texts-new name query reduce words None none u says named = record {
-  body = static-body query reduce words u;
-  read = record { answer = Ok (Static query reduce words None); says = says; told = refl };
-  named = named;
-}
-texts-new name query reduce words (Some text) none u says named = absurd cc
+texts-new : (name : List ℕ) (query : MapQuery) (reduce : Option ReduceQuery) (texts : Texts) → IsUtf8 texts.0 → IfSome texts.1 IsUtf8
+    → Says texts (Ok (Static query reduce texts.0 texts.1)) → is_static_name name ≡ true → IsNew name (Static query reduce texts.0 texts.1)
+texts-new name query reduce texts u v says named =
+    let d = Static query reduce texts.0 texts.1 in
+    record {
+      body = static-body query reduce texts.0 texts.1 u v;
+      read = subst (λ form. IsOfForm form (Some d)) (sym (static-back query reduce texts.0 texts.1)) (record { answer = Ok d; says = says; told = refl });
+      named = named;
+    }
 
 pub static-new : (name : List ℕ) (d : Definition) → IsByText name d → is_reserved_name name ≡ false → length name ≤ 200 → IsNew name d
 static-new name d x free few =
     let own = x.by_texts in
     subst (IsNew name) (sym own.by_texts)
-    (texts-new name own.query own.reduce x.texts.0 x.texts.1 x.no_reduce x.utf8 (subst (λ e. Says x.texts (Ok e)) own.by_texts x.says) (static_name-fit max_name name x.fit free few))
+    (texts-new name own.query own.reduce x.texts x.utf8 x.reduce_utf8 (subst (λ e. Says x.texts (Ok e)) own.by_texts x.says) (static_name-fit max_name name x.fit free few))
 
 pub added-right : (W : World) (name : List ℕ) (d : Definition) → IsNew name d → AllRight W.slots → AllRight (added W name d).slots
 added-right W name d new all s h = elim (Has-append W.slots _ s h) [

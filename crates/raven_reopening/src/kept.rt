@@ -1,7 +1,8 @@
 //! Rows and definitions are read back as they were stored.
 
-ghost use Rattle.std.specs.Prelude.{◌≡◌, ◌≤◌, ℕ, List, [], ◌∷◌, IsTrue, None, Ok, Some, length};
+ghost use Rattle.std.specs.Prelude.{◌≡◌, ◌≤◌, ℕ, List, [], ◌∷◌, IsTrue, Ok, Option, Some, length};
 ghost use Rattle.index_tree.specs.declared.map_query.MapQuery.{MapQuery};
+ghost use Rattle.index_tree.specs.declared.reduce_query.ReduceQuery.{ReduceQuery};
 ghost use Rattle.spec_data.specs.Data.{Data, depth};
 ghost use Rattle.spec_data.specs.Json.{reading};
 ghost use Rattle.spec_data.specs.Kept.{all_kept, kept};
@@ -9,7 +10,7 @@ ghost use Rattle.spec_data.specs.Rows.{Row};
 ghost use Rattle.spec_data.specs.Sound.{IsSound};
 ghost use Rattle.spec_store.specs.Commit.{stored_body};
 ghost use Rattle.spec_store.specs.Kept.{row_in, rows_in};
-ghost use Rattle.index_tree.specs.Definitions.{Auto, Static};
+ghost use Rattle.index_tree.specs.Definitions.{Auto, Static, Texts};
 ghost use Rattle.spec_server.specs.Opening.{AutoForm, StaticForm, body_form, is_part};
 ghost use Rattle.spec_store.specs.Store.{IsStore, Store};
 ghost use Rattle.spec_index.specs.World.{row_body};
@@ -26,11 +27,12 @@ pub fn stores_open_again()
 {}
 
 /// The definition of an automatic index of one field is read back from the body that the server stores for it, and so are the texts of a
-/// definition by texts, if it has no reduce.
+/// definition by texts, that of its reduce if it has one.
 pub fn definitions_are_read_back()
     ensures automatic { (collection field : List ℕ) → IsTrue (is_part field) →
         body_form (stored_body (row_body (Auto collection ((field ∷ []) ∷ [])))) ≡ AutoForm (Auto collection ((field ∷ []) ∷ [])) }
-    ensures by_text { (query : MapQuery) (text : List ℕ) → body_form (stored_body (row_body (Static query None text None))) ≡ StaticForm (text, None) }
+    ensures by_text { (query : MapQuery) (reduce : Option ReduceQuery) (texts : Texts) →
+        body_form (stored_body (row_body (Static query reduce texts.0 texts.1))) ≡ StaticForm texts }
 {}
 
 /// What JSON bytes are read as is sound: its numbers have 64 bits, its texts are UTF-8, its members rise. It is at most a hundred deep.

@@ -1,11 +1,10 @@
 //! Indexes that are defined and removed, and the rows of their definitions.
-ghost use Rattle.std.specs.Prelude.{◌≡◌, ◌+◌, ◌++◌, ◌∷◌, [], IfOk, IfSome, Ok, length, map, nat_le, true};
+ghost use Rattle.std.specs.Prelude.{◌≡◌, ◌+◌, ◌++◌, ◌∷◌, [], IfOk, IfSome, Ok, false, length, map, nat_le};
 ghost use Rattle.spec_store.specs.Commit.{AnyVector, Delete, Put, Server, commit as spec_commit};
 ghost use Rattle.spec_server.specs.Machine.{Remove, course_of, change_of_slots, rewrote};
 ghost use Rattle.spec_server.specs.Replies.{Index as IndexOf, Removed as RemovedOf};
-ghost use Rattle.spec_server.specs.WellFormed.{is_by_map};
 ghost use Rattle.spec_store.specs.Store.{last};
-ghost use Rattle.spec_index.specs.World.{added, added_if_room, new_version, index_id as spec_index_id, row_body as spec_row_body};
+ghost use Rattle.spec_index.specs.World.{added, added_if_room, is_automatic, new_version, index_id as spec_index_id, row_body as spec_row_body};
 ghost use Rattle.doc_txn.specs.CommandView.{command_view};
 ghost use Rattle.index_definition.specs.DefinitionView.{definition_view};
 ghost use Rattle.raven_reply.specs.ReplyView.{reply_view};
@@ -147,15 +146,15 @@ impl World {
         self.rewrite(alloc, commands, slots, reply, now)
     }
 
-    /// Defines an index by name. If the name serves with the same definition, nothing changes. The definition is by the text of a map: that of
-    /// an automatic index would not open again under the name that a client gives, and one with a reduce is not read of a stored row yet.
+    /// Defines an index by name. If the name serves with the same definition, nothing changes. The definition is by texts: that of an automatic
+    /// index would not open again under the name that a client gives.
     pub fn define(
         &self,
         alloc: Global,
         definition: Arc<Definition>,
         now: u64,
     ) -> Result<Change, WorldFault>
-        requires { is_by_map (definition_view definition.value.body) ≡ true }
+        requires { is_automatic (definition_view definition.value.body) ≡ false }
         ensures { IfSome (answer_view result) (λ course. course ≡ course_of self.now now (define_as definition.value)) }
     {
         let name = definition.name.as_str();

@@ -5,4 +5,4 @@ pub returns-clause-automatic : goal.returns-clause-automatic
 returns-clause-automatic c = auto-back
 
 pub returns-clause-by_text : goal.returns-clause-by_text
-returns-clause-by_text c = static-back
+returns-clause-by_text c = λ query reduce texts. static-back query reduce texts.0 texts.1
