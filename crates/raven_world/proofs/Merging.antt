@@ -3,8 +3,8 @@ use Rattle.std.proofs.Common.{◌≡◌, ℕ, ◌≤◌, ◌<◌, ◌+◌, ◌*�
 use Rattle.std.specs.Prelude.{IfOk, IfSome, OnOk, option_map}
 use Rattle.std.specs.List.{All}
 use Rattle.std.proofs.lemmas.Grind.{flat_map-append}
-use Rattle.std.proofs.lemmas.List.{take-append-drop, take_more}
-use Rattle.std.proofs.lemmas.List.Elements.{All-get_or, filter-append}
+use Rattle.std.proofs.lemmas.List.{get_or-append-add, get_or_append_left, take-append-drop, take_more}
+use Rattle.std.proofs.lemmas.List.Elements.{All-cons, All-head, All-nil, filter-append}
 use Rattle.raven_base.specs.Counts.{Counts}
 use Rattle.spec_store.specs.Stale.{batch_rows}
 use Rattle.spec_store.specs.Store.{IsStore, Store}
@@ -12,7 +12,7 @@ use Rattle.index_tree.specs.Mapper.{mapper_of}
 use Rattle.spec_index.specs.Index.{Agrees}
 use Rattle.spec_index.specs.Mapping.{touched}
 use Rattle.spec_index.specs.World.{Slot, Version, batch, reads}
-use Rattle.spec_server.specs.Machine.{or_as_before}
+use Rattle.spec_server.specs.Machine.{after_batch, or_as_before}
 use Rattle.spec_server.specs.Sound.{Fits, Has}
 use Rattle.index_version.specs.Named.{NamedVersion}
 use Rattle.index_version.specs.Reduced.{HasSmallGroups}
@@ -21,12 +21,10 @@ use Rattle.raven_world.specs.Batches.{AllFit, HaveSmallGroups, MergesFew, ids_to
 -- A LIST AND ITS PARTS
 
 pub all_left : {X : Type 0} (P : X → Type 0) (xs ys : List X) → All P (xs ++ ys) → All P xs
-all_left P [] ys h = tt
-all_left P (x ∷ xs) ys h = (h.0, all_left P xs ys h.1)
+all_left P xs ys h k d lt = let both = length-append xs ys in subst P (get_or_append_left xs ys d k lt) (h k d (omega (arith, both, lt)))
 
 pub all_right : {X : Type 0} (P : X → Type 0) (xs ys : List X) → All P (xs ++ ys) → All P ys
-all_right P [] ys h = h
-all_right P (x ∷ xs) ys h = all_right P xs ys h.1
+all_right P xs ys h k d lt = let both = length-append xs ys in subst P (get_or-append-add xs ys k d) (h (length xs + k) d (omega (arith, both, lt)))
 
 in_two : (p : Slot → Bool) (slots : List Slot) (i : ℕ) → filter p slots ≡ filter p (take i slots) ++ filter p (drop i slots)
 in_two p slots i = ap (filter p) (sym (take-append-drop i slots)) ∙ filter-append p (take i slots) (drop i slots)
@@ -48,26 +46,26 @@ this_passing p P slots i s within at h =
     all_right P (filter p (take i slots)) (filter p (s ∷ [])) (subst (All P) (passing_more p slots i s within at) next)
 
 pub this : (P : Slot → Type 0) (slots : List Slot) (i : ℕ) (s : Slot) → i < length slots → s ≡ get_or slots i s → All P slots → All P (s ∷ [])
-this P slots i s within at h = (subst P (sym at) (All-get_or P slots i s within h), tt)
+this P slots i s within at h = All-cons P s [] (subst P (sym at) (h i s within)) (All-nil P)
 
 pub named_one : (p : Slot → Bool) (s : Slot) → p s ≡ true → filter p (s ∷ []) ≡ s ∷ []
 named_one p s is = ap (λ b. cond b (s ∷ []) []) is
 
 -- what holds of each slot holds of those that pass a test
 pub all_passing : (p : Slot → Bool) (P : Slot → Type 0) (slots : List Slot) → ((s : Slot) → Has slots s → P s) → All P (filter p slots)
-all_passing p P [] each = tt
+all_passing p P [] each = All-nil P
 all_passing p P (s ∷ slots) each = by (p s)
   where
     rest : All P (filter p slots)
     rest = all_passing p P slots (λ t h. each t (inr h))
 
     by : (b : Bool) → All P (cond b (s ∷ filter p slots) (filter p slots))
-    by true = (each s (inl refl), rest)
+    by true = All-cons P s (filter p slots) (each s (inl refl)) rest
     by false = rest
 
 pub all_slots : (P : Slot → Type 0) (slots : List Slot) → ((s : Slot) → Has slots s → P s) → All P slots
-all_slots P [] each = tt
-all_slots P (s ∷ slots) each = (each s (inl refl), all_slots P slots (λ t h. each t (inr h)))
+all_slots P [] each = All-nil P
+all_slots P (s ∷ slots) each = All-cons P s slots (each s (inl refl)) (all_slots P slots (λ t h. each t (inr h)))
 
 -- MERGES
 
@@ -104,15 +102,17 @@ pub merged_by_next : (S : Store) (max : ℕ) (v : Version) (s : Slot) (next : Op
     → ((h : ℕ) → 1 ≤ h → IsStore S → Agrees (reads v) v.table S v.etag → HasSmallGroups h v → IfSome next (λ n. HasSmallGroups h n.version) → new.merges ≤ old.merges + 128 * length (touched_ids S max v) * (h + 1))
     → MergesFew S max (s ∷ []) old new
 merged_by_next S max v s next old new own store fit is few h one small =
-    let agrees = subst (λ (u : Version). Agrees (reads u) u.table S u.etag) (sym own) fit.0.agrees in
-    let before = subst (HasSmallGroups h) (sym own) small.0.0 in
-    let most = few h one store agrees before (after next is) in
+    let fits = All-head (λ (t : Slot). Fits S t.version) s [] fit in
+    let both = All-head (λ (t : Slot). HasSmallGroups h t.version × HasSmallGroups h (after_batch S max t).version) s [] small in
+    let agrees = subst (λ (u : Version). Agrees (reads u) u.table S u.etag) (sym own) fits.agrees in
+    let before = subst (HasSmallGroups h) (sym own) both.0 in
+    let most = few h one store agrees before (after both.1 next is) in
     let as_many : length (touched_ids S max v) ≡ length (ids_touched_by_all S max (s ∷ [])) = ap (λ u. length (touched_ids S max u)) own ∙ sym (alone (touched_ids S max s.version)) in
     subst (λ n. new.merges ≤ old.merges + 128 * n * (h + 1)) as_many most
   where
-    after : (next : Option NamedVersion) → option_map (λ n. n.version) next ≡ batch v S max → IfSome next (λ n. HasSmallGroups h n.version)
-    after None e = tt
-    after (Some n) e = subst (HasSmallGroups h) (ap (or_as_before s.version) (sym (e ∙ ap (λ u. batch u S max) own))) small.0.1
+    after : HasSmallGroups h (after_batch S max s).version → (next : Option NamedVersion) → option_map (λ n. n.version) next ≡ batch v S max → IfSome next (λ n. HasSmallGroups h n.version)
+    after here None e = tt
+    after here (Some n) e = subst (HasSmallGroups h) (ap (or_as_before s.version) (sym (e ∙ ap (λ u. batch u S max) own))) here
 
     alone : (xs : List (List ℕ)) → length (xs ++ []) ≡ length xs
     alone xs = let both = length-append xs [] in omega (arith, both)

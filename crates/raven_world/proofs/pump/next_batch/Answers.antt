@@ -1,4 +1,5 @@
-use Rattle.std.proofs.Common.{◌∙◌, ◌+◌, ◌*◌, ◌≤◌, None, ap, cond, length, subst, sym}
+use Rattle.std.proofs.Common.{◌≡◌, [], ◌∙◌, ◌+◌, ◌*◌, ◌≤◌, None, ap, cond, length, subst, sym}
+use Rattle.std.proofs.lemmas.List.Elements.{All-head}
 use Rattle.spec_store.specs.Stale.{batch_rows, stale}
 use Rattle.spec_index.specs.World.{Slot, Version, reads}
 use Rattle.index_definition.specs.DefinitionView.{definition_view}
@@ -35,7 +36,7 @@ returns-clause-reads g c =
 pub returns-clause-plain : goal.returns-clause-plain
 returns-clause-plain g c = λ none.
     let own = ap (λ (v : NamedVersion). v.version) c.deref-3.ensures ∙ ap (λ (s : Slot). s.version) c.slot.view_is in
-    c.next.ensures.plain (ap (λ (v : Version). reduce_of v.definition) own ∙ none.0)
+    c.next.ensures.plain (ap (λ (v : Version). reduce_of v.definition) own ∙ All-head (λ (s : Slot). reduce_of s.version.definition ≡ None) c.args.slot.now [] none)
 
 pub returns-clause-merges : goal.returns-clause-merges
 returns-clause-merges g c =
