@@ -8,8 +8,8 @@ use Rattle.std.specs.Prelude.{◌&&◌}
 use Rattle.std.specs.Fmt.{decimal}
 use Rattle.std.specs.List.{list_all}
 use Rattle.index_tokens.specs.declared.token.Token.TheVariants as t
-use Rattle.index_tokens.specs.Spelling.{is_digit, max_number, number_from, number_of}
-use Rattle.index_tokens.proofs.NumberLemmas.{small_enough}
+use Rattle.exact_tokens.proofs.NumberLemmas.{small_enough}
+use Rattle.index_tokens.specs.Spelling.{is_digit, max_number, number_from, number_or_bad, number_of}
 
 abbrev pub AreDigits : ℕ → List ℕ → Type 0
 AreDigits n digits = (list_all is_digit digits ≡ true) × (number_from 0 digits ≡ n) × (0 < length digits)
@@ -35,4 +35,4 @@ pub digits : (n : ℕ) → n ≤ max_number → AreDigits n (decimal n)
 digits n h = decimal_by_steps AreDigits one more n (omega arith)
 
 pub number_is : (n : ℕ) → n ≤ max_number → number_of (decimal n) ≡ t.Number (pos n)
-number_is n h = small_enough (decimal n) [] n ((digits n h).1) refl h
+number_is n h = ap number_or_bad (small_enough max_number (decimal n) [] n ((digits n h).1) refl h)

@@ -5,10 +5,10 @@ use Rattle.std.specs.Prelude.{◌==◌, ◌&&◌, ◌||◌, is_some, if◌then�
 use Rattle.std.specs.List.{list_all}
 use Rattle.index_tokens.specs.declared.token.Token.{Token}
 use Rattle.index_tokens.specs.declared.token.Token.TheVariants as t
-use Rattle.index_tokens.specs.Spelling.{is_letter, is_digit, is_name_byte, max_number, number_from, number_of, meant_by, is_raw, value_of, single, double, mark_of, where_true, spelled_by}
+use Rattle.index_tokens.specs.Spelling.{is_letter, is_digit, is_name_byte, max_number, number_from, number_or_bad, number_of, meant_by, is_raw, value_of, single, double, mark_of, where_true, spelled_by}
 use Rattle.index_tokens.specs.Tokens.{tokens_of, IsFirst, spelled, bad, AreTokens, ends, blank, token}
 use Rattle.index_tokens.specs.Words.{Tokens}
-use Rattle.index_tokens.proofs.LawLemmas.{all_longest}
+use Rattle.index_tokens.proofs.TurnLemmas.{all_longest}
 use Rattle.index_print.specs.Print.{escape_letter}
 use Rattle.index_print.specs.Spellable.{IsName, IsNumber, is_quotable, IsQuotable}
 
@@ -83,7 +83,7 @@ word_sound false b bs is letter = not_there
 not_greater : (n : ℕ) → nat_lt max_number n ≡ false → n ≤ max_number
 not_greater n h = grind (arith, common_steps)
 
-number_by : (greater : Bool) (n : ℕ) → nat_lt max_number n ≡ greater → IsSound (if greater then t.Bad else t.Number (pos n))
+number_by : (greater : Bool) (n : ℕ) → nat_lt max_number n ≡ greater → IsSound (number_or_bad (if greater then None else Some n))
 number_by true n is = tt
 number_by false n is = not_greater n is
 

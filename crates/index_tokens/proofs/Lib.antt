@@ -1,12 +1,5 @@
-pub mod Seams
-pub mod MarkLemmas
 pub mod RunLemmas
-pub mod NumberLemmas
-pub mod QuotedLemmas
-pub mod Longest
-pub mod TextLemmas
 pub mod PrefixLemmas
 pub mod TurnLemmas
-pub mod LawLemmas
 pub mod WordLemmas
 pub mod Taking

@@ -1,104 +1,31 @@
 -- The first byte decides which pass finds the longest token.
-use Rattle.std.proofs.Common.{◌≡◌, ◌≢◌, ◌<◌, ◌≤◌, ◌+◌, ℕ, suc, zero, List, [], ◌∷◌, length, take, arith, refl, sym, subst, ap, ◌∙◌, add-one, Option, Some, None, Bool, true, false, ne_eqb}
-use Rattle.std.specs.Prelude.{◌==◌, if◌then◌else◌, Result, Ok, Err, IfOk}
-use Rattle.std.specs.List.{list_all}
+use Rattle.std.proofs.Common.{◌≡◌, ◌≢◌, ℕ, List, [], ◌∷◌, refl, sym, ap, ◌∙◌, true, false, ne_eqb}
+use Rattle.exact_tokens.proofs.FirstLemmas.{letter_name, run_first, mark_first}
+use Rattle.exact_tokens.proofs.TextLemmas.{text_first}
 use Rattle.index_tokens.specs.declared.token.Token.{Token}
 use Rattle.index_tokens.specs.declared.token.Token.TheVariants as t
-use Rattle.index_tokens.specs.Spelling.{is_letter, is_digit, is_name_byte, number_of, single, double, mark_of, where_true, spelled_by}
-use Rattle.index_tokens.specs.Tokens.{or_shorter, or_all, first_token}
-use Rattle.index_tokens.specs.Passes.{run, word_prefix, number_prefix, quoted_prefix, mark_at, mark_prefix}
-use Rattle.index_tokens.proofs.Longest.{spelled, first_found, first_bad}
-use Rattle.index_tokens.proofs.RunLemmas.{run_le, run_all, run_past}
-use Rattle.index_tokens.proofs.TextLemmas.{quoted_first}
-
--- NAMES AND NUMBERS
-
-run_more : (test : ℕ → Bool) (b : ℕ) (bs : List ℕ) → test b ≡ true → run test (b ∷ bs) ≡ suc (run test bs)
-run_more test b bs is = rw is (add-one (run test bs))
-
-letter_name : (b : ℕ) → is_letter b ≡ true → is_name_byte b ≡ true
-letter_name b is = rw is refl
-
-word_first : (b : ℕ) (bs : List ℕ) → is_letter b ≡ true → first_token (b ∷ bs) ≡ word_prefix (b ∷ bs)
-word_first b bs is =
-    let n = run is_name_byte bs in
-    let spells : (m : ℕ) → spelled b bs m ≡ where_true (list_all is_name_byte (take m bs)) (t.Word (b ∷ take m bs)) = λ m. rw is refl in
-    first_found b bs n (t.Word (b ∷ take n bs)) (run_le is_name_byte bs)
-    (spells n ∙ ap (λ h. where_true h (t.Word (b ∷ take n bs))) (run_all is_name_byte bs))
-    (λ m h l. spells m ∙ ap (λ h. where_true h (t.Word (b ∷ take m bs))) (run_past is_name_byte bs m h l))
-    ∙ ap (λ k. (t.Word (take k (b ∷ bs)), k)) (sym (run_more is_name_byte b bs (letter_name b is)))
-
-number_first : (b : ℕ) (bs : List ℕ) → is_letter b ≡ false → is_digit b ≡ true → first_token (b ∷ bs) ≡ number_prefix (b ∷ bs)
-number_first b bs letter is =
-    let n = run is_digit bs in
-    let spells : (m : ℕ) → spelled b bs m ≡ where_true (list_all is_digit (take m bs)) (number_of (b ∷ take m bs)) = λ m. rw (letter, is) refl in
-    first_found b bs n (number_of (b ∷ take n bs)) (run_le is_digit bs)
-    (spells n ∙ ap (λ h. where_true h (number_of (b ∷ take n bs))) (run_all is_digit bs))
-    (λ m h l. spells m ∙ ap (λ h. where_true h (number_of (b ∷ take m bs))) (run_past is_digit bs m h l))
-    ∙ ap (λ k. (number_of (take k (b ∷ bs)), k)) (sym (run_more is_digit b bs is))
-
--- MARKS
-
--- no mark has three bytes
-too_long : (b c : ℕ) (cs : List ℕ) (m : ℕ) → 1 < m → m ≤ length (c ∷ cs) → mark_of (b ∷ take m (c ∷ cs)) ≡ None
-too_long b c cs zero h l = absurd (omega arith)
-too_long b c cs (suc zero) h l = absurd (omega arith)
-too_long b c [] (suc (suc m)) h l = absurd (omega arith)
-too_long b c (d ∷ ds) (suc (suc m)) h l = refl
-
-module _ (b : ℕ) (bs : List ℕ) (spells : (m : ℕ) → spelled b bs m ≡ mark_of (b ∷ take m bs)) where
-  alone : (o : Option Token) → single b ≡ o → bs ≡ [] → first_token (b ∷ bs) ≡ or_all (b ∷ bs) (or_shorter 1 o None)
-  alone (Some x) is ends = first_found b bs 0 x (omega arith) (spells 0 ∙ is) (λ m h l. absurd (let e : length bs ≡ 0 = ap length ends in omega (arith, e)))
-  alone None is ends = first_bad b bs (λ m l. let e : length bs ≡ 0 = ap length ends in let z : m ≡ 0 = omega (arith, e) in subst (λ k. spelled b bs k ≡ None) (sym z) (spells 0 ∙ is))
-
-  longer : (c : ℕ) (cs : List ℕ) → bs ≡ c ∷ cs → (m : ℕ) → 1 < m → m ≤ length bs → spelled b bs m ≡ None
-  longer c cs goes m h l = spells m ∙ ap (λ z. mark_of (b ∷ take m z)) goes ∙ too_long b c cs m h (subst (λ z. m ≤ length z) goes l)
-
-  second : (c : ℕ) (cs : List ℕ) → bs ≡ c ∷ cs → spelled b bs 1 ≡ double b c
-  second c cs goes = spells 1 ∙ ap (λ z. mark_of (b ∷ take 1 z)) goes
-
-  without : (c : ℕ) (cs : List ℕ) → bs ≡ c ∷ cs → double b c ≡ None → (m : ℕ) → 0 < m → m ≤ length bs → spelled b bs m ≡ None
-  without c cs goes none zero h l = absurd (omega arith)
-  without c cs goes none (suc zero) h l = second c cs goes ∙ none
-  without c cs goes none (suc (suc m)) h l = longer c cs goes (suc (suc m)) (omega arith) l
-
-  pair : (o p : Option Token) (c : ℕ) (cs : List ℕ) → bs ≡ c ∷ cs → single b ≡ o → double b c ≡ p → first_token (b ∷ bs) ≡ or_all (b ∷ bs) (or_shorter 2 p (or_shorter 1 o None))
-  pair o (Some x) c cs goes is two = first_found b bs 1 x (let e : length bs ≡ length (c ∷ cs) = ap length goes in omega (arith, e)) (second c cs goes ∙ two) (longer c cs goes)
-  pair (Some x) None c cs goes is two = first_found b bs 0 x (omega arith) (spells 0 ∙ is) (without c cs goes two)
-  pair None None c cs goes is two = first_bad b bs none
-    where
-      none : (m : ℕ) → m ≤ length bs → spelled b bs m ≡ None
-      none zero l = spells 0 ∙ is
-      none (suc m) l = without c cs goes two (suc m) (omega arith) l
-
-mark_by : (b : ℕ) (bs : List ℕ) → ((m : ℕ) → spelled b bs m ≡ mark_of (b ∷ take m bs)) → first_token (b ∷ bs) ≡ mark_prefix (b ∷ bs)
-mark_by b [] spells = alone b [] spells (single b) refl refl
-mark_by b (c ∷ cs) spells = pair b (c ∷ cs) spells (single b) (double b c) c cs refl refl refl
-
-mark_first : (b : ℕ) (bs : List ℕ) → is_letter b ≡ false → is_digit b ≡ false → b ≢ 34 → first_token (b ∷ bs) ≡ mark_prefix (b ∷ bs)
-mark_first b bs letter digit quote = mark_by b bs (λ m. rw (letter, digit) (rw (ne_eqb b 34 quote) refl))
-
-pub in_ok : {X E : Type 0} {P Q : X → Type 0} (r : Result X E) → ((x : X) → P x → Q x) → IfOk r P → IfOk r Q
-in_ok (Ok x) f h = f x h
-in_ok (Err e) f h = h
-
--- OF BYTES THAT A TEST TOOK APART
+use Rattle.index_tokens.specs.Spelling.{is_letter, is_digit, is_name_byte, number_of, escapes, single, double, spelled_by}
+use Rattle.index_tokens.specs.Tokens.{first_token}
+use Rattle.index_tokens.specs.Passes.{word_prefix, number_prefix, quoted_prefix, mark_prefix}
 
 pub none_first : (s : List ℕ) → s ≡ [] → (t.Bad, 0) ≡ first_token s
 none_first s is = sym (ap first_token is)
 
 pub words : (s bs : List ℕ) (b : ℕ) (found : Token × ℕ) → s ≡ b ∷ bs → is_letter b ≡ true → found ≡ word_prefix s → found ≡ first_token s
-words s bs b found is letter h = h ∙ ap word_prefix is ∙ sym (word_first b bs letter) ∙ sym (ap first_token is)
+words s bs b found is letter h =
+    h ∙ ap word_prefix is ∙ sym (run_first spelled_by t.Bad is_name_byte t.Word b bs (letter_name b letter) (λ m. rw letter refl)) ∙ sym (ap first_token is)
 
 pub numbers : (s bs : List ℕ) (b : ℕ) (found : Token × ℕ) → s ≡ b ∷ bs → is_letter b ≡ false → is_digit b ≡ true → found ≡ number_prefix s → found ≡ first_token s
-numbers s bs b found is letter digit h = h ∙ ap number_prefix is ∙ sym (number_first b bs letter digit) ∙ sym (ap first_token is)
+numbers s bs b found is letter digit h =
+    h ∙ ap number_prefix is ∙ sym (run_first spelled_by t.Bad is_digit number_of b bs digit (λ m. rw (letter, digit) refl)) ∙ sym (ap first_token is)
 
 pub texts : (s bs : List ℕ) (b : ℕ) (found : Token × ℕ) → s ≡ b ∷ bs → b ≡ 34 → found ≡ quoted_prefix s bs → found ≡ first_token s
 texts s bs b found is quote h =
     let whole : s ≡ 34 ∷ bs = is ∙ ap (λ z. z ∷ bs) quote in
-    h ∙ ap (λ z. quoted_prefix z bs) whole ∙ sym (quoted_first bs) ∙ sym (ap first_token whole)
+    h ∙ ap (λ z. quoted_prefix z bs) whole ∙ sym (text_first 34 escapes refl refl refl spelled_by t.Bad t.Quoted (λ bs. refl) bs) ∙ sym (ap first_token whole)
 
 pub marks : (s bs : List ℕ) (b : ℕ) (found : Token × ℕ) → s ≡ b ∷ bs → is_letter b ≡ false → is_digit b ≡ false → b ≢ 34 → found ≡ mark_prefix s → found ≡ first_token s
-marks s bs b found is letter digit quote h = h ∙ ap mark_prefix is ∙ sym (mark_first b bs letter digit quote) ∙ sym (ap first_token is)
+marks s bs b found is letter digit quote h =
+    h ∙ ap mark_prefix is ∙ sym (mark_first spelled_by t.Bad single double b bs (λ m. rw (letter, digit) (rw (ne_eqb b 34 quote) refl))) ∙ sym (ap first_token is)
 
 pub ruleset prefixes = (none_first, words, numbers, texts, marks)

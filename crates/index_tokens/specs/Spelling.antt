@@ -1,25 +1,16 @@
 -- Which bytes spell which token.
-use Rattle.std.specs.Prelude.{ℕ, ◌+◌, ◌*◌, ◌-◌, pos, List, [], ◌∷◌, Bool, true, false, not, ◌==◌, ◌&&◌, ◌||◌, nat_le, nat_lt, if◌then◌else◌, codes, Option, Some, None, option_map, option_and_then}
+use Rattle.std.specs.Prelude.{ℕ, pos, List, [], ◌∷◌, Bool, ◌==◌, ◌&&◌, if◌then◌else◌, codes, Option, Some, None, option_map}
 use Rattle.std.specs.List.{list_all, list_any}
 use Rattle.std.specs.Str.{bytes_eq}
+use Rattle.exact_tokens.specs.Bytes.{magnitude}
+use Rattle.exact_tokens.specs.Texts as texts
+use Rattle.exact_tokens.specs.Marks as marks
 use Rattle.index_tokens.specs.declared.token.Token.{Token}
 use Rattle.index_tokens.specs.declared.token.Token.TheVariants as t
-
--- a space, a tab, a CR or an LF
-abbrev pub is_blank : ℕ → Bool
-is_blank b = (b == 32) || ((b == 9) || ((b == 10) || (b == 13)))
+pub use Rattle.exact_tokens.specs.Bytes.{is_blank, is_letter, is_digit, is_name_byte, number_from}
+pub use Rattle.exact_tokens.specs.Tokens.{where_true}
 
 -- NAMES
-
--- an ASCII letter or `_`
-abbrev pub is_letter : ℕ → Bool
-is_letter b = (nat_le 65 b && nat_le b 90) || ((nat_le 97 b && nat_le b 122) || (b == 95))
-
-abbrev pub is_digit : ℕ → Bool
-is_digit b = nat_le 48 b && nat_le b 57
-
-abbrev pub is_name_byte : ℕ → Bool
-is_name_byte b = is_letter b || is_digit b
 
 abbrev pub reserved_words : List (List ℕ)
 reserved_words =
@@ -35,38 +26,31 @@ is_reserved word = list_any (bytes_eq word) reserved_words
 abbrev pub max_number : ℕ
 max_number = 9223372036854775807
 
--- the number that n and the digits behind it write
-abbrev pub number_from : ℕ → List ℕ → ℕ
-number_from n [] = n
-number_from n (b ∷ bs) = number_from (n * 10 + (b - 48)) bs
+-- the number that digits write, if it is not too great
+abbrev pub number_or_bad : Option ℕ → Token
+number_or_bad (Some n) = t.Number (pos n)
+number_or_bad None = t.Bad
 
 -- the token of digits
 abbrev pub number_of : List ℕ → Token
-number_of digits = if nat_lt max_number (number_from 0 digits) then t.Bad else t.Number (pos (number_from 0 digits))
+number_of digits = number_or_bad (magnitude max_number digits)
 
 -- TEXTS
 
--- what a backslash and the letter after it mean
+-- What a backslash and the byte after it mean: a quote, a backslash, an LF, a CR and a tab.
+abbrev pub escapes : List (ℕ × ℕ)
+escapes = (34, 34) ∷ (92, 92) ∷ (110, 10) ∷ (114, 13) ∷ (116, 9) ∷ []
+
 abbrev pub meant_by : ℕ → Option ℕ
-meant_by letter =
-    if letter == 34 then Some 34 else (
-    if letter == 92 then Some 92 else (
-    if letter == 110 then Some 10 else (
-    if letter == 114 then Some 13 else (
-    if letter == 116 then Some 9 else None))))
+meant_by = texts.meant_by escapes
 
--- what means itself: no control character, quote or backslash
+-- what means itself
 abbrev pub is_raw : ℕ → Bool
-is_raw b = nat_le 32 b && (not (b == 127) && (not (b == 34) && not (b == 92)))
+is_raw = texts.is_raw 34
 
--- The value of a text, by what follows its opening quote: what means itself, or escapes, and the
--- closing quote at the end. There is none for other bytes.
+-- The value of a text, by what follows its opening quote. There is none for other bytes.
 abbrev pub value_of : List ℕ → Option (List ℕ)
-value_of [] = None
-value_of (b ∷ []) = if b == 34 then Some [] else None
-value_of (b ∷ c ∷ bs) =
-    if b == 92 then option_and_then (λ x. option_map (λ v. x ∷ v) (value_of bs)) (meant_by c) else (
-    if is_raw b then option_map (λ v. b ∷ v) (value_of (c ∷ bs)) else None)
+value_of = texts.value_of 34 escapes
 
 -- MARKS
 
@@ -103,14 +87,9 @@ double a b =
     if (a == 38) && (b == 38) then Some t.AndAnd else None))))))
 
 abbrev pub mark_of : List ℕ → Option Token
-mark_of (a ∷ []) = single a
-mark_of (a ∷ b ∷ []) = double a b
-mark_of _ = None
+mark_of = marks.mark_of single double
 
 -- THE TOKEN
-
-abbrev pub where_true : Bool → Token → Option Token
-where_true holds token = if holds then Some token else None
 
 -- The token that the bytes spell, all of them together. The first byte decides its kind: a letter begins a
 -- name, a digit a number, a quote a text, and all else a mark.

@@ -1,12 +1,11 @@
 //! From the text of an index definition to its tokens.
 #![tactic(auto)]
 
-mod classes;
 mod marks;
+mod numbers;
 mod prefixes;
 mod reading;
 mod reserved;
-mod texts;
 mod token;
 
 pub use reading::tokenise;

@@ -3,22 +3,21 @@ ghost use Rattle.std.specs.Prelude.{◌≡◌, ◌<◌, ◌≤◌, ◌∷◌, If
 ghost use Rattle.index_tokens.specs.Tokens.{first_token};
 ghost use Rattle.index_tokens.specs.Passes.{word_prefix, number_prefix, quoted_prefix, mark_prefix};
 
-use crate::classes::{digits_len, is_digit, is_letter, name_len, number_of};
 use crate::marks::{double, single};
-use crate::texts::{quoted, text_of};
+use crate::numbers::{digits_len, number_of};
 use crate::token::Token;
+use exact_tokens::{is_digit, is_letter, quoted, word};
 use raven_base::NoMemory;
+use raven_value::Text;
 use std::alloc::Global;
 
-#[tactic(auto, using(crate::proofs::Seams::seams))]
 fn word_at(alloc: Global, bytes: &[u8]) -> Result<(Token, usize), NoMemory>
     requires { IsUtf8 bytes.now }
     ensures token { IfOk result (λ found. found ≡ word_prefix bytes.now) }
     ensures rest { IfOk result (λ found. IsUtf8 (drop found.1 bytes.now)) }
 {
-    let len = name_len(bytes);
-    let word = Vec::from_slice(alloc, &bytes[..len])?;
-    Ok((Token::Word(text_of(word)?), len))
+    let (word, len) = word(alloc, bytes)?;
+    Ok((Token::Word(Text::of_string(word)?), len))
 }
 
 fn number_at(bytes: &[u8]) -> (Token, usize)
@@ -30,20 +29,27 @@ fn number_at(bytes: &[u8]) -> (Token, usize)
     (number_of(&bytes[..len]), len)
 }
 
-#[tactic(auto, using(crate::proofs::Seams::seams))]
+#[tactic(auto, using(exact_tokens::proofs::Seams::seams))]
 fn quoted_at(alloc: Global, bytes: &[u8], behind: &[u8]) -> Result<(Token, usize), NoMemory>
     requires quote { bytes.now ≡ 34 ∷ behind.now }
     requires utf8 { IsUtf8 bytes.now }
     ensures token { IfOk result (λ found. found ≡ quoted_prefix bytes.now behind.now) }
     ensures rest { IfOk result (λ found. IsUtf8 (drop found.1 bytes.now)) }
 {
-    match quoted(alloc, behind)? {
-        Some((text, len)) => Ok((Token::Quoted(text), len + 1)),
+    let escapes = [
+        (b'"', b'"'),
+        (b'\\', b'\\'),
+        (b'n', b'\n'),
+        (b'r', b'\r'),
+        (b't', b'\t'),
+    ];
+    match quoted(alloc, b'"', &escapes, behind)? {
+        Some((text, len)) => Ok((Token::Quoted(Text::of_string(text)?), len + 1)),
         None => Ok((Token::Bad, bytes.len())),
     }
 }
 
-#[tactic(auto, using(crate::proofs::MarkLemmas::marks))]
+#[tactic(auto, using(exact_tokens::proofs::MarkLemmas::marks))]
 fn mark_at(bytes: &[u8]) -> (Token, usize)
     requires { IsUtf8 bytes.now }
     ensures token { result ≡ mark_prefix bytes.now }

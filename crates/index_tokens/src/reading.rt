@@ -2,14 +2,14 @@
 ghost use Rattle.std.specs.Prelude.{◌≡◌, IfOk};
 ghost use Rattle.index_tokens.specs.Tokens.{tokens_of, AreTokens};
 
-use crate::classes::is_blank;
 use crate::prefixes::first_token;
 use crate::token::{Placed, Token};
+use exact_tokens::is_blank;
 use raven_base::NoMemory;
 use std::alloc::Global;
 
 /// The tokens of a text, each the longest that the bytes allow, and the end as the last of them.
-#[tactic(auto, using(crate::proofs::LawLemmas::laws))]
+#[tactic(auto, using(crate::proofs::TurnLemmas::all_longest))]
 pub fn tokenise(alloc: Global, text: &str) -> Result<Vec<Placed>, NoMemory>
     ensures list { IfOk result (λ tokens. tokens.items ≡ tokens_of text.now) }
     // Each token is one that its bytes spell, and no more of the bytes spell one.

@@ -1,10 +1,5 @@
-pub mod MarkLemmas
 pub mod RunLemmas
 pub mod NumberLemmas
-pub mod QuotedLemmas
-pub mod Longest
-pub mod TextLemmas
+pub mod QuoteLemmas
 pub mod PrefixLemmas
-pub mod TurnLemmas
-pub mod LawLemmas
 pub mod WordLemmas

@@ -1,14 +1,13 @@
--- Bytes of names and of numbers.
+-- Bytes of numbers.
 use Rattle.std.proofs.Common.{◌≡◌, ◌<◌, ◌≤◌, ◌+◌, ℕ, List, [], ◌∷◌, length, take, drop, IsUtf8, arith, refl, sym, subst, ap, ◌∙◌, add-one, Some, None, true, false}
 use Rattle.std.proofs.lemmas.Grind.{common_steps}
 use Rattle.std.specs.Prelude.{if◌then◌else◌}
-use Rattle.index_tokens.specs.Passes.{run}
-use Rattle.index_tokens.specs.Spelling.{is_digit}
-use Rattle.index_tokens.proofs.RunLemmas.{run_le, run_utf8, name_fits, behind_name}
-use Rattle.index_tokens.proofs.Seams.{behind_ascii, behind_all}
+use Rattle.exact_tokens.specs.Bytes.{is_digit}
+use Rattle.exact_tokens.specs.Passes.{run}
+use Rattle.exact_tokens.proofs.RunLemmas.{run_le, run_utf8}
+use Rattle.exact_tokens.proofs.Seams.{behind_ascii, behind_all}
 use Rattle.rql_tokens.specs.declared.token.Token.TheVariants as t
-use Rattle.rql_tokens.specs.Spelling.{negative, is_number_byte, number_of}
-use Rattle.rql_tokens.specs.Tokens.{or_all}
+use Rattle.rql_tokens.specs.Spelling.{negative, is_number_byte}
 use Rattle.rql_tokens.specs.Passes.{negative_prefix}
 
 number_ascii : (b : ℕ) → is_number_byte b ≡ true → b < 128
@@ -20,7 +19,7 @@ number_fits s = run_le is_number_byte s
 pub behind_number : (s : List ℕ) → IsUtf8 s → IsUtf8 (drop (run is_number_byte s) s)
 behind_number s u = run_utf8 is_number_byte number_ascii s u
 
-pub ruleset runs = (number_fits, name_fits, behind_number, behind_name)
+pub ruleset runs = (number_fits)
 
 -- ---- behind `-`
 
@@ -31,10 +30,10 @@ pub negative_other : (s behind bs : List ℕ) (b : ℕ) → behind ≡ b ∷ bs 
 negative_other s behind bs b is digit = ap (negative_prefix s) is ∙ rw digit refl
 
 pub negative_digits : (s behind bs : List ℕ) (b : ℕ) → behind ≡ b ∷ bs → is_digit b ≡ true →
-    negative_prefix s behind ≡ (number_of negative (take (run is_number_byte behind) behind), run is_number_byte behind + 1)
-negative_digits s behind bs b is digit = ap (negative_prefix s) is ∙ at ∙ ap (λ z. (number_of negative (take (run is_number_byte z) z), run is_number_byte z + 1)) (sym is)
+    negative_prefix s behind ≡ (negative (take (run is_number_byte behind) behind), run is_number_byte behind + 1)
+negative_digits s behind bs b is digit = ap (negative_prefix s) is ∙ at ∙ ap (λ z. (negative (take (run is_number_byte z) z), run is_number_byte z + 1)) (sym is)
   where
-    at : negative_prefix s (b ∷ bs) ≡ (number_of negative (take (run is_number_byte (b ∷ bs)) (b ∷ bs)), run is_number_byte (b ∷ bs) + 1)
+    at : negative_prefix s (b ∷ bs) ≡ (negative (take (run is_number_byte (b ∷ bs)) (b ∷ bs)), run is_number_byte (b ∷ bs) + 1)
     at = rw digit refl
 
 pub behind_minus : (s behind : List ℕ) (n : ℕ) → s ≡ 45 ∷ behind → (IsUtf8 behind → IsUtf8 (drop n behind)) → IsUtf8 s → IsUtf8 (drop (n + 1) s)

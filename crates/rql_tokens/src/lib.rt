@@ -7,7 +7,6 @@ mod marks;
 mod numbers;
 mod prefixes;
 mod reading;
-mod texts;
 mod token;
 
 pub use key_words::{Function, KeyWord, function_of};

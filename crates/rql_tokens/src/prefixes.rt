@@ -4,12 +4,12 @@ ghost use Rattle.rql_tokens.specs.Spelling.{is_quote as spec_is_quote, word_of};
 ghost use Rattle.rql_tokens.specs.Tokens.{first_token};
 ghost use Rattle.rql_tokens.specs.Passes.{word_prefix, number_prefix, negative_prefix, quoted_prefix, mark_prefix};
 
-use crate::classes::{is_digit, is_letter, is_quote, name_len, number_len};
+use crate::classes::{is_quote, number_len};
 use crate::key_words::key_of;
 use crate::marks::{double, single};
 use crate::numbers::{negative, positive};
-use crate::texts::{quoted, text_of};
 use crate::token::Token;
+use exact_tokens::{is_digit, is_letter, quoted, word};
 use raven_base::NoMemory;
 use raven_value::Text;
 use std::alloc::Global;
@@ -23,15 +23,13 @@ fn word_token(word: Text) -> Token
     }
 }
 
-#[tactic(auto, using(index_tokens::proofs::Seams::seams))]
 fn word_at(alloc: Global, bytes: &[u8]) -> Result<(Token, usize), NoMemory>
     requires { IsUtf8 bytes.now }
     ensures token { IfOk result (λ found. found ≡ word_prefix bytes.now) }
     ensures rest { IfOk result (λ found. IsUtf8 (drop found.1 bytes.now)) }
 {
-    let len = name_len(bytes);
-    let word = Vec::from_slice(alloc, &bytes[..len])?;
-    Ok((word_token(text_of(word)?), len))
+    let (word, len) = word(alloc, bytes)?;
+    Ok((word_token(Text::of_string(word)?), len))
 }
 
 fn number_at(bytes: &[u8]) -> (Token, usize)
@@ -60,7 +58,7 @@ fn negative_at(bytes: &[u8], behind: &[u8]) -> (Token, usize)
     (negative(&behind[..len]), len + 1)
 }
 
-#[tactic(auto, using(index_tokens::proofs::Seams::seams))]
+#[tactic(auto, using(crate::proofs::QuoteLemmas::quotes, exact_tokens::proofs::Seams::seams))]
 fn quoted_at(
     alloc: Global,
     quote: u8,
@@ -73,13 +71,14 @@ fn quoted_at(
     ensures token { IfOk result (λ found. found ≡ quoted_prefix quote bytes.now behind.now) }
     ensures rest { IfOk result (λ found. IsUtf8 (drop found.1 bytes.now)) }
 {
-    match quoted(alloc, quote, behind)? {
-        Some((text, len)) => Ok((Token::Quoted(text), len + 1)),
+    let escapes = [(quote, quote), (b'\\', b'\\')];
+    match quoted(alloc, quote, &escapes, behind)? {
+        Some((text, len)) => Ok((Token::Quoted(Text::of_string(text)?), len + 1)),
         None => Ok((Token::Bad, bytes.len())),
     }
 }
 
-#[tactic(auto, using(crate::proofs::MarkLemmas::marks))]
+#[tactic(auto, using(exact_tokens::proofs::MarkLemmas::marks))]
 fn mark_at(bytes: &[u8]) -> (Token, usize)
     requires { IsUtf8 bytes.now }
     ensures token { result ≡ mark_prefix bytes.now }

@@ -1,5 +1,6 @@
 use Rattle.std.proofs.Common.{sym, ◌∙◌}
-use Rattle.index_tokens.proofs.PrefixLemmas.{words, numbers, texts, marks, in_ok}
+use Rattle.exact_tokens.proofs.FirstLemmas.{in_ok}
+use Rattle.index_tokens.proofs.PrefixLemmas.{words, numbers, texts, marks}
 use Rattle.index_tokens.proofs.prefixes.first_token.Goals as goal
 
 pub returns-then-is_letter-clause-token : goal.returns-then-is_letter-clause-token

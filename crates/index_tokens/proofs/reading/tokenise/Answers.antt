@@ -1,9 +1,11 @@
 use Rattle.std.proofs.Common.{rules, ◌≡◌, ◌+◌, ◌++◌, ◌∷◌, [], suc, length, drop, IsUtf8, arith, subst, sym, ap, ◌∙◌, append_assoc}
-use Rattle.index_tokens.specs.Tokens.{placed, tokens_from, tokens_of}
-use Rattle.index_tokens.proofs.TurnLemmas.{has_bytes, fits, at_end, at_blank, at_token, blank_ascii}
-use Rattle.index_tokens.proofs.LawLemmas.{all_longest}
 use Rattle.std.proofs.lemmas.Grind.{common_steps}
-use Rattle.index_tokens.proofs.Seams.{behind_ascii}
+use Rattle.exact_tokens.proofs.Seams.{behind_ascii}
+use Rattle.exact_tokens.proofs.TurnLemmas.{blank_ascii, has_bytes, fits}
+use Rattle.index_tokens.specs.declared.token.Token.TheVariants as t
+use Rattle.index_tokens.specs.Spelling.{spelled_by}
+use Rattle.index_tokens.specs.Tokens.{placed, tokens_from, tokens_of}
+use Rattle.index_tokens.proofs.TurnLemmas.{at_end, at_blank, at_token, all_longest}
 use Rattle.index_tokens.proofs.reading.tokenise.Goals as goal
 
 pub loop-byte-preserved-then-is_blank : goal.loop-byte-preserved-then-is_blank
@@ -17,15 +19,15 @@ loop-byte-preserved-then-is_blank c =
     }
 
 pub split_at-requires : goal.split_at-requires
-split_at-requires c = fits _ _ _ _ _ c.in-Some.ensures.cases.0 c.in_ok-token.ensures.token
+split_at-requires c = fits spelled_by t.Bad _ _ _ _ _ c.in-Some.ensures.cases.0 c.in_ok-token.ensures.token
 
 pub overflow_add-at-else-is_blank : goal.overflow_add-at-else-is_blank
 overflow_add-at-else-is_blank c =
-    let within = fits _ _ _ _ _ c.in-Some.ensures.cases.0 c.in_ok-token.ensures.token in
+    let within = fits spelled_by t.Bad _ _ _ _ _ c.in-Some.ensures.cases.0 c.in_ok-token.ensures.token in
     record { fits = omega (arith, within, c.loop-byte.invariant.fits) }
 
 pub loop-byte-smaller : goal.loop-byte-smaller
-loop-byte-smaller c = omega (arith, c.split_at.ensures.back_len, has_bytes _ _ _ _ _ c.in-Some.ensures.cases.0 c.in_ok-token.ensures.token)
+loop-byte-smaller c = omega (arith, c.split_at.ensures.back_len, has_bytes spelled_by t.Bad _ _ _ _ _ c.in-Some.ensures.cases.0 c.in_ok-token.ensures.token)
 
 pub loop-byte-preserved : goal.loop-byte-preserved
 loop-byte-preserved c =

@@ -1,5 +1,6 @@
 use Rattle.std.proofs.Common.{sym, ◌∙◌}
-use Rattle.rql_tokens.proofs.PrefixLemmas.{words, numbers, negatives, texts, marks, in_ok}
+use Rattle.exact_tokens.proofs.FirstLemmas.{in_ok}
+use Rattle.rql_tokens.proofs.PrefixLemmas.{words, numbers, negatives, texts, marks}
 use Rattle.rql_tokens.proofs.prefixes.first_token.Goals as goal
 
 pub returns-then-is_letter-clause-token : goal.returns-then-is_letter-clause-token

@@ -1,4 +1,4 @@
-use Rattle.rql_tokens.proofs.MarkLemmas.{behind_one, behind_two}
+use Rattle.exact_tokens.proofs.MarkLemmas.{behind_one, behind_two}
 use Rattle.rql_tokens.proofs.prefixes.mark_at.Goals as goal
 
 pub returns-in-Some-double-clause-rest : goal.returns-in-Some-double-clause-rest

@@ -1,6 +1,6 @@
 use Rattle.std.proofs.Common.{IsUtf8, subst}
-use Rattle.index_tokens.proofs.Seams.{behind_ascii}
-use Rattle.rql_tokens.proofs.QuotedLemmas.{quote_ascii}
+use Rattle.exact_tokens.proofs.Seams.{behind_ascii}
+use Rattle.rql_tokens.proofs.QuoteLemmas.{quote_ascii}
 use Rattle.rql_tokens.proofs.prefixes.quoted_at.Goals as goal
 
 pub quoted-requires-clause-utf8 : goal.quoted-requires-clause-utf8

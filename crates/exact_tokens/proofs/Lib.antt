@@ -1,0 +1,10 @@
+pub mod Seams
+pub mod RunLemmas
+pub mod NumberLemmas
+pub mod QuotedLemmas
+pub mod TextLemmas
+pub mod Longest
+pub mod FirstLemmas
+pub mod MarkLemmas
+pub mod TurnLemmas
+pub mod LawLemmas

@@ -1,8 +1,0 @@
-use Rattle.std.proofs.Common.{arith, sym}
-use Rattle.rql_tokens.proofs.NumberLemmas.{too_great}
-use Rattle.rql_tokens.proofs.numbers.magnitude.Goals as goal
-
-pub returns-then-number-digit-clause-value : goal.returns-then-number-digit-clause-value
-returns-then-number-digit-clause-value c =
-    sym (too_great c.args.digits.now _ _ c.loop-byte.number _ c.loop-byte.invariant.written c.in-Some.ensures.cases.0
-    (omega (arith, c.if-number-digit.true, c.saturating_sub.ensures, c.from-digit.ensures)))
