@@ -1,0 +1,27 @@
+-- The entries of an index under the ids of their documents, and their terms.
+use Rattle.std.specs.Prelude.{◌≡◌, ℕ, List, Bool, false, Option, find, map}
+use Rattle.std.specs.Option.{option_and_then, option_map_or}
+use Rattle.spec_data.specs.Folding.{folded, same_key}
+use Rattle.index_tree.specs.Meaning.{Fields, field_named}
+use Rattle.spec_query.specs.Condition.{Condition, meets}
+use Rattle.reference_track.specs.Sets.{AreInOrder}
+use Rattle.term_index.specs.Columns.{Columns, value_at}
+
+abbrev pub EntryList : Type 0
+EntryList = List (List ℕ × Fields)
+
+abbrev pub ids_of : EntryList → List (List ℕ)
+ids_of entries = map (λ e. e.0) entries
+
+-- the entry of a folded id, if there is one
+abbrev pub entry_at : List ℕ → EntryList → Option (List ℕ × Fields)
+entry_at q entries = find (λ e. same_key q (folded e.0)) entries
+
+-- there is an entry, and it meets the condition
+abbrev pub is_met : Condition → Bool → Option (List ℕ × Fields) → Bool
+is_met c exact entry = option_map_or (λ e. meets c exact e.1) entry false
+
+-- the entries are in the order of their folded ids, and under each id the terms have the values of its entry, and no others
+pub record AreTermsOf (entries : EntryList) (terms : Columns) : Type 0 where
+  pub order : AreInOrder (ids_of entries)
+  pub values : (field id : List ℕ) → value_at field (folded id) terms ≡ option_and_then (λ e. field_named field e.1) (entry_at (folded id) entries)

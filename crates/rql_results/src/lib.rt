@@ -1,0 +1,12 @@
+//! What is shown of the documents that a query finds, and which documents it includes.
+#![tactic(auto)]
+
+mod documents;
+mod include;
+mod select;
+mod show;
+
+pub use documents::{Found, documents_of};
+pub use include::included;
+pub use select::results_of;
+pub use show::Show;
