@@ -15,8 +15,19 @@ use Rattle.spec_index.specs.World.{Slot, Version, batch, reads}
 use Rattle.spec_server.specs.Machine.{after_batch, or_as_before}
 use Rattle.spec_server.specs.Sound.{Fits, Has}
 use Rattle.index_version.specs.Named.{NamedVersion}
-use Rattle.index_version.specs.Reduced.{HasSmallGroups}
+use Rattle.index_version.specs.Reduced.{HasSmallGroups, reduce_of}
 use Rattle.raven_world.specs.Batches.{AllFit, HaveSmallGroups, MergesFew, ids_touched_by_all}
+
+-- WHAT IS SAID OF EACH SLOT
+
+abbrev pub NoReduce : Slot → Type 0
+NoReduce s = reduce_of s.version.definition ≡ None
+
+abbrev pub FitsIn : Store → Slot → Type 0
+FitsIn S s = Fits S s.version
+
+abbrev AreSmall : ℕ → Store → ℕ → Slot → Type 0
+AreSmall h S max s = HasSmallGroups h s.version × HasSmallGroups h (after_batch S max s).version
 
 -- A LIST AND ITS PARTS
 
@@ -51,17 +62,14 @@ this P slots i s within at h = All-cons P s [] (subst P (sym at) (h i s within))
 pub named_one : (p : Slot → Bool) (s : Slot) → p s ≡ true → filter p (s ∷ []) ≡ s ∷ []
 named_one p s is = ap (λ b. cond b (s ∷ []) []) is
 
+passing_cons : (P : Slot → Type 0) (s : Slot) (rest : List Slot) (b : Bool) → P s → All P rest → All P (cond b (s ∷ rest) rest)
+passing_cons P s rest true here more = All-cons P s rest here more
+passing_cons P s rest false here more = more
+
 -- what holds of each slot holds of those that pass a test
 pub all_passing : (p : Slot → Bool) (P : Slot → Type 0) (slots : List Slot) → ((s : Slot) → Has slots s → P s) → All P (filter p slots)
 all_passing p P [] each = All-nil P
-all_passing p P (s ∷ slots) each = by (p s)
-  where
-    rest : All P (filter p slots)
-    rest = all_passing p P slots (λ t h. each t (inr h))
-
-    by : (b : Bool) → All P (cond b (s ∷ filter p slots) (filter p slots))
-    by true = All-cons P s (filter p slots) (each s (inl refl)) rest
-    by false = rest
+all_passing p P (s ∷ slots) each = passing_cons P s (filter p slots) (p s) (each s (inl refl)) (all_passing p P slots (λ t h. each t (inr h)))
 
 pub all_slots : (P : Slot → Type 0) (slots : List Slot) → ((s : Slot) → Has slots s → P s) → All P slots
 all_slots P [] each = All-nil P
@@ -84,8 +92,8 @@ merged_none S max slots old new same h one small = omega (arith, same)
 pub merged_more : (S : Store) (max : ℕ) (xs ys zs : List Slot) (old middle new : Counts) → zs ≡ xs ++ ys → MergesFew S max xs old middle → MergesFew S max ys middle new → MergesFew S max zs old new
 merged_more S max xs ys zs old middle new is before here h one small =
     let all = subst (HaveSmallGroups h S max) is small in
-    let so_far = before h one (all_left _ xs ys all) in
-    let then = here h one (all_right _ xs ys all) in
+    let so_far = before h one (all_left (AreSmall h S max) xs ys all) in
+    let then = here h one (all_right (AreSmall h S max) xs ys all) in
     let both : length (ids_touched_by_all S max zs) ≡ length (ids_touched_by_all S max xs) + length (ids_touched_by_all S max ys) =
     ap (λ l. length (ids_touched_by_all S max l)) is ∙ ap length (flat_map-append _ xs ys) ∙ length-append (ids_touched_by_all S max xs) (ids_touched_by_all S max ys) in
     subst (λ n. new.merges ≤ old.merges + 128 * n * (h + 1)) (sym both) (omega (arith, so_far, then))
@@ -102,8 +110,8 @@ pub merged_by_next : (S : Store) (max : ℕ) (v : Version) (s : Slot) (next : Op
     → ((h : ℕ) → 1 ≤ h → IsStore S → Agrees (reads v) v.table S v.etag → HasSmallGroups h v → IfSome next (λ n. HasSmallGroups h n.version) → new.merges ≤ old.merges + 128 * length (touched_ids S max v) * (h + 1))
     → MergesFew S max (s ∷ []) old new
 merged_by_next S max v s next old new own store fit is few h one small =
-    let fits = All-head (λ (t : Slot). Fits S t.version) s [] fit in
-    let both = All-head (λ (t : Slot). HasSmallGroups h t.version × HasSmallGroups h (after_batch S max t).version) s [] small in
+    let fits = All-head (FitsIn S) s [] fit in
+    let both = All-head (AreSmall h S max) s [] small in
     let agrees = subst (λ (u : Version). Agrees (reads u) u.table S u.etag) (sym own) fits.agrees in
     let before = subst (HasSmallGroups h) (sym own) both.0 in
     let most = few h one store agrees before (after both.1 next is) in

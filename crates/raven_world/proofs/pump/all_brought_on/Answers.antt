@@ -4,7 +4,7 @@ use Rattle.std.proofs.lemmas.List.Elements.{All-take}
 use Rattle.spec_server.specs.Machine.{after_batch, pumping}
 use Rattle.raven_world.specs.Batches.{HaveNoReduce, MergesFew}
 use Rattle.raven_world.proofs.Batches.{read_left, touched_left, walked_more}
-use Rattle.raven_world.proofs.Merging.{all_left, all_right, merged_more, more, this}
+use Rattle.raven_world.proofs.Merging.{FitsIn, NoReduce, all_left, all_right, merged_more, more, this}
 use Rattle.raven_world.proofs.pump.all_brought_on.Goals as goal
 
 pub loop-slot-preserved : goal.loop-slot-preserved
@@ -23,10 +23,10 @@ loop-slot-preserved g c =
       maps = omega (arith, left, so_far, here);
       plain = λ none.
           let parts = subst HaveNoReduce (more slots i _ within c.slot-item.is) none in
-          c.in_ok-brought.ensures.plain (all_right _ (take i slots) _ parts) ∙ c.loop-slot.invariant.plain (all_left _ (take i slots) _ parts);
+          c.in_ok-brought.ensures.plain (all_right NoReduce (take i slots) (c.slot-item.result ∷ []) parts) ∙ c.loop-slot.invariant.plain (all_left NoReduce (take i slots) (c.slot-item.result ∷ []) parts);
       merges = λ store fit.
-          merged_more S c.args.max (take i slots) (c.slot-item.result ∷ []) (take (i + 1) slots) _ _ _ (more slots i _ within c.slot-item.is) (c.loop-slot.invariant.merges store fit)
-          (c.in_ok-brought.ensures.merges store (this _ slots i _ within c.slot-item.is fit));
+          merged_more S c.args.max (take i slots) (c.slot-item.result ∷ []) (take (i + 1) slots) c.args.steps.now c.loop-slot.steps c.brought_on.new.steps (more slots i _ within c.slot-item.is) (c.loop-slot.invariant.merges store fit)
+          (c.in_ok-brought.ensures.merges store (this (FitsIn S) slots i _ within c.slot-item.is fit));
       reads = let read_so_far = c.loop-slot.invariant.reads in let read_here = c.in_ok-brought.ensures.reads in omega (arith, left_to_read, read_so_far, read_here);
     }
 
@@ -64,22 +64,22 @@ pub returns-in_err-brought-clause-plain : goal.returns-in_err-brought-clause-pla
 returns-in_err-brought-clause-plain g c = λ none.
     let slots = c.args.slots.now in
     let i = c.loop-slot.slot-index in
-    c.brought_on.ensures.plain (this _ slots i _ c.loop-slot-test.true c.slot-item.is none) ∙ c.loop-slot.invariant.plain (All-take _ i slots none)
+    c.brought_on.ensures.plain (this NoReduce slots i _ c.loop-slot-test.true c.slot-item.is none) ∙ c.loop-slot.invariant.plain (All-take NoReduce i slots none)
 
 pub returns-in_err-push-clause-plain : goal.returns-in_err-push-clause-plain
 returns-in_err-push-clause-plain g c = λ none.
     let slots = c.args.slots.now in
     let i = c.loop-slot.slot-index in
-    c.in_ok-brought.ensures.plain (this _ slots i _ c.loop-slot-test.true c.slot-item.is none) ∙ c.loop-slot.invariant.plain (All-take _ i slots none)
+    c.in_ok-brought.ensures.plain (this NoReduce slots i _ c.loop-slot-test.true c.slot-item.is none) ∙ c.loop-slot.invariant.plain (All-take NoReduce i slots none)
 
 pub returns-in_err-push-2-clause-plain : goal.returns-in_err-push-2-clause-plain
 returns-in_err-push-2-clause-plain g c = λ none.
     let slots = c.args.slots.now in
     let i = c.loop-slot.slot-index in
-    c.in_ok-brought.ensures.plain (this _ slots i _ c.loop-slot-test.true c.slot-item.is none) ∙ c.loop-slot.invariant.plain (All-take _ i slots none)
+    c.in_ok-brought.ensures.plain (this NoReduce slots i _ c.loop-slot-test.true c.slot-item.is none) ∙ c.loop-slot.invariant.plain (All-take NoReduce i slots none)
 
 pub returns-clause-plain : goal.returns-clause-plain
-returns-clause-plain g c = λ none. c.loop-slot.invariant.plain (All-take _ c.loop-slot.slot-index c.args.slots.now none)
+returns-clause-plain g c = λ none. c.loop-slot.invariant.plain (All-take NoReduce c.loop-slot.slot-index c.args.slots.now none)
 
 pub returns-clause-merges : goal.returns-clause-merges
 returns-clause-merges g c = λ store fit.

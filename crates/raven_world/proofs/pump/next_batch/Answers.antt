@@ -10,7 +10,7 @@ use Rattle.index_version.specs.Reduced.{reduce_of}
 use Rattle.index_version.specs.Renewed.{touched_documents}
 use Rattle.index_version.proofs.Meanings.{definition_means}
 use Rattle.raven_world.proofs.Batches.{read_if_stale}
-use Rattle.raven_world.proofs.Merging.{if_ok_both, merged_by_next}
+use Rattle.raven_world.proofs.Merging.{NoReduce, if_ok_both, merged_by_next}
 use Rattle.raven_world.proofs.pump.next_batch.Goals as goal
 
 pub next-requires : goal.next-requires
@@ -36,7 +36,7 @@ returns-clause-reads g c =
 pub returns-clause-plain : goal.returns-clause-plain
 returns-clause-plain g c = λ none.
     let own = ap (λ (v : NamedVersion). v.version) c.deref-3.ensures ∙ ap (λ (s : Slot). s.version) c.slot.view_is in
-    c.next.ensures.plain (ap (λ (v : Version). reduce_of v.definition) own ∙ All-head (λ (s : Slot). reduce_of s.version.definition ≡ None) c.args.slot.now [] none)
+    c.next.ensures.plain (ap (λ (v : Version). reduce_of v.definition) own ∙ All-head NoReduce c.args.slot.now [] none)
 
 pub returns-clause-merges : goal.returns-clause-merges
 returns-clause-merges g c =

@@ -3,7 +3,7 @@ use Rattle.std.proofs.lemmas.List.{take_all}
 use Rattle.spec_index.specs.World.{is_named}
 use Rattle.spec_server.specs.Machine.{after_batch_if_named}
 use Rattle.raven_world.specs.Batches.{HaveNoReduce, MergesFew}
-use Rattle.raven_world.proofs.Merging.{all_left, all_right, first_passing, merged_more, passing_more, this_passing}
+use Rattle.raven_world.proofs.Merging.{FitsIn, NoReduce, all_left, all_right, first_passing, merged_more, passing_more, this_passing}
 use Rattle.raven_world.proofs.Batches.{first_all, first_more, named_left, named_read_left, walked_more}
 use Rattle.raven_world.proofs.pump.one_brought_on.Goals as goal
 
@@ -24,10 +24,10 @@ loop-slot-preserved g c =
       maps = omega (arith, left, so_far, here);
       plain = λ none.
           let parts = subst HaveNoReduce (passing_more (is_named name) slots i _ within c.slot-item.is) none in
-          c.in_ok-brought.ensures.plain (all_right _ (filter (is_named name) (take i slots)) _ parts) ∙ c.loop-slot.invariant.plain (all_left _ (filter (is_named name) (take i slots)) _ parts);
+          c.in_ok-brought.ensures.plain (all_right NoReduce (filter (is_named name) (take i slots)) (filter (is_named name) (c.slot-item.result ∷ [])) parts) ∙ c.loop-slot.invariant.plain (all_left NoReduce (filter (is_named name) (take i slots)) (filter (is_named name) (c.slot-item.result ∷ [])) parts);
       merges = λ store fit.
-          merged_more S c.args.max (filter (is_named name) (take i slots)) (filter (is_named name) (c.slot-item.result ∷ [])) (filter (is_named name) (take (i + 1) slots)) _ _ _ (passing_more (is_named name) slots i _ within c.slot-item.is)
-          (c.loop-slot.invariant.merges store fit) (c.in_ok-brought.ensures.merges store (this_passing (is_named name) _ slots i _ within c.slot-item.is fit));
+          merged_more S c.args.max (filter (is_named name) (take i slots)) (filter (is_named name) (c.slot-item.result ∷ [])) (filter (is_named name) (take (i + 1) slots)) c.args.steps.now c.loop-slot.steps c.brought_on_if.new.steps (passing_more (is_named name) slots i _ within c.slot-item.is)
+          (c.loop-slot.invariant.merges store fit) (c.in_ok-brought.ensures.merges store (this_passing (is_named name) (FitsIn S) slots i _ within c.slot-item.is fit));
       reads = let read_so_far = c.loop-slot.invariant.reads in let read_here = c.in_ok-brought.ensures.reads in omega (arith, left_to_read, read_so_far, read_here);
     }
 
@@ -59,17 +59,17 @@ returns-in_err-brought-clause-plain g c = λ none.
     let slots = c.args.slots.now in
     let i = c.loop-slot.slot-index in
     let named = is_named c.args.name.now in
-    c.brought_on_if.ensures.plain (this_passing named _ slots i _ c.loop-slot-test.true c.slot-item.is none) ∙ c.loop-slot.invariant.plain (first_passing named _ slots i none)
+    c.brought_on_if.ensures.plain (this_passing named NoReduce slots i _ c.loop-slot-test.true c.slot-item.is none) ∙ c.loop-slot.invariant.plain (first_passing named NoReduce slots i none)
 
 pub returns-in_err-push-clause-plain : goal.returns-in_err-push-clause-plain
 returns-in_err-push-clause-plain g c = λ none.
     let slots = c.args.slots.now in
     let i = c.loop-slot.slot-index in
     let named = is_named c.args.name.now in
-    c.in_ok-brought.ensures.plain (this_passing named _ slots i _ c.loop-slot-test.true c.slot-item.is none) ∙ c.loop-slot.invariant.plain (first_passing named _ slots i none)
+    c.in_ok-brought.ensures.plain (this_passing named NoReduce slots i _ c.loop-slot-test.true c.slot-item.is none) ∙ c.loop-slot.invariant.plain (first_passing named NoReduce slots i none)
 
 pub returns-clause-plain : goal.returns-clause-plain
-returns-clause-plain g c = λ none. c.loop-slot.invariant.plain (first_passing (is_named c.args.name.now) _ c.args.slots.now c.loop-slot.slot-index none)
+returns-clause-plain g c = λ none. c.loop-slot.invariant.plain (first_passing (is_named c.args.name.now) NoReduce c.args.slots.now c.loop-slot.slot-index none)
 
 pub returns-clause-merges : goal.returns-clause-merges
 returns-clause-merges g c = λ store fit.

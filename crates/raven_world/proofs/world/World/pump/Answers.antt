@@ -6,7 +6,7 @@ use Rattle.spec_index.specs.World.{World}
 use Rattle.raven_world.specs.Batches.{AllFit, HaveNoReduce}
 use Rattle.raven_world.specs.WorldView.{change_view}
 use Rattle.raven_world.proofs.Batches.{read_same, touched_same}
-use Rattle.raven_world.proofs.Merging.{all_slots, merged_same, with_any}
+use Rattle.raven_world.proofs.Merging.{FitsIn, all_slots, merged_same, with_any}
 use Rattle.raven_world.proofs.world.World.pump.Goals as goal
 
 pub returns-in_err-slots-clause-maps : goal.returns-in_err-slots-clause-maps
@@ -55,5 +55,5 @@ returns-clause-merges g c =
     let kept = ap (λ (V : World). V.store) c.self.view_is in
     let own = c.live.ensures in
     with_any c.after_batches.result (λ sound.
-    merged_same c.self.inside.store W.store c.args.max c.live.result.now W.slots c.args.steps.now _ kept own
-    (c.in_ok-slots.ensures.merges (subst IsStore (sym kept) sound.store) (subst (λ X. AllFit X c.live.result.now) (sym kept) (subst (AllFit W.store) (sym own) (all_slots _ W.slots sound.fits)))))
+    merged_same c.self.inside.store W.store c.args.max c.live.result.now W.slots c.args.steps.now c.all_brought_on.new.steps kept own
+    (c.in_ok-slots.ensures.merges (subst IsStore (sym kept) sound.store) (subst (λ X. AllFit X c.live.result.now) (sym kept) (subst (AllFit W.store) (sym own) (all_slots (FitsIn W.store) W.slots sound.fits)))))

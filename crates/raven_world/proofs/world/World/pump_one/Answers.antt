@@ -6,7 +6,7 @@ use Rattle.spec_index.specs.World.{World, is_named, serving}
 use Rattle.raven_world.specs.Batches.{AllFit, HaveNoReduce, pumped_one}
 use Rattle.raven_world.specs.WorldView.{answer_view}
 use Rattle.raven_world.proofs.Batches.{pumped_at, read_same, touched_same}
-use Rattle.raven_world.proofs.Merging.{all_passing, merged_same, with_any}
+use Rattle.raven_world.proofs.Merging.{FitsIn, all_passing, merged_same, with_any}
 use Rattle.raven_world.proofs.world.World.pump_one.Goals as goal
 
 pub returns-in_err-slots-clause-maps : goal.returns-in_err-slots-clause-maps
@@ -61,5 +61,5 @@ returns-clause-merges g c =
     let kept = ap (λ (V : World). V.store) c.self.view_is in
     let own = ap named c.live.ensures in
     with_any c.after_one.result (λ sound.
-    merged_same c.self.inside.store W.store c.args.max (named c.live.result.now) (named W.slots) c.args.steps.now _ kept own
-    (c.in_ok-slots.ensures.merges (subst IsStore (sym kept) sound.store) (subst (λ X. AllFit X (named c.live.result.now)) (sym kept) (subst (AllFit W.store) (sym own) (all_passing (is_named c.args.name.now) _ W.slots sound.fits)))))
+    merged_same c.self.inside.store W.store c.args.max (named c.live.result.now) (named W.slots) c.args.steps.now c.one_brought_on.new.steps kept own
+    (c.in_ok-slots.ensures.merges (subst IsStore (sym kept) sound.store) (subst (λ X. AllFit X (named c.live.result.now)) (sym kept) (subst (AllFit W.store) (sym own) (all_passing (is_named c.args.name.now) (FitsIn W.store) W.slots sound.fits)))))
