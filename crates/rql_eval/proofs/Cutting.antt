@@ -1,0 +1,34 @@
+-- Pages of lists.
+use Rattle.std.proofs.Common.{◌≡◌, ℕ, suc, zero, ◌≤◌, List, [], ◌∷◌, length, take, drop, Option, Some, None, map, Equal, refl, ap, ◌∙◌, arith}
+use Rattle.std.proofs.lemmas.List.{length-take, length-drop}
+use Rattle.spec_query.specs.Plan.{up_to}
+use Rattle.spec_query.specs.Sorting.{inserted, sorted}
+
+module _ {X : Type 0} where
+  -- if all are equal, nothing moves
+  front : (x : X) (ys : List X) → inserted (λ (a b : X). Equal) x ys ≡ x ∷ ys
+  front x [] = refl
+  front x (y ∷ ys) = refl
+
+  pub unsorted : (xs : List X) → sorted (λ (a b : X). Equal) xs ≡ xs
+  unsorted [] = refl
+  unsorted (x ∷ xs) = ap (inserted (λ (a b : X). Equal) x) (unsorted xs) ∙ front x xs
+
+  map-drop : {Y : Type 0} (f : X → Y) (n : ℕ) (xs : List X) → map f (drop n xs) ≡ drop n (map f xs)
+  map-drop f zero xs = refl
+  map-drop f (suc n) [] = refl
+  map-drop f (suc n) (x ∷ xs) = map-drop f n xs
+
+  map-take : {Y : Type 0} (f : X → Y) (n : ℕ) (xs : List X) → map f (take n xs) ≡ take n (map f xs)
+  map-take f zero xs = refl
+  map-take f (suc n) [] = refl
+  map-take f (suc n) (x ∷ xs) = ap (λ l. f x ∷ l) (map-take f n xs)
+
+  pub map-cut : {Y : Type 0} (f : X → Y) (start : ℕ) (size : Option ℕ) (xs : List X) → map f (up_to size (drop start xs)) ≡ up_to size (drop start (map f xs))
+  map-cut f start None xs = map-drop f start xs
+  map-cut f start (Some n) xs = map-take f n (drop start xs) ∙ ap (take n) (map-drop f start xs)
+
+  -- a page is no longer than the list
+  pub length-cut : (start : ℕ) (size : Option ℕ) (xs : List X) → length (up_to size (drop start xs)) ≤ length xs
+  length-cut start None xs = omega (arith, length-drop start xs)
+  length-cut start (Some n) xs = omega (arith, length-take n (drop start xs), length-drop start xs)

@@ -1,0 +1,5 @@
+pub mod ReadBack
+pub mod Cutting
+pub mod Paging
+pub mod Finds
+mod Examples

@@ -1,0 +1,66 @@
+//! What a query finds.
+ghost use Rattle.std.specs.Prelude.{◌≡◌, IfOk, length, map};
+ghost use Rattle.spec_query.specs.Finding.{find_entries};
+ghost use Rattle.spec_query.specs.Plan.{meeting};
+ghost use Rattle.rql_eval.specs.FoundView.{found_view};
+ghost use Rattle.rql_eval.specs.Pages.{ReadsAtMost};
+
+use crate::page::page_of;
+use map_stage::{Entry, Lookup};
+use raven_base::{NoMemory, Steps};
+use raven_value::{Id, Ids, Members, Values};
+use rql_filter::Entries;
+use rql_plan::Plan;
+use rql_results::{Show, documents_of, included, results_of};
+use std::alloc::Global;
+use std::sync::ledger::Ledger;
+
+/// What a query finds.
+#[derive(Drop)]
+pub struct Found {
+    /// The ids of the entries of the page, also of those whose document is gone.
+    pub ids: Ids,
+    /// How many entries meet the condition.
+    pub total: u64,
+    /// What is shown of the documents of the page.
+    pub results: Values,
+    /// The included documents under their ids.
+    pub includes: Members,
+}
+
+fn ids_of(alloc: Global, entries: &[(&Id, &Entry)]) -> Result<Ids, NoMemory>
+    ensures { IfOk result (λ ids. ids ≡ map (λ e. e.0.now) entries.now) }
+{
+    let mut ids = Ids::new(alloc);
+    for entry in entries {
+        ids.push(entry.0.clone()?)?;
+    }
+    Ok(ids)
+}
+
+/// What a query finds in an index without a reduce. `rows` are those of the store from which the documents come.
+///
+/// An entry is read only if it meets the condition, and at most once.
+pub fn find<E: Entries, T: Lookup, W: Show, L: Ledger>(
+    alloc: Global,
+    plan: &Plan,
+    entries: &E,
+    rows: &T,
+    show: &W,
+    steps: &mut Steps<L>,
+) -> Result<Found, NoMemory>
+    ensures found { IfOk result (λ found. found_view found ≡ find_entries (W.shown show.now) (T.rows rows.now) plan.now (E.entries entries.now)) }
+    ensures reads { ReadsAtMost (length (meeting plan.now (E.entries entries.now))) steps.old steps.new }
+{
+    let page = page_of(alloc, plan, entries, steps)?;
+    let ids = ids_of(alloc, &page.entries)?;
+    let documents = documents_of(alloc, rows, ids.as_slice())?;
+    let results = results_of(alloc, show, &documents, plan.columns())?;
+    let includes = included(alloc, rows, show, &documents, plan.includes())?;
+    Ok(Found {
+        ids,
+        total: page.total,
+        results,
+        includes,
+    })
+}

@@ -1,0 +1,93 @@
+//! The entries of a page.
+ghost use Rattle.std.specs.Prelude.{◌≡◌, IfOk, drop, length, map};
+ghost use Rattle.spec_query.specs.Plan.{meeting, page, up_to};
+ghost use Rattle.spec_query.specs.Sorting.{keys_order, sorted};
+ghost use Rattle.rql_eval.specs.Pages.{ReadsAtMost, entries_of as spec_entries_of};
+
+use crate::reading::entries_of;
+use map_stage::Entry;
+use raven_base::{NoMemory, Steps};
+use raven_value::Id;
+use rql_filter::{Entries, matching};
+use rql_order::in_order;
+use rql_plan::Plan;
+use std::alloc::Global;
+use std::sync::ledger::Ledger;
+
+/// The entries of a page, each with its id, and how many entries meet the condition of its query.
+#[derive(Drop)]
+pub struct Page<'e> {
+    pub entries: Vec<(&'e Id, &'e Entry)>,
+    pub total: u64,
+}
+
+/// The items without the first `start` of them, and of those that are left `size` at most.
+fn cut<T>(items: &[T], start: u64, size: Option<u64>) -> &[T]
+    ensures { result.now ≡ up_to size (drop start items.now) }
+{
+    let start = (items.len() as u64).min(start) as usize;
+    let rest = &items[start..];
+    match size {
+        None => rest,
+        Some(size) => {
+            let end = (rest.len() as u64).min(size) as usize;
+            &rest[..end]
+        }
+    }
+}
+
+/// The entries of the page of these ids, in their order.
+fn plain_page<'e, E: Entries, L: Ledger>(
+    alloc: Global,
+    plan: &Plan,
+    entries: &'e E,
+    ids: &[Id],
+    steps: &mut Steps<L>,
+) -> Result<Vec<(&'e Id, &'e Entry)>, NoMemory>
+    ensures entries { IfOk result (λ found. map (λ e. (e.0.now, e.1.now)) found.items ≡ spec_entries_of (E.entries entries.now) (up_to plan.now.size (drop plan.now.start ids.now))) }
+    ensures reads { ReadsAtMost (length ids.now) steps.old steps.new }
+{
+    entries_of(alloc, entries, cut(ids, plan.start(), plan.size()), steps)
+}
+
+/// The page of the entries of these ids, in the order of the plan.
+fn sorted_page<'e, E: Entries, L: Ledger>(
+    alloc: Global,
+    plan: &Plan,
+    entries: &'e E,
+    ids: &[Id],
+    steps: &mut Steps<L>,
+) -> Result<Vec<(&'e Id, &'e Entry)>, NoMemory>
+    ensures entries { IfOk result (λ found. map (λ e. (e.0.now, e.1.now)) found.items ≡ up_to plan.now.size (drop plan.now.start (sorted (λ a b. keys_order plan.now.order a.1 b.1) (spec_entries_of (E.entries entries.now) ids.now)))) }
+    ensures reads { ReadsAtMost (length ids.now) steps.old steps.new }
+{
+    let found = entries_of(alloc, entries, ids, steps)?;
+    let ordered = in_order(alloc, plan.order(), found)?;
+    Ok(Vec::from_slice(alloc, cut(&ordered, plan.start(), plan.size()))?)
+}
+
+/// The page that a query asks for. An entry is read only if it meets the condition: those of the page if the query asks for no
+/// order, and otherwise all of them, each once.
+pub fn page_of<'e, E: Entries, L: Ledger>(
+    alloc: Global,
+    plan: &Plan,
+    entries: &'e E,
+    steps: &mut Steps<L>,
+) -> Result<Page<'e>, NoMemory>
+    ensures entries { IfOk result (λ found. map (λ e. (e.0.now, e.1.now)) found.entries.items ≡ page plan.now (E.entries entries.now)) }
+    ensures total { IfOk result (λ found. found.total ≡ length (meeting plan.now (E.entries entries.now))) }
+    ensures reads { ReadsAtMost (length (meeting plan.now (E.entries entries.now))) steps.old steps.new }
+{
+    let ids = matching(alloc, entries, plan.condition())?;
+    let total = ids.len() as u64;
+    let met = ids.as_slice();
+    if plan.order().is_empty() {
+        let entries = plain_page(alloc, plan, entries, met, steps)?;
+        return Ok(Page { entries, total });
+    }
+    let ordered = sorted_page(alloc, plan, entries, met, steps)?;
+    Ok(Page {
+        entries: ordered,
+        total,
+    })
+}
