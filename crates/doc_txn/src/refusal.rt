@@ -20,7 +20,7 @@ use crate::limits::Limits;
 use crate::row::live;
 use doc_store::Store;
 use raven_base::NoMemory;
-use raven_json::write;
+use raven_json::text_len;
 use raven_value::{Body, Id, MAX_BODY, MAX_ETAG, Row, Text, Value, starts_folded};
 use std::alloc::Global;
 
@@ -58,25 +58,25 @@ fn reserved(writer: Writer, id: &Id, row: Option<&Row>) -> Option<TxnKind>
     }
 }
 
-fn too_long(alloc: Global, body: &Value) -> Result<Option<TxnKind>, NoMemory>
+fn too_long(body: &Value) -> Result<Option<TxnKind>, NoMemory>
     ensures { IfOk result (λ kind. option_map kind_view kind ≡ large_body (doc (data_of body.now))) }
 {
-    let len = write(alloc, body)?.len();
-    if len > MAX_BODY {
-        Ok(Some(TxnKind::TooLarge { len: len as u64 }))
+    let len = text_len(body)?;
+    if len > MAX_BODY as u64 {
+        Ok(Some(TxnKind::TooLarge { len }))
     } else {
         Ok(None)
     }
 }
 
-fn too_large(alloc: Global, row: Option<&Row>) -> Result<Option<TxnKind>, NoMemory>
+fn too_large(row: Option<&Row>) -> Result<Option<TxnKind>, NoMemory>
     ensures { IfOk result (λ kind. option_map kind_view kind ≡ large_row (option_copied row.entry)) }
 {
     let Some(row) = row else {
         return Ok(None);
     };
     match &row.body {
-        Body::Doc(document) => too_long(alloc, document.value()),
+        Body::Doc(document) => too_long(document.value()),
         Body::Gone => Ok(None),
     }
 }
@@ -167,7 +167,7 @@ pub fn refusal_of(
     ensures refused { IfOk result (λ kind. option_map kind_view kind ≡ refused_for (setting_in terms.entry.now) (writer_view terms.entry.now.writer) store.now id.now (expect_view expected.now) (option_copied row.entry)) }
 {
     let reserved = reserved(terms.writer, id, row);
-    let large = too_large(alloc, row)?;
+    let large = too_large(row)?;
     let changed = collection_changed(row, old)?;
     let conflict = conflict(alloc, terms.base, expected, live(old))?;
     let full = store_full(store, terms.limits, row, old);
