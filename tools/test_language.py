@@ -12,8 +12,9 @@ import sys
 
 sys.dont_write_bytecode = True
 from raven_tools import language
-from raven_tools.language import dates
+from raven_tools.language import dates, definitions, reduces
 from raven_tools.making import limit_maps, maps, worked
+from raven_tools.making import reduces as making_reduces
 
 
 def answer(text):
@@ -180,6 +181,26 @@ def test_round_trips(rounds=400):
             assert language.parse(language.printed(tree)) == tree, seed
         except language.Refusal as refusal:
             assert refusal.kind == "TooLarge", seed
+
+
+def test_reduces(rounds=400):
+    """Each spelling of a reduce is read as that reduce, and so is what is printed of it. Changed ones are refused for each cause of a reduce."""
+    kinds = collections.Counter()
+    for seed in range(rounds):
+        maker = making_reduces.Reduces(random.Random(seed))
+        fields = maker.random.sample(["A", "B", "Count", "Key", "from"], maker.random.randint(1, 4))
+        text = "from u in docs.U select new { " + ", ".join(f"u.{field}" for field in fields) + " }"
+        tree = maker.reduce_of(fields)
+        for spelled in (maker.joined(maker.reduce_tokens(tree)), reduces.printed(tree)):
+            assert definitions.parse(text, spelled).reduce == tree, (seed, spelled)
+        other = maker.other_reduce(tree)
+        try:
+            definitions.parse(text, reduces.printed(other))
+            kinds["read"] += 1
+        except definitions.Refusal as refusal:
+            assert refusal.part == "Reduce", seed
+            kinds[refusal.kind] += 1
+    assert all(kinds[kind] > rounds // 100 for kind in ("read", "DuplicateField", "FieldsDiffer", "NotReducible")), kinds
 
 
 def test_scopes():

@@ -70,6 +70,35 @@ SQUARES = """
 "Entries":0,"Errors":1,"Etag":2,"IsStale":false,"Name":"Squares"}]}
 """
 
+# The rows of a reduce have no ids. What is counted are the entries that its map gives.
+TOTALS = """
+> INDEX {"Map":"from o in docs.Orders select new { o.Company, Total = o.Cents }","Name":"T",\
+"Reduce":"from r in results group r by r.Company into g select new { Company = g.Key, Total = g.Sum(x => x.Total) }"}
+> PUT orders/1 {"Cents":4,"Company":"c",[Orders]}
+> PUT orders/2 {"Cents":6,"Company":"c",[Orders]}
+> FIND T Company c
+> PUMP 64
+> FIND T Company c
+> INDEXES
+> INDEX {"Map":"from o in docs.Orders select new { o.Company }","Name":"T",\
+"Reduce":"from r in results group r by r.Company into g select new { Company = g.Key, Total = g.Sum(x => x.Total) }"}
+> INDEX {"Map":"from o in docs.Orders select new { o.Company, Total = o.Cents }","Name":"T",\
+"Reduce":"from r in results group r by r.Company into g select new { Company = g.Key, Total = g.Key }"}
+> INDEX {"Map":"from o in docs.Orders select new { o.Company, Total = o.Cents }","Name":"T"}
+< {"Index":"T"}
+< {"ChangeVector":"A:2-{B}","Id":"orders/1"}
+< {"ChangeVector":"A:3-{B}","Id":"orders/2"}
+< {"Ids":[],"IndexEtag":0,"IsStale":true}
+< {"Pumped":[{"From":0,"Index":"T","To":3}]}
+< {"Ids":[],"IndexEtag":3,"IsStale":false}
+< {"Results":[{"Definition":{"Kind":"static","Map":"from o in docs.Orders select new { o.Company, Total = o.Cents }",\
+"Reduce":"from r in results group r by r.Company into g select new { Company = g.Key, Total = g.Sum(x => x.Total) }"},\
+"Entries":2,"Errors":0,"Etag":3,"IsStale":false,"Name":"T"}]}
+< {"At":0,"Error":"FieldsDiffer","Part":"Reduce"}
+< {"At":76,"Error":"NotReducible","Part":"Reduce"}
+< {"Error":"UnknownLine"}
+"""
+
 # Definition rows may be loaded too. Then each definition and removal counts, also those of the index itself.
 OF_DEFINITIONS = """
 > INDEX {"Map":"from o in docs.Orders let d = LoadDocument(o.Index, \\"@indexes\\") select new { d.Kind, d.Map }","Name":"D"}
@@ -118,7 +147,7 @@ def halves(worked):
 
 
 def test_worked_scripts():
-    for worked in (ADULTS, LOADED, SQUARES, OF_DEFINITIONS):
+    for worked in (ADULTS, LOADED, SQUARES, TOTALS, OF_DEFINITIONS):
         script, replies = halves(worked)
         assert model.replies(script) == replies, model.replies(script).decode()
 
@@ -196,6 +225,7 @@ def test_scripts():
             counts = [len(reply["Ids"]) for reply in replies if "Ids" in reply]
             assert counts == [len(worked.LEAP_DAYS) + len(worked.NO_DATES), len(worked.YEARS), 0], counts
     expected = "Index Removed indexes BadMember Empty TooLong Control Unexpected TooLarge UnknownName DuplicateField"
+    expected += " FieldsDiffer NotReducible"
     for kind in [*expected.split(), "ReservedName", "NameTooLong", "NoIndex", "TooManyIndexes", "UnknownLine", "TooDeep", "NotJson"]:
         assert kinds[kind], kind
 
@@ -218,8 +248,8 @@ def scratch(database, index):
 
 
 def test_what_holds_of_each_script():
-    """After each line of random scripts each index agrees with the store, and one that is not stale has all of it."""
-    fresh = 0
+    """After each line of random scripts each index agrees with the store, and one that is not stale has all of it. Some have a reduce."""
+    fresh = reduced = 0
     for seed in range(48):
         database = model.Database()
         script = MAKERS[seed % len(MAKERS)](seed).script(40)
@@ -231,8 +261,9 @@ def test_what_holds_of_each_script():
                 assert agrees(database, index)
                 if not database.is_stale(index):
                     fresh += bool(index.table)
+                    reduced += bool(index.table and index.definition.reduce)
                     assert index.mapped() == scratch(database, index)
-    assert fresh > 1_000
+    assert fresh > 1_000 and reduced > 50, (fresh, reduced)
 
 
 def main():

@@ -64,14 +64,14 @@ fn map_member(alloc: Global, maps: Option<&Value>, map: Option<&Value>) -> Resul
     }
 }
 
-// The text of the reduce, if there is one. Definitions with a reduce are not built yet, so for now no line has one.
+// The text of the reduce, if there is one.
 #[tactic(auto, using(crate::proofs::Readings::members))]
 fn reduce_member(alloc: Global, reduce: Option<&Value>) -> Result<Option<Text>, ReadRefusal>
     ensures { Reads (λ text. text) result (spec_reduce_member (option_map (λ v. data_of v.now) reduce.entry)) }
 {
     match reduce {
         None | Some(Value::Null) => Ok(None),
-        Some(Value::Text(_)) => Err(ReadRefusal::UnknownLine),
+        Some(Value::Text(text)) => Ok(Some(text.clone()?)),
         Some(_) => Err(bad_member(alloc, "Reduce")),
     }
 }

@@ -83,6 +83,7 @@ def members() -> Named:
     texts += [f'"Map":"{good}","Maps":null', f'"Map":7,"Maps":["{good}"]', f'"Maps":["{bad}"],"Map":"{good}"']
     texts += [f'"Map":"{text}"' for text in (good, bad, long)]
     reduces = ["", '"Reduce":null', '"Reduce":7', '"Reduce":""', '"Reduce":"from r in results"']
+    reduces += [f'"Reduce":"from r in results group r by r.{field} into g select new {{ {field} = g.Key }}"' for field in "AC"]
     lines = [definition("Live", "from u in docs.U select new { u.B }")]
     for name in names:
         for text in texts:
@@ -112,7 +113,31 @@ def names() -> Named:
     yield "more indexes by text than may be", "\n".join([*full, *more])
 
 
+def reduces() -> Named:
+    """Reduces that are read and that are refused, and what is answered of the indexes of those that are read."""
+    lines = [definition("N", worked.REDUCED_MAP, text) for text, *_ in worked.REDUCED]
+    lines += [definition("N", map_text, text) for map_text, text, *_ in worked.BOTH]
+    yield "reduces that are refused", "\n".join([*lines, "INDEXES"])
+    companies = ["a", "b", "a", None, 7, "A"]
+    lines = []
+    for number, (text, _) in enumerate(worked.PRINTED_REDUCES):
+        lines.append(definition(f"R{number}", worked.REDUCED_MAP, text))
+    for number, company in enumerate(companies):
+        body = {"Cents": number, "Company": company, "@metadata": {"@collection": "Orders"}}
+        lines.append(f"PUT orders/{number} " + model.write_json(body))
+    lines += [definition("Plain", worked.REDUCED_MAP), "STALE R0", "PUMP 4", "INDEXES"]
+    for name in ("R0", "Plain", "r1", "R2"):
+        lines += [f"FIND {name} Company a", f"FIND {name} Company x", f"FIND {name} Total a", f"FIND {name} Gone a"]
+    lines += ["DEL orders/0", "STALE R0", "PUMP 64 R0", "FIND R0 Company a", "FIND Plain Company a", "INDEXES"]
+    # The same trees in another spelling, and other trees under a name that serves.
+    for number, (_, printed) in enumerate(worked.PRINTED_REDUCES):
+        lines += [definition(f"r{number}", worked.REDUCED_MAP, text) for text in (printed, printed.replace("g", "h"))]
+    lines += [definition("Plain", worked.REDUCED_MAP, worked.PRINTED_REDUCES[0][1]), definition("R0", worked.REDUCED_MAP)]
+    lines += ["GET @index/R0", "DROP R0", "GET @index/R0", "FIND R0 Company a", "INDEXES", "STATS"]
+    yield "what reduces answer", "\n".join(lines)
+
+
 def at_the_limits() -> collections.abc.Iterator[tuple[str, bytes]]:
-    for scripts_of in (limits, refusals, words, meanings, dates, members, names):
+    for scripts_of in (limits, refusals, words, meanings, dates, members, names, reduces):
         for name, script in scripts_of():
             yield name, script.encode() + b"\n"

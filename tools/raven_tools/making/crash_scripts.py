@@ -13,12 +13,16 @@ NAMES = ["Ada", "Grace", "Linus", "Barbara", "Edsger", "Niklaus", "É", "\U0001f
 IDS = [f"{COLLECTIONS[number % 4].strip('@').lower()}/{number}" for number in range(48)]
 COLLECTION_OF = {name: COLLECTIONS[number % 4] for number, name in enumerate(IDS)}
 AUTOS = [f"Auto/{collection}/By{field}" for collection in COLLECTIONS for field in FIELDS]
-# Names that clients give indexes, the last of them the first one spelled anew, and what these may map.
-NAMED = ["Named", "Owners", "Shares", "NAMED"]
-MAPS = [
-    "from u in docs.Users where u.Number >= 500000 select new { u.Name, u.City }",
-    'from o in docs.Orders let u = LoadDocument(o.Owner, "Users") select new { u.Name, Own = u.City == o.City }',
-    "from e in docs.Events select new { e.Name, Share = 1000 / (e.Number % 3) }",
+# Names that clients give indexes, the last of them the first one spelled anew, and the maps and reduces that these may have.
+NAMED = ["Named", "Owners", "Shares", "Cities", "NAMED"]
+TEXTS = [
+    ("from u in docs.Users where u.Number >= 500000 select new { u.Name, u.City }", None),
+    ('from o in docs.Orders let u = LoadDocument(o.Owner, "Users") select new { u.Name, Own = u.City == o.City }', None),
+    ("from e in docs.Events select new { e.Name, Share = 1000 / (e.Number % 3) }", None),
+    (
+        "from u in docs.Users select new { u.City, u.Name, Total = u.Number }",
+        "from r in results group r by r.City into g select new { City = g.Key, Name = g.Min(x => x.Name), Total = g.Sum(x => x.Total) }",
+    ),
 ]
 
 
@@ -66,10 +70,10 @@ class CrashMaker(Maker):
         return f"AUTO {self.one_of(COLLECTIONS)} {self.one_of(FIELDS)}"
 
     def define(self):
-        """Mostly a name has one map, so that it is seldom defined otherwise while it serves."""
+        """Mostly a name has one definition, so that it is seldom defined otherwise while it serves."""
         at = self.random.randrange(len(NAMED))
-        text = MAPS[at % len(MAPS)] if self.chance(90) else self.one_of(MAPS)
-        return lines.definition(NAMED[at], text)
+        texts = TEXTS[at % len(TEXTS)] if self.chance(90) else self.one_of(TEXTS)
+        return lines.definition(NAMED[at], *texts)
 
     def drop(self):
         return f"DROP {self.one_of(NAMED + AUTOS)}"

@@ -36,6 +36,7 @@ def put_command(name: str, document: str = "{}", members: str = "") -> str:
     return command("PUT", name, f'{members},"Document":{document}')
 
 
-def definition(name: str, text: str) -> str:
-    """A definition by the text of a map."""
-    return "INDEX " + model.write_json({"Name": name, "Map": text})
+def definition(name: str, text: str, reduce: str | None = None) -> str:
+    """A definition by the text of a map, and by that of a reduce, if there is one."""
+    members = {"Name": name, "Map": text}
+    return "INDEX " + model.write_json(members if reduce is None else {**members, "Reduce": reduce})

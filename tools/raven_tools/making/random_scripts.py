@@ -4,7 +4,7 @@ import collections
 import random
 
 from raven_tools import model
-from raven_tools.making import maps
+from raven_tools.making import maps, reduces
 from raven_tools.making.maker import Maker
 
 IDS = ["users/1", "USERS/1", "Users/1", "users/2", "users/10", "a", "A", "Z", "zz", "é", "É", "@index/x", "@INDEX/y",
@@ -42,6 +42,7 @@ ODD_NAMES = ["", "a\tb", "x\x7f", "n" * 200, "n" * 201, "n" * 214, "n" * 215, "�
              " O", "O "]
 # Values of a wrong kind.
 NO_MAPS = ["null", "7", "[]", "{}", '["from","from"]', "[7]", '"from"', "true"]
+NO_REDUCES = ['""', '"from r in results"', "7", "[]", "true", "{}"]
 NO_TEXTS = ["null", "7", "true", "[]", "{}", "1.5"]
 NO_OBJECTS = ["null", "7", "true", "[]", "[{}]", '"{}"']
 NO_LISTS = ["null", "7", "{}", '"[]"', '{"Id":"a","Type":"DELETE"}']
@@ -80,6 +81,7 @@ class RandomMaker(Maker):
     def __init__(self, seed: int):
         super().__init__(random.Random(seed), model.Database())
         self.maps = maps.Maps(self.random)
+        self.reduces = reduces.Reduces(self.random)
         # How many in a hundred maps are of those that load.
         self.loading = 30
         # How often the model gives each kind of reply.
@@ -277,27 +279,38 @@ class RandomMaker(Maker):
         return self.maps.probed(tree, self.one_of(rows).body, twin.load) if rows else tree
 
     def definition(self):
-        """The name and the map of a definition: often one that serves already, in another spelling, or a broken one."""
+        """The name, the map and the reduce, if there is one, of a definition: often one that serves already, in another spelling, or a broken one."""
         static = [index for index in self.database.indexes if isinstance(index.definition, model.Static)]
         if static and self.chance(35):
             index = self.one_of(static)
             tree = index.definition.tree
             text = index.definition.text if self.chance(20) else self.maps.text_of(tree)
-            return self.in_other_case(index.name), text
+            return self.in_other_case(index.name), text, self.reduce_again(index.definition)
         name = self.one_of(ODD_NAMES if self.chance(8) else INDEX_NAMES)
         tree = self.tree()
-        return name, self.maps.broken(tree) if self.chance(30) else self.maps.text_of(tree)
+        reduce = self.reduces.reduce_text([name for name, _ in tree.members]) if self.chance(25) else None
+        return name, self.maps.broken(tree) if self.chance(30) else self.maps.text_of(tree), reduce
+
+    def reduce_again(self, static):
+        """The reduce of a definition in another spelling, or now and then another one."""
+        if self.chance(15):
+            return self.reduces.reduce_text(static.fields())
+        if not static.reduce or self.chance(20):
+            return static.reduce_text
+        return self.reduces.joined(self.reduces.reduce_tokens(static.reduce))
 
     def index(self):
-        name, text = self.definition()
+        name, text, reduce = self.definition()
         text = model.quoted(text) if self.chance(70) else self.text(text)
         parts = [self.member("Name", self.text(name), NO_TEXTS)]
         if self.chance(60):
             parts.append(self.member("Map", text, NO_MAPS))
         if len(parts) == 1 or self.chance(3):
             parts.append(self.member("Maps", f"[{text}]", NO_MAPS))
-        if self.chance(15):
-            parts.append(self.member("Reduce", "null", ['""', '"from r in results"', "7", "[]"]))
+        if reduce is not None:
+            parts.append(self.member("Reduce", model.quoted(reduce) if self.chance(70) else self.text(reduce), NO_REDUCES))
+        elif self.chance(15):
+            parts.append(self.member("Reduce", "null", NO_REDUCES))
         if self.chance(4):
             parts.append(self.text(self.one_of(["Other", "map", "Name", "Fields"])) + ":" + self.value(3))
         self.random.shuffle(parts)

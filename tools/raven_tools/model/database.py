@@ -195,8 +195,9 @@ class Database:
         return {"IndexEtag": index.etag, "IsStale": newest > index.etag, "Newest": newest}
 
     def find(self, name: str, field: str, text: str) -> Reply:
+        """The rows of a reduce are no documents, so what is found of them has no ids."""
         index = self.live(name)
-        entries, _ = index.mapped()
+        entries = {} if index.definition.reduce else index.mapped()[0]
         found = [key for key, entry in entries.items() if is_text(entry.get(field), text)]
         ids = [index.table[key].spelling for key in found]
         return {"Ids": ids, "IndexEtag": index.etag, "IsStale": self.is_stale(index)}

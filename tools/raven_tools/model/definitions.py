@@ -1,11 +1,14 @@
-"""The definitions of indexes that a script can make. Reduces are of a later stage."""
+"""The definitions of indexes that a script can make."""
 
 from raven_tools import language
+from raven_tools.language import definitions
 from raven_tools.model.refused import Refused
 
 
 class Auto:
     """An automatic index: the entry of each document of the collection has one member of it."""
+
+    reduce = None
 
     def __init__(self, collection, field):
         self.collection = collection
@@ -29,14 +32,17 @@ class Auto:
 
 
 class Static:
-    """An index by the text of a map. Whether two are the same depends on their trees alone."""
+    """An index by the texts of a map and of a reduce, if there is one. Whether two are the same depends on their trees alone."""
 
-    def __init__(self, text):
+    def __init__(self, text, reduce_text=None):
         try:
-            self.tree = language.parse(text)
-        except language.Refusal as refusal:
-            raise Refused(refusal.kind, At=refusal.at, Part="Map") from None
+            self.trees = definitions.parse(text, reduce_text)
+        except definitions.Refusal as refusal:
+            raise Refused(refusal.kind, At=refusal.at, Part=refusal.part) from None
+        self.tree = self.trees.map
+        self.reduce = self.trees.reduce
         self.text = text
+        self.reduce_text = reduce_text
         self.collection = self.tree.collection
 
     def scope(self):
@@ -46,10 +52,10 @@ class Static:
         return [name for name, _ in self.tree.members]
 
     def is_same(self, other):
-        return isinstance(other, Static) and self.tree == other.tree
+        return isinstance(other, Static) and self.trees == other.trees
 
     def entry(self, body, load):
         return language.entry_of(self.tree, body, load)
 
     def shown(self):
-        return {"Kind": "static", "Map": self.text, "Reduce": None}
+        return {"Kind": "static", "Map": self.text, "Reduce": self.reduce_text}

@@ -126,11 +126,11 @@ def auto_of(body: dict) -> model.Auto | None:
 
 
 def static_of(body: dict) -> model.Static | None:
-    """A definition by the text of a map. Reduces are of a later stage."""
-    if not isinstance(body["Map"], str) or body["Reduce"] is not None:
+    """A definition by the text of a map, and by that of a reduce or null."""
+    if not isinstance(body["Map"], str) or not isinstance(body["Reduce"], str | None):
         return None
     try:
-        return model.Static(body["Map"])
+        return model.Static(body["Map"], body["Reduce"])
     except model.Refused:
         return None
 

@@ -132,14 +132,14 @@ def map_of(members):
 
 
 def index_line(database, rest):
-    """The members are tested in this order, and the map is read behind them. Reduces are of a later stage."""
+    """The members are tested in this order, and the texts are read behind them."""
     members = object_of(read_json(rest.encode()), "body")
     name = name_of(text_of(members.get("Name"), "Name"))
     text = map_of(members)
-    if members.get("Reduce") is not None:
-        text_of(members["Reduce"], "Reduce")
-        raise Refused("UnknownLine")
-    return database.define(name, Static(text))
+    reduce = members.get("Reduce")
+    if reduce is not None:
+        text_of(reduce, "Reduce")
+    return database.define(name, Static(text, reduce))
 
 
 def drop_line(database, rest):
