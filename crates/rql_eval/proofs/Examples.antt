@@ -1,14 +1,12 @@
 -- Small answers, worked by hand.
-use Rattle.std.proofs.Common.{◌≡◌, ℕ, pos, negsuc, List, [], ◌∷◌, Bool, true, false, codes, Option, Some, None, map, refl}
+use Rattle.std.proofs.Common.{◌≡◌, ℕ, pos, List, [], ◌∷◌, Bool, true, false, codes, Option, Some, None, map, refl}
 use Rattle.std.specs.Fmt.{digits}
-use Rattle.spec_data.specs.Data.{Data, null, num, text, object, entry, no_entries}
-use Rattle.spec_data.specs.Rows.{Row, doc, gone}
-use Rattle.spec_data.specs.Scalars.{Scalar, nothing, truth, number, words, Is, AtLeast, Starts, There}
+use Rattle.spec_data.specs.Rows.{Row, gone}
+use Rattle.spec_data.specs.Scalars.{Scalar, nothing, number, words, Is, AtLeast, Starts, There}
 use Rattle.index_tree.specs.Meaning.{Fields}
 use Rattle.spec_query.specs.Condition.{Condition, Always, And, Exact, Has, Not, Or}
-use Rattle.spec_query.specs.Finding.{Found, find_entries}
+use Rattle.spec_query.specs.Finding.{find_entries}
 use Rattle.spec_query.specs.Plan.{Plan, page}
-use Rattle.spec_query.specs.Query.{At}
 use Rattle.spec_query.specs.Sorting.{SortKey}
 
 -- a user with a name and perhaps an age

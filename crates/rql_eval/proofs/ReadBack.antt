@@ -2,7 +2,7 @@
 use Rattle.std.proofs.Common.{◌≡◌, ℕ, suc, zero, List, [], ◌∷◌, take, drop, Bool, true, false, cond, Option, Some, None, filter, map, Less, refl, sym, ap, ◌∙◌}
 use Rattle.std.specs.List.{cons_option}
 use Rattle.std.specs.Ordering.{is_eq, ordering_reverse}
-use Rattle.spec_data.specs.Folding.{folded, key_cmp}
+use Rattle.spec_data.specs.Folding.{folded}
 use Rattle.index_tree.specs.Meaning.{Fields}
 use Rattle.spec_query.specs.Plan.{up_to}
 use Rattle.reference_track.specs.Sets.{AreInOrder, IsBelowAll, id_cmp, is_id}

@@ -1,5 +1,4 @@
 use Rattle.std.proofs.Common.{◌≡◌, ℕ, ◌≤◌, List, IfOk, length, map, refl, subst, sym}
-use Rattle.spec_query.specs.Plan.{up_to}
 use Rattle.rql_eval.specs.Pages.{entries_of}
 use Rattle.rql_eval.proofs.Cutting.{length-cut}
 use Rattle.rql_eval.proofs.Paging.{cut_by, reads_less}

@@ -1,4 +1,4 @@
-use Rattle.std.proofs.Common.{ap, ◌∙◌, map, drop}
+use Rattle.std.proofs.Common.{ap, ◌∙◌}
 use Rattle.spec_query.specs.Sorting.{keys_order, sorted}
 use Rattle.rql_eval.proofs.Paging.{cut_by, cut_sorted}
 use Rattle.rql_eval.proofs.page.sorted_page.Goals as goal
