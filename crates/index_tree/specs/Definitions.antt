@@ -19,7 +19,7 @@ use Rattle.index_tree.specs.declared.reduce_query.FoldMember.{FoldMember}
 use Rattle.index_tree.specs.declared.reduce_query.ReduceQuery.{ReduceQuery}
 
 pub data Definition : Type 0 where
-  -- what the texts of a map and of a reduce say, and these texts. The groups of a reduce are not made yet.
+  -- what the texts of a map and of a reduce say, and these texts
   Static : (map : MapQuery) (reduce : Option ReduceQuery) (map_text : List ℕ) (reduce_text : Option (List ℕ)) → Definition
   -- the fields of an automatic index, in the order of the bytes of their joined paths
   Auto : (collection : List ℕ) (fields : List Path) → Definition

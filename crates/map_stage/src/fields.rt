@@ -1,8 +1,9 @@
 //! The fields of an entry.
-ghost use Rattle.std.specs.Prelude.{◌≡◌, [], OnOk, OnErr, option_map};
+ghost use Rattle.std.specs.Prelude.{◌≡◌, [], OnOk, OnErr, map, option_map};
 ghost use Rattle.spec_data.specs.Rising.{put};
 ghost use Rattle.raven_value.specs.ScalarView.{scalar_view};
 ghost use Rattle.index_tree.specs.Meaning.{field_named};
+ghost use Rattle.map_stage.specs.FieldView.{field_view};
 
 use raven_base::NoMemory;
 use raven_value::{Scalar, Text, put_named};
@@ -49,6 +50,13 @@ impl Entry {
         ensures err { OnErr result (self.new ≡ self.old) }
     {
         put_named(&mut self.items, name, value)
+    }
+
+    /// The fields, in order.
+    pub fn as_slice(&self) -> &[(Text, Scalar)]
+        ensures { map field_view result.now ≡ self.now }
+    {
+        self.items.as_slice()
     }
 
     /// The value of the field of that name, if there is one.
