@@ -8,22 +8,19 @@ use Rattle.spec_data.specs.Folding.{key_cmp}
 use Rattle.spec_data.specs.Rows.{Row}
 use Rattle.spec_data.specs.Tables.{Table}
 use Rattle.spec_store.specs.Store.{row_at}
-use Rattle.index_tree.specs.Definitions.{Definition, Static, Auto}
+use Rattle.index_tree.specs.Definitions.{Definition}
 use Rattle.index_tree.specs.Mapper.{Mapper, is_mapped, mapper_of}
 use Rattle.index_tree.specs.Meaning.{Fields}
 use Rattle.index_tree.specs.declared.reduce_query.ReduceQuery.{ReduceQuery}
 use Rattle.spec_index.specs.Mapping.{scratch}
 use Rattle.spec_index.specs.World.{Version}
+pub use Rattle.spec_reduce.specs.Reduces.{reduce_of}
 use Rattle.spec_reduce.specs.Rows.{Key, group, reduced}
 use Rattle.reference_track.specs.Sets.{id_cmp}
 use Rattle.index_groups.specs.Groups.{Grouped}
 use Rattle.index_version.specs.Kept.{Given, has_entry, outcome_fields}
 
 -- THE ROWS OF A DEFINITION
-
-abbrev pub reduce_of : Definition → Option ReduceQuery
-reduce_of (Static map reduce map_text reduce_text) = reduce
-reduce_of (Auto collection fields) = None
 
 -- the entries that its map gives for the documents of a table, in the order of their folded ids
 abbrev pub entries_of : Definition → Table → List Fields

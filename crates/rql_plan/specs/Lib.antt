@@ -1,6 +1,5 @@
 pub mod Codes
 pub mod Naming
-pub mod Offering
 pub mod RefusalView
 pub mod Shapes
 pub mod View

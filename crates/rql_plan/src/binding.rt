@@ -2,7 +2,7 @@
 ghost use Rattle.std.specs.Prelude.{◌≡◌, ◌&&◌, IfErr, IfOk, None, Ok, pos, unwrap_or};
 ghost use Rattle.spec_query.specs.Binding.{bind as spec_bind, check as spec_check, is_in_page as spec_is_in_page, refusal_of};
 ghost use Rattle.index_definition.specs.DefinitionView.{definition_view};
-ghost use Rattle.rql_plan.specs.Offering.{offered_of};
+ghost use Rattle.spec_query.specs.Offering.{offered_of};
 ghost use Rattle.rql_plan.specs.RefusalView.{Refuses};
 
 use crate::ask::QueryAsk;

@@ -3,7 +3,7 @@ ghost use Rattle.std.specs.Prelude.{◌≡◌, ◌++◌, IfOk, OnOk, filter, fin
 ghost use Rattle.index_tree.specs.Mapper.{joined};
 ghost use Rattle.spec_query.specs.Fields.{is_offered as spec_is_offered, is_to_be_offered as spec_is_to_be_offered, not_offered as spec_not_offered};
 ghost use Rattle.index_definition.specs.DefinitionView.{definition_view};
-ghost use Rattle.rql_plan.specs.Offering.{offered_of};
+ghost use Rattle.spec_query.specs.Offering.{offered_of};
 ghost use Rattle.rql_plan.specs.View.{lent_field, lent_fields};
 ghost use Rattle.rql_tree.specs.View.{field_of};
 

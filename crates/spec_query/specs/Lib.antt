@@ -8,3 +8,5 @@ pub mod Printing
 pub mod Parameters
 pub mod Fields
 pub mod Binding
+pub mod Offering
+pub mod Refusals
