@@ -6,6 +6,5 @@ pub mod ScanGroups
 pub mod Parse
 pub mod Rows
 pub mod Says
-pub mod Lines
 pub mod Openings
 pub mod Bodies

@@ -1,4 +1,6 @@
 pub mod Replies
+pub mod Shown
+pub mod Asking
 pub mod Machine
 pub mod Sound
 pub mod Lines

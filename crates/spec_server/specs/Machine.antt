@@ -1,16 +1,15 @@
 -- The machine: the reply to a request, and the state after it.
 use Rattle.std.specs.Prelude.{◌≡◌, ℕ, ◌+◌, List, [], ◌∷◌, Bool, true, false, not, ◌&&◌, if◌then◌else◌, Option, Some, None, is_some, Result, Ok, Err, length, codes, filter, map}
 use Rattle.std.specs.Str.{bytes_eq}
-use Rattle.spec_data.specs.Data.{Data, text, object, entries_of, pairs_of}
+use Rattle.spec_data.specs.Data.{Data}
 use Rattle.spec_data.specs.Folding.{folded}
-use Rattle.spec_data.specs.Members.{member}
-use Rattle.spec_data.specs.Moments.{moment_text}
-use Rattle.spec_data.specs.Rising.{Pairs, put}
 use Rattle.spec_data.specs.Rows.{Row, doc, gone, is_document}
 use Rattle.spec_data.specs.Tables.{Table}
 use Rattle.spec_store.specs.Store.{Store, row_at, last, empty_store}
 use Rattle.spec_store.specs.Stale.{stale, newest}
 use Rattle.index_tree.specs.Definitions.{Definition}
+use Rattle.spec_query.specs.Query as query
+use Rattle.spec_reduce.specs.Reduces.{reduce_of}
 use Rattle.spec_index.specs.Mapping.{failures, scratch}
 use Rattle.index_tree.specs.Mapper.{mapper_of}
 use Rattle.spec_store.specs.Commit.{Command, Expect, Client, Server, Setting, Refusal, Written, Refused, commit, vector_of, row_spelling, etags_taken}
@@ -19,6 +18,8 @@ use Rattle.spec_server.specs.Replies.{Reply, Index, Removed, Pumped, Pumping, Li
 use Rattle.spec_server.specs.Replies as replies
 use Rattle.spec_index.specs.World.{Version, Slot, World, reads, batch, serving, SlotChange, SlotRefusal, define, define_named, remove, is_named, is_automatic, definition_data}
 use Rattle.spec_index.specs.Find.{found_in}
+use Rattle.spec_server.specs.Asking.{answer_ask}
+pub use Rattle.spec_server.specs.Shown.{members_of, shown, shown_metadata}
 
 -- a batch that a worker has read and not yet published: the number of its index, and the version after the batch
 pub record Held : Type 0 where
@@ -43,6 +44,7 @@ pub data Request : Type 0 where
   Remove : (name : List ℕ) → Request
   Auto : (collection field : List ℕ) → Request
   Find : (index field words : List ℕ) → Request
+  Ask : (ask : query.Ask) → Request
   -- one batch for each index, or for the one of this name
   Pump : (max : ℕ) (index : Option (List ℕ)) → Request
   Stale : (name : List ℕ) (cutoff : Option ℕ) → Request
@@ -266,8 +268,7 @@ is_stale S s = stale S (reads s.version) s.version.etag None
 
 -- the definition groups its entries by a reduce
 abbrev pub has_reduce : Definition → Bool
-has_reduce (Definition.Static map reduce map_text reduce_text) = is_some reduce
-has_reduce (Definition.Auto collection fields) = false
+has_reduce d = is_some (reduce_of d)
 
 -- the ids of what a query finds; the rows of a reduce, which are no documents, have none
 abbrev pub ids_found : Definition → Table → List ℕ → List ℕ → List (List ℕ)
@@ -296,21 +297,6 @@ listing S s = record {
 -- the slots in order of number
 abbrev pub answer_indexes : World → Reply
 answer_indexes W = replies.Indexes (map (listing W.store) W.slots)
-
--- the members of an object, and none of any other value
-abbrev pub members_of : Option Data → Pairs
-members_of (Some (object ms)) = pairs_of ms
-members_of other = []
-
--- the metadata as a client sees it: the stored members, with those that the server writes
-abbrev pub shown_metadata : List ℕ → Row → Option Data → Pairs
-shown_metadata base r metadata =
-    put (codes "@change-vector") (text (vector_of base r.etag)) (put (codes "@collection") (text r.collection)
-    (put (codes "@id") (text r.id) (put (codes "@last-modified") (text (moment_text r.changed)) (members_of metadata))))
-
-abbrev pub shown : List ℕ → Row → Data → Data
-shown base r (object ms) = object (entries_of (put (codes "@metadata") (object (entries_of (shown_metadata base r (member (codes "@metadata") ms)))) (pairs_of ms)))
-shown base r other = other
 
 abbrev pub shown_row : Store → List ℕ → List ℕ → Option Row → Reply
 shown_row S base id None = replies.NoDocument (spelling S id)
@@ -344,6 +330,7 @@ course_of W now (Define name definition) = change_of_slots W now Index name (def
 course_of W now (Remove name) = change_of_slots W now Removed name (remove W name)
 course_of W now (Auto collection field) = use_or_make W now (pick (one_field collection field) W.store W.slots)
 course_of W now (Find index field ws) = only_reply (answer_find W index field ws (serving W.slots index))
+course_of W now (Ask ask) = only_reply (answer_ask W ask)
 course_of W now (Pump max index) = pump_for W max index
 course_of W now (Stale name cutoff) = only_reply (answer_stale W name cutoff (serving W.slots name))
 course_of W now Indexes = only_reply (answer_indexes W)

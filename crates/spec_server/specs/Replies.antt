@@ -1,8 +1,12 @@
 -- Replies, and how they are printed.
 use Rattle.std.specs.Prelude.{ℕ, pos, List, [], ◌∷◌, ◌++◌, Bool, codes, map}
 use Rattle.spec_data.specs.Data.{Data, flag, num, text, array, object, items_of, entries_of}
+use Rattle.spec_data.specs.Rising.{Pairs}
 use Rattle.spec_data.specs.Written.{text_of}
 use Rattle.index_tree.specs.Language.{LangRefusal, kind_name, part_name}
+use Rattle.spec_query.specs.Binding.{PlanRefusal, NoParameter, NotGrouped, BadPage, NoField}
+use Rattle.spec_query.specs.Refusals.{QueryRefusal}
+use Rattle.spec_query.specs.Refusals as query
 
 -- what one command of a transaction did
 pub data Result : Type 0 where
@@ -24,6 +28,15 @@ pub record Listing : Type 0 where
   pub is_stale : Bool
   pub name : List ℕ
 
+-- what is found by a query: the included documents under their ids, the results of the page, and how many rows meet the condition
+pub record QueryAnswer : Type 0 where
+  pub includes : Pairs
+  pub index_etag : ℕ
+  pub index_name : List ℕ
+  pub is_stale : Bool
+  pub results : List Data
+  pub total : ℕ
+
 pub data Reply : Type 0 where
   Put : (change_vector id : List ℕ) → Reply
   Deleted : (deleted : Bool) (id : List ℕ) → Reply
@@ -32,6 +45,7 @@ pub data Reply : Type 0 where
   Index : (name : List ℕ) → Reply
   Removed : (name : List ℕ) → Reply
   Found : (ids : List (List ℕ)) (index_etag : ℕ) (is_stale : Bool) → Reply
+  Answer : QueryAnswer → Reply
   Pumped : (pumped : List Pumping) → Reply
   Stale : (index_etag : ℕ) (is_stale : Bool) (newest : ℕ) → Reply
   Indexes : (results : List Listing) → Reply
@@ -46,6 +60,9 @@ pub data Reply : Type 0 where
   -- the document or the index is not there
   NoDocument : (id : List ℕ) → Reply
   NoIndex : (name : List ℕ) → Reply
+  -- refusals of a query: of its text, and of what it asks
+  BadQuery : QueryRefusal → Reply
+  BadPlan : PlanRefusal → Reply
   -- refusals of a definition
   Lang : LangRefusal → Reply
   ReservedName : Reply
@@ -94,6 +111,22 @@ error name more = members ((codes "Error", text name) ∷ more)
 abbrev pub error_at : ℕ → List ℕ → List (List ℕ × Data) → Data
 error_at at name more = members ((codes "At", number at) ∷ (codes "Error", text name) ∷ more)
 
+abbrev pub answer_data : QueryAnswer → Data
+answer_data a = members (
+    (codes "Includes", object (entries_of a.includes))
+    ∷ (codes "IndexEtag", number a.index_etag)
+    ∷ (codes "IndexName", text a.index_name)
+    ∷ (codes "IsStale", flag a.is_stale)
+    ∷ (codes "Results", array (items_of a.results))
+    ∷ (codes "TotalResults", number a.total)
+    ∷ [])
+
+abbrev pub plan_refusal_data : PlanRefusal → Data
+plan_refusal_data (NoParameter name) = error (codes "NoParameter") ((codes "Name", text name) ∷ [])
+plan_refusal_data (NotGrouped name) = error (codes "NotGrouped") ((codes "Name", text name) ∷ [])
+plan_refusal_data BadPage = error (codes "BadPage") []
+plan_refusal_data (NoField name) = error (codes "NoField") ((codes "Name", text name) ∷ [])
+
 abbrev pub reply_data : Reply → Data
 reply_data (Put vector id) = members ((codes "ChangeVector", text vector) ∷ (codes "Id", text id) ∷ [])
 reply_data (Deleted deleted id) = members ((codes "Deleted", flag deleted) ∷ (codes "Id", text id) ∷ [])
@@ -102,6 +135,7 @@ reply_data (Document document) = document
 reply_data (Index name) = members ((codes "Index", text name) ∷ [])
 reply_data (Removed name) = members ((codes "Removed", text name) ∷ [])
 reply_data (Found ids etag is_stale) = members ((codes "Ids", texts ids) ∷ (codes "IndexEtag", number etag) ∷ (codes "IsStale", flag is_stale) ∷ [])
+reply_data (Answer answer) = answer_data answer
 reply_data (Pumped pumped) = members ((codes "Pumped", array (items_of (map pumping_data pumped))) ∷ [])
 reply_data (Stale etag is_stale newest) = members ((codes "IndexEtag", number etag) ∷ (codes "IsStale", flag is_stale) ∷ (codes "Newest", number newest) ∷ [])
 reply_data (Indexes results) = members ((codes "Results", array (items_of (map listing_data results))) ∷ [])
@@ -117,6 +151,8 @@ reply_data (Control at) = error_at at (codes "Control") []
 reply_data (BadMember name) = error (codes "BadMember") ((codes "Name", text name) ∷ [])
 reply_data (NoDocument id) = error (codes "NoDocument") ((codes "Id", text id) ∷ [])
 reply_data (NoIndex name) = error (codes "NoIndex") ((codes "Name", text name) ∷ [])
+reply_data (BadQuery refusal) = error_at refusal.at (query.kind_name refusal.kind) []
+reply_data (BadPlan refusal) = plan_refusal_data refusal
 reply_data (Lang refusal) = members ((codes "At", number refusal.at) ∷ (codes "Error", text (kind_name refusal.kind)) ∷ (codes "Part", text (part_name refusal.part)) ∷ [])
 reply_data ReservedName = error (codes "ReservedName") []
 reply_data (NameTooLong len) = error (codes "NameTooLong") ((codes "Len", number len) ∷ [])

@@ -1,0 +1,2 @@
+pub mod SaysQuery
+pub mod Lines
