@@ -10,3 +10,6 @@ pub mod Tallies
 pub mod Words
 pub mod GroupChanges
 pub mod Reducing
+mod Terming
+mod FieldNames
+mod EntryLemmas

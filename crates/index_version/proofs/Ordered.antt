@@ -44,11 +44,11 @@ module _ {V : Type 0} where
   none_past q k es e a = found q es ∙ lookup_none key_cmp q es (subst (λ x. AllAnswer key_cmp x Less es) (sym (key_ties q k e)) a)
 
 module _ {V W : Type 0} (f : V → Option W) where
-  abbrev in_front : List ℕ → Option W → List (List ℕ × W) → List (List ℕ × W)
+  abbrev pub in_front : List ℕ → Option W → List (List ℕ × W) → List (List ℕ × W)
   in_front k None more = more
   in_front k (Some w) more = (k, w) ∷ more
 
-  abbrev derived : List (List ℕ × V) → List (List ℕ × W)
+  abbrev pub derived : List (List ℕ × V) → List (List ℕ × W)
   derived [] = []
   derived (e ∷ es) = in_front e.0 (f e.1) (derived es)
 
@@ -59,21 +59,21 @@ module _ {V W : Type 0} (f : V → Option W) where
     | Some w ↦ (a.0, derived-answer k es a.1)
   ]
 
-  derived-rising : (es : List (List ℕ × V)) → IsRising key_cmp es → IsRising key_cmp (derived es)
+  pub derived-rising : (es : List (List ℕ × V)) → IsRising key_cmp es → IsRising key_cmp (derived es)
   derived-rising [] up = tt
   derived-rising (e ∷ es) up = elim (f e.1) as (λ o. IsRising key_cmp (in_front e.0 o (derived es))) [
     | None ↦ derived-rising es up.1
     | Some w ↦ (derived-answer e.0 es up.0, derived-rising es up.1)
   ]
 
-  derived-values : (es : List (List ℕ × V)) → values_of (derived es) ≡ filter_map f (values_of es)
+  pub derived-values : (es : List (List ℕ × V)) → values_of (derived es) ≡ filter_map f (values_of es)
   derived-values [] = refl
   derived-values (e ∷ es) = elim (f e.1) as (λ o. values_of (in_front e.0 o (derived es)) ≡ cons_option o (filter_map f (values_of es))) [
     | None ↦ derived-values es
     | Some w ↦ ap (λ more. w ∷ more) (derived-values es)
   ]
 
-  derived-found : (q : List ℕ) (es : List (List ℕ × V)) → IsRising key_cmp es → entry_at key_cmp q (derived es) ≡ option_and_then f (entry_at key_cmp q es)
+  pub derived-found : (q : List ℕ) (es : List (List ℕ × V)) → IsRising key_cmp es → entry_at key_cmp q (derived es) ≡ option_and_then f (entry_at key_cmp q es)
   derived-found q [] up = refl
   derived-found q (e ∷ es) up =
       elim (f e.1) as (λ o. f e.1 ≡ o → entry_at key_cmp q (in_front e.0 o (derived es)) ≡ option_and_then f (cond (is_eq (key_cmp q e.0)) (Some e.1) (entry_at key_cmp q es))) [

@@ -1,15 +1,19 @@
 -- What a walk over what is kept finds, one after another.
-use Rattle.std.proofs.Common.{◌≡◌, ℕ, List, ◌∷◌, true, false, cond, filter, map, refl}
-use Rattle.std.specs.List.{filter_map}
+use Rattle.std.proofs.Common.{◌≡◌, ℕ, List, [], ◌∷◌, ◌++◌, Option, Some, None, map, refl}
+use Rattle.std.specs.List.{cons_option, filter_map}
 use Rattle.std.specs.Map.{values_of}
-use Rattle.spec_index.specs.Find.{found, field_is_text}
-use Rattle.index_tree.specs.Meaning.{Fields, Entry, NoEntry, Failed}
-use Rattle.index_version.specs.Kept.{Given, entry_given, outcome_has_words}
+use Rattle.index_tree.specs.Meaning.{Fields}
+use Rattle.index_version.specs.Kept.{Given, entry_given}
 
-pub find_step : (name words : List ℕ) (e : List ℕ × Given) (es : List (List ℕ × Given))
-    → found (filter_map entry_given (values_of (e ∷ es))) name words ≡ cond (outcome_has_words name words e.1.mapped.outcome) (e.1.id ∷ found (filter_map entry_given (values_of es)) name words) (found (filter_map entry_given (values_of es)) name words)
-find_step name words e es = elim e.1.mapped.outcome as (λ o. found (filter_map entry_given ((let g : Given = record { id = e.1.id; mapped = record { outcome = o; loads = e.1.mapped.loads } } in g) ∷ values_of es)) name words ≡ cond (outcome_has_words name words o) (e.1.id ∷ found (filter_map entry_given (values_of es)) name words) (found (filter_map entry_given (values_of es)) name words)) [
-  | Entry fields ↦ elim (field_is_text name words fields) as (λ b. map (λ (x : List ℕ × Fields). x.0) (cond b ((e.1.id, fields) ∷ filter (λ x. field_is_text name words x.1) (filter_map entry_given (values_of es))) (filter (λ x. field_is_text name words x.1) (filter_map entry_given (values_of es)))) ≡ cond b (e.1.id ∷ found (filter_map entry_given (values_of es)) name words) (found (filter_map entry_given (values_of es)) name words)) [ true ↦ refl | false ↦ refl ]
-  | NoEntry ↦ refl
-  | Failed ↦ refl
+abbrev pub ids_of : List (List ℕ × Fields) → List (List ℕ)
+ids_of entries = map (λ e. e.0) entries
+
+abbrev pub its_id : Option (List ℕ × Fields) → List (List ℕ)
+its_id None = []
+its_id (Some e) = e.0 ∷ []
+
+pub ids_step : (e : List ℕ × Given) (es : List (List ℕ × Given)) → ids_of (filter_map entry_given (values_of (e ∷ es))) ≡ its_id (entry_given e.1) ++ ids_of (filter_map entry_given (values_of es))
+ids_step e es = elim (entry_given e.1) as (λ o. ids_of (cons_option o (filter_map entry_given (values_of es))) ≡ its_id o ++ ids_of (filter_map entry_given (values_of es))) [
+  | None ↦ refl
+  | Some x ↦ refl
 ]

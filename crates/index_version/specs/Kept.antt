@@ -9,7 +9,6 @@ use Rattle.spec_data.specs.Codes.{text_code}
 use Rattle.spec_data.specs.Folding.{folded, key_cmp, same_key}
 use Rattle.spec_data.specs.Rows.{Row, key}
 use Rattle.spec_data.specs.Tables.{Table}
-use Rattle.spec_index.specs.Find.{field_is_text}
 use Rattle.index_tree.specs.Meaning.{Fields, Outcome, Entry, NoEntry, Failed, Mapped}
 use Rattle.index_tree.specs.Mapper.{Mapper, is_mapped}
 use Rattle.spec_index.specs.Mapping.{entry_of, has_failed}
@@ -44,12 +43,6 @@ abbrev pub outcome_fields : Outcome → Fields
 outcome_fields (Entry fields) = fields
 outcome_fields NoEntry = []
 outcome_fields Failed = []
-
--- it has an entry whose field is that text, without regard to case
-abbrev pub outcome_has_words : List ℕ → List ℕ → Outcome → Bool
-outcome_has_words name words (Entry fields) = field_is_text name words fields
-outcome_has_words name words NoEntry = false
-outcome_has_words name words Failed = false
 
 -- the entry of a document, if it has one
 abbrev pub entry_given : Given → Option (List ℕ × Fields)

@@ -4,3 +4,5 @@ pub mod Named
 pub mod Kept
 pub mod Renewed
 pub mod Reduced
+pub mod Termed
+pub mod Entries

@@ -1,13 +1,12 @@
 //! What the map of an index has given for a document.
-ghost use Rattle.std.specs.Prelude.{◌≡◌, Some, false, map, option_map};
+ghost use Rattle.std.specs.Prelude.{◌≡◌, Some, map, option_map};
 ghost use Rattle.spec_data.specs.Folding.{folded};
-ghost use Rattle.spec_data.specs.Scalars.{holds, Is, words as spec_words};
-ghost use Rattle.spec_index.specs.Find.{field_is_text};
 ghost use Rattle.raven_value.specs.ScalarView.{scalar_view};
 ghost use Rattle.index_tree.specs.Meaning.{field_named};
+ghost use Rattle.map_stage.specs.FieldView.{field_view};
 ghost use Rattle.map_stage.specs.MappedView.{mapped_view, outcome_view};
 ghost use Rattle.map_stage.specs.Words.{OutcomeHasWords};
-ghost use Rattle.index_version.specs.Kept.{has_entry, is_entry, is_failure, one_if, outcome_fields, outcome_has_words};
+ghost use Rattle.index_version.specs.Kept.{entry_given, has_entry, is_entry, is_failure, one_if, outcome_fields};
 ghost use Rattle.index_version.specs.Reduced.{fields_given};
 
 use map_stage::{Entry, Mapped, Outcome};
@@ -85,6 +84,26 @@ impl Given {
         matches!(self.mapped.outcome, Outcome::Entry(_))
     }
 
+    /// The fields of its entry, none if it has no entry.
+    pub fn fields(&self) -> &[(Text, Scalar)]
+        ensures { map field_view result.now ≡ outcome_fields self.now.mapped.outcome }
+    {
+        match &self.mapped.outcome {
+            Outcome::Entry(entry) => entry.as_slice(),
+            _ => &[],
+        }
+    }
+
+    /// Its entry under the id of its document, if it has one.
+    pub fn entry(&self) -> Option<(&Id, &Entry)>
+        ensures { option_map (λ e. (e.0.now, e.1.now)) result ≡ entry_given self.now }
+    {
+        match &self.mapped.outcome {
+            Outcome::Entry(entry) => Some((&self.id, entry)),
+            _ => None,
+        }
+    }
+
     /// What it counts for.
     pub fn tally(&self) -> Tally
         ensures entries { result.entries ≡ one_if is_entry (Some self.now) }
@@ -101,13 +120,6 @@ impl Given {
                 errors: 1,
             },
         }
-    }
-
-    /// Whether it has an entry whose field of that name is that text, without regard to case.
-    pub fn has_words(&self, field: &str, words: &str) -> bool
-        ensures { result ≡ outcome_has_words field.now words.now self.now.mapped.outcome }
-    {
-        outcome_has_words(&self.mapped.outcome, field, words)
     }
 }
 
@@ -126,32 +138,5 @@ fn field_in<'a>(outcome: &'a Outcome, name: &Text) -> Option<&'a Scalar>
     match outcome {
         Outcome::Entry(entry) => entry.get(name.as_str()),
         _ => None,
-    }
-}
-
-fn outcome_has_words(outcome: &Outcome, field: &str, words: &str) -> bool
-    ensures { result ≡ outcome_has_words field.now words.now (outcome_view outcome.now) }
-{
-    match outcome {
-        Outcome::Entry(entry) => has_words_in(entry, field, words),
-        _ => false,
-    }
-}
-
-fn has_words_in(entry: &Entry, name: &str, words: &str) -> bool
-    ensures { result ≡ field_is_text name.now words.now entry.now }
-{
-    match entry.get(name) {
-        Some(value) => is_words(value, words),
-        None => false,
-    }
-}
-
-fn is_words(value: &Scalar, words: &str) -> bool
-    ensures { result ≡ holds (Is (spec_words words.now)) false (scalar_view value.now) }
-{
-    match value {
-        Scalar::Text(text) => text.as_str().eq_ignore_ascii_case(words),
-        _ => false,
     }
 }

@@ -1,11 +1,12 @@
 //! What an index stores besides its documents.
-ghost use Rattle.std.specs.Prelude.{◌≡◌, ℕ, List, None, Some, IfOk, false, length, cond, map};
+ghost use Rattle.std.specs.Prelude.{◌≡◌, ℕ, List, None, Some, IfOk, false, length, cond, map, option_map};
 ghost use Rattle.std.specs.FinMap.{empty, get};
 ghost use Rattle.std.specs.List.{count_by, filter_map};
 ghost use Rattle.spec_data.specs.Folding.{folded, same_key};
-ghost use Rattle.spec_index.specs.Find.{found};
 ghost use Rattle.spec_index.specs.Mapping.{has_failed};
-ghost use Rattle.std.specs.Map.{values_of};
+ghost use Rattle.std.specs.BTreeMap.{is_at};
+ghost use Rattle.std.specs.Map.{lookup, values_of};
+ghost use Rattle.std.specs.Option.{option_and_then};
 ghost use Rattle.paged_map.specs.Pairs.{IsRising};
 ghost use Rattle.reference_track.specs.Sets.{id_cmp, is_id};
 ghost use Rattle.reference_track.specs.Tracks.{is_pair};
@@ -14,6 +15,7 @@ ghost use Rattle.index_version.specs.Kept.{entry_given, is_loaded};
 
 use crate::given::Given;
 use crate::results::Results;
+use map_stage::Entry;
 use raven_base::NoMemory;
 use raven_value::{Id, Ids};
 use reference_track::Referrers;
@@ -103,19 +105,28 @@ impl Kept {
         self.given.errors()
     }
 
-    /// The ids of the entries whose field of that name is that text, without regard to case.
-    #[tactic(auto, using(crate::proofs::Walking::find_step))]
-    pub fn find(&self, alloc: Global, field: &str, words: &str) -> Result<Ids, NoMemory>
-        ensures ids { IfOk result (λ ids. ids ≡ found (filter_map entry_given (values_of self.now.given)) field.now words.now) }
+    /// The ids of the documents that have entries, in order.
+    #[tactic(auto, using(crate::proofs::Walking::ids_step))]
+    pub fn ids(&self, alloc: Global) -> Result<Ids, NoMemory>
+        ensures ids { IfOk result (λ ids. ids ≡ map (λ e. e.0) (filter_map entry_given (values_of self.now.given))) }
         ensures rising { IsRising id_cmp self.now.given }
     {
         let mut ids = Ids::new(alloc);
         for pair in self.given.iter() {
-            let given = pair.1.get();
-            if given.has_words(field, words) {
-                ids.push(given.id().clone()?)?;
+            if let Some(entry) = pair.1.get().entry() {
+                ids.push(entry.0.clone()?)?;
             }
         }
         Ok(ids)
+    }
+
+    /// The entry of a document, if it has one, under the id as the document spells it.
+    pub fn entry_of(&self, id: &Id) -> Option<(&Id, &Entry)>
+        ensures { option_map (λ e. (e.0.now, e.1.now)) result ≡ option_and_then entry_given (lookup (is_at (id_cmp id.now)) self.now.given) }
+    {
+        match self.given.get(id) {
+            Some(given) => given.get().entry(),
+            None => None,
+        }
     }
 }

@@ -8,6 +8,7 @@ mod regrouping;
 mod renewal;
 mod results;
 mod table;
+mod terms;
 mod touched;
 mod version;
 

@@ -1,12 +1,18 @@
 //! How far an index has come.
-ghost use Rattle.std.specs.Prelude.{◌≡◌, ◌+◌, ◌*◌, ◌≤◌, ℕ, None, IfOk, length};
+ghost use Rattle.std.specs.Prelude.{◌≡◌, ◌+◌, ◌*◌, ◌≤◌, ℕ, List, None, IfOk, length, map, option_map};
 ghost use Rattle.std.specs.List.{slice_get};
+ghost use Rattle.std.specs.Option.{option_and_then};
+ghost use Rattle.raven_base.specs.Counts.{one_read_more};
+ghost use Rattle.spec_data.specs.Folding.{folded};
 ghost use Rattle.spec_data.specs.Tables.{note_rows};
-ghost use Rattle.spec_index.specs.Find.{found_in};
 ghost use Rattle.spec_index.specs.Mapping.{failures, scratch, touched};
 ghost use Rattle.index_tree.specs.Mapper.{mapper_of};
 ghost use Rattle.spec_index.specs.World.{new_version, reads};
 ghost use Rattle.index_definition.specs.DefinitionView.{definition_view};
+ghost use Rattle.index_tree.specs.Meaning.{field_named};
+ghost use Rattle.reference_track.specs.Sets.{AreInOrder};
+ghost use Rattle.term_index.specs.Columns.{value_at};
+ghost use Rattle.index_version.specs.Entries.{all_entries, entry_at};
 ghost use Rattle.index_version.specs.Meaning.{Means};
 ghost use Rattle.index_version.specs.Reduced.{HasSmallGroups, KeepCollections, reduce_of, rows_of};
 ghost use Rattle.index_version.specs.Renewed.{touched_documents};
@@ -15,15 +21,17 @@ use crate::kept::Kept;
 use crate::regrouping::{GivenGroups, no_groups, regrouped};
 use crate::renewal::renewed;
 use crate::table::Table;
+use crate::terms::{no_terms, retermed};
 use crate::touched::touched_ids;
 use index_definition::{Definition, scope};
 use map_stage::{Entry, Mapper};
 use raven_base::{NoMemory, Sequence, Steps};
-use raven_value::{Ids, Row, Scope};
+use raven_value::{Id, Ids, Row, Scope};
 use std::alloc::Global;
 use std::marker::Model;
 use std::sync::Arc;
 use std::sync::ledger::Ledger;
+use term_index::Terms;
 
 /// The same definition, shared.
 fn share(definition: &Arc<Definition>) -> Result<Arc<Definition>, NoMemory>
@@ -43,6 +51,7 @@ pub struct IndexVersion {
     table: Table,
     kept: Kept,
     groups: Option<GivenGroups>,
+    terms: Terms,
 }
 
 impl Model for IndexVersion {
@@ -51,6 +60,7 @@ impl Model for IndexVersion {
     ghost use Rattle.reference_track.specs.Folded.{by_folded};
     ghost use Rattle.index_version.specs.Kept.{AreKept};
     ghost use Rattle.index_version.specs.Reduced.{AreReduced, reduce_of};
+    ghost use Rattle.index_version.specs.Termed.{AreTermed};
 
     ghost Value = { NamedVersion };
 
@@ -63,7 +73,7 @@ impl Model for IndexVersion {
       version = record { definition = definition_view a.definition.value.body; etag = a.etag; table = a.table };
     } };
 
-    ghost invariant = { λ a. AreKept (mapper_of (definition_view a.definition.value.body)) a.table (by_folded a.kept.given) a.kept.referrers × AreReduced (reduce_of (definition_view a.definition.value.body)) (by_folded a.kept.given) a.groups };
+    ghost invariant = { λ a. AreKept (mapper_of (definition_view a.definition.value.body)) a.table (by_folded a.kept.given) a.kept.referrers × AreReduced (reduce_of (definition_view a.definition.value.body)) (by_folded a.kept.given) a.groups × AreTermed a.definition.value.body (by_folded a.kept.given) a.terms };
 }
 
 impl IndexVersion {
@@ -73,12 +83,14 @@ impl IndexVersion {
         ensures version { IfOk result (λ index. index.version ≡ new_version (definition_view definition.value.body)) }
     {
         let groups = no_groups(alloc, &definition)?;
+        let terms = no_terms(alloc, &definition)?;
         Ok(IndexVersion {
             definition,
             etag: 0,
             table: Table::new(alloc)?,
             kept: Kept::new(alloc)?,
             groups,
+            terms,
         })
     }
 
@@ -111,12 +123,14 @@ impl IndexVersion {
         let ids = ids.as_slice();
         let kept = renewed(alloc, &self.kept, ids, &table, definition, mapper, steps)?;
         let groups = regrouped(alloc, &self.groups, &self.kept, &kept, ids, steps)?;
+        let terms = retermed(alloc, &self.terms, &self.kept.given, &kept.given, ids)?;
         Ok(IndexVersion {
             definition: share(definition)?,
             etag,
             table,
             kept,
             groups,
+            terms,
         })
     }
 
@@ -163,11 +177,28 @@ impl IndexVersion {
         self.kept.errors()
     }
 
-    /// The ids of the entries whose field of that name is that text, without regard to case. It walks over what the map has given.
-    pub fn find(&self, alloc: Global, field: &str, words: &str) -> Result<Ids, NoMemory>
-        ensures { IfOk result (λ ids. ids ≡ found_in (mapper_of self.now.version.definition) self.now.version.table field.now words.now) }
+    /// The values of the fields of all its entries, by which those that meet a test are found.
+    pub fn terms(&self) -> &Terms
+        ensures order { AreInOrder (map (λ e. e.0) (all_entries self.now.version)) }
+        ensures values { (field id : List ℕ) → value_at field (folded id) result.now ≡ option_and_then (λ e. field_named field e.1) (entry_at self.now.version (folded id)) }
     {
-        Ok(self.kept.find(alloc, field, words)?)
+        &self.terms
+    }
+
+    /// The ids of the documents that have entries, in order.
+    pub fn ids(&self, alloc: Global) -> Result<Ids, NoMemory>
+        ensures { IfOk result (λ ids. ids ≡ map (λ e. e.0) (all_entries self.now.version)) }
+    {
+        Ok(self.kept.ids(alloc)?)
+    }
+
+    /// The entry of a document, if it has one, under the id as the document spells it. It counts as a row read.
+    pub fn entry_of<L: Ledger>(&self, id: &Id, steps: &mut Steps<L>) -> Option<(&Id, &Entry)>
+        ensures entry { option_map (λ e. (e.0.now, e.1.now)) result ≡ entry_at self.now.version (folded id.now) }
+        ensures read { steps.new ≡ one_read_more steps.old }
+    {
+        steps.row_read();
+        self.kept.entry_of(id)
     }
 
     /// How many rows it has, 0 if the definition has no reduce.

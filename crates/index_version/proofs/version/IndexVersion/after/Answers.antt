@@ -3,8 +3,10 @@ use Rattle.index_tree.specs.Mapper.{mapper_of}
 use Rattle.index_definition.specs.declared.definition.Definition.{Definition}
 use Rattle.index_definition.specs.DefinitionView.{definition_view}
 use Rattle.spec_index.specs.World.{Version}
+use Rattle.reference_track.specs.Folded.{by_folded}
 use Rattle.index_version.specs.Named.{NamedVersion}
 use Rattle.index_version.proofs.Reducing.{merges_taken, others_taken, plain_taken, reduced_taken}
+use Rattle.index_version.proofs.Terming.{still_termed}
 use Rattle.index_version.proofs.Taking.{kept_taken, maps_taken}
 use Rattle.index_version.proofs.version.IndexVersion.after.Goals as goal
 
@@ -30,6 +32,13 @@ returns-in_err-share-clause-maps g c =
     c.in_ok-ids.ensures.ids c.in_ok-ids.ensures.once c.as_slice-ids.ensures c.in_ok-table.ensures (ap (λ (d : Definition). definition_view d.body) c.deref.ensures) c.renewed.ensures.maps in
     omega (arith, most, c.in_ok-groups.ensures.maps)
 
+pub returns-in_err-terms-clause-maps : goal.returns-in_err-terms-clause-maps
+returns-in_err-terms-clause-maps g c =
+    let most =
+    maps_taken _ c.args.self.now.version _ c.self.inside.kept.referrers c.args.taken.now c.in_ok-ids.ids c.as_slice-ids.result.now _ _ _ _ (ap (λ (v : NamedVersion). v.version) c.self.view_is) c.self.invariant.0
+    c.in_ok-ids.ensures.ids c.in_ok-ids.ensures.once c.as_slice-ids.ensures c.in_ok-table.ensures (ap (λ (d : Definition). definition_view d.body) c.deref.ensures) c.renewed.ensures.maps in
+    omega (arith, most, c.in_ok-groups.ensures.maps)
+
 pub returns-clause-maps : goal.returns-clause-maps
 returns-clause-maps g c =
     let most =
@@ -42,6 +51,9 @@ returns-in_err-groups-clause-plain g c = plain_taken (definition_view c.self.ins
 
 pub returns-in_err-share-clause-plain : goal.returns-in_err-share-clause-plain
 returns-in_err-share-clause-plain g c = plain_taken (definition_view c.self.inside.definition.value.body) c.args.self.now.version _ c.self.inside.groups _ _ _ c.self.invariant.1 (ap (λ (v : NamedVersion). v.version.definition) c.self.view_is) c.in_ok-groups.ensures.plain c.renewed.ensures.merges
+
+pub returns-in_err-terms-clause-plain : goal.returns-in_err-terms-clause-plain
+returns-in_err-terms-clause-plain g c = plain_taken (definition_view c.self.inside.definition.value.body) c.args.self.now.version _ c.self.inside.groups _ _ _ c.self.invariant.1 (ap (λ (v : NamedVersion). v.version.definition) c.self.view_is) c.in_ok-groups.ensures.plain c.renewed.ensures.merges
 
 pub returns-clause-plain : goal.returns-clause-plain
 returns-clause-plain g c = plain_taken (definition_view c.self.inside.definition.value.body) c.args.self.now.version _ c.self.inside.groups _ _ _ c.self.invariant.1 (ap (λ (v : NamedVersion). v.version.definition) c.self.view_is) c.in_ok-groups.ensures.plain c.renewed.ensures.merges
@@ -70,4 +82,9 @@ invariant_of-result g c = (
       c.in_ok-kept.ensures.results c.in_ok-kept.ensures.pairs,
   reduced_taken (definition_view c.self.inside.definition.value.body) _ c.self.inside.kept.given c.in_ok-kept.kept.given c.self.inside.groups c.in_ok-groups.groups c.self.invariant.1
       (ap (λ (d : Definition). definition_view d.body) c.in_ok-share.ensures) c.in_ok-groups.ensures.queries c.in_ok-groups.ensures.entries,
+  still_termed c.self.inside.definition.value.body _ (by_folded c.self.inside.kept.given) (by_folded c.in_ok-kept.kept.given) c.self.inside.terms c.in_ok-terms.terms c.self.invariant.2 (ap (λ (d : Definition). d.body) c.in_ok-share.ensures)
+      c.in_ok-terms.ensures.names c.in_ok-terms.ensures.terms,
 )
+
+pub retermed-requires-clause-others : goal.retermed-requires-clause-others
+retermed-requires-clause-others g c = others_taken (mapper_of (definition_view c.deref.result.now.body)) _ _ _ _ c.in_ok-kept.ensures.results
