@@ -2,4 +2,5 @@ pub mod ReadBack
 pub mod Cutting
 pub mod Paging
 pub mod Finds
+pub mod Wholes
 mod Examples

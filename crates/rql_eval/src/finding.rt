@@ -1,16 +1,18 @@
 //! What a query finds.
-ghost use Rattle.std.specs.Prelude.{◌≡◌, IfOk, length, map};
+ghost use Rattle.std.specs.Prelude.{◌≡◌, IfOk, false, filter, length, map};
+ghost use Rattle.spec_query.specs.Condition.{meets};
 ghost use Rattle.spec_query.specs.Finding.{find_entries};
 ghost use Rattle.spec_query.specs.Plan.{meeting};
 ghost use Rattle.rql_eval.specs.FoundView.{found_view};
 ghost use Rattle.rql_eval.specs.Pages.{ReadsAtMost};
 
 use crate::page::page_of;
+use crate::reading::entries_of;
 use map_stage::{Entry, Lookup};
 use raven_base::{NoMemory, Steps};
 use raven_value::{Id, Ids, Members, Values};
-use rql_filter::Entries;
-use rql_plan::Plan;
+use rql_filter::{Entries, matching};
+use rql_plan::{Condition, Plan};
 use rql_results::{Show, documents_of, included, results_of};
 use std::alloc::Global;
 use std::sync::ledger::Ledger;
@@ -35,6 +37,22 @@ fn ids_of(alloc: Global, entries: &[(&Id, &Entry)]) -> Result<Ids, NoMemory>
     for entry in entries {
         ids.push(entry.0.clone()?)?;
     }
+    Ok(ids)
+}
+
+/// The ids of the entries that meet a condition, in order, as their documents spell them. It reads each of these entries once.
+pub fn ids_that_meet<E: Entries, L: Ledger>(
+    alloc: Global,
+    entries: &E,
+    condition: &Condition,
+    steps: &mut Steps<L>,
+) -> Result<Ids, NoMemory>
+    ensures ids { IfOk result (λ ids. ids ≡ map (λ e. e.0) (filter (λ e. meets condition.now false e.1) (E.entries entries.now))) }
+    ensures reads { ReadsAtMost (length (filter (λ e. meets condition.now false e.1) (E.entries entries.now))) steps.old steps.new }
+{
+    let met = matching(alloc, entries, condition)?;
+    let found = entries_of(alloc, entries, met.as_slice(), steps)?;
+    let ids = ids_of(alloc, &found)?;
     Ok(ids)
 }
 

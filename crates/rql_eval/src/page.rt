@@ -22,7 +22,7 @@ pub struct Page<'e> {
 }
 
 /// The items without the first `start` of them, and of those that are left `size` at most.
-fn cut<T>(items: &[T], start: u64, size: Option<u64>) -> &[T]
+pub fn cut<T>(items: &[T], start: u64, size: Option<u64>) -> &[T]
     ensures { result.now ≡ up_to size (drop start items.now) }
 {
     let start = (items.len() as u64).min(start) as usize;

@@ -1,6 +1,6 @@
 //! How a query becomes a plan.
 ghost use Rattle.std.specs.Prelude.{◌≡◌, ◌&&◌, IfErr, IfOk, None, Ok, pos, unwrap_or};
-ghost use Rattle.spec_query.specs.Binding.{bind as spec_bind, check as spec_check, is_in_page as spec_is_in_page, refusal_of};
+ghost use Rattle.spec_query.specs.Binding.{bind as spec_bind, check as spec_check, is_in_page as spec_is_in_page, plan_of as spec_plan_of, refusal_of};
 ghost use Rattle.index_definition.specs.DefinitionView.{definition_view};
 ghost use Rattle.spec_query.specs.Offering.{offered_of};
 ghost use Rattle.rql_plan.specs.RefusalView.{Refuses};
@@ -71,6 +71,18 @@ pub fn bind(alloc: Global, ask: &QueryAsk, definition: &Definition) -> Result<Pl
         return Err(PlanRefusal::NoField {
             name: print_field(alloc, field)?,
         });
+    }
+    Ok(plan_of(alloc, ask)?)
+}
+
+/// The plan of a query on a collection, where there is no definition that may lack a field. It tests what `check` does.
+pub fn plan_for_collection(alloc: Global, ask: &QueryAsk) -> Result<Plan, PlanRefusal>
+    ensures passed { IfOk result (λ _. spec_check ask.now ≡ None) }
+    ensures plan { IfOk result (λ plan. plan ≡ spec_plan_of ask.now) }
+    ensures refused { IfErr result (λ refusal. Refuses refusal (spec_check ask.now)) }
+{
+    if let Err(refusal) = check(alloc, ask) {
+        return Err(refusal);
     }
     Ok(plan_of(alloc, ask)?)
 }

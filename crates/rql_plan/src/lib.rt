@@ -15,7 +15,7 @@ mod shapes;
 mod values;
 
 pub use ask::QueryAsk;
-pub use binding::{bind, check};
+pub use binding::{bind, check, plan_for_collection};
 pub use condition::{Condition, ConditionKind};
 pub use naming::field_name;
 pub use plan::{Plan, Selected, SelectedFields, SortKey, SortKeys};

@@ -39,7 +39,7 @@ fn with_document<W: Show>(
 }
 
 /// With the document whose id the text is.
-fn with_named<T: Lookup, W: Show>(
+pub(crate) fn with_named<T: Lookup, W: Show>(
     alloc: Global,
     rows: &T,
     show: &W,

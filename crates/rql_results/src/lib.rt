@@ -3,10 +3,12 @@
 
 mod documents;
 mod include;
+mod rows;
 mod select;
 mod show;
 
 pub use documents::{Found, documents_of};
 pub use include::included;
+pub use rows::{included_by_rows, results_of_rows};
 pub use select::results_of;
 pub use show::Show;
