@@ -1,6 +1,7 @@
 -- The rows of the map by id are those of the store, in order of their folded ids.
-use Rattle.std.proofs.Common.{◌≡◌, ℕ, List, [], ◌∷◌, true, false, cond, Some, None, refl, sym, ap, ◌∙◌, subst, arith}
+use Rattle.std.proofs.Common.{◌≡◌, ℕ, List, [], ◌∷◌, Bool, true, false, cond, Some, None, filter, refl, sym, ap, ◌∙◌, subst, arith}
 use Rattle.std.specs.Char.{to_ascii_lowercase}
+use Rattle.std.specs.Option.{option_and_then}
 use Rattle.std.specs.Ordering.{is_eq}
 use Rattle.std.specs.FinMap.{values}
 use Rattle.std.specs.Map.{lookup}
@@ -9,11 +10,11 @@ use Rattle.std.proofs.lemmas.Bool.Decides.{nat_tests}
 use Rattle.std.proofs.lemmas.Map.Text.{is_eq-slice_cmp}
 use Rattle.spec_data.specs.Folding.{folded, key_cmp, same_key}
 use Rattle.spec_data.specs.Rows.{Row, key}
-use Rattle.spec_store.specs.Store.{row_at}
+use Rattle.spec_store.specs.Store.{row_at, AreApart}
 use Rattle.spec_data.specs.Tables.{table_of}
-use Rattle.spec_store.specs.Keyed.{AreKeyed}
-use Rattle.spec_store.proofs.StoreLemmas.{same_itself, same_means}
-use Rattle.spec_store.proofs.KeyedLemmas.{get-table_of, same_table, values-table_of}
+use Rattle.spec_store.specs.Keyed.{IsBelowFirst, AreKeyed}
+use Rattle.spec_store.proofs.StoreLemmas.{same_itself, same_means, only_if, row_at-filter}
+use Rattle.spec_store.proofs.KeyedLemmas.{get-table_of, same_table, IsBelowFirst-less, row_at-below, values-table_of}
 use Rattle.paged_map.specs.Pairs.{IsRising}
 use Rattle.doc_store.specs.Maps.{id_cmp, rows_in, AreFiled}
 
@@ -64,3 +65,39 @@ pub in_order : (ids : List (List ℕ × Row)) (rows : List Row) → IsRising id_
 in_order ids rows up filed is =
     sym (values-table_of (rows_in ids) (keyed ids up filed))
     ∙ ap values (same_table (table_of (rows_in ids)) (table_of rows) (λ q. get-table_of q (rows_in ids) ∙ same_rows ids rows filed is q ∙ sym (get-table_of q rows)))
+
+-- THOSE THAT PASS A TEST
+
+below_passing : (p : Row → Bool) (k : List ℕ) (rows : List Row) → IsBelowFirst k rows → AreKeyed rows → IsBelowFirst k (filter p rows)
+below_passing p k [] h up = tt
+below_passing p k (r ∷ rows) h up =
+    elim (p r) as (λ b. IsBelowFirst k (cond b (r ∷ filter p rows) (filter p rows))) [
+      | true ↦ h
+      | false ↦ below_passing p k rows (IsBelowFirst-less k (key r) rows h up.0) up.1
+    ]
+
+AreKeyed-filter : (p : Row → Bool) (rows : List Row) → AreKeyed rows → AreKeyed (filter p rows)
+AreKeyed-filter p [] up = tt
+AreKeyed-filter p (r ∷ rows) up =
+    elim (p r) as (λ b. AreKeyed (cond b (r ∷ filter p rows) (filter p rows))) [
+      | true ↦ (below_passing p (key r) rows up.0 up.1, AreKeyed-filter p rows up.1)
+      | false ↦ AreKeyed-filter p rows up.1
+    ]
+
+keyed_apart : (rows : List Row) → AreKeyed rows → AreApart rows
+keyed_apart [] up = tt
+keyed_apart (r ∷ rows) up = (row_at-below (key r) rows up.0 up.1, keyed_apart rows up.1)
+
+pub passing_in_order : (p : Row → Bool) (ids : List (List ℕ × Row)) (rows : List Row) → IsRising id_cmp ids → AreFiled ids → ((q : List ℕ) → lookup (is_at (id_cmp q)) ids ≡ row_at (folded q) rows)
+    → AreApart rows → filter p (rows_in ids) ≡ values (table_of (filter p rows))
+passing_in_order p ids rows up filed is apart =
+    sym (values-table_of passing (AreKeyed-filter p (rows_in ids) (keyed ids up filed)))
+    ∙ ap values (same_table (table_of passing) (table_of (filter p rows)) (λ q. get-table_of q passing ∙ same q ∙ sym (get-table_of q (filter p rows))))
+  where
+    passing : List Row
+    passing = filter p (rows_in ids)
+
+    same : (q : List ℕ) → row_at q passing ≡ row_at q (filter p rows)
+    same q =
+        row_at-filter p q (rows_in ids) (keyed_apart (rows_in ids) (keyed ids up filed)) ∙ ap (option_and_then (only_if p)) (same_rows ids rows filed is q)
+        ∙ sym (row_at-filter p q rows apart)

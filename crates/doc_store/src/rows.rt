@@ -38,6 +38,24 @@ pub fn copies(alloc: Global, rows: Pairs<'_, Id, Shared<Row>>) -> Result<Vec<Row
     Ok(copies)
 }
 
+/// Copies of those rows that are documents of a collection.
+pub fn documents_of(
+    alloc: Global,
+    rows: Pairs<'_, Id, Shared<Row>>,
+    collection: &str,
+) -> Result<Vec<Row>, NoMemory>
+    ensures { IfOk result (λ documents. documents.items ≡ filter (λ r. bytes_eq r.collection collection.now && is_document r) (rows_in rows.entry)) }
+{
+    let mut documents = Vec::new(alloc);
+    for pair in rows {
+        let row = pair.1.get();
+        if row.collection.as_str() == collection && matches!(row.body, Body::Doc(_)) {
+            documents.push(row.clone()?)?;
+        }
+    }
+    Ok(documents)
+}
+
 /// Of two rows the one with the lower etag, or the only one.
 pub fn earlier<'a>(a: Option<&'a Row>, b: Option<&'a Row>) -> Option<&'a Row>
     ensures { option_copied result ≡ earlier (option_copied a.entry) (option_copied b.entry) }

@@ -14,7 +14,9 @@ ghost use Rattle.doc_store.specs.Bounds.{IsWithin};
 ghost use Rattle.doc_store.specs.Maps.{etag_at};
 ghost use Rattle.doc_store.specs.Steps.{MayStand};
 
-use crate::rows::{Counts, copies, counts_of, earlier, first_of, newest_of, put_among};
+use crate::rows::{
+    Counts, copies, counts_of, documents_of, earlier, first_of, newest_of, put_among,
+};
 use crate::rows_by_etag::RowsByEtag;
 use paged_map::PagedMap;
 use raven_base::{NoMemory, Shared, Steps};
@@ -107,6 +109,13 @@ impl Store {
         ensures { IfOk result (λ rows. rows ≡ values (table_of self.now.rows)) }
     {
         Ok(Rows::of(copies(alloc, self.by_id.iter())?))
+    }
+
+    /// The documents of a collection, in order of their folded ids. It looks at all rows.
+    pub fn documents(&self, alloc: Global, collection: &str) -> Result<Rows, NoMemory>
+        ensures { IfOk result (λ rows. rows ≡ values (table_of (filter (λ r. bytes_eq r.collection collection.now && is_document r) self.now.rows))) }
+    {
+        Ok(Rows::of(documents_of(alloc, self.by_id.iter(), collection)?))
     }
 
     /// The first `max` rows in scope past an etag, by etag, and whether more remain.
