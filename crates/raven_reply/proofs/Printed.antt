@@ -1,12 +1,15 @@
 -- What is printed, piece by piece behind what stands before.
 use Rattle.std.proofs.Common.{◌≡◌, ℕ, List, ◌++◌, ◌∷◌, [], Bool, append_assoc, codes, map, false}
 use Rattle.std.proofs.lemmas.List.{append-nil}
-use Rattle.spec_data.specs.Data.{Entries, object, text, items_of, flag}
+use Rattle.spec_data.specs.Data.{Entries, Items, array, object, text, items_of, flag}
 use Rattle.spec_data.specs.Written.{quoted, text_of, items_text, entries_text}
 use Rattle.spec_server.specs.Replies.{Bulk, Found, Indexes, Listing, Pumped, Pumping, Result, listing_data, number, pumping_data, result_data, reply_data}
 
 pub printed-object : (old : List ℕ) (ms : Entries) → ((old ++ 123 ∷ []) ++ entries_text false ms) ++ 125 ∷ [] ≡ old ++ text_of (object ms)
 printed-object old ms = simp (append_assoc)
+
+pub printed-array : (old : List ℕ) (ds : Items) → ((old ++ 91 ∷ []) ++ items_text false ds) ++ 93 ∷ [] ≡ old ++ text_of (array ds)
+printed-array old ds = simp (append_assoc)
 
 pub printed-member : (old name value : List ℕ) → ((old ++ quoted name) ++ 58 ∷ []) ++ value ≡ old ++ (quoted name ++ 58 ∷ value)
 printed-member old name value = simp (append_assoc)
@@ -25,4 +28,4 @@ pub printed-Found : (old : List ℕ) (ids : List (List ℕ)) (etag : ℕ) (is_st
     ≡ old ++ text_of (reply_data (Found ids etag is_stale))
 printed-Found old ids etag is_stale = simp (append_assoc, append-nil)
 
-pub ruleset printed = (printed-object, printed-member, printed-Pumped, printed-Indexes, printed-Bulk, printed-Found)
+pub ruleset printed = (printed-object, printed-array, printed-member, printed-Pumped, printed-Indexes, printed-Bulk, printed-Found)

@@ -1,7 +1,9 @@
 -- A `Reply` of the program, and what it is.
 use Rattle.std.specs.Prelude.{map}
+use Rattle.spec_query.specs.Binding as plan
 use Rattle.spec_server.specs.Replies as is
 use Rattle.index_definition.specs.RefusalView.{refusal_view}
+use Rattle.raven_lines.specs.SaysQuery.{query_refusal}
 use Rattle.raven_value.specs.View.{data_of}
 use Rattle.raven_reply.specs.Shown.{shown_with}
 use Rattle.raven_reply.specs.declared.reply.BulkResult.{BulkResult}
@@ -22,6 +24,8 @@ reply_view (r.Index name) = is.Index name
 reply_view (r.Removed name) = is.Removed name
 reply_view (r.Pumped pumped) = is.Pumped pumped
 reply_view (r.Found ids etag is_stale) = is.Found ids etag is_stale
+reply_view (r.Answer includes etag name is_stale results total) =
+    is.Answer (record { includes = includes; index_etag = etag; index_name = name; is_stale = is_stale; results = results; total = total })
 reply_view (r.Stale etag is_stale newest) = is.Stale etag is_stale newest
 reply_view (r.Indexes results) = is.Indexes results
 reply_view (r.Stats documents indexes tombstones last) = is.Stats documents indexes tombstones last
@@ -35,6 +39,11 @@ reply_view (r.Control at) = is.Control at
 reply_view (r.BadMember name) = is.BadMember name
 reply_view (r.NoDocument id) = is.NoDocument id
 reply_view (r.NoIndex name) = is.NoIndex name
+reply_view (r.Rql at kind) = is.BadQuery (query_refusal at kind)
+reply_view (r.NoParameter name) = is.BadPlan (plan.NoParameter name)
+reply_view (r.NotGrouped name) = is.BadPlan (plan.NotGrouped name)
+reply_view r.BadPage = is.BadPlan plan.BadPage
+reply_view (r.NoField name) = is.BadPlan (plan.NoField name)
 reply_view (r.Lang part at kind) = is.Lang (refusal_view part at kind)
 reply_view r.ReservedName = is.ReservedName
 reply_view (r.NameTooLong len) = is.NameTooLong len

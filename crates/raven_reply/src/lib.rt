@@ -2,10 +2,12 @@
 #![tactic(auto)]
 
 mod document;
+mod error;
 mod moment;
 mod piece;
 mod reply;
 mod text;
+mod values;
 
 pub use moment::moment_text;
 pub use reply::{BulkResult, BulkResults, Listing, Listings, Pumping, Pumpings, Reply};

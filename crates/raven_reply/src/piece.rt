@@ -4,9 +4,10 @@ ghost use Rattle.spec_data.specs.Data.{entries_of, object};
 ghost use Rattle.spec_data.specs.Written.{entries_text, quoted, text_of};
 ghost use Rattle.raven_reply.specs.Pieces.{piece_data};
 
+use crate::values::{write_list, write_map};
 use raven_base::NoMemory;
 use raven_json::{write_text, write_to};
-use raven_value::Value;
+use raven_value::{Members, Value, Values};
 use std::alloc::Global;
 
 /// The value of a member.
@@ -16,6 +17,8 @@ pub enum Piece<'a> {
     Number(u64),
     Flag(bool),
     Json(&'a Value),
+    List(&'a Values),
+    Map(&'a Members),
 }
 
 /// Adds these bytes.
@@ -35,6 +38,8 @@ pub fn write_piece(alloc: Global, out: &mut Vec<u8>, piece: &Piece) -> Result<()
         Piece::Number(number) => write_bytes(out, number.to_string(alloc)?.as_bytes()),
         Piece::Flag(flag) => write_bytes(out, if *flag { b"true" } else { b"false" }),
         Piece::Json(value) => write_to(alloc, out, value),
+        Piece::List(values) => write_list(alloc, out, values),
+        Piece::Map(members) => write_map(alloc, out, members),
     }
 }
 

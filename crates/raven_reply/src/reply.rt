@@ -1,7 +1,8 @@
 //! Replies.
 use index_definition::{LangKind, Part};
 use raven_base::Sequence;
-use raven_value::{Document, Id, Ids, Name, Text, Value};
+use raven_value::{Document, Id, Ids, Members, Name, Text, Value, Values};
+use rql_grammar::RqlKind;
 use std::marker::Model;
 
 /// How far a batch brought an index. The two etags are equal exactly if there was nothing to do.
@@ -124,6 +125,27 @@ pub enum Reply {
         is_stale: bool,
     },
 
+    /// What was found by a query.
+    Answer {
+        /// The included documents under their ids.
+        includes: Members,
+
+        /// How far the index is that was asked.
+        index_etag: u64,
+
+        /// The name that it serves, or that of a whole collection.
+        index_name: Text,
+
+        /// Whether it lags.
+        is_stale: bool,
+
+        /// What is shown of the rows of the page, in order.
+        results: Values,
+
+        /// How many rows meet the condition, on the page or not.
+        total_results: u64,
+    },
+
     /// How far an index is, whether it lags, and the newest etag that it reads.
     Stale {
         index_etag: u64,
@@ -181,6 +203,30 @@ pub enum Reply {
 
     /// No index of this name is live.
     NoIndex {
+        name: Text,
+    },
+
+    /// The text of the query is refused for the byte at this place, and why.
+    Rql {
+        at: u64,
+        kind: RqlKind,
+    },
+
+    /// The parameter of this name has no value that fits. It is `startsWith` if its value is no text.
+    NoParameter {
+        name: Text,
+    },
+
+    /// The field, as it is printed, is none of the groups, or needs groups and there are none.
+    NotGrouped {
+        name: Text,
+    },
+
+    /// The start or the size of the page is outside its limits.
+    BadPage,
+
+    /// The index has no such field, as it is printed.
+    NoField {
         name: Text,
     },
 
@@ -269,6 +315,14 @@ impl Drop for Reply {
                 index_etag: _,
                 is_stale: _,
             } => {}
+            Reply::Answer {
+                includes: _includes,
+                index_etag: _,
+                index_name: _name,
+                is_stale: _,
+                results: _results,
+                total_results: _,
+            } => {}
             Reply::Stale {
                 index_etag: _,
                 is_stale: _,
@@ -282,11 +336,14 @@ impl Drop for Reply {
                 last_doc_etag: _,
             } => {}
             Reply::UnknownLine | Reply::NotJson | Reply::NumberNotWhole | Reply::TooDeep => {}
-            Reply::Empty | Reply::ReservedName | Reply::TooManyIndexes => {}
+            Reply::Empty | Reply::BadPage | Reply::ReservedName | Reply::TooManyIndexes => {}
             Reply::TooLong { len: _ } | Reply::NameTooLong { len: _ } => {}
             Reply::Control { at: _ } | Reply::ReservedId { at: _ } => {}
             Reply::BadMember { name: _name } | Reply::NoIndex { name: _name } => {}
             Reply::NoDocument { id: _id } => {}
+            Reply::Rql { at: _, kind: _ } => {}
+            Reply::NoParameter { name: _name } | Reply::NotGrouped { name: _name } => {}
+            Reply::NoField { name: _name } => {}
             Reply::Lang {
                 part: _,
                 at: _,

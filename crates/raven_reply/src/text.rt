@@ -1,17 +1,17 @@
 //! What is printed of replies.
-ghost use Rattle.std.specs.Prelude.{◌≡◌, ◌++◌, ◌∷◌, [], IfOk, OnOk, false, map};
+ghost use Rattle.std.specs.Prelude.{◌≡◌, ◌++◌, IfOk, OnOk, false, map};
 ghost use Rattle.spec_data.specs.Data.{items_of, text as spec_text};
 ghost use Rattle.spec_data.specs.Written.{items_text, text_of};
-ghost use Rattle.spec_server.specs.Replies.{Bulk, Conflict, Deleted, Found as FoundIds, Index, Indexes as IndexesAll, Lang as LangOf, Pumped as PumpedAll, Put as PutOne, Removed, Stale, Stats, error, error_at, listing_data, pumping_data, reply_data, result_data};
-ghost use Rattle.index_tree.specs.Language.{kind_name as spec_kind_name, part_name as spec_part_name};
-ghost use Rattle.index_definition.specs.RefusalView.{kind_view, part_view, refusal_view};
-ghost use Rattle.raven_reply.specs.Pieces.{piece_data};
+ghost use Rattle.spec_server.specs.Replies.{Bulk, Deleted, Found as FoundIds, Index, Indexes as IndexesAll, Pumped as PumpedAll, Put as PutOne, Removed, Stale, Stats, listing_data, pumping_data, reply_data, result_data};
 ghost use Rattle.raven_reply.specs.ReplyView.{reply_view, result_view};
 
 use crate::document::write_document;
+use crate::error::{
+    write_conflict, write_error, write_error_at, write_error_at_with, write_error_with, write_lang,
+    write_rql,
+};
 use crate::piece::{Piece, write_bytes, write_object, write_piece};
 use crate::reply::{BulkResult, Listing, Pumping, Reply};
-use index_definition::{LangKind, Part};
 use raven_base::NoMemory;
 use raven_json::write_text;
 use raven_value::Id;
@@ -71,48 +71,6 @@ fn write_result(alloc: Global, out: &mut Vec<u8>, done: &BulkResult) -> Result<(
             ],
         ),
     }
-}
-
-fn part_name(part: Part) -> &'static str
-    ensures { result.now ≡ spec_part_name (part_view part) }
-{
-    match part {
-        Part::Map => "Map",
-        Part::Reduce => "Reduce",
-    }
-}
-
-fn kind_name(kind: LangKind) -> &'static str
-    ensures { result.now ≡ spec_kind_name (kind_view kind) }
-{
-    match kind {
-        LangKind::Unexpected => "Unexpected",
-        LangKind::UnknownName => "UnknownName",
-        LangKind::DuplicateField => "DuplicateField",
-        LangKind::FieldsDiffer => "FieldsDiffer",
-        LangKind::NotReducible => "NotReducible",
-        LangKind::TooLarge => "TooLarge",
-    }
-}
-
-fn write_lang(
-    alloc: Global,
-    out: &mut Vec<u8>,
-    part: Part,
-    at: u64,
-    kind: LangKind,
-) -> Result<(), NoMemory>
-    ensures { OnOk result (out.new.items ≡ out.old.items ++ text_of (reply_data (LangOf (refusal_view part at kind)))) }
-{
-    write_object(
-        alloc,
-        out,
-        &[
-            ("At", Piece::Number(at)),
-            ("Error", Piece::Text(kind_name(kind))),
-            ("Part", Piece::Text(part_name(part))),
-        ],
-    )
 }
 
 fn write_ids(out: &mut Vec<u8>, ids: &[Id]) -> Result<(), NoMemory>
@@ -218,79 +176,6 @@ fn write_bulk(alloc: Global, out: &mut Vec<u8>, results: &[BulkResult]) -> Resul
     write_bytes(out, b"]}")
 }
 
-fn write_error(alloc: Global, out: &mut Vec<u8>, name: &str) -> Result<(), NoMemory>
-    ensures { OnOk result (out.new.items ≡ out.old.items ++ text_of (error name.now [])) }
-{
-    write_object(alloc, out, &[("Error", Piece::Text(name))])
-}
-
-// An error with one further member, whose name comes behind `Error`.
-fn write_error_with(
-    alloc: Global,
-    out: &mut Vec<u8>,
-    name: &str,
-    member: &str,
-    piece: Piece,
-) -> Result<(), NoMemory>
-    ensures { OnOk result (out.new.items ≡ out.old.items ++ text_of (error name.now ((member.now, piece_data piece.entry) ∷ []))) }
-{
-    write_object(alloc, out, &[("Error", Piece::Text(name)), (member, piece)])
-}
-
-// An error at a place.
-fn write_error_at(alloc: Global, out: &mut Vec<u8>, at: u64, name: &str) -> Result<(), NoMemory>
-    ensures { OnOk result (out.new.items ≡ out.old.items ++ text_of (error_at at name.now [])) }
-{
-    write_object(
-        alloc,
-        out,
-        &[("At", Piece::Number(at)), ("Error", Piece::Text(name))],
-    )
-}
-
-// An error at a place, with one further member.
-fn write_error_at_with<'a>(
-    alloc: Global,
-    out: &mut Vec<u8>,
-    at: u64,
-    name: &'a str,
-    member: &'a str,
-    piece: Piece<'a>,
-) -> Result<(), NoMemory>
-    ensures { OnOk result (out.new.items ≡ out.old.items ++ text_of (error_at at name.now ((member.now, piece_data piece.entry) ∷ []))) }
-{
-    write_object(
-        alloc,
-        out,
-        &[
-            ("At", Piece::Number(at)),
-            ("Error", Piece::Text(name)),
-            (member, piece),
-        ],
-    )
-}
-
-fn write_conflict<'a>(
-    alloc: Global,
-    out: &mut Vec<u8>,
-    at: u64,
-    expected: &'a str,
-    found: &'a str,
-) -> Result<(), NoMemory>
-    ensures { OnOk result (out.new.items ≡ out.old.items ++ text_of (reply_data (Conflict at expected.now found.now))) }
-{
-    write_object(
-        alloc,
-        out,
-        &[
-            ("At", Piece::Number(at)),
-            ("Error", Piece::Text("Conflict")),
-            ("Expected", Piece::Text(expected)),
-            ("Found", Piece::Text(found)),
-        ],
-    )
-}
-
 fn write_stats(
     alloc: Global,
     out: &mut Vec<u8>,
@@ -392,6 +277,24 @@ fn write_reply(alloc: Global, out: &mut Vec<u8>, reply: &Reply) -> Result<(), No
             index_etag,
             is_stale,
         } => write_found(alloc, out, ids.as_slice(), *index_etag, *is_stale),
+        Reply::Answer {
+            includes,
+            index_etag,
+            index_name,
+            is_stale,
+            results,
+            total_results,
+        } => {
+            let members = [
+                ("Includes", Piece::Map(includes)),
+                ("IndexEtag", Piece::Number(*index_etag)),
+                ("IndexName", Piece::Text(index_name.as_str())),
+                ("IsStale", Piece::Flag(*is_stale)),
+                ("Results", Piece::List(results)),
+                ("TotalResults", Piece::Number(*total_results)),
+            ];
+            write_object(alloc, out, &members)
+        }
         Reply::Stale {
             index_etag,
             is_stale,
@@ -430,6 +333,23 @@ fn write_reply(alloc: Global, out: &mut Vec<u8>, reply: &Reply) -> Result<(), No
         }
         Reply::NoIndex { name } => {
             write_error_with(alloc, out, "NoIndex", "Name", Piece::Text(name.as_str()))
+        }
+        Reply::Rql { at, kind } => write_rql(alloc, out, *at, *kind),
+        Reply::NoParameter { name } => {
+            write_error_with(
+                alloc,
+                out,
+                "NoParameter",
+                "Name",
+                Piece::Text(name.as_str()),
+            )
+        }
+        Reply::NotGrouped { name } => {
+            write_error_with(alloc, out, "NotGrouped", "Name", Piece::Text(name.as_str()))
+        }
+        Reply::BadPage => write_error(alloc, out, "BadPage"),
+        Reply::NoField { name } => {
+            write_error_with(alloc, out, "NoField", "Name", Piece::Text(name.as_str()))
         }
         Reply::Lang { part, at, kind } => write_lang(alloc, out, *part, *at, *kind),
         Reply::ReservedName => write_error(alloc, out, "ReservedName"),

@@ -35,6 +35,7 @@ reading asked (Err (refusal.BadId why)) h = h
 reading asked (Err (refusal.BadName why)) h = h
 reading asked (Err (refusal.BadMember name)) h = h
 reading asked (Err (refusal.BadDefinition part at kind)) h = h
+reading asked (Err (refusal.BadQuery at kind)) h = h
 reading asked (Err refusal.NoMemory) h = tt
 
 -- a line in which no texts of a definition are read
@@ -42,16 +43,19 @@ pub answers-plain : (told : LineRead) (result : Result (Option Line) ReadRefusal
 answers-plain told result h = reading (Plain told) result (record { read = told; comes = refl; told = h })
 
 -- what is read is not refused
-module _ (asked : Asked) (given : List ℕ × Texts) where
-  no_id : (why : IdRefusal) (fault : Option Fault) → IsBadId fault (let r : Result (List ℕ × Texts) read.ReadRefusal = Ok given in r) → Answers asked (Err (refusal.BadId why))
+module _ {A : Type 0} (asked : Asked) (given : A) where
+  abbrev as_read : Result A read.ReadRefusal
+  as_read = Ok given
+
+  no_id : (why : IdRefusal) (fault : Option Fault) → IsBadId fault as_read → Answers asked (Err (refusal.BadId why))
   no_id why None h = absurd h
   no_id why (Some fault) h = absurd cc
 
-  no_name : (why : IdRefusal) (fault : Option Fault) → IsBadName fault (let r : Result (List ℕ × Texts) read.ReadRefusal = Ok given in r) → Answers asked (Err (refusal.BadName why))
+  no_name : (why : IdRefusal) (fault : Option Fault) → IsBadName fault as_read → Answers asked (Err (refusal.BadName why))
   no_name why None h = absurd h
   no_name why (Some fault) h = absurd cc
 
-  not_refused : (why : ReadRefusal) → Refuses why (let r : Result (List ℕ × Texts) read.ReadRefusal = Ok given in r) → Answers asked (Err why)
+  pub not_refused : (why : ReadRefusal) → Refuses why as_read → Answers asked (Err why)
   not_refused refusal.UnknownLine h = absurd cc
   not_refused refusal.NotJson h = absurd cc
   not_refused refusal.NumberNotWhole h = absurd cc
@@ -60,6 +64,7 @@ module _ (asked : Asked) (given : List ℕ × Texts) where
   not_refused (refusal.BadName why) h = no_name why (fault_in why) h
   not_refused (refusal.BadMember name) h = absurd cc
   not_refused (refusal.BadDefinition part at kind) h = absurd cc
+  not_refused (refusal.BadQuery at kind) h = absurd cc
   not_refused refusal.NoMemory h = tt
 
 -- the texts of the definition are not found
@@ -115,7 +120,7 @@ pub answers-read : (name map : List ℕ) (reduce : Option (List ℕ)) (texts : T
     → given ≡ Ok (name, texts) → Answers (Defining name (map, reduce)) result → map ≡ texts.0 → reduce ≡ texts.1 → Answers (asked_to_define given) result
 answers-read name map reduce texts given result is h m r = subst (λ g. Answers (asked_to_define g) result) (sym is) (subst (λ (t : Texts). Answers (Defining name t) result) (λ i. (m i, r i)) h)
 
--- the line is one whose first word is `INDEX`, or it is none
+-- what a line asks is this
 pub answers-asked : (line : List ℕ) (asked : Asked) (result : Result (Option Line) ReadRefusal) → asked_of line ≡ asked → Answers asked result → Answers (asked_of line) result
 answers-asked line asked result is h = subst (λ a. Answers a result) (sym is) h
 

@@ -6,3 +6,4 @@ pub mod PumpLemmas
 pub mod Answering
 pub mod Asking
 pub mod Maps
+pub mod Querying

@@ -1,5 +1,5 @@
 -- The text of a list of one.
-use Rattle.std.proofs.Common.{◌≡◌, ℕ, List, Option, Some, None, Ok, Err, refl, sym, ap, ◌∙◌, codes}
+use Rattle.std.proofs.Common.{◌≡◌, ℕ, List, Option, Some, None, Ok, Err, refl, sym, ap, codes}
 use Rattle.spec_data.specs.Data.{Data, null, flag, num, text, array, object, Items, no_items, item}
 use Rattle.spec_server.specs.Script.{map_member}
 use Rattle.spec_server.specs.Script as read

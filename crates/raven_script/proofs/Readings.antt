@@ -33,6 +33,7 @@ refused_on (refusal.BadName why) r f h = bad (fault_in why) h
     bad (Some fault) h = ap (λ x. then_read x f) h
 refused_on (refusal.BadMember name) r f h = ap (λ x. then_read x f) h
 refused_on (refusal.BadDefinition part at kind) r f h = ap (λ x. then_read x f) h
+refused_on (refusal.BadQuery at kind) r f h = ap (λ x. then_read x f) h
 refused_on refusal.NoMemory r f h = tt
 
 -- and what reads on from a value is what is read then
@@ -54,6 +55,7 @@ bad_member name (refusal.BadId why) r h e = absurd h
 bad_member name (refusal.BadName why) r h e = absurd h
 bad_member name (refusal.BadMember told) r h e = e ∙ ap (λ n. Err (read.BadMember n)) (sym h)
 bad_member name (refusal.BadDefinition part at kind) r h e = absurd h
+bad_member name (refusal.BadQuery at kind) r h e = absurd h
 bad_member name refusal.NoMemory r h e = tt
 
 pub list_of-items_of : (ds : List Data) → list_of (items_of ds) ≡ ds

@@ -9,6 +9,7 @@ use Rattle.spec_server.specs.Script as read
 use Rattle.doc_txn.specs.CommandView.{command_view, expect_view}
 use Rattle.index_definition.specs.DefinitionView.{definition_view}
 use Rattle.index_definition.specs.RefusalView.{refusal_view}
+use Rattle.raven_lines.specs.SaysQuery.{query_refusal}
 use Rattle.raven_script.specs.declared.request.Request.{Request}
 use Rattle.raven_script.specs.declared.request.Request.TheVariants as r
 use Rattle.raven_script.specs.declared.request.Line.{Line}
@@ -25,6 +26,7 @@ request_view (r.Define definition) = is.Define definition.value.name (definition
 request_view (r.Remove name) = is.Remove name
 request_view (r.Auto collection field) = is.Auto collection field
 request_view (r.Find index field words) = is.Find index field words
+request_view (r.Ask ask) = is.Ask ask
 request_view (r.Pump max index) = is.Pump max index
 request_view (r.Stale name cutoff) = is.Stale name cutoff
 request_view r.Indexes = is.Indexes
@@ -53,6 +55,7 @@ Refuses (refusal.BadId why) reading = IsBadId (fault_in why) reading
 Refuses (refusal.BadName why) reading = IsBadName (fault_in why) reading
 Refuses (refusal.BadMember name) reading = reading ≡ Err (read.BadMember name)
 Refuses (refusal.BadDefinition part at kind) reading = reading ≡ Err (read.BadDefinition (refusal_view part at kind))
+Refuses (refusal.BadQuery at kind) reading = reading ≡ Err (read.BadQuery (query_refusal at kind))
 Refuses refusal.NoMemory reading = Unit {0}
 
 -- it names this member

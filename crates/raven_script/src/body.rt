@@ -1,6 +1,9 @@
 //! Ids and bodies.
-ghost use Rattle.std.specs.Prelude.{option_map};
+ghost use Rattle.std.specs.Prelude.{◌≡◌, IfOk, OnOk, option_map};
+ghost use Rattle.spec_data.specs.Data.{entries_of};
 ghost use Rattle.spec_data.specs.Json.{reading};
+ghost use Rattle.spec_data.specs.Members.{member};
+ghost use Rattle.spec_data.specs.Rising.{without};
 ghost use Rattle.spec_server.specs.Script.{delete_read, id_read, json_read, name_read, object_read, put_read};
 ghost use Rattle.doc_txn.specs.CommandView.{expect_view};
 ghost use Rattle.raven_value.specs.View.{data_of};
@@ -8,8 +11,9 @@ ghost use Rattle.raven_script.specs.RequestView.{IsBadMember, Reads, request_vie
 
 use crate::request::{ReadRefusal, Request};
 use doc_txn::Expect;
+use raven_base::NoMemory;
 use raven_json::{JsonRefusal, read};
-use raven_value::{Id, IdRefusal, Name, Text, Value};
+use raven_value::{Id, IdRefusal, Members, Name, Text, Value};
 use std::alloc::Global;
 
 /// The id of this text.
@@ -55,6 +59,15 @@ pub fn bad_member(alloc: Global, name: &str) -> ReadRefusal
         Ok(name) => ReadRefusal::BadMember { name },
         Err(_) => ReadRefusal::NoMemory,
     }
+}
+
+/// The value of the member of this name, which is moved out of the object.
+pub fn taken(alloc: Global, members: &mut Members, name: &str) -> Result<Option<Value>, NoMemory>
+    ensures value { IfOk result (λ value. option_map (λ v. data_of v) value ≡ member name.now (entries_of members.old)) }
+    ensures rest { OnOk result (members.new ≡ without name.now members.old) }
+{
+    let name = Text::of(alloc, name)?;
+    Ok(members.remove(&name))
 }
 
 /// This value, which has to be an object. A refusal has this name.

@@ -1,5 +1,5 @@
 //! The commands of a transaction, in JSON.
-ghost use Rattle.std.specs.Prelude.{◌≡◌, IfOk, Some, codes, map, option_map};
+ghost use Rattle.std.specs.Prelude.{Some, codes, map, option_map};
 ghost use Rattle.spec_data.specs.Data.{array, entries_of, items_of};
 ghost use Rattle.spec_data.specs.Json.{reading};
 ghost use Rattle.spec_data.specs.Members.{member};
@@ -8,11 +8,10 @@ ghost use Rattle.raven_value.specs.View.{data_of};
 ghost use Rattle.doc_txn.specs.CommandView.{command_view, expect_view};
 ghost use Rattle.raven_script.specs.RequestView.{Reads, request_view};
 
-use crate::body::{bad_member, id_of, json_of, object_of};
+use crate::body::{bad_member, id_of, json_of, object_of, taken};
 use crate::request::{ReadRefusal, Request};
 use doc_txn::{Command, Commands, Expect};
-use raven_base::NoMemory;
-use raven_value::{Id, Members, Text, Value, Values};
+use raven_value::{Id, Members, Value, Values};
 use std::alloc::Global;
 
 #[tactic(auto, using(crate::proofs::Readings::members))]
@@ -36,19 +35,10 @@ fn vector_member(alloc: Global, value: Option<&Value>) -> Result<Expect, ReadRef
     }
 }
 
-// The value of the member of this name, which is moved out of the object.
-fn taken(alloc: Global, members: Members, name: &str) -> Result<Option<Value>, NoMemory>
-    ensures { IfOk result (λ value. option_map (λ v. data_of v) value ≡ member name.now (entries_of members)) }
-{
-    let mut left = members;
-    let name = Text::of(alloc, name)?;
-    Ok(left.remove(&name))
-}
-
-fn document_member(alloc: Global, members: Members) -> Result<Value, ReadRefusal>
+fn document_member(alloc: Global, mut members: Members) -> Result<Value, ReadRefusal>
     ensures { Reads (λ document. data_of document) result (object_read (codes "Document") (member (codes "Document") (entries_of members))) }
 {
-    object_of(alloc, "Document", taken(alloc, members, "Document")?)
+    object_of(alloc, "Document", taken(alloc, &mut members, "Document")?)
 }
 
 // A put, into which the document is moved.
@@ -155,7 +145,7 @@ pub fn commands_of(alloc: Global, value: Value) -> Result<Commands, ReadRefusal>
     ensures { Reads (λ commands. map command_view commands) result (spec_commands_of (data_of value)) }
 {
     match value {
-        Value::Map(members) => commands_in(alloc, taken(alloc, members, "Commands")?),
+        Value::Map(mut members) => commands_in(alloc, taken(alloc, &mut members, "Commands")?),
         _ => Err(bad_member(alloc, "body")),
     }
 }

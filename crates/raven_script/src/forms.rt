@@ -1,12 +1,13 @@
 //! What a line asks.
-ghost use Rattle.std.specs.Prelude.{◌≡◌, None, Some, [], option_map};
-ghost use Rattle.spec_server.specs.Script.{asked_of, auto_of as spec_auto_of, by_command as spec_by_word, delete_if_of as spec_delete_if_of, drop_of as spec_drop_of, find_of as spec_find_of, get_of as spec_get_of, line_of, max_read, pump_of as spec_pump_of, pump_read, put_if_of as spec_put_if_of, put_of as spec_put_of, request_of as spec_request_of, stale_of as spec_stale_of};
-ghost use Rattle.raven_script.specs.LineView.{Answers, asked_behind};
+ghost use Rattle.std.specs.Prelude.{◌≡◌, MatchOption, None, Some, [], option_map};
+ghost use Rattle.spec_server.specs.Script.{Plain, asked_of, asked_with as spec_asked_with, auto_of as spec_auto_of, by_command as spec_by_word, delete_if_of as spec_delete_if_of, drop_of as spec_drop_of, find_of as spec_find_of, get_of as spec_get_of, line_of, max_read, pump_of as spec_pump_of, pump_read, put_if_of as spec_put_if_of, put_of as spec_put_of, request_of as spec_request_of, stale_of as spec_stale_of};
+ghost use Rattle.raven_script.specs.LineView.{Answers};
 ghost use Rattle.raven_script.specs.RequestView.{Reads, line_view, request_view};
 
 use crate::body::{delete_of, id_of, name_of, put_of};
 use crate::commands::bulk_of;
 use crate::definition::index;
+use crate::query::{ask, query};
 use crate::request::{Line, ReadRefusal, Request};
 use crate::words::{is_collection, is_field, number_of, parts, word_and_rest};
 use doc_txn::Expect;
@@ -220,7 +221,7 @@ fn request_of(alloc: Global, text: &str) -> Result<Request, ReadRefusal>
     }
 }
 
-// What a line asks that holds no texts of a definition.
+// What a line asks that holds no texts of a definition or of a query.
 fn plain_line(alloc: Global, bytes: &[u8]) -> Result<Option<Line>, ReadRefusal>
     ensures { Reads (λ found. option_map line_view found) result (line_of bytes.now) }
 {
@@ -236,26 +237,46 @@ fn plain_line(alloc: Global, bytes: &[u8]) -> Result<Option<Line>, ReadRefusal>
     }
 }
 
-// What follows the word `INDEX`, if the line begins with it.
+// The first word of a line and what follows it, if the line is text and has both.
 #[tactic(auto, using(crate::proofs::Asking::asking))]
-fn behind_index(bytes: &[u8]) -> Option<&str>
-    ensures { asked_of bytes.now ≡ asked_behind bytes.now (option_map (λ t. t.now) result) }
+fn word_of(bytes: &[u8]) -> Option<(&str, &str)>
+    ensures { MatchOption result (asked_of bytes.now ≡ Plain (line_of bytes.now)) (λ parts. asked_of bytes.now ≡ spec_asked_with bytes.now parts.0.now parts.1.now) }
 {
-    let Ok(text) = str::from_utf8(bytes) else {
-        return None;
-    };
-    let (word, rest) = word_and_rest(text)?;
-    if word == "INDEX" { Some(rest) } else { None }
+    match str::from_utf8(bytes) {
+        Ok(text) => word_and_rest(text),
+        Err(_) => None,
+    }
 }
 
-/// What a line of a script asks: nothing, exactly if it has no bytes. If it defines an index, its definition is what its texts say, or it is
+// What a line of this first word asks.
+#[tactic(auto, using(crate::proofs::Answering::answering))]
+fn asked_with(
+    alloc: Global,
+    bytes: &[u8],
+    word: &str,
+    rest: &str,
+) -> Result<Option<Line>, ReadRefusal>
+    ensures { Answers (spec_asked_with bytes.now word.now rest.now) result }
+{
+    if word == "INDEX" {
+        index(alloc, rest)
+    } else if word == "QUERY" {
+        query(alloc, rest)
+    } else if word == "ASK" {
+        ask(alloc, rest)
+    } else {
+        plain_line(alloc, bytes)
+    }
+}
+
+/// What a line of a script asks: nothing, exactly if it has no bytes. If it defines an index or asks a query, it asks what its texts say, or is
 /// refused as they are.
 #[tactic(auto, using(crate::proofs::Answering::answering))]
 pub fn line(alloc: Global, bytes: &[u8]) -> Result<Option<Line>, ReadRefusal>
     ensures { Answers (asked_of bytes.now) result }
 {
-    match behind_index(bytes) {
-        Some(rest) => index(alloc, rest),
+    match word_of(bytes) {
+        Some((word, rest)) => asked_with(alloc, bytes, word, rest),
         None => plain_line(alloc, bytes),
     }
 }

@@ -5,6 +5,7 @@ mod body;
 mod commands;
 mod definition;
 mod forms;
+mod query;
 mod request;
 mod words;
 

@@ -6,6 +6,8 @@ use doc_txn::{Commands, Expect};
 use index_definition::{Definition, LangKind, Part};
 use raven_base::NoMemory;
 use raven_value::{Id, IdRefusal, Name, Text, Value};
+use rql_grammar::RqlKind;
+use rql_plan::QueryAsk;
 use std::alloc::AllocError;
 use std::sync::Arc;
 use thiserror::Error;
@@ -71,6 +73,12 @@ pub enum Request {
         field: Text,
         /// The text that it has, whatever its case.
         text: Text,
+    },
+
+    /// Answer a query.
+    Ask {
+        /// The query, its parameters and its page.
+        ask: QueryAsk,
     },
 
     /// Let each index, or the one that is named, catch up by one batch.
@@ -146,6 +154,15 @@ pub enum ReadRefusal {
         at: usize,
         /// Why.
         kind: LangKind,
+    },
+
+    /// The text of a query is refused, for the byte at this place.
+    #[error("the query is refused at byte {at}")]
+    BadQuery {
+        /// The place of the byte, counted from 0.
+        at: usize,
+        /// Why.
+        kind: RqlKind,
     },
 
     /// Out of memory.

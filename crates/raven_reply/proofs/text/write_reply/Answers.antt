@@ -1,6 +1,6 @@
 use Rattle.std.proofs.Common.{◌≡◌, ◌++◌, ◌∙◌, OnOk, sym, ap, subst}
 use Rattle.spec_data.specs.Written.{text_of}
-use Rattle.spec_server.specs.Replies.{CollectionChanged, reply_data}
+use Rattle.spec_server.specs.Replies.{CollectionChanged, answer_data, reply_data}
 use Rattle.raven_reply.specs.ReplyView.{reply_view}
 use Rattle.raven_reply.proofs.text.write_reply.Goals as goal
 
@@ -24,3 +24,11 @@ returns-in-EtagsSpent c = subst (λ r. OnOk c.write_error_at_with-in-EtagsSpent.
 pub returns-in-Document : goal.returns-in-Document
 returns-in-Document c = subst (λ r. OnOk c.write_document.result (c.write_document.new.out.items ≡ c.args.out.now.items ++ text_of (reply_data (reply_view r))))
     (sym c.in-Document.is) c.write_document.ensures
+
+pub returns-in-Answer : goal.returns-in-Answer
+returns-in-Answer c =
+    let a = c.in-Answer in
+    subst (λ d. OnOk c.write_object.result (c.write_object.new.out.items ≡ c.args.out.now.items ++ text_of d))
+    ((λ i. answer_data (record { includes = a.includes; index_etag = a.index_etag; index_name = c.as_str-in-Answer.ensures i; is_stale = a.is_stale; results = a.results; total = a.total_results }))
+    ∙ ap (λ r. reply_data (reply_view r)) (sym a.is))
+    c.write_object.ensures

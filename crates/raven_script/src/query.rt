@@ -1,0 +1,250 @@
+//! A query, in JSON or as its text alone.
+ghost use Rattle.std.specs.Prelude.{◌≡◌, option_map};
+ghost use Rattle.spec_data.specs.Data.{entries_of};
+ghost use Rattle.raven_value.specs.View.{data_of};
+ghost use Rattle.spec_server.specs.Script.{Querying, asked_to_query, asking_in as spec_asking_in, asking_of as spec_asking_of, asking_of_body as spec_asking_of_body, asking_with as spec_asking_with, beside_in as spec_beside_in, cutoff_member as spec_cutoff_member, looks_member as spec_looks_member, parameters_member as spec_parameters_member, plain_asking, query_member as spec_query_member, size_member as spec_size_member, start_member as spec_start_member, wait_member as spec_wait_member, whole_ask};
+ghost use Rattle.raven_script.specs.LineView.{Answers, asking_view};
+ghost use Rattle.raven_script.specs.RequestView.{Reads};
+
+use crate::body::{bad_member, json_of, taken};
+use crate::request::{Line, ReadRefusal, Request};
+use raven_value::{Members, Text, Value};
+use rql_parser::{RqlRefusal, parse};
+use rql_plan::QueryAsk;
+use rql_tree::Query;
+use std::alloc::Global;
+
+/// How often to look for an answer that is not stale, at most.
+const MAX_LOOKS: u32 = 64;
+
+/// What is asked beside the text of a query.
+#[derive(Drop)]
+pub struct Asking {
+    pub parameters: Members,
+    pub start: i64,
+    pub size: Option<i64>,
+    pub cutoff: Option<u64>,
+    pub wait: bool,
+    pub looks: u32,
+}
+
+// What is asked if the text stands alone.
+fn plain(alloc: Global) -> Asking
+    ensures { asking_view result ≡ plain_asking }
+{
+    Asking {
+        parameters: Members::new(alloc),
+        start: 0,
+        size: None,
+        cutoff: None,
+        wait: false,
+        looks: MAX_LOOKS,
+    }
+}
+
+#[tactic(auto, using(crate::proofs::Readings::members))]
+fn query_member(alloc: Global, value: Option<&Value>) -> Result<Text, ReadRefusal>
+    ensures { Reads (λ text. text) result (spec_query_member (option_map (λ v. data_of v.now) value.entry)) }
+{
+    match value {
+        Some(Value::Text(text)) => Ok(text.clone()?),
+        _ => Err(bad_member(alloc, "Query")),
+    }
+}
+
+#[tactic(auto, using(crate::proofs::Querying::parameters))]
+fn parameters_member(alloc: Global, value: Option<Value>) -> Result<Members, ReadRefusal>
+    ensures { Reads (λ parameters. parameters) result (spec_parameters_member (option_map (λ v. data_of v) value)) }
+{
+    match value {
+        None => Ok(Members::new(alloc)),
+        Some(Value::Map(parameters)) => Ok(parameters),
+        Some(_) => Err(bad_member(alloc, "QueryParameters")),
+    }
+}
+
+#[tactic(auto, using(crate::proofs::Readings::members))]
+fn start_member(alloc: Global, value: Option<&Value>) -> Result<i64, ReadRefusal>
+    ensures { Reads (λ start. start) result (spec_start_member (option_map (λ v. data_of v.now) value.entry)) }
+{
+    match value {
+        None => Ok(0),
+        Some(Value::Num(start)) => Ok(*start),
+        Some(_) => Err(bad_member(alloc, "Start")),
+    }
+}
+
+#[tactic(auto, using(crate::proofs::Readings::members))]
+fn size_member(alloc: Global, value: Option<&Value>) -> Result<Option<i64>, ReadRefusal>
+    ensures { Reads (λ size. size) result (spec_size_member (option_map (λ v. data_of v.now) value.entry)) }
+{
+    match value {
+        None => Ok(None),
+        Some(Value::Num(size)) => Ok(Some(*size)),
+        Some(_) => Err(bad_member(alloc, "PageSize")),
+    }
+}
+
+#[tactic(auto, using(crate::proofs::Readings::members))]
+fn cutoff_member(alloc: Global, value: Option<&Value>) -> Result<Option<u64>, ReadRefusal>
+    ensures { Reads (λ cutoff. cutoff) result (spec_cutoff_member (option_map (λ v. data_of v.now) value.entry)) }
+{
+    match value {
+        None => Ok(None),
+        Some(Value::Num(etag)) if *etag >= 0 => Ok(Some(*etag as u64)),
+        Some(_) => Err(bad_member(alloc, "CutoffEtag")),
+    }
+}
+
+#[tactic(auto, using(crate::proofs::Readings::members))]
+fn wait_member(alloc: Global, value: Option<&Value>) -> Result<bool, ReadRefusal>
+    ensures { Reads (λ waits. waits) result (spec_wait_member (option_map (λ v. data_of v.now) value.entry)) }
+{
+    match value {
+        None => Ok(false),
+        Some(Value::Flag(wait)) => Ok(*wait),
+        Some(_) => Err(bad_member(alloc, "WaitForNonStaleResults")),
+    }
+}
+
+#[tactic(auto, using(crate::proofs::Readings::members))]
+fn looks_member(alloc: Global, value: Option<&Value>) -> Result<u32, ReadRefusal>
+    ensures { Reads (λ looks. looks) result (spec_looks_member (option_map (λ v. data_of v.now) value.entry)) }
+{
+    match value {
+        None => Ok(MAX_LOOKS),
+        Some(Value::Num(looks)) if *looks >= 1 && *looks <= i64::from(MAX_LOOKS) => {
+            Ok(*looks as u32)
+        }
+        Some(_) => Err(bad_member(alloc, "Looks")),
+    }
+}
+
+// What is asked beside the text, with these parameters.
+#[tactic(auto, using(crate::proofs::Readings::readings))]
+fn asking_with(alloc: Global, parameters: Members, members: &Members) -> Result<Asking, ReadRefusal>
+    ensures { Reads asking_view result (spec_asking_with parameters (entries_of members.now)) }
+{
+    let start = match start_member(alloc, members.get("Start")) {
+        Ok(start) => start,
+        Err(refusal) => return Err(refusal),
+    };
+    let size = match size_member(alloc, members.get("PageSize")) {
+        Ok(size) => size,
+        Err(refusal) => return Err(refusal),
+    };
+    let cutoff = match cutoff_member(alloc, members.get("CutoffEtag")) {
+        Ok(cutoff) => cutoff,
+        Err(refusal) => return Err(refusal),
+    };
+    let wait = match wait_member(alloc, members.get("WaitForNonStaleResults")) {
+        Ok(wait) => wait,
+        Err(refusal) => return Err(refusal),
+    };
+    match looks_member(alloc, members.get("Looks")) {
+        Ok(looks) => Ok(Asking {
+            parameters,
+            start,
+            size,
+            cutoff,
+            wait,
+            looks,
+        }),
+        Err(refusal) => Err(refusal),
+    }
+}
+
+// What is asked beside the text. The parameters are moved out of the body.
+#[tactic(auto, using(crate::proofs::Querying::beside))]
+fn beside_in(alloc: Global, mut members: Members) -> Result<Asking, ReadRefusal>
+    ensures { Reads asking_view result (spec_beside_in (entries_of members)) }
+{
+    let parameters = taken(alloc, &mut members, "QueryParameters")?;
+    match parameters_member(alloc, parameters) {
+        Ok(parameters) => asking_with(alloc, parameters, &members),
+        Err(refusal) => Err(refusal),
+    }
+}
+
+#[tactic(auto, using(crate::proofs::Readings::readings))]
+fn asking_in(alloc: Global, members: Members) -> Result<(Text, Asking), ReadRefusal>
+    ensures { Reads (λ asked. (asked.0, asking_view asked.1)) result (spec_asking_in (entries_of members)) }
+{
+    let text = match query_member(alloc, members.get("Query")) {
+        Ok(text) => text,
+        Err(refusal) => return Err(refusal),
+    };
+    match beside_in(alloc, members) {
+        Ok(asking) => Ok((text, asking)),
+        Err(refusal) => Err(refusal),
+    }
+}
+
+#[tactic(auto, using(crate::proofs::Readings::members))]
+fn asking_of_body(alloc: Global, value: Value) -> Result<(Text, Asking), ReadRefusal>
+    ensures { Reads (λ asked. (asked.0, asking_view asked.1)) result (spec_asking_of_body (data_of value)) }
+{
+    match value {
+        Value::Map(members) => asking_in(alloc, members),
+        _ => Err(bad_member(alloc, "body")),
+    }
+}
+
+// The text of the query, and what is asked beside it.
+#[tactic(auto, using(crate::proofs::Readings::readings))]
+fn asking_of(alloc: Global, text: &str) -> Result<(Text, Asking), ReadRefusal>
+    ensures { Reads (λ asked. (asked.0, asking_view asked.1)) result (spec_asking_of text.now) }
+{
+    match json_of(alloc, text) {
+        Ok(value) => asking_of_body(alloc, value),
+        Err(refusal) => Err(refusal),
+    }
+}
+
+fn with_query(query: Query, asking: Asking) -> QueryAsk
+    ensures { result ≡ whole_ask (asking_view asking) query }
+{
+    QueryAsk {
+        query,
+        parameters: asking.parameters,
+        start: asking.start,
+        size: asking.size,
+        cutoff: asking.cutoff,
+        wait: asking.wait,
+        looks: asking.looks,
+    }
+}
+
+// The query that the text says.
+#[tactic(auto, using(crate::proofs::Querying::querying))]
+fn asked(alloc: Global, text: &str, asking: Asking) -> Result<Option<Line>, ReadRefusal>
+    ensures { Answers (Querying text.now (asking_view asking)) result }
+{
+    match parse(alloc, text) {
+        Ok(query) => {
+            let ask = with_query(query, asking);
+            Ok(Some(Line::Do(Request::Ask { ask })))
+        }
+        Err(RqlRefusal::At { at, kind }) => Err(ReadRefusal::BadQuery { at, kind }),
+        Err(RqlRefusal::NoMemory) => Err(ReadRefusal::NoMemory),
+    }
+}
+
+/// What is asked by the text of a query alone.
+#[tactic(auto, using(crate::proofs::Querying::querying))]
+pub fn query(alloc: Global, text: &str) -> Result<Option<Line>, ReadRefusal>
+    ensures { Answers (Querying text.now plain_asking) result }
+{
+    asked(alloc, text, plain(alloc))
+}
+
+/// What is asked by this JSON of a query.
+#[tactic(auto, using(crate::proofs::Querying::querying))]
+pub fn ask(alloc: Global, text: &str) -> Result<Option<Line>, ReadRefusal>
+    ensures { Answers (asked_to_query (spec_asking_of text.now)) result }
+{
+    match asking_of(alloc, text) {
+        Ok((text, asking)) => asked(alloc, text.as_str(), asking),
+        Err(refusal) => Err(refusal),
+    }
+}
