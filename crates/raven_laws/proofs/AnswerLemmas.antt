@@ -1,5 +1,5 @@
--- What queries answer after any run.
-use Rattle.std.proofs.Common.{◌≡◌, ℕ, List, [], ◌∷◌, Bool, true, false, cond, ◌&&◌, T, Option, Some, None, filter, map, refl, sym, ap, ◌∙◌, subst, ◌⊎◌, inl, inr}
+-- What is answered after any run.
+use Rattle.std.proofs.Common.{◌≡◌, ℕ, List, [], ◌∷◌, Bool, true, false, cond, ◌&&◌, T, Option, Some, None, filter, refl, sym, ap, ◌∙◌, subst, ◌⊎◌, inl, inr}
 use Rattle.std.specs.declared.cmp.Ordering.{Ordering}
 use Rattle.std.specs.declared.cmp.Ordering.TheVariants.{Less, Equal, Greater}
 use Rattle.std.specs.Ordering.{is_lt, eq_by_cmp}
@@ -9,7 +9,6 @@ use Rattle.std.specs.FinMap.{get, values, entries, find as entry_at, is_sorted, 
 use Rattle.std.specs.FinMap.Entries.{below_all}
 use Rattle.spec_data.specs.Folding.{key_cmp}
 use Rattle.spec_data.specs.Rows.{Row}
-use Rattle.spec_store.specs.Stale.{stale}
 use Rattle.spec_store.specs.Store.{row_at}
 use Rattle.spec_data.specs.Tables.{Table}
 use Rattle.spec_index.specs.Index.{documents}
@@ -20,17 +19,19 @@ use Rattle.spec_index.specs.Mapping.{mapped_documents, entry_of, scratch}
 use Rattle.spec_store.specs.Commit.{Setting}
 use Rattle.spec_index.specs.World.{Slot, World, reads, serving}
 use Rattle.spec_server.specs.Replies.{Reply}
-use Rattle.spec_server.specs.Machine.{Machine, Event, AreFromClients, Keeping, Put, Delete, Bulk, Get, Define, Remove, Auto, Find, Pump, Stale, Indexes, Stats, start, run, step, answer_find, answer_stale, has_reduce, ids_found, is_stale, listing, Line, Do}
+use Rattle.spec_server.specs.Machine.{Machine, Event, AreFromClients, start, run, answer_find, has_reduce, ids_found, is_stale}
 use Rattle.spec_index.specs.Find.{field_is_text, found_in}
 use Rattle.spec_server.specs.Sound.{Has, Sound}
-use Rattle.raven_laws.specs.Claims.{Flag, FlagIsExact, IsSpelledAsStored, flag, flags_in, ids_in, find_reply, listed_flag, FreshIsFromScratch, FlagsAreExact, IdsAreSpelledAsStored}
+use Rattle.raven_laws.specs.Claims.{IsSpelledAsStored, ids_in, find_reply, FreshIsFromScratch, IdsAreSpelledAsStored}
+use Rattle.raven_laws.specs.Flags.{FlagsAreExact}
 use Rattle.spec_store.proofs.StoreLemmas.{same_itself}
 use Rattle.spec_store.proofs.TableLemmas.{tied}
 use Rattle.raven_laws.proofs.IndexLemmas.{fresh_whole}
 use Rattle.spec_store.proofs.KeyedLemmas.{differ_less}
-use Rattle.spec_store.proofs.StaleLemmas.{stale-Unseen, Unseen-stale, fresh-seen, seen-fresh}
-use Rattle.raven_laws.proofs.SlotLemmas.{Has-filter, Has-map, Has-mapped, served, serves}
+use Rattle.raven_laws.proofs.SlotLemmas.{Has-filter, Has-map, served, serves}
 use Rattle.raven_laws.proofs.MachineLemmas.{run-Sound}
+use Rattle.raven_laws.proofs.QueryLemmas.{fresh-query}
+use Rattle.raven_laws.proofs.FlagLemmas.{Sound-flags}
 
 -- FRESH ANSWERS
 
@@ -38,11 +39,15 @@ answered : (M : Machine) (index field ws : List ℕ) (s : Slot) → serving M.wo
 answered M index field ws s h = ap (answer_find M.world index field ws) h
 
 pub Sound-fresh : (M : Machine) → Sound M.world → FreshIsFromScratch M
-Sound-fresh M o index field ws s h is_fresh =
-    let f = o.fits s (served M.world.slots index s h).0 in
-    answered M index field ws s h
-    ∙ ap (λ T. Reply.Found (ids_found s.version.definition T field ws) s.version.etag (is_stale M.world.store s)) (fresh_whole (reads s.version) s.version.table M.world.store s.version.etag o.store f.agrees is_fresh)
-    ∙ ap (λ b. Reply.Found (ids_found s.version.definition (documents (reads s.version) M.world.store) field ws) s.version.etag b) is_fresh
+Sound-fresh M o = record { find = find; asked = fresh-query M o }
+  where
+    find : (index field ws : List ℕ) (s : Slot) → serving M.world.slots index ≡ Some s → is_stale M.world.store s ≡ false
+        → find_reply M index field ws ≡ Reply.Found (ids_found s.version.definition (documents (reads s.version) M.world.store) field ws) s.version.etag false
+    find index field ws s h is_fresh =
+        let f = o.fits s (served M.world.slots index s h).0 in
+        answered M index field ws s h
+        ∙ ap (λ T. Reply.Found (ids_found s.version.definition T field ws) s.version.etag (is_stale M.world.store s)) (fresh_whole (reads s.version) s.version.table M.world.store s.version.etag o.store f.agrees is_fresh)
+        ∙ ap (λ b. Reply.Found (ids_found s.version.definition (documents (reads s.version) M.world.store) field ws) s.version.etag b) is_fresh
 
 -- what has ids has no reduce
 pub found-ids : (d : Definition) (T : Table) (field ws id : List ℕ) → Has (ids_found d T field ws) id → (has_reduce d ≡ false) × Has (found_in (mapper_of d) T field ws) id
@@ -54,67 +59,6 @@ found-ids d T field ws id h = elim (has_reduce d) as (λ b. has_reduce d ≡ b �
 
 pub ids-found : (d : Definition) (T : Table) (field ws id : List ℕ) → has_reduce d ≡ false → Has (found_in (mapper_of d) T field ws) id → Has (ids_found d T field ws) id
 ids-found d T field ws id none h = subst (λ b. Has (cond {A = List (List ℕ)} b [] (found_in (mapper_of d) T field ws)) id) (sym none) h
-
--- FLAGS
-
--- the flag that is computed is exact, up to any cutoff
-exact_flag : (M : Machine) (name : List ℕ) (cutoff : Option ℕ) (s : Slot) → Sound M.world → serving M.world.slots name ≡ Some s
-    → FlagIsExact M (flag name cutoff (stale M.world.store (reads s.version) s.version.etag cutoff))
-exact_flag M name cutoff s o h =
-    let S = M.world.store in
-    let scope = reads s.version in
-    record {
-      slot = s;
-      serves = h;
-      stale = (stale-Unseen S scope s.version.etag cutoff o.store, Unseen-stale S scope s.version.etag cutoff);
-      fresh = (fresh-seen S scope s.version.etag cutoff, seen-fresh S scope s.version.etag cutoff o.store);
-    }
-
-find_flag : (M : Machine) (index field ws : List ℕ) (f : Flag) (there : Option Slot) → Sound M.world → serving M.world.slots index ≡ there
-    → Has (flags_in (Do (Find index field ws)) (answer_find M.world index field ws there)) f → FlagIsExact M f
-find_flag M index field ws f None o h at = absurd at
-find_flag M index field ws f (Some s) o h (inl same) = subst (FlagIsExact M) same (exact_flag M index None s o h)
-find_flag M index field ws f (Some s) o h (inr no_more) = absurd no_more
-
-stale_flag : (M : Machine) (name : List ℕ) (cutoff : Option ℕ) (f : Flag) (there : Option Slot) → Sound M.world → serving M.world.slots name ≡ there
-    → Has (flags_in (Do (Stale name cutoff)) (answer_stale M.world name cutoff there)) f → FlagIsExact M f
-stale_flag M name cutoff f None o h at = absurd at
-stale_flag M name cutoff f (Some s) o h (inl same) = subst (FlagIsExact M) same (exact_flag M name cutoff s o h)
-stale_flag M name cutoff f (Some s) o h (inr no_more) = absurd no_more
-
-listing_flag : (M : Machine) (f : Flag) → Sound M.world → Has (map listed_flag (map (listing M.world.store) M.world.slots)) f → FlagIsExact M f
-listing_flag M f o at =
-    let l = Has-map listed_flag (map (listing M.world.store) M.world.slots) f at in
-    let s = Has-map (listing M.world.store) M.world.slots l.0 l.1 in
-    subst (FlagIsExact M) (ap listed_flag s.2 ∙ l.2) (exact_flag M s.0.name None s.0 o (serves M.world.slots s.0 o.apart s.1))
-
-shown_flag : (M : Machine) (k : Keeping) (now : ℕ) (line : Line) (f : Flag) → Sound M.world → Has (flags_in line (step M k now line).reply) f → FlagIsExact M f
-shown_flag M k now (Do (Put id expected body)) f o at = absurd at
-shown_flag M k now (Do (Delete id expected)) f o at = absurd at
-shown_flag M k now (Do (Bulk commands)) f o at = absurd at
-shown_flag M k now (Do (Get id)) f o at = absurd at
-shown_flag M k now (Do (Define name d)) f o at = absurd at
-shown_flag M k now (Do (Remove name)) f o at = absurd at
-shown_flag M k now (Do (Auto collection field)) f o at = absurd at
-shown_flag M k now (Do (Find index field ws)) f o at = find_flag M index field ws f (serving M.world.slots index) o refl at
-shown_flag M k now (Do (Pump max index)) f o at = absurd at
-shown_flag M k now (Do (Stale name cutoff)) f o at = stale_flag M name cutoff f (serving M.world.slots name) o refl at
-shown_flag M k now (Do Indexes) f o at = listing_flag M f o at
-shown_flag M k now (Do Stats) f o at = absurd at
-
-pub Sound-flags : (M : Machine) → Sound M.world → FlagsAreExact M
-Sound-flags M o = record {
-  exact = λ k now line f at. shown_flag M k now line f o at;
-  find = λ index field ws s h. (
-    is_stale M.world.store s,
-    subst (λ there. Has (flags_in (Do (Find index field ws)) (answer_find M.world index field ws there)) (flag index None (is_stale M.world.store s))) (sym h) (inl refl),
-  );
-  cutoff = λ name cutoff s h. (
-    stale M.world.store (reads s.version) s.version.etag cutoff,
-    subst (λ there. Has (flags_in (Do (Stale name cutoff)) (answer_stale M.world name cutoff there)) (flag name cutoff (stale M.world.store (reads s.version) s.version.etag cutoff))) (sym h) (inl refl),
-  );
-  listed = λ s h. (is_stale M.world.store s, Has-mapped listed_flag (map (listing M.world.store) M.world.slots) (listing M.world.store s) (Has-mapped (listing M.world.store) M.world.slots s h));
-}
 
 -- A DOCUMENT OF A TABLE IS FOUND UNDER ITS KEY
 

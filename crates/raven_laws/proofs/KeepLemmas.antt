@@ -10,7 +10,7 @@ use Rattle.index_tree.specs.Definitions.{Definition}
 use Rattle.spec_index.specs.Optimiser.{Choice, Use, Make, Merge, pick, name_of}
 use Rattle.spec_server.specs.Replies as replies
 use Rattle.spec_index.specs.World.{Slot, World, serving, SlotChange, SlotRefusal, define, define_named, remove}
-use Rattle.spec_server.specs.Machine.{Machine, Request, Put as PutOne, Delete as DeleteOne, Bulk, Get, Define, Remove, Auto, Find, Pump, Stale, Indexes, Stats, Line, Do, Event, Keeping, Change, after, changes_of, course_of, is_taken, made, one_field, pump_at, pump_for, change_of_slots, rewrote, run, same_machine, single_reply, step, takes_after, use_or_make, with_world, write, wrote}
+use Rattle.spec_server.specs.Machine.{Machine, Request, Put as PutOne, Delete as DeleteOne, Bulk, Get, Define, Remove, Auto, Find, Ask, Pump, Stale, Indexes, Stats, Line, Do, Event, Keeping, Change, after, changes_of, course_of, is_taken, made, one_field, pump_at, pump_for, change_of_slots, rewrote, run, same_machine, single_reply, step, takes_after, use_or_make, with_world, write, wrote}
 use Rattle.spec_server.specs.Script.{Given, after_lines, events_of}
 use Rattle.raven_laws.proofs.ScriptLemmas.{lines-run}
 use Rattle.raven_laws.specs.Keeping.{AreTheirRows, kept_after_all, rows_made, stored_after}
@@ -101,6 +101,7 @@ course-rows W now (Define name d) = reslotted-rows W now replies.Index name (def
 course-rows W now (Remove name) = reslotted-rows W now replies.Removed name (remove W name)
 course-rows W now (Auto collection field) = auto-rows W now (pick (one_field collection field) W.store W.slots)
 course-rows W now (Find index field ws) = tt
+course-rows W now (Ask ask) = tt
 course-rows W now (Pump max index) = pump_for-rows W max index
 course-rows W now (Stale name cutoff) = tt
 course-rows W now Indexes = tt

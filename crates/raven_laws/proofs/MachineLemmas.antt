@@ -10,7 +10,7 @@ use Rattle.spec_index.specs.Optimiser.{Choice, Use, Make, Merge, pick, name_of}
 use Rattle.spec_store.specs.Commit.{Command, Put, Delete, Writer, Client, Server, Setting, Refused, Written, refusal_of, row_of, with_written, or_refused, commit_from, commit}
 use Rattle.spec_server.specs.Replies as replies
 use Rattle.spec_index.specs.World.{Slot, Version, World, reads, advanced, batch, serving, SlotChange, SlotRefusal, define, define_named, is_automatic, is_named, remove}
-use Rattle.spec_server.specs.Machine.{Machine, Request, Put as PutOne, Delete as DeleteOne, Bulk, Get, Define, Remove, Auto, Find, Pump, Stale, Indexes, Stats, Event, Held, Keeping, Line, Do, IsFromClient, AreFromClients, Change, Course, is_taken, takes_after, with_world, same_machine, made, settled, single_reply, wrote, write, rewrote, change_of_slots, use_or_make, one_field, or_as_before, after_batch, after_batch_if_named, with_slots, pump, pump_at, pump_for, course_of, changes_of, step, start, after, run}
+use Rattle.spec_server.specs.Machine.{Machine, Request, Put as PutOne, Delete as DeleteOne, Bulk, Get, Define, Remove, Auto, Find, Ask, Pump, Stale, Indexes, Stats, Event, Held, Keeping, Line, Do, IsFromClient, AreFromClients, Change, Course, is_taken, takes_after, with_world, same_machine, made, settled, single_reply, wrote, write, rewrote, change_of_slots, use_or_make, one_field, or_as_before, after_batch, after_batch_if_named, with_slots, pump, pump_at, pump_for, course_of, changes_of, step, start, after, run}
 use Rattle.spec_server.specs.Sound.{Has, NumbersRise, NamesApart, AreListed, Sound, IsHeld, IsMachine, LaterW}
 use Rattle.spec_store.proofs.LaterLemmas.{Later-itself, IsStore-with, last-with}
 use Rattle.spec_store.proofs.CommitLemmas.{row_of-follows, commit-Commits}
@@ -248,6 +248,7 @@ course-Moves W now (Define name d) from o = reslotted-Moves now W replies.Index 
 course-Moves W now (Remove name) from o = reslotted-Moves now W replies.Removed name (remove W name) o (remove-Settles W name)
 course-Moves W now (Auto collection field) from o = auto-Moves now W (pick (one_field collection field) W.store W.slots) o
 course-Moves W now (Find index field ws) from o = tt
+course-Moves W now (Ask ask) from o = tt
 course-Moves W now (Pump max index) from o = pump_for-Moves W max index o
 course-Moves W now (Stale name cutoff) from o = tt
 course-Moves W now Indexes from o = tt

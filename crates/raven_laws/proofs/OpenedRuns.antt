@@ -5,11 +5,13 @@ use Rattle.spec_store.specs.Commit.{Setting}
 use Rattle.spec_server.specs.Machine.{Machine, Event, AreFromClients, run}
 use Rattle.spec_server.specs.Script.{Given, after_lines, events_of}
 use Rattle.spec_server.specs.Sound.{IsMachine, Sound, LaterW}
-use Rattle.raven_laws.specs.Claims.{FreshIsFromScratch, FreshIsExact, FlagsAreExact, IdsAreSpelledAsStored}
+use Rattle.raven_laws.specs.Claims.{FreshIsFromScratch, FreshIsExact, IdsAreSpelledAsStored}
+use Rattle.raven_laws.specs.Flags.{FlagsAreExact}
 use Rattle.raven_laws.specs.Opened.{OpenedFaithfully}
 use Rattle.raven_laws.proofs.MachineLemmas.{clients-append, run-Steps, run-append}
 use Rattle.raven_laws.proofs.MatchLemmas.{Sound-exact}
-use Rattle.raven_laws.proofs.AnswerLemmas.{Sound-fresh, Sound-flags, Sound-ids}
+use Rattle.raven_laws.proofs.AnswerLemmas.{Sound-fresh, Sound-ids}
+use Rattle.raven_laws.proofs.FlagLemmas.{Sound-flags}
 use Rattle.raven_laws.proofs.ScriptLemmas.{lines-run, lines-append, lines-clients}
 use Rattle.raven_laws.proofs.OpenLemmas.{opened_from-IsMachine}
 

@@ -6,10 +6,12 @@ use Rattle.spec_store.specs.Commit.{Setting}
 use Rattle.spec_server.specs.Machine.{Machine, Event, AreFromClients, start, run}
 use Rattle.spec_server.specs.Sound.{IsMachine, Sound, LaterW}
 use Rattle.spec_server.specs.Script.{LineRead, Circumstance, Given, event_of, left_by, after_line, after_lines, events_of}
-use Rattle.raven_laws.specs.Claims.{FreshIsFromScratch, FreshIsExact, FlagsAreExact, IdsAreSpelledAsStored}
+use Rattle.raven_laws.specs.Claims.{FreshIsFromScratch, FreshIsExact, IdsAreSpelledAsStored}
+use Rattle.raven_laws.specs.Flags.{FlagsAreExact}
 use Rattle.raven_laws.proofs.MachineLemmas.{clients-append, run-IsMachine, run-Steps}
 use Rattle.raven_laws.proofs.MatchLemmas.{Sound-exact}
-use Rattle.raven_laws.proofs.AnswerLemmas.{Sound-fresh, Sound-flags, Sound-ids}
+use Rattle.raven_laws.proofs.AnswerLemmas.{Sound-fresh, Sound-ids}
+use Rattle.raven_laws.proofs.FlagLemmas.{Sound-flags}
 
 -- a line makes one event or none
 one_line : (c : Circumstance) (r : LineRead) (events : List Event) (M : Machine) → run (cons_option (event_of c r) events) M ≡ run events (left_by M c r)

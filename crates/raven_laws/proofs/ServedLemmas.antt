@@ -9,7 +9,7 @@ use Rattle.spec_index.specs.Optimiser.{Choice, Make, Merge, Use, name_of, pick}
 use Rattle.spec_index.specs.World.{Slot, SlotChange, SlotRefusal, World, added, added_if_room, batch, define, define_at, define_named, is_named, name_refusal, removed, serving, unless_refused}
 use Rattle.spec_server.specs.Replies.{Reply, Result as Done}
 use Rattle.spec_server.specs.Replies as replies
-use Rattle.spec_server.specs.Machine.{Auto, Bulk, Course, Define, Delete, Do, Find, Get, Indexes, Keeping, Line, Machine, Pump, Put, Remove, Stale, Stats, after_batch, after_batch_if_named, change_of_slots, course_of, in_world, is_taken, one_field, or_as_before, pump_at, pump_for, rewrote, same_machine, settled, single_reply, use_or_make, with_slots, with_world, write, wrote}
+use Rattle.spec_server.specs.Machine.{Ask, Auto, Bulk, Course, Define, Delete, Do, Find, Get, Indexes, Keeping, Line, Machine, Pump, Put, Remove, Stale, Stats, after_batch, after_batch_if_named, change_of_slots, course_of, in_world, is_taken, one_field, or_as_before, pump_at, pump_for, rewrote, same_machine, settled, single_reply, use_or_make, with_slots, with_world, write, wrote}
 use Rattle.spec_server.specs.Sound.{Continues, Has, Sound}
 use Rattle.spec_store.proofs.StoreLemmas.{same_means}
 use Rattle.raven_laws.specs.Served.{ServedStays, StaysOrIsRemoved, StillServes}
@@ -207,6 +207,7 @@ step-served M k now (Do (Remove given)) o name s h = remove-answered M k now giv
 step-served M k now (Do (Auto collection field)) o name s h =
     inl (settled-Stays M k (course_of M.world now (Auto collection field)) (auto-Stays M.world now (pick (one_field collection field) M.world.store M.world.slots)) name s h)
 step-served M k now (Do (Find index field ws)) o name s h = inl (itself M.world name s h)
+step-served M k now (Do (Ask ask)) o name s h = inl (itself M.world name s h)
 step-served M k now (Do (Pump max index)) o name s h = inl (settled-Stays M k (pump_for M.world max index) (pump_for-Stays M.world max index o) name s h)
 step-served M k now (Do (Stale index cutoff)) o name s h = inl (itself M.world name s h)
 step-served M k now (Do Indexes) o name s h = inl (itself M.world name s h)

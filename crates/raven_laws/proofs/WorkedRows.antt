@@ -10,9 +10,11 @@ use Rattle.index_tree.specs.Definitions.{Definition}
 use Rattle.index_tree.specs.Trees.{Dot, Var}
 use Rattle.index_tree.specs.Mapper.{Mapper, mapper_of, is_mapped}
 use Rattle.spec_index.specs.Mapping.{entry_of}
+use Rattle.spec_query.specs.Binding.{NoParameter, BadPage}
+use Rattle.spec_query.specs.Refusals as query
 use Rattle.spec_store.specs.Commit.{Command, AnyVector, Vector}
 use Rattle.spec_index.specs.World.{definition_data}
-use Rattle.spec_server.specs.Replies.{Result as Done, Reply, Index, Indexes, Removed, ReservedName, NameTooLong, Pumped, Pumping, Found, NoIndex, UnknownLine, Stale, Stats, Document, NoDocument, Deleted, CollectionChanged, ReservedId, Conflict, TooLong, KeeperFault, printed}
+use Rattle.spec_server.specs.Replies.{Result as Done, Reply, Index, Indexes, Removed, ReservedName, NameTooLong, Pumped, Pumping, Found, Answer, BadQuery, BadPlan, NoIndex, UnknownLine, Stale, Stats, Document, NoDocument, Deleted, CollectionChanged, ReservedId, Conflict, TooLong, KeeperFault, printed}
 use Rattle.spec_server.specs.Machine.{Machine, Request, Do, Put, Delete, Bulk, Get, Define, Remove, Auto, Find, Pump, Stale as AskStale, Stats as AskStats, start, step, takes_all}
 use Rattle.spec_index.specs.Find.{found}
 use Rattle.spec_store.specs.Limits.{program}
@@ -141,7 +143,7 @@ one_batch = refl
 
 -- QUERIES, over the entries of a list of rows
 
-abbrev users_by_name : Mapper
+abbrev pub users_by_name : Mapper
 users_by_name = mapper_of (Definition.Auto (codes "Users") ((codes "Name" ∷ []) ∷ []))
 
 abbrev pub found_among : List Row → List (List ℕ)
@@ -205,6 +207,21 @@ no_index_text = refl
 conflict_text : printed (Conflict 1 (codes "A:9") []) ≡ codes "{\"At\":1,\"Error\":\"Conflict\",\"Expected\":\"A:9\",\"Found\":\"\"}\n"
 unfolding digits
 conflict_text = refl
+
+answer_text : printed (Answer (record { includes = (codes "a", object no_entries) ∷ []; index_etag = 2; index_name = codes "N"; is_stale = false; results = text (codes "x") ∷ []; total = 3 }))
+    ≡ codes "{\"Includes\":{\"a\":{}},\"IndexEtag\":2,\"IndexName\":\"N\",\"IsStale\":false,\"Results\":[\"x\"],\"TotalResults\":3}\n"
+unfolding digits
+answer_text = refl
+
+bad_query_text : printed (BadQuery (record { at = 5; kind = query.Unexpected })) ≡ codes "{\"At\":5,\"Error\":\"Unexpected\"}\n"
+unfolding digits
+bad_query_text = refl
+
+no_parameter_text : printed (BadPlan (NoParameter (codes "p"))) ≡ codes "{\"Error\":\"NoParameter\",\"Name\":\"p\"}\n"
+no_parameter_text = refl
+
+bad_page_text : printed (BadPlan BadPage) ≡ codes "{\"Error\":\"BadPage\"}\n"
+bad_page_text = refl
 
 too_long_text : printed (TooLong 513) ≡ codes "{\"Error\":\"TooLong\",\"Len\":513}\n"
 unfolding digits

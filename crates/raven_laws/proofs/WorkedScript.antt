@@ -1,5 +1,5 @@
 -- Examples on bytes: lines, what they ask, and a whole script with all that is written for it.
-use Rattle.std.proofs.Common.{◌≡◌, ℕ, zero, suc, List, [], ◌∷◌, ◌++◌, true, false, if◌then◌else◌, nat_lt, length, Some, None, Result, Ok, Err, map, refl, ap, ◌∙◌, codes, arith}
+use Rattle.std.proofs.Common.{◌≡◌, ℕ, zero, suc, pos, negsuc, List, [], ◌∷◌, ◌++◌, Bool, true, false, if◌then◌else◌, nat_lt, length, Some, None, Result, Ok, Err, map, refl, ap, ◌∙◌, codes, arith}
 use Rattle.std.specs.List.{list_all}
 use Rattle.std.specs.Fmt.{digits}
 use Rattle.std.specs.Str.{is_utf8, IsAscii}
@@ -9,7 +9,8 @@ use Rattle.json.specs.Json.{value}
 use Rattle.json.specs.Lex.{punctuate, lex}
 use Rattle.json.specs.Text.{content}
 use Rattle.serde_json.specs.Read as json
-use Rattle.spec_data.specs.Data.{Data}
+use Rattle.spec_data.specs.Data.{Data, entries_of}
+use Rattle.spec_data.specs.Data as datum
 use Rattle.spec_data.specs.Faults.{control}
 use Rattle.spec_data.specs.Json.{JsonRefusal, not_json, too_deep, reading, whole}
 use Rattle.spec_data.specs.Scan.{is_too_deep, outside}
@@ -17,7 +18,7 @@ use Rattle.spec_store.specs.Commit.{AnyVector, Vector}
 use Rattle.spec_server.specs.Replies.{Found, printed}
 use Rattle.spec_server.specs.Machine.{Machine, Request, Do, Delete, Get, Remove, Auto, Find, Pump, Stale, Indexes, Stats, start, takes_all}
 use Rattle.spec_server.specs.Lines.{lines}
-use Rattle.spec_server.specs.Script.{ReadRefusal, UnknownLine, BadJson, BadId, BadName, BadMember, Given, then_read, put_read, json_read, request_of, line_of, LineRead, Plain, Defining, texts_of_body, index_of, asked_to_define, asked_of, written_for, left_by, reply_to, after_line, replies_to}
+use Rattle.spec_server.specs.Script.{ReadRefusal, UnknownLine, BadJson, BadId, BadName, BadMember, Given, then_read, put_read, json_read, request_of, line_of, LineRead, Asked, Plain, Defining, Querying, texts_of_body, index_of, plain_asking, asking_of, asking_of_body, asked_to_define, asked_to_query, asked_with, asked_of, written_for, left_by, reply_to, after_line, replies_to}
 use Rattle.spec_store.specs.Limits.{program}
 use Rattle.spec_store.proofs.StoreLemmas.{both_true}
 use Rattle.spec_store.proofs.KeyedLemmas.{values-table_of}
@@ -221,6 +222,59 @@ index_of_no_name = defining_by (codes "INDEX " ++ no_name) no_name (json_of no_n
 index_nothing : asked_of (codes "INDEX ") ≡ Plain (line_of (codes "INDEX "))
 index_nothing = refl
 
+-- A QUERY
+
+asked_as : (line word rest : List ℕ) → list_all (λ b. nat_lt b 128) line ≡ true → (if is_utf8 line then asked_with line word rest else Plain (line_of line)) ≡ asked_with line word rest
+asked_as line word rest h = ap (λ u. if u then asked_with line word rest else Plain (line_of line)) (ascii line h)
+
+query_line : asked_of (codes "QUERY from Users ") ≡ Querying (codes "from Users ") plain_asking
+query_line = asked_as (codes "QUERY from Users ") (codes "QUERY") (codes "from Users ") refl
+
+query_nothing : asked_of (codes "QUERY ") ≡ Plain (line_of (codes "QUERY "))
+query_nothing = refl
+
+asked_in : (line rest : List ℕ) (value : Result Data JsonRefusal) → list_all (λ b. nat_lt b 128) line ≡ true → reading rest ≡ value
+    → (if is_utf8 line then asked_to_query (asking_of rest) else Plain (line_of line)) ≡ asked_to_query (then_read (json_read value) asking_of_body)
+asked_in line rest value h e = ap (λ u. if u then asked_to_query (asking_of rest) else Plain (line_of line)) (ascii line h) ∙ ap (λ v. asked_to_query (then_read (json_read v) asking_of_body)) e
+
+abbrev only_query : List ℕ
+only_query = codes "{\"Query\":\"from Users\"}"
+
+-- with nothing beside its text it is the same as by QUERY
+ask_line : asked_of (codes "ASK " ++ only_query) ≡ Querying (codes "from Users") plain_asking
+unfolding value punctuate lex content
+ask_line = asked_in (codes "ASK " ++ only_query) only_query (json_of only_query) refl (read_as only_query refl refl)
+
+abbrev no_query : List ℕ
+no_query = codes "{\"Looks\":\"\"}"
+
+-- a missing text is reported before any other member
+ask_no_query : asked_of (codes "ASK " ++ no_query) ≡ Plain (Err (BadMember (codes "Query")))
+unfolding value punctuate lex content
+ask_no_query = asked_in (codes "ASK " ++ no_query) no_query (json_of no_query) refl (read_as no_query refl refl)
+
+-- the members beside the text
+abbrev asked_with_looks : ℕ → Data
+asked_with_looks looks = datum.object (entries_of (
+    (codes "CutoffEtag", datum.num (pos 3))
+    ∷ (codes "Looks", datum.num (pos looks))
+    ∷ (codes "PageSize", datum.num (pos 2))
+    ∷ (codes "Query", datum.text (codes "q"))
+    ∷ (codes "QueryParameters", datum.object (entries_of ((codes "p", datum.null) ∷ [])))
+    ∷ (codes "Start", datum.num (negsuc 0))
+    ∷ (codes "WaitForNonStaleResults", datum.flag true)
+    ∷ []))
+
+ask_members : asking_of_body (asked_with_looks 64)
+    ≡ Ok (codes "q", record { parameters = (codes "p", datum.null) ∷ []; start = negsuc 0; size = Some (pos 2); cutoff = Some 3; waits = true; looks = 64 })
+ask_members = refl
+
+ask_looks : asking_of_body (asked_with_looks 65) ≡ Err (BadMember (codes "Looks"))
+ask_looks = refl
+
+ask_no_looks : asking_of_body (asked_with_looks 0) ≡ Err (BadMember (codes "Looks"))
+ask_no_looks = refl
+
 -- A WHOLE SCRIPT, from its bytes to what is written for it
 
 -- a line at moment 0, with a keeper that takes all
@@ -244,9 +298,25 @@ first_asked : map line_of (lines first_script)
     ∷ Ok (Some (Do (Pump 64 None))) ∷ Ok (Some (Do (Find (codes "Auto/Users/ByName") (codes "Name") (codes "ada")))) ∷ []
 first_asked = λ i. told_by (codes "PUT users/1 " ++ ada_text) _ refl refl put_line i ∷ told_by (codes "AUTO Users Name") _ refl refl auto_line i ∷ Ok None ∷ told_by (codes "PUMP 64") _ refl refl pump_line i ∷ told_by (codes "FIND Auto/Users/ByName Name ada") _ refl refl find_line i ∷ []
 
--- none of them has a text of a definition
+abbrev put_ada : List ℕ
+put_ada = codes "PUT users/1 " ++ ada_text
+
+abbrev find_ada : List ℕ
+find_ada = codes "FIND Auto/Users/ByName Name ada"
+
+either_way : (b : Bool) (asked : Asked) → (if b then asked else asked) ≡ asked
+either_way true asked = refl
+either_way false asked = refl
+
+-- none of them has the text of a definition or of a query
 first_plain : map asked_of (lines first_script) ≡ map (λ line. Plain (line_of line)) (lines first_script)
-first_plain = refl
+first_plain = λ i.
+    either_way (is_utf8 put_ada) (Plain (line_of put_ada)) i
+    ∷ either_way (is_utf8 (codes "AUTO Users Name")) (Plain (line_of (codes "AUTO Users Name"))) i
+    ∷ Plain (line_of [])
+    ∷ either_way (is_utf8 (codes "PUMP 64")) (Plain (line_of (codes "PUMP 64"))) i
+    ∷ either_way (is_utf8 find_ada) (Plain (line_of find_ada)) i
+    ∷ []
 
 -- the first three replies, and then the rest
 abbrev first_replies : List ℕ → List ℕ

@@ -12,7 +12,7 @@ use Rattle.spec_server.specs.Replies.{Reply, Result as Done}
 use Rattle.spec_server.specs.Replies as replies
 use Rattle.spec_index.specs.World.{Slot, World, SlotChange, SlotRefusal, added, added_if_room, define, define_at, define_named, name_refusal, remove, removed, serving, unless_refused}
 use Rattle.spec_index.specs.Optimiser.{Choice, Use, Make, Merge, name_of, pick}
-use Rattle.spec_server.specs.Machine.{Machine, Course, Event, Keeping, Replied, Line, Do, Put, Delete, Bulk, Get, Define, Remove, Auto, Find, Pump, Stale, Indexes, Stats, after, commands_on, course_of, in_world, is_first_taken, is_taken, one_change, one_field, pump_at, change_of_slots, rewrote, run, same_machine, settled, single_reply, start, step, use_or_make, with_world, write, wrote, results_of}
+use Rattle.spec_server.specs.Machine.{Machine, Course, Event, Keeping, Replied, Line, Do, Put, Delete, Bulk, Get, Define, Remove, Auto, Find, Ask, Pump, Stale, Indexes, Stats, after, commands_on, course_of, in_world, is_first_taken, is_taken, one_change, one_field, pump_at, change_of_slots, rewrote, run, same_machine, settled, single_reply, start, step, use_or_make, with_world, write, wrote, results_of}
 use Rattle.raven_laws.specs.Writes.{row_given, AreWritten, BulkIsAnswered, DeleteIsAnswered, IsCommanded, IsDeleted, IsNotThere, IsPut, IsRefused, IsKeeperFault, IsWritten, OnlyReads, PutIsAnswered}
 use Rattle.spec_store.proofs.StoreLemmas.{found_key, row_at-put, same_itself, same_row}
 use Rattle.spec_store.proofs.CommitLemmas.{document_found, put_key}
@@ -177,6 +177,7 @@ reads-change-nothing M k now (Do (Define name d)) h = absurd h
 reads-change-nothing M k now (Do (Remove name)) h = absurd h
 reads-change-nothing M k now (Do (Auto collection field)) h = absurd h
 reads-change-nothing M k now (Do (Find index field ws)) h = refl
+reads-change-nothing M k now (Do (Ask ask)) h = refl
 reads-change-nothing M k now (Do (Pump max index)) h = absurd h
 reads-change-nothing M k now (Do (Stale name cutoff)) h = refl
 reads-change-nothing M k now (Do Indexes) h = refl
@@ -356,6 +357,7 @@ step-given M k now (Do (Remove name)) more q x h not_index =
 step-given M k now (Do (Auto collection field)) more q x h not_index =
     inl (settled-Stays M k (course_of M.world now (Auto collection field)) (auto-Stays now M.world (pick (one_field collection field) M.world.store M.world.slots)) q x h not_index)
 step-given M k now (Do (Find index field ws)) more q x h not_index = inl h
+step-given M k now (Do (Ask ask)) more q x h not_index = inl h
 step-given M k now (Do (Pump max index)) more q x h not_index = inl (subst (λ (S : Store). row_at q S.rows ≡ Some x) (batches-change-no-row M k now max index) h)
 step-given M k now (Do (Stale name cutoff)) more q x h not_index = inl h
 step-given M k now (Do Indexes) more q x h not_index = inl h

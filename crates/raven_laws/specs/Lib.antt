@@ -1,3 +1,5 @@
+pub mod Queries
+pub mod Flags
 pub mod Claims
 pub mod Writes
 pub mod Definitions

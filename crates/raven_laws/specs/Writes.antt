@@ -6,7 +6,7 @@ use Rattle.spec_data.specs.Rows.{Row, doc}
 use Rattle.spec_store.specs.Store.{Store, row_at, last}
 use Rattle.spec_store.specs.Commit.{Command, Expect, Client, Refused, Written, after_commands, collection_of, commit, document_at, etags_taken, refusal_of, row_of, stored_body, tombstone, vector_of}
 use Rattle.spec_server.specs.Replies.{Reply}
-use Rattle.spec_server.specs.Machine.{Machine, Event, Keeping, Replied, Line, Do, Put, Delete, Bulk, Get, Find, Stale, Indexes, Stats, after, commands_on, is_first_taken, is_taken, results_of, run, same_machine, spelling, step, write_refused}
+use Rattle.spec_server.specs.Machine.{Machine, Event, Keeping, Replied, Line, Do, Put, Delete, Bulk, Get, Find, Ask, Stale, Indexes, Stats, after, commands_on, is_first_taken, is_taken, results_of, run, same_machine, spelling, step, write_refused}
 
 -- the row that a Put writes: the stored body under the next etag
 abbrev pub row_given : Store → ℕ → List ℕ → Data → Row
@@ -102,6 +102,7 @@ pub record IsWritten (M : Machine) (events : List Event) (r : Row) : Type 0 wher
 abbrev pub OnlyReads : Line → Type 0
 OnlyReads (Do (Get id)) = Unit {0}
 OnlyReads (Do (Find index field words)) = Unit {0}
+OnlyReads (Do (Ask ask)) = Unit {0}
 OnlyReads (Do (Stale name cutoff)) = Unit {0}
 OnlyReads (Do Indexes) = Unit {0}
 OnlyReads (Do Stats) = Unit {0}

@@ -10,7 +10,8 @@ ghost use Rattle.spec_server.specs.Script.{Given, after_lines, events_of};
 ghost use Rattle.spec_server.specs.Sound.{Has, IsMachine, LaterW, Sound};
 ghost use Rattle.spec_store.specs.Store.{row_at};
 ghost use Rattle.spec_index.specs.World.{Slot, World, new_version};
-ghost use Rattle.raven_laws.specs.Claims.{FlagsAreExact, FreshIsExact, FreshIsFromScratch, IdsAreSpelledAsStored};
+ghost use Rattle.raven_laws.specs.Claims.{FreshIsExact, FreshIsFromScratch, IdsAreSpelledAsStored};
+ghost use Rattle.raven_laws.specs.Flags.{FlagsAreExact};
 ghost use Rattle.raven_laws.specs.Opened.{OpenedFaithfully};
 ghost use Rattle.raven_laws.specs.Writes.{IsWritten};
 

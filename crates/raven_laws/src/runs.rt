@@ -12,7 +12,8 @@ ghost use Rattle.spec_server.specs.Machine.{AreFromClients, Do, Event, Held, Kee
 ghost use Rattle.spec_server.specs.Sound.{Has, IsHeld, IsMachine, LaterW, NumbersRise, Sound};
 ghost use Rattle.raven_laws.specs.Choices.{IsChosen, IsFirstFree};
 ghost use Rattle.raven_laws.specs.Served.{ServedStays};
-ghost use Rattle.raven_laws.specs.Claims.{FlagsAreExact, FreshIsExact, FreshIsFromScratch, IdsAreSpelledAsStored, IsSpelledAsStored};
+ghost use Rattle.raven_laws.specs.Claims.{FreshIsExact, FreshIsFromScratch, IdsAreSpelledAsStored, IsSpelledAsStored};
+ghost use Rattle.raven_laws.specs.Flags.{FlagsAreExact};
 
 /// Each index has recorded what the store has up to its etag, has its row among the indexes' rows, shares its number and its name with no
 /// other, and is automatic exactly if its name begins with `auto/`. No limit is passed. Each batch that a worker holds may be published.
@@ -45,17 +46,19 @@ pub fn every_index_serves_its_name()
         let W = (run events (start setting)).world in Has W.slots s → serving W.slots s.name ≡ Some s }
 {}
 
-/// An answer that is not stale is what mapping all documents of the store from scratch gives.
+/// What an index that is not stale answers, to a FIND or to a query, is what mapping all documents of the store from scratch gives.
 pub fn fresh_answers_are_from_scratch()
     ensures { (setting : Setting) (events : List Event) → AreFromClients events → FreshIsFromScratch (run events (start setting)) }
 {}
 
-/// An answer that is not stale has exactly the ids of the documents that the store has, that the index maps, and whose field is the text.
+/// A FIND of an index that is not stale has exactly the ids of the documents that the store has, that the index maps, and whose field is the
+/// text. A query that asks for all has exactly the documents that the index maps and that meet its condition, or those of a whole collection.
 pub fn fresh_answers_are_exact()
     ensures { (setting : Setting) (events : List Event) → AreFromClients events → FreshIsExact (run events (start setting)) }
 {}
 
-/// Each flag in a reply, of a query, of a question about staleness or in the list of all indexes, is exact, up to the cutoff that was asked.
+/// Each flag in a reply, of a FIND, of a query, of a question about staleness or in the list of all indexes, is exact, up to the cutoff that was
+/// asked.
 pub fn flags_are_exact()
     ensures { (setting : Setting) (events : List Event) → AreFromClients events → FlagsAreExact (run events (start setting)) }
 {}

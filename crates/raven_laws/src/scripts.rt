@@ -6,7 +6,8 @@ ghost use Rattle.spec_server.specs.Machine.{AreFromClients, Machine, run, start}
 ghost use Rattle.spec_server.specs.Script.{Given, after_lines, events_of, number_of, argument_and_rest};
 ghost use Rattle.spec_server.specs.Sound.{LaterW, Sound};
 ghost use Rattle.raven_laws.specs.Words.{IsNumber, IsSplit};
-ghost use Rattle.raven_laws.specs.Claims.{FlagsAreExact, FreshIsExact, FreshIsFromScratch, IdsAreSpelledAsStored};
+ghost use Rattle.raven_laws.specs.Claims.{FreshIsExact, FreshIsFromScratch, IdsAreSpelledAsStored};
+ghost use Rattle.raven_laws.specs.Flags.{FlagsAreExact};
 
 /// The state after lines is that of the run of the events that they make.
 pub fn scripts_are_runs()

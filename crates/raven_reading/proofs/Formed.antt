@@ -5,9 +5,9 @@ use Rattle.spec_data.specs.Data.{Data, object, depth}
 use Rattle.spec_store.specs.Commit.{Command}
 use Rattle.index_tree.specs.Definitions.{Definition}
 use Rattle.spec_index.specs.World.{is_automatic}
-use Rattle.spec_server.specs.Machine.{Line, Do, Put, Delete, Bulk, Get, Define, Remove, Auto, Find, Pump, Stale, Indexes, Stats}
+use Rattle.spec_server.specs.Machine.{Line, Do, Put, Delete, Bulk, Get, Define, Remove, Auto, Find, Ask, Pump, Stale, Indexes, Stats}
 use Rattle.spec_server.specs.WellFormed.{IsWellFormed, is_body, put_bodies}
-use Rattle.index_lang.specs.Lines.{IsLine}
+use Rattle.raven_lines.specs.Lines.{IsLine}
 use Rattle.raven_reading.specs.Requests.{AreCommands, IsByText, IsRequestBody, IsValidLine}
 use Rattle.raven_reading.proofs.LineLemmas.{line-asked}
 
@@ -34,6 +34,7 @@ valid-formed (Do (Define name d)) valid = text-formed name d valid.indexing
 valid-formed (Do (Remove name)) valid = tt
 valid-formed (Do (Auto collection field)) valid = let is = valid.indexing in is.1.1
 valid-formed (Do (Find index field ws)) valid = tt
+valid-formed (Do (Ask ask)) valid = tt
 valid-formed (Do (Pump max index)) valid = tt
 valid-formed (Do (Stale name cutoff)) valid = tt
 valid-formed (Do Indexes) valid = tt

@@ -1,5 +1,6 @@
 pub mod Once
 pub mod TextLemmas
+pub mod ByKind
 pub mod Clients
 pub mod Utf8Lemmas
 pub mod LexLemmas

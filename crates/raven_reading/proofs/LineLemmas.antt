@@ -13,13 +13,16 @@ use Rattle.spec_data.specs.Sound.{AreSound}
 use Rattle.spec_store.specs.Commit.{Command, Expect, AnyVector, Vector}
 use Rattle.index_tree.specs.Language.{LangRefusal}
 use Rattle.index_tree.specs.Definitions.{Definition, Texts}
+use Rattle.spec_query.specs.Query.{Query}
+use Rattle.spec_query.specs.Refusals.{QueryRefusal}
 use Rattle.spec_server.specs.Machine.{Do, Request, Put, Delete, Bulk, Get, Remove, Auto, Find, Pump, Stale, Indexes, Stats}
 use Rattle.spec_server.specs.Opening.{is_part}
-use Rattle.spec_server.specs.Script.{LineRead, ReadRefusal, Plain, asked_by, asked_to_define, defined_by, index_of, map_member, name_member, reduce_member, texts_in, texts_of_body, unless_name_fault, UnknownLine, BadMember, then_read, before_space, after_space, both_parts, argument_and_rest, has_byte, unless_fault, id_read, json_read, object_read, put_read, delete_read, id_member, vector_member, put_command, delete_command, typed_command, command_read, commands_read, list_member, commands_of, bulk_read, or_unknown, parts_read, put_of, put_if_of, delete_if_of, get_of, is_collection, is_field, auto_of, drop_of, max_read, pump_of, pump_read, name_read, find_of, stale_of, by_command, request_of, line_of}
+use Rattle.spec_server.specs.Script.{Asking, LineRead, ReadRefusal, asked_by_text, defined_by, index_of, map_member, name_member, reduce_member, texts_in, texts_of_body, unless_name_fault, UnknownLine, BadMember, then_read, before_space, after_space, both_parts, argument_and_rest, has_byte, unless_fault, id_read, json_read, object_read, put_read, delete_read, id_member, vector_member, put_command, delete_command, typed_command, command_read, commands_read, list_member, commands_of, bulk_read, or_unknown, parts_read, put_of, put_if_of, delete_if_of, get_of, is_collection, is_field, auto_of, drop_of, max_read, pump_of, pump_read, name_read, find_of, stale_of, by_command, request_of, line_of}
 use Rattle.spec_store.proofs.StoreLemmas.{both_true, either_false}
 use Rattle.raven_reading.specs.Requests.{IsRequestBody, IsCommand, AreCommands, IsValidLine, IsValidRequest}
-use Rattle.index_lang.specs.Lines.{Comes, IsLine}
+use Rattle.raven_lines.specs.Lines.{IsLine}
 use Rattle.index_lang.specs.Says.{Says}
+use Rattle.raven_reading.proofs.ByKind.{holds-by-kind}
 use Rattle.raven_reading.proofs.TextLemmas.{said-by}
 use Rattle.raven_reading.proofs.PairLemmas.{member-sound, member-depth}
 use Rattle.raven_reading.proofs.SoundLemmas.{AreFine, IsFine, reading-fine}
@@ -355,7 +358,7 @@ plain-asked (b ∷ bs) = elim (is_utf8 (b ∷ bs)) as (λ t. is_utf8 (b ∷ bs) 
   | false ↦ λ e. tt
 ] refl
 
--- LINES WITH ONE
+-- LINES WITH ONE, AND QUERIES
 
 -- the name and the texts that a line gives
 record AreTexts (given : List ℕ × Texts) : Type 0 where
@@ -447,18 +450,16 @@ defined-asked name texts (Err refusal) t says = tt
 defined-asked name texts (Ok d) t says =
     record { commands = tt; indexing = record { fit = t.fit; texts = texts; utf8 = t.utf8; reduce_utf8 = t.reduce_utf8; by_texts = said-by texts d says; says = says } }
 
-defining-asked : (r : Result (List ℕ × Texts) ReadRefusal) (read : LineRead) → ((given : List ℕ × Texts) → r ≡ Ok given → AreTexts given) → Comes (asked_to_define r) read → CanBeKept read
-defining-asked (Err refusal) read f is = subst CanBeKept (sym is) tt
-defining-asked (Ok given) read f is = subst CanBeKept (sym is.read) (defined-asked given.0 given.1 is.answer (f given refl) is.says)
-
-asked-by : (line : List ℕ) (parts : Option (List ℕ × List ℕ)) (read : LineRead) → Comes (asked_by line parts) read → CanBeKept read
-asked-by line None read is = subst CanBeKept (sym is) (plain-asked line)
-asked-by line (Some parts) read is =
-    elim (bytes_eq parts.0 (codes "INDEX") && is_utf8 line) as (λ b. Comes (cond b (asked_to_define (index_of parts.1)) (Plain (line_of line))) read → CanBeKept read) [
-      | true ↦ λ g. defining-asked (index_of parts.1) read (λ given e. index-texts parts.1 given e) g
-      | false ↦ λ g. subst CanBeKept (sym g) (plain-asked line)
-    ] is
+-- a query writes nothing
+queried-asked : (asking : Asking) (answer : Result Query QueryRefusal) → CanBeKept (asked_by_text asking answer)
+queried-asked asking (Err refusal) = tt
+queried-asked asking (Ok q) = record { commands = tt; indexing = tt }
 
 -- what a line asks to write can be stored
 pub line-asked : (line : List ℕ) (read : LineRead) → IsLine line read → CanBeKept read
-line-asked line read is = asked-by line (argument_and_rest line) read is
+line-asked line read is = holds-by-kind CanBeKept line (record {
+  plain = plain-asked line;
+  refused = λ refusal. tt;
+  defined = λ rest given answer e says. defined-asked given.0 given.1 answer (index-texts rest given e) says;
+  queried = queried-asked;
+}) read is

@@ -9,7 +9,9 @@ use Rattle.index_tree.specs.Language as is
 use Rattle.spec_server.specs.Machine.{Machine}
 use Rattle.index_tree.specs.Definitions.{Definition, Texts}
 use Rattle.spec_index.specs.World.{Slot}
-use Rattle.spec_server.specs.Script.{Asked, Plain, Defining, LineRead, asked_of, defined_by}
+use Rattle.spec_query.specs.Query.{Query}
+use Rattle.spec_query.specs.Refusals.{QueryRefusal}
+use Rattle.spec_server.specs.Script.{Asked, Plain, Defining, Querying, LineRead, asked_by_text, asked_of, defined_by}
 use Rattle.index_definition.specs.DefinitionView.{definition_view}
 use Rattle.index_definition.specs.declared.definition.Definition as program
 use Rattle.index_definition.specs.declared.refusal.LangRefusal.TheVariants.{At}
@@ -17,7 +19,11 @@ use Rattle.index_definition.specs.declared.refusal.LangRefusal.{LangRefusal}
 use Rattle.index_lang.specs.declared.reading.Trees.{Trees}
 use Rattle.index_lang.specs.Parse.{AreRead, IsParsed, causes, definition, first_cause, is_long, judged_if, lengths, unless}
 use Rattle.index_lang.proofs.Once.{parsed_once}
-use Rattle.index_lang.specs.Lines.{Comes, IsLine}
+use Rattle.raven_lines.specs.Lines.{Comes, IsLine}
+use Rattle.raven_lines.specs.SaysQuery.{SaysQuery, query_refusal}
+use Rattle.rql_parser.specs.declared.refusal.RqlRefusal.{RqlRefusal}
+use Rattle.rql_parser.specs.declared.refusal.RqlRefusal.TheVariants as rql
+use Rattle.rql_parser.proofs.Answering.{one_of}
 use Rattle.index_lang.specs.Openings.{AreReadRows, IsInBody, IsOfForm, IsOpened, IsOpenedBy, IsReadIf, Opens, without_refusal}
 use Rattle.index_definition.specs.RefusalView.{refusal_view}
 use Rattle.index_lang.specs.Says.{Says}
@@ -64,11 +70,27 @@ says_once texts (Err e) (Err f) x y =
     let kinds : x.kind ≡ y.kind = cc in
     ap Err (x.seen ∙ (λ i. refusal_view (parts i) (places i) (kinds i)) ∙ sym y.seen)
 
+-- QUERIES
+
+same_query : (a b : Query) → (let r : Result Query RqlRefusal = Ok a in r) ≡ Ok b → a ≡ b
+same_query a b h = cc
+
+pub query_once : (text : List ℕ) (a b : Result Query QueryRefusal) → SaysQuery text a → SaysQuery text b → a ≡ b
+query_once text (Ok p) (Ok q) x y = ap Ok (same_query p q (one_of text (Ok p) (Ok q) x y))
+query_once text (Ok p) (Err f) x y = absurd (let told = one_of text (Ok p) (Err (rql.At y.at y.kind)) x y.given in cc)
+query_once text (Err e) (Ok q) x y = absurd (let told = one_of text (Err (rql.At x.at x.kind)) (Ok q) x.given y in cc)
+query_once text (Err e) (Err f) x y =
+    let told = one_of text (Err (rql.At x.at x.kind)) (Err (rql.At y.at y.kind)) x.given y.given in
+    let places : x.at ≡ y.at = cc in
+    let kinds : x.kind ≡ y.kind = cc in
+    ap Err (x.seen ∙ (λ i. query_refusal (places i) (kinds i)) ∙ sym y.seen)
+
 -- LINES
 
 comes_once : (asked : Asked) (a b : LineRead) → Comes asked a → Comes asked b → a ≡ b
 comes_once (Plain told) a b x y = x ∙ sym y
 comes_once (Defining name texts) a b x y = x.read ∙ ap (defined_by name) (says_once texts x.answer y.answer x.says y.says) ∙ sym y.read
+comes_once (Querying text asking) a b x y = x.read ∙ ap (asked_by_text asking) (query_once text x.answer y.answer x.says y.says) ∙ sym y.read
 
 pub line_once : (line : List ℕ) (a b : LineRead) → IsLine line a → IsLine line b → a ≡ b
 line_once line a b x y = comes_once (asked_of line) a b x y

@@ -10,13 +10,21 @@ ghost use Rattle.spec_server.specs.Machine.{AreFromClients, Line, Machine};
 ghost use Rattle.index_tree.specs.Definitions.{Definition, Texts};
 ghost use Rattle.spec_server.specs.Script.{Given, LineRead, events_of};
 ghost use Rattle.spec_server.specs.WellFormed.{IsWellFormed};
-ghost use Rattle.index_lang.specs.Lines.{AreLines, IsLine};
+ghost use Rattle.spec_query.specs.Query.{Query};
+ghost use Rattle.spec_query.specs.Refusals.{QueryRefusal};
+ghost use Rattle.raven_lines.specs.Lines.{AreLines, IsLine};
+ghost use Rattle.raven_lines.specs.SaysQuery.{SaysQuery};
 ghost use Rattle.index_lang.specs.Openings.{IsOpened, Opens};
 ghost use Rattle.index_lang.specs.Says.{Says};
 
 /// The texts of a map and of a reduce, if there is one, say one definition, or are refused for one cause, and not both.
 pub fn texts_are_read_one_way()
     ensures { (texts : Texts) (a b : Result Definition LangRefusal) → Says texts a → Says texts b → a ≡ b }
+{}
+
+/// The text of a query says one query, or is refused for one cause, and not both.
+pub fn queries_are_read_one_way()
+    ensures { (text : List ℕ) (a b : Result Query QueryRefusal) → SaysQuery text a → SaysQuery text b → a ≡ b }
 {}
 
 /// A line is read as one thing.

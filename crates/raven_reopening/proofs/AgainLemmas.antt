@@ -10,7 +10,7 @@ use Rattle.spec_store.specs.Commit.{Command, AnyVector, Client, Server, Refused,
 use Rattle.spec_index.specs.Optimiser.{Shape, Make, Merge, best, chosen, covers, is_of, name_of, slot_shape}
 use Rattle.spec_server.specs.Replies as replies
 use Rattle.spec_index.specs.World.{Slot, World, is_automatic, index_id, row_body, serving, SlotRefusal, added, define_at, is_named, is_reserved_name, removed, unless_refused}
-use Rattle.spec_server.specs.Machine.{Machine, Request, Put as PutOne, Delete as DeleteOne, Bulk, Get, Define, Remove, Auto as AutoOne, Find, Pump, Stale, Indexes, Stats, Line, Do, IsFromClient, AreFromClients, Event, Keeping, Course, after, course_of, commands_in, pump_at, pump_for, change_of_slots, one_field, rewrote, run, settled, single_reply, step, use_or_make, write, wrote}
+use Rattle.spec_server.specs.Machine.{Machine, Request, Put as PutOne, Delete as DeleteOne, Bulk, Get, Define, Remove, Auto as AutoOne, Find, Ask, Pump, Stale, Indexes, Stats, Line, Do, IsFromClient, AreFromClients, Event, Keeping, Course, after, course_of, commands_in, pump_at, pump_for, change_of_slots, one_field, rewrote, run, settled, single_reply, step, use_or_make, write, wrote}
 use Rattle.spec_server.specs.Sound.{IsMachine, Sound}
 use Rattle.raven_laws.proofs.MachineLemmas.{AllLeave, settled-leaves, step-Steps}
 use Rattle.raven_laws.proofs.WorldLemmas.{taken_out}
@@ -142,6 +142,7 @@ course-Again W now (Define name d) fits index soon o a = defined-Again W now nam
 course-Again W now (Remove name) fits index soon o a = removed-Again W now name (serving W.slots name) soon o a
 course-Again W now (AutoOne c f) fits index soon o a = auto-Again W now c f (best W.store (filter (λ s. covers (slot_shape s) (one_field c f)) W.slots)) index soon o a
 course-Again W now (Find index field ws) fits indexing soon o a = tt
+course-Again W now (Ask ask) fits indexing soon o a = tt
 course-Again W now (Pump max index) fits indexing soon o a = pump_for-Again W max index a
 course-Again W now (Stale name cutoff) fits index soon o a = tt
 course-Again W now Indexes fits index soon o a = tt
@@ -166,6 +167,7 @@ valid-client (Do (Define name d)) valid = by_text-static name d valid.indexing
 valid-client (Do (Remove name)) valid = tt
 valid-client (Do (AutoOne c f)) valid = tt
 valid-client (Do (Find index field ws)) valid = tt
+valid-client (Do (Ask ask)) valid = tt
 valid-client (Do (Pump max index)) valid = tt
 valid-client (Do (Stale name cutoff)) valid = tt
 valid-client (Do Indexes) valid = tt

@@ -16,7 +16,7 @@ use Rattle.spec_server.specs.Sound.{Has, Sound}
 use Rattle.spec_store.specs.Store.{row_at}
 use Rattle.spec_index.specs.World.{Slot, new_version, index_id, row_body}
 use Rattle.spec_store.proofs.StoreLemmas.{both_true, found_key, same_row}
-use Rattle.raven_laws.proofs.MatchLemmas.{into-filter_map}
+use Rattle.raven_laws.proofs.EntryLemmas.{into-filter_map}
 use Rattle.raven_laws.proofs.AnswerLemmas.{Has-filter_map}
 use Rattle.raven_laws.proofs.OpenedRuns.{go-IsMachine, go-LaterW}
 use Rattle.raven_laws.proofs.OpenLemmas.{Has-found, opened_from-rows, opened_from-IsMachine}

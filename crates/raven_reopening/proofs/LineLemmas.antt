@@ -6,7 +6,7 @@ use Rattle.spec_data.specs.Moments.{moments_end}
 use Rattle.spec_store.specs.Commit.{Setting}
 use Rattle.spec_server.specs.Machine.{Event, Machine}
 use Rattle.spec_server.specs.Script.{Circumstance, Given, LineRead, after_lines, event_of, events_of}
-use Rattle.index_lang.specs.Lines.{AreLines}
+use Rattle.raven_lines.specs.Lines.{AreLines}
 use Rattle.index_lang.specs.Openings.{IsOpened}
 use Rattle.raven_laws.proofs.ScriptLemmas.{lines-run}
 use Rattle.raven_reading.proofs.LineLemmas.{CanBeKept, line-asked}

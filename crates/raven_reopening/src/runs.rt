@@ -6,7 +6,7 @@ ghost use Rattle.spec_store.specs.Commit.{Setting};
 ghost use Rattle.spec_server.specs.Machine.{Event, Machine, run};
 ghost use Rattle.spec_server.specs.Script.{Given, after_lines};
 ghost use Rattle.raven_laws.specs.Opened.{OpenedFaithfully};
-ghost use Rattle.index_lang.specs.Lines.{AreLines};
+ghost use Rattle.raven_lines.specs.Lines.{AreLines};
 ghost use Rattle.index_lang.specs.Openings.{IsOpened};
 ghost use Rattle.raven_reopening.specs.Form.{AreEvents, AreTimely};
 ghost use Rattle.raven_reopening.specs.Reopened.{OpensAgain};

@@ -1,4 +1,5 @@
-use Rattle.raven_laws.proofs.AnswerLemmas.{Sound-fresh, Sound-flags, Sound-ids}
+use Rattle.raven_laws.proofs.AnswerLemmas.{Sound-fresh, Sound-ids}
+use Rattle.raven_laws.proofs.FlagLemmas.{Sound-flags}
 use Rattle.raven_laws.proofs.MatchLemmas.{Sound-exact}
 use Rattle.raven_laws.proofs.opening.sound_states_answer_truly.Goals as goal
 

@@ -1,0 +1,66 @@
+-- What the laws say of queries and of their answers.
+use Rattle.std.specs.Prelude.{◌≡◌, ℕ, pos, List, [], false, Some, None, IsTrue}
+use Rattle.spec_data.specs.Data.{Data}
+use Rattle.spec_data.specs.Rows.{Row, doc, key}
+use Rattle.spec_store.specs.Store.{row_at}
+use Rattle.index_tree.specs.Definitions.{Definition}
+use Rattle.index_tree.specs.Meaning.{Fields, Entry}
+use Rattle.index_tree.specs.Mapper.{mapper_of, scope_of, is_mapped}
+use Rattle.spec_query.specs.Binding.{refusal_of}
+use Rattle.spec_query.specs.Condition.{meets}
+use Rattle.spec_query.specs.Offering.{offered_of}
+use Rattle.spec_query.specs.Parameters.{bound_where}
+use Rattle.spec_query.specs.Query as query
+use Rattle.spec_query.specs.Query.{OfIndex}
+use Rattle.spec_index.specs.Index.{documents}
+use Rattle.spec_index.specs.World.{Slot, World, serving}
+use Rattle.spec_server.specs.Replies.{Reply, Answer}
+use Rattle.spec_server.specs.Machine.{Machine, Do, Ask, step, takes_all}
+use Rattle.spec_server.specs.Shown.{shown}
+
+abbrev pub query_reply : Machine → query.Ask → Reply
+query_reply M ask = (step M takes_all 0 (Do (Ask ask))).reply
+
+-- the results of an answer
+abbrev pub results_in : Reply → List Data
+results_in (Answer answer) = answer.results
+results_in other = []
+
+-- the query is on this index
+pub record AsksIndex (W : World) (ask : query.Ask) (s : Slot) : Type 0 where
+  pub name : List ℕ
+  pub origin : ask.query.origin ≡ OfIndex name
+  pub serves : serving W.slots name ≡ Some s
+
+-- the index has the fields that the query names, and nothing else of it is refused
+abbrev pub FitsIndex : query.Ask → Slot → Type 0
+FitsIndex ask s = refusal_of ask (offered_of s.version.definition) ≡ None
+
+-- without groups, columns and a page the results are whole documents, and all that the query finds
+pub record AsksForAll (ask : query.Ask) : Type 0 where
+  pub groups : ask.query.groups ≡ []
+  pub columns : ask.query.columns ≡ []
+  pub start : ask.start ≡ pos 0
+  pub size : ask.size ≡ None
+
+-- the row is a document of the store, which is shown to clients so
+pub record IsShown (W : World) (r : Row) (d : Data) : Type 0 where
+  pub found : row_at (key r) W.store.rows ≡ Some r
+  pub body : Data
+  pub document : r.body ≡ doc body
+  pub shows : shown W.setting.base r body ≡ d
+
+-- a document of the store that the map of the definition gives an entry, which meets the condition of the query
+pub record IsFound (W : World) (definition : Definition) (ask : query.Ask) (d : Data) : Type 0 where
+  pub row : Row
+  pub document : IsShown W row d
+  pub mapped : IsTrue (is_mapped (mapper_of definition) row)
+  pub fields : Fields
+  pub gives : ((mapper_of definition).meaning row (documents (scope_of (mapper_of definition)) W.store)).outcome ≡ Entry fields
+  pub passes : IsTrue (meets (bound_where ask.parameters ask.query.cond) false fields)
+
+-- a document of the store in this collection
+pub record IsInCollection (W : World) (collection : List ℕ) (d : Data) : Type 0 where
+  pub row : Row
+  pub document : IsShown W row d
+  pub inside : row.collection ≡ collection

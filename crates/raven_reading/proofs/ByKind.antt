@@ -1,0 +1,49 @@
+-- What holds of each kind of line holds of every line.
+use Rattle.std.proofs.Common.{◌≡◌, ℕ, List, Bool, true, false, cond, codes, Option, Some, None, Result, Ok, Err, refl, sym, subst}
+use Rattle.std.specs.Str.{bytes_eq, is_utf8}
+use Rattle.index_tree.specs.Definitions.{Definition, Texts}
+use Rattle.index_tree.specs.Language.{LangRefusal}
+use Rattle.spec_query.specs.Query.{Query}
+use Rattle.spec_query.specs.Refusals.{QueryRefusal}
+use Rattle.spec_server.specs.Script.{Asked, Asking, LineRead, Plain, Querying, ReadRefusal, argument_and_rest, asked_by, asked_by_text, asked_to_define, asked_to_query, asked_with, asking_of, defined_by, index_of, line_of, plain_asking}
+use Rattle.raven_lines.specs.Lines.{Comes, IsLine}
+use Rattle.index_lang.specs.Says.{Says}
+
+-- the property holds of whatever the line may be read as: by itself, or by the texts that it has
+pub record HoldsByKind (P : LineRead → Type 0) (line : List ℕ) : Type 0 where
+  pub plain : P (line_of line)
+  pub refused : (refusal : ReadRefusal) → P (Err refusal)
+  pub defined : (rest : List ℕ) (given : List ℕ × Texts) (answer : Result Definition LangRefusal) → index_of rest ≡ Ok given → Says given.1 answer → P (defined_by given.0 answer)
+  pub queried : (asking : Asking) (answer : Result Query QueryRefusal) → P (asked_by_text asking answer)
+
+module _ (P : LineRead → Type 0) (line : List ℕ) (holds : HoldsByKind P line) (read : LineRead) where
+  defining : (rest : List ℕ) (r : Result (List ℕ × Texts) ReadRefusal) → index_of rest ≡ r → Comes (asked_to_define r) read → P read
+  defining rest (Err refusal) e is = subst P (sym is) (holds.refused refusal)
+  defining rest (Ok given) e is = subst P (sym is.read) (holds.defined rest given is.answer e is.says)
+
+  querying : (text : List ℕ) (asking : Asking) → Comes (Querying text asking) read → P read
+  querying text asking is = subst P (sym is.read) (holds.queried asking is.answer)
+
+  asking : (r : Result (List ℕ × Asking) ReadRefusal) → Comes (asked_to_query r) read → P read
+  asking (Err refusal) is = subst P (sym is) (holds.refused refusal)
+  asking (Ok given) is = querying given.0 given.1 is
+
+  plain : Comes (Plain (line_of line)) read → P read
+  plain is = subst P (sym is) holds.plain
+
+  either : (b : Bool) (x y : Asked) → Comes (cond b x y) read → (Comes x read → P read) → (Comes y read → P read) → P read
+  either true x y is f g = f is
+  either false x y is f g = g is
+
+  by_word : (word rest : List ℕ) → Comes (asked_with line word rest) read → P read
+  by_word word rest is =
+      either (bytes_eq word (codes "INDEX")) (asked_to_define (index_of rest)) _ is (defining rest (index_of rest) refl) (λ is.
+      either (bytes_eq word (codes "QUERY")) (Querying rest plain_asking) _ is (querying rest plain_asking) (λ is.
+      either (bytes_eq word (codes "ASK")) (asked_to_query (asking_of rest)) (Plain (line_of line)) is (asking (asking_of rest)) plain))
+
+  by_parts : (parts : Option (List ℕ × List ℕ)) → Comes (asked_by line parts) read → P read
+  by_parts None is = plain is
+  by_parts (Some parts) is = either (is_utf8 line) (asked_with line parts.0 parts.1) (Plain (line_of line)) is (by_word parts.0 parts.1) plain
+
+  pub holds-by-kind : IsLine line read → P read
+  holds-by-kind is = by_parts (argument_and_rest line) is
