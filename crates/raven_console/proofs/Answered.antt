@@ -7,7 +7,7 @@ use Rattle.spec_server.specs.Machine.{Machine}
 use Rattle.spec_server.specs.Replies.{Reply, printed}
 use Rattle.spec_server.specs.Script.{BadId, BadName, LineRead, ReadRefusal, asked_of, fault_reply, left_by, refusal_reply, written_for}
 use Rattle.spec_server.specs.WellFormed.{IsWellFormed}
-use Rattle.index_lang.specs.Lines.{IsLine}
+use Rattle.raven_lines.specs.Lines.{IsLine}
 use Rattle.raven_reading.proofs.Formed.{line-formed}
 use Rattle.raven_script.specs.LineView.{Answers}
 use Rattle.raven_script.specs.RequestView.{IsBadId, IsBadName, line_view}

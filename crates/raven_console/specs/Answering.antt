@@ -6,7 +6,7 @@ use Rattle.raven_ports.specs.States.{KeeperState}
 use Rattle.spec_server.specs.Machine.{Line, Machine, is_taken, step}
 use Rattle.spec_server.specs.Replies.{Reply, printed}
 use Rattle.spec_server.specs.Script.{LineRead, ReadRefusal, after_line, refusal_reply, reply_to}
-use Rattle.index_lang.specs.Lines.{IsLine}
+use Rattle.raven_lines.specs.Lines.{IsLine}
 use Rattle.raven_console.specs.Devices.{given, keeping, rows_in, rows_of}
 
 -- the line has a meaning, its reply is this text, the keeper was asked for the rows of its changes, and the machine is that after it

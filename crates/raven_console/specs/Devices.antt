@@ -8,7 +8,7 @@ use Rattle.raven_ports.specs.States.{KeeperState}
 use Rattle.spec_server.specs.Machine.{Keeping, Line, Machine, changes_of}
 use Rattle.spec_server.specs.Script.{Circumstance, Given, LineRead, after_line}
 use Rattle.spec_server.specs.Sound.{IsMachine}
-use Rattle.index_lang.specs.Lines.{IsLine}
+use Rattle.raven_lines.specs.Lines.{IsLine}
 
 -- the rows of each change that a line makes
 abbrev pub rows_of : Machine → ℕ → Line → List (List Row)

@@ -1,6 +1,6 @@
 //! What a request leaves.
 ghost use Rattle.std.specs.Prelude.{◌≡◌, ◌≤◌, IfOk, Some, true};
-ghost use Rattle.spec_server.specs.Machine.{Auto, Do, course_of, only_reply, pump_for};
+ghost use Rattle.spec_server.specs.Machine.{Ask, Auto, Do, Find, course_of, only_reply, pump_for};
 ghost use Rattle.spec_server.specs.Opening.{is_part};
 ghost use Rattle.spec_server.specs.WellFormed.{IsWellFormed};
 ghost use Rattle.raven_script.specs.RequestView.{request_view};
@@ -13,6 +13,7 @@ use raven_base::{NoMemory, Steps};
 use raven_script::Request;
 use raven_value::{Name, Rows, Text};
 use raven_world::{Answered, Change, Reply, World, WorldFault};
+use rql_plan::QueryAsk;
 use std::alloc::Global;
 use std::marker::Brand;
 use std::sync::ledger::{Blank, Ledger};
@@ -96,6 +97,40 @@ fn pumped<L: Ledger>(
     }
 }
 
+// What a look for a text finds. Nobody reads the counter.
+fn found<L: Ledger>(
+    alloc: Global,
+    world: &World,
+    index: &Name,
+    field: &Text,
+    text: &Text,
+    blank: Blank,
+) -> Result<Outcome, NoMemory>
+    requires name { blank.name ≡ L.name }
+    requires parts { blank.parts ≡ L.parts }
+    requires enough { 3 ≤ blank.parts }
+    ensures { IfOk result (λ outcome. outcome_view outcome ≡ course_of world.now 0 (Find index.now field.now text.now)) }
+{
+    let mut steps = Steps::<L>::new(blank);
+    Ok(unchanged(world.find(alloc, index, field, text, &mut steps)?))
+}
+
+// What a query finds. Nobody reads the counter.
+fn asked<L: Ledger>(
+    alloc: Global,
+    world: &World,
+    ask: &QueryAsk,
+    blank: Blank,
+) -> Result<Outcome, NoMemory>
+    requires name { blank.name ≡ L.name }
+    requires parts { blank.parts ≡ L.parts }
+    requires enough { 3 ≤ blank.parts }
+    ensures { IfOk result (λ outcome. outcome_view outcome ≡ course_of world.now 0 (Ask ask.now)) }
+{
+    let mut steps = Steps::<L>::new(blank);
+    Ok(unchanged(world.ask(alloc, ask, &mut steps)?))
+}
+
 /// What the request leaves of the world, at this moment.
 pub fn outcome_of(
     alloc: Global,
@@ -119,8 +154,9 @@ pub fn outcome_of(
         Request::Get { id } => Ok(unchanged(world.get(alloc, &id)?)),
         Request::Auto { collection, field } => picked(alloc, world, now, &collection, &field),
         Request::Find { index, field, text } => {
-            Ok(unchanged(world.find(alloc, &index, &field, &text)?))
+            found::<Brand>(alloc, world, &index, &field, &text, Blank::new(3))
         }
+        Request::Ask { ask } => asked::<Brand>(alloc, world, &ask, Blank::new(3)),
         Request::Define { definition } => settled(world.define(alloc, definition, now)),
         Request::Remove { name } => settled(world.remove(alloc, &name, now)),
         Request::Pump { max, index } => pumped::<Brand>(alloc, world, max, index, Blank::new(3)),

@@ -42,6 +42,10 @@ pub fn reply_to_refusal(refusal: ReadRefusal) -> Result<Reply, NoMemory>
             at: at as u64,
             kind,
         }),
+        ReadRefusal::BadQuery { at, kind } => Ok(Reply::Rql {
+            at: at as u64,
+            kind,
+        }),
         ReadRefusal::NoMemory => Err(NoMemory),
     }
 }

@@ -6,3 +6,4 @@ pub mod Choices
 pub mod Batches
 pub mod Shown
 pub mod Merging
+pub mod Asking

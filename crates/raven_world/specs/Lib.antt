@@ -5,3 +5,4 @@ pub mod Transacts
 pub mod Kinds
 pub mod Opened
 pub mod Batches
+pub mod Asked

@@ -39,8 +39,8 @@ fn members_in(alloc: Global, value: Option<&Value>) -> Result<Members, NoMemory>
     }
 }
 
-// The metadata of a document, with what the server knows of it.
-fn shown_metadata(
+/// The metadata of a document, with what the server knows of it.
+pub fn shown_metadata(
     alloc: Global,
     base: &BaseId,
     row: &Row,
@@ -87,7 +87,7 @@ fn listing(alloc: Global, store: &Store, slot: &Slot) -> Result<Listing, NoMemor
         entries: version.entries(),
         errors: version.errors(),
         etag: version.etag(),
-        is_stale: is_stale(alloc, store, version)?,
+        is_stale: is_stale(alloc, store, version, None)?,
         name: slot.name.clone()?,
     })
 }

@@ -30,12 +30,17 @@ pub enum Choice<'a> {
     Merge,
 }
 
-/// Whether the store holds something that the index reads and has not seen.
-pub fn is_stale(alloc: Global, store: &Store, version: &IndexVersion) -> Result<bool, NoMemory>
-    ensures { IfOk result (λ flag. flag ≡ stale store.now (reads version.now.version) version.now.version.etag None) }
+/// Whether the store holds something that the index reads and has not seen, up to a cutoff if one is given.
+pub fn is_stale(
+    alloc: Global,
+    store: &Store,
+    version: &IndexVersion,
+    cutoff: Option<u64>,
+) -> Result<bool, NoMemory>
+    ensures { IfOk result (λ flag. flag ≡ stale store.now (reads version.now.version) version.now.version.etag cutoff) }
 {
     let scope = version.scope(alloc)?;
-    Ok(version.etag() < store.newest(&scope, None))
+    Ok(version.etag() < store.newest(&scope, cutoff))
 }
 
 // The collection and the fields of an automatic index, and nothing of another.
@@ -94,8 +99,8 @@ fn width_of(slot: &Slot) -> usize
 fn is_better(alloc: Global, store: &Store, a: &Slot, b: &Slot) -> Result<bool, NoMemory>
     ensures { IfOk result (λ flag. flag ≡ beats store.now a.now b.now) }
 {
-    let a_fresh = !is_stale(alloc, store, &a.version)?;
-    let b_fresh = !is_stale(alloc, store, &b.version)?;
+    let a_fresh = !is_stale(alloc, store, &a.version, None)?;
+    let b_fresh = !is_stale(alloc, store, &b.version, None)?;
     Ok((a_fresh && !b_fresh) || ((a_fresh || !b_fresh) && width_of(a) < width_of(b)))
 }
 

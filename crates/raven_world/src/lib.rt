@@ -2,6 +2,7 @@
 #![tactic(auto)]
 
 mod answer;
+mod ask;
 mod choice;
 mod define;
 mod find;
@@ -9,6 +10,7 @@ mod make;
 mod naming;
 mod opening;
 mod pump;
+mod showing;
 mod slot;
 mod world;
 mod write;
