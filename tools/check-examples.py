@@ -1,5 +1,5 @@
 #!/usr/bin/env python3
-"""Runs each script of examples/, and each one that docs/script.md shows, and compares what is written with what is beside it, byte
+"""Runs each script of examples/, and each one that pages of docs/ show, and compares what is written with what is beside it, byte
 for byte. The moments that documents show are the program's own, and are taken as that of 1970, which is expected.
 
     tools/check-examples.py              the built program of crates/raven, or `rt try` if it is not built yet

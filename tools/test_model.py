@@ -12,7 +12,7 @@ import sys
 
 sys.dont_write_bytecode = True
 from raven_tools import examples, model
-from raven_tools.making import MAKERS, case_scripts, limit_scripts, worked
+from raven_tools.making import MAKERS, case_scripts, limit_scripts, worked, worked_answers
 from raven_tools.making.lines import definition
 from raven_tools.making.random_scripts import kind_of
 
@@ -133,11 +133,127 @@ OF_DEFINITIONS = """
 < {"Ids":[],"IndexEtag":5,"IsStale":false}
 """
 
+# A query shows of what is found only what is still there, and counts all of it.
+GONE = """
+> PUT users/1 {"Name":"Ada",[Users]}
+> AUTO Users Name
+> PUMP 64
+> DEL USERS/1
+> QUERY from index 'Auto/Users/ByName' where Name = 'ada'
+> PUMP 64
+> QUERY from index 'Auto/Users/ByName' where Name = 'ada'
+< {"ChangeVector":"A:1-{B}","Id":"users/1"}
+< {"Index":"Auto/Users/ByName"}
+< {"Pumped":[{"From":0,"Index":"Auto/Users/ByName","To":2}]}
+< {"Deleted":true,"Id":"users/1"}
+< {"Includes":{},"IndexEtag":2,"IndexName":"Auto/Users/ByName","IsStale":true,"Results":[],"TotalResults":1}
+< {"Pumped":[{"From":2,"Index":"Auto/Users/ByName","To":3}]}
+< {"Includes":{},"IndexEtag":3,"IndexName":"Auto/Users/ByName","IsStale":false,"Results":[],"TotalResults":0}
+"""
+
+APPEARS = """
+> INDEX {"Map":"from o in docs.Orders let c = LoadDocument(o.Company, \\"Companies\\") select new { c.Name }","Name":"O"}
+> PUT orders/1 {"Company":"companies/1",[Orders]}
+> PUMP 64
+> QUERY from index 'O' where Name = 'acme' select Company
+> PUT companies/1 {"Name":"Acme",[Companies]}
+> QUERY from index 'O' where Name = 'acme' select Company
+> PUMP 64
+> QUERY from index 'O' where Name = 'acme' select Company include Company
+> QUERY from index 'O' order by Name where Name = 'a'
+> QUERY from index 'O' where Name = 1.5
+> QUERY from index 'O' where Size = 1
+> QUERY from Orders select Company
+> QUERY from Orders where Company = 'companies/1'
+< {"Index":"O"}
+< {"ChangeVector":"A:2-{B}","Id":"orders/1"}
+< {"Pumped":[{"From":0,"Index":"O","To":2}]}
+< {"Includes":{},"IndexEtag":2,"IndexName":"O","IsStale":false,"Results":[],"TotalResults":0}
+< {"ChangeVector":"A:3-{B}","Id":"companies/1"}
+< {"Includes":{},"IndexEtag":2,"IndexName":"O","IsStale":true,"Results":[],"TotalResults":0}
+< {"Pumped":[{"From":2,"Index":"O","To":3}]}
+< {"Includes":{"companies/1":{"@metadata":{"@change-vector":"A:3-{B}","@collection":"Companies","@id":"companies/1",\
+"@last-modified":"1970-01-01T00:00:00.0000000Z"},"Name":"Acme"}},"IndexEtag":3,"IndexName":"O","IsStale":false,\
+"Results":[{"Company":"companies/1"}],"TotalResults":1}
+< {"At":29,"Error":"ClauseOrder"}
+< {"At":28,"Error":"BadNumber"}
+< {"Error":"NoField","Name":"Size"}
+< {"Includes":{},"IndexEtag":3,"IndexName":"collection/Orders","IsStale":false,"Results":[{"Company":"companies/1"}],"TotalResults":1}
+< {"Error":"UnknownLine"}
+"""
+
+# Groups come and go with their documents, and a sum may be outside 64 bits.
+GROUPS = """
+> INDEX {"Map":"from o in docs.Orders select new { o.Company, Total = o.Cents, Low = o.Cents, High = o.Cents }","Name":"T",\
+"Reduce":"from r in results group r by r.Company into g select new { Company = g.Key, Total = g.Sum(x => x.Total), \
+Low = g.Min(x => x.Low), High = g.Max(x => x.High) }"}
+> BULK {"Commands":[{"Document":{"Cents":4,"Company":"c",[Orders]},"Id":"orders/1","Type":"PUT"},\
+{"Document":{"Cents":6,"Company":"c",[Orders]},"Id":"orders/2","Type":"PUT"},\
+{"Document":{"Cents":5,"Company":"c",[Orders]},"Id":"orders/3","Type":"PUT"}]}
+> PUMP 64
+> QUERY from index 'T'
+> DEL orders/2
+> PUMP 64
+> QUERY from index 't'
+> BULK {"Commands":[{"Id":"orders/1","Type":"DELETE"},{"Id":"orders/3","Type":"DELETE"},\
+{"Document":{"Cents":5,"Company":"z",[Orders]},"Id":"orders/4","Type":"PUT"},\
+{"Document":{"Cents":-5,"Company":"z",[Orders]},"Id":"orders/5","Type":"PUT"}]}
+> PUMP 64
+> QUERY from index 'T'
+> BULK {"Commands":[{"Id":"orders/4","Type":"DELETE"},{"Id":"orders/5","Type":"DELETE"}]}
+> PUMP 64
+> QUERY from index 'T'
+> BULK {"Commands":[{"Document":{"Cents":9223372036854775807,"Company":"b",[Orders]},"Id":"orders/6","Type":"PUT"},\
+{"Document":{"Cents":9223372036854775807,"Company":"b",[Orders]},"Id":"orders/7","Type":"PUT"}]}
+> PUMP 64
+> QUERY from index 'T' select Total
+< {"Index":"T"}
+< {"Results":[{"ChangeVector":"A:2-{B}","Id":"orders/1","Type":"PUT"},{"ChangeVector":"A:3-{B}","Id":"orders/2","Type":"PUT"},\
+{"ChangeVector":"A:4-{B}","Id":"orders/3","Type":"PUT"}]}
+< {"Pumped":[{"From":0,"Index":"T","To":4}]}
+< {"Includes":{},"IndexEtag":4,"IndexName":"T","IsStale":false,"Results":[{"Company":"c","High":6,"Low":4,"Total":15}],"TotalResults":1}
+< {"Deleted":true,"Id":"orders/2"}
+< {"Pumped":[{"From":4,"Index":"T","To":5}]}
+< {"Includes":{},"IndexEtag":5,"IndexName":"T","IsStale":false,"Results":[{"Company":"c","High":5,"Low":4,"Total":9}],"TotalResults":1}
+< {"Results":[{"Deleted":true,"Id":"orders/1","Type":"DELETE"},{"Deleted":true,"Id":"orders/3","Type":"DELETE"},\
+{"ChangeVector":"A:8-{B}","Id":"orders/4","Type":"PUT"},{"ChangeVector":"A:9-{B}","Id":"orders/5","Type":"PUT"}]}
+< {"Pumped":[{"From":5,"Index":"T","To":9}]}
+< {"Includes":{},"IndexEtag":9,"IndexName":"T","IsStale":false,"Results":[{"Company":"z","High":5,"Low":-5,"Total":0}],"TotalResults":1}
+< {"Results":[{"Deleted":true,"Id":"orders/4","Type":"DELETE"},{"Deleted":true,"Id":"orders/5","Type":"DELETE"}]}
+< {"Pumped":[{"From":9,"Index":"T","To":11}]}
+< {"Includes":{},"IndexEtag":11,"IndexName":"T","IsStale":false,"Results":[],"TotalResults":0}
+< {"Results":[{"ChangeVector":"A:12-{B}","Id":"orders/6","Type":"PUT"},{"ChangeVector":"A:13-{B}","Id":"orders/7","Type":"PUT"}]}
+< {"Pumped":[{"From":11,"Index":"T","To":13}]}
+< {"Includes":{},"IndexEtag":13,"IndexName":"T","IsStale":false,"Results":[{"Total":"18446744073709551614"}],"TotalResults":1}
+"""
+
+# Up to a cutoff an index may be fresh that is stale without it.
+CUTOFFS = """
+> AUTO C F
+> PUT x {[C]}
+> PUT y {[C]}
+> PUT x {[C]}
+> PUMP 1
+> ASK {"CutoffEtag":3,"Query":"from index 'Auto/C/ByF' select F"}
+> ASK {"CutoffEtag":4,"Query":"from index 'Auto/C/ByF' select F"}
+> ASK {"CutoffEtag":0,"Query":"from index 'Auto/C/ByF' select F"}
+> ASK {"Query":"from index 'Auto/C/ByF' select F"}
+< {"Index":"Auto/C/ByF"}
+< {"ChangeVector":"A:2-{B}","Id":"x"}
+< {"ChangeVector":"A:3-{B}","Id":"y"}
+< {"ChangeVector":"A:4-{B}","Id":"x"}
+< {"Pumped":[{"From":0,"Index":"Auto/C/ByF","To":3}]}
+< {"Includes":{},"IndexEtag":3,"IndexName":"Auto/C/ByF","IsStale":false,"Results":[{"F":null}],"TotalResults":1}
+< {"Includes":{},"IndexEtag":3,"IndexName":"Auto/C/ByF","IsStale":true,"Results":[{"F":null}],"TotalResults":1}
+< {"Includes":{},"IndexEtag":3,"IndexName":"Auto/C/ByF","IsStale":false,"Results":[{"F":null}],"TotalResults":1}
+< {"Includes":{},"IndexEtag":3,"IndexName":"Auto/C/ByF","IsStale":true,"Results":[{"F":null}],"TotalResults":1}
+"""
+
 
 def expanded(text):
     """The signs of the scripts above: `{B}` is the base id, and `[Users]` names the collection of a document."""
     text = text.replace("{B}", model.BASE)
-    return re.sub(r"(,|\{)\[([A-Z][a-z]+)\]", r'\1"@metadata":{"@collection":"\2"}', text)
+    return re.sub(r"(,|\{)\[([A-Z][a-z]*)\]", r'\1"@metadata":{"@collection":"\2"}', text)
 
 
 def halves(worked):
@@ -147,7 +263,7 @@ def halves(worked):
 
 
 def test_worked_scripts():
-    for worked in (ADULTS, LOADED, SQUARES, TOTALS, OF_DEFINITIONS):
+    for worked in (ADULTS, LOADED, SQUARES, TOTALS, OF_DEFINITIONS, GONE, APPEARS, GROUPS, CUTOFFS):
         script, replies = halves(worked)
         assert model.replies(script) == replies, model.replies(script).decode()
 
@@ -224,8 +340,17 @@ def test_scripts():
         if name == "each date":
             counts = [len(reply["Ids"]) for reply in replies if "Ids" in reply]
             assert counts == [len(worked.LEAP_DAYS) + len(worked.NO_DATES), len(worked.YEARS), 0], counts
+        if name == "what each condition finds":
+            letters = ["".join(result["Letter"] for result in reply["Results"]) for reply in replies if "Results" in reply]
+            expected = [letters for *_, letters in worked_answers.CONDITIONS + worked_answers.SORTS]
+            order = worked_answers.SORTS[0][1]
+            assert letters == [*expected, *(order[start : start + 4] for start in (0, 3, 17, 20))]
+        if name == "what is found of the rows of a reduce":
+            teams = [[result["Team"] for result in reply["Results"]] for reply in replies if "Results" in reply]
+            found = [[worked_answers.TOTALS[at][0] for at in places] for _, places in worked_answers.ON_TOTALS]
+            assert teams[: len(found)] == found
     expected = "Index Removed indexes BadMember Empty TooLong Control Unexpected TooLarge UnknownName DuplicateField"
-    expected += " FieldsDiffer NotReducible"
+    expected += " FieldsDiffer NotReducible ClauseOrder BadNumber NoParameter NotGrouped BadPage NoField"
     for kind in [*expected.split(), "ReservedName", "NameTooLong", "NoIndex", "TooManyIndexes", "UnknownLine", "TooDeep", "NotJson"]:
         assert kinds[kind], kind
 

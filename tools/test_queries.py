@@ -1,5 +1,5 @@
 #!/usr/bin/env python3
-"""Tests of `raven_tools.queries`: cases worked out by hand, and that what is printed says the same.
+"""Tests of `raven_tools.queries`: cases worked out by hand, of texts and of what they find, and that what is printed says the same.
 
     tools/test_queries.py [ROUNDS]
 
@@ -10,8 +10,11 @@ import random
 import sys
 
 sys.dont_write_bytecode = True
-from raven_tools import queries
-from raven_tools.making import worked_queries
+from raven_tools import language, queries
+from raven_tools.language import definitions
+from raven_tools.making import worked_answers, worked_queries
+from raven_tools.queries import answers, binding
+from raven_tools.scalars import is_scalar
 
 WORDS = (
     "from index group by where order select include and or not in between as true false null exact count sum exists "
@@ -68,8 +71,74 @@ def test_prefixes(rounds):
             assert isinstance(before, queries.Query) or before[0] == found[0], (text, found, before)
 
 
+def values_of(row):
+    return lambda path: row[".".join(path)]
+
+
+def found(text, parameters, rows):
+    return answers.found(queries.parse(text), rows, values_of, parameters)
+
+
+def test_conditions():
+    """Which values meet each condition, and their order by each key."""
+    values = [(letter, worked_answers.VALUES.get(letter)) for letter in worked_answers.LETTERS]
+    rows = [{"F": value if is_scalar(value) else None, "Letter": letter} for letter, value in values]
+    for text, parameters, letters in worked_answers.CONDITIONS:
+        met = "".join(row["Letter"] for row in found(f"from index 'V' where {text}", parameters, rows))
+        assert met == letters, (text, met)
+    for text, letters in worked_answers.SORTS:
+        ordered = "".join(row["Letter"] for row in found(f"from index 'V' order by {text}", {}, rows))
+        assert ordered == letters, (text, ordered)
+
+
+def test_rows_of_reduces():
+    names = ["Team", "Sum", "Low", "High", "Count"]
+    teams = [(team if is_scalar(team) else None, number) for team, number in worked_answers.TOTALLED]
+    entries = [dict(zip(names, [team, number, number, number, 1])) for team, number in teams]
+    reduce = definitions.parse(worked_answers.TOTALS_MAP, worked_answers.TOTALS_REDUCE).reduce
+    expected = [dict(zip(names, row)) for row in worked_answers.TOTALS]
+    for order in (entries, entries[::-1]):
+        rows = language.rows_of(reduce, order)
+        assert list(map(repr, map(sorted_members, rows))) == list(map(repr, map(sorted_members, expected))), rows
+    for text, places in worked_answers.ON_TOTALS:
+        met = found(f"from index 'T' {text}", {}, rows)
+        assert [rows.index(row) for row in met] == places, (text, met)
+
+
+def sorted_members(row):
+    """With their kinds, since a flag is equal to a number."""
+    return sorted(row.items())
+
+
+def refusal_of(test, *arguments):
+    try:
+        test(*arguments)
+    except binding.Unbound as unbound:
+        return unbound.error, unbound.name
+    return None
+
+
+def test_binding():
+    for text, parameters, refusal in worked_answers.CHECKED:
+        answer = refusal_of(binding.check, queries.parse(text), parameters, 0, None)
+        assert answer == refusal, (text, answer)
+    for start, size, is_good in [(0, 0, True), (2**31 - 1, 2**31 - 1, True), (2**31, 0, False), (0, 2**31, False), (-1, 1, False)]:
+        answer = refusal_of(binding.check, queries.parse("from C"), {}, start, size)
+        assert answer == (None if is_good else ("BadPage", None)), (start, size)
+    ways = [(worked_answers.FIELDS, ["F", "Letter"], False)]
+    ways += [(worked_answers.ROW_FIELDS, ["Team", "Sum", "Low", "High", "Count"], True)]
+    for cases, fields, has_rows in ways:
+        for text, name in cases:
+            query = queries.parse(f"from index 'V' {text}")
+            answer = refusal_of(binding.check_fields, query, fields, has_rows)
+            assert answer == (name and ("NoField", name)), (text, answer)
+
+
 def main():
     test_by_hand()
+    test_conditions()
+    test_rows_of_reduces()
+    test_binding()
     test_printed()
     test_limits()
     test_prefixes(int(sys.argv[1]) if len(sys.argv) > 1 else 3_000)

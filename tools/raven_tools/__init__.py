@@ -1,10 +1,10 @@
 """What the tools of this repository share.
 
 - `model` answers scripts as the program has to, and models whole runs of it;
-- `language` is the language of index definitions, which `model` uses;
+- `language` is the language of index definitions, and `queries` that of queries, which `model` uses;
 - `making` makes scripts: random ones, ones at each limit, and cases that were worked out by hand;
 - `checks` has one module for each tool that compares something.
 
-`model` and `language` are written from the rules of docs/ and not from the program. The executables are in the folder above.
+`model`, `language` and `queries` are written from the rules of docs/ and not from the program. The executables are in the folder above.
 Each sets `sys.dont_write_bytecode` before it imports from here, so no run leaves bytecode in the checkout.
 """

@@ -1,10 +1,12 @@
-"""The scripts of examples/ and those that docs/script.md shows, each with what has to be written for it."""
+"""The scripts of examples/ and those that pages of docs/ show, each with what has to be written for it."""
 
 import dataclasses
 import re
 
 from raven_tools.places import TOP
 
+# The pages with scripts.
+PAGES = ["script", "queries"]
 BLOCK = re.compile(r"^```(raven|replies)\n(.*?)^```$", re.MULTILINE | re.DOTALL)
 
 
@@ -20,13 +22,13 @@ def in_files() -> list[Example]:
     return [Example(path.stem, path.read_bytes(), path.with_suffix(".expected").read_bytes()) for path in paths]
 
 
-def on_the_page() -> list[Example]:
-    """On the page the block of a script comes before that of its replies."""
-    blocks = BLOCK.findall((TOP / "docs/script.md").read_text())
+def on_page(page: str) -> list[Example]:
+    """On a page the block of a script comes before that of its replies."""
+    blocks = BLOCK.findall((TOP / f"docs/{page}.md").read_text())
     texts = {kind: [text.encode() for of, text in blocks if of == kind] for kind in ("raven", "replies")}
     pairs = zip(texts["raven"], texts["replies"], strict=True)
-    return [Example(f"script-md-{number:02}", *pair) for number, pair in enumerate(pairs, 1)]
+    return [Example(f"{page}-md-{number:02}", *pair) for number, pair in enumerate(pairs, 1)]
 
 
 def every() -> list[Example]:
-    return in_files() + on_the_page()
+    return in_files() + [example for page in PAGES for example in on_page(page)]

@@ -12,7 +12,7 @@ CASES = CRATES / "raven_cases"
 
 
 def missing(cases: list[case_file.Case]) -> list[str]:
-    """The scripts of examples/ and docs/script.md that are no case."""
+    """The scripts of examples/ and of pages of docs/ that are no case."""
     there = {run.outside.script for case in cases for run in case.runs}
     return [example.name for example in examples.every() if example.script not in there]
 

@@ -4,6 +4,7 @@ It is written from the rules of docs/index-language.md and not from the program.
 says what they are, so two trees are the same if they are equal. `definitions` has maps and reduces together.
 """
 
+from raven_tools.language.groups import rows_of
 from raven_tools.language.maps import Map, expressions_of, parse, scope_of
 from raven_tools.language.meaning import Failed, entry_of
 from raven_tools.language.spelling import printed, printed_expression, quoted

@@ -6,6 +6,7 @@ import typing
 from raven_tools.language import dates
 from raven_tools.language.maps import Map
 from raven_tools.language.tokens import GREATEST, LEAST, LEVELS
+from raven_tools.scalars import is_number
 
 # The body of a document of a collection, by its id, or None.
 Load: typing.TypeAlias = collections.abc.Callable[[str, str], dict | None]
@@ -13,10 +14,6 @@ Load: typing.TypeAlias = collections.abc.Callable[[str, str], dict | None]
 
 class Failed(Exception):
     """The document has no entry, and counts as failed."""
-
-
-def is_number(value: object) -> bool:
-    return isinstance(value, int) and not isinstance(value, bool)
 
 
 def whole(number: int) -> int:

@@ -3,8 +3,8 @@
 import collections.abc
 
 from raven_tools import language, model
-from raven_tools.making import limit_maps, limit_scripts, maps, worked
-from raven_tools.making.lines import definition
+from raven_tools.making import limit_maps, limit_scripts, maps, worked, worked_answers, worked_queries
+from raven_tools.making.lines import ask, definition, put
 from raven_tools.making.random_scripts import INDEX_NAMES, ODD_NAMES
 
 Named = collections.abc.Iterator[tuple[str, str]]
@@ -137,7 +137,77 @@ def reduces() -> Named:
     yield "what reduces answer", "\n".join(lines)
 
 
+def of_values() -> list[str]:
+    """The index `Values` of a document for each letter, and the index `Totals`, which has a reduce."""
+    lines = [definition("Values", worked_answers.MAP)]
+    lines.append(definition("Totals", worked_answers.TOTALS_MAP, worked_answers.TOTALS_REDUCE))
+    for letter in worked_answers.LETTERS:
+        value = {"F": worked_answers.VALUES[letter]} if letter in worked_answers.VALUES else {}
+        lines.append(put(f"v/{letter}", model.write_json({**value, "Letter": letter, "@metadata": {"@collection": "V"}})))
+    for number, (team, value) in enumerate(worked_answers.TOTALLED):
+        body = {"Team": team, "N": value, "@metadata": {"@collection": "T"}}
+        lines.append(put(f"t/{number}", model.write_json(body)))
+    return [*lines, "PUMP 64"]
+
+
+def answered() -> Named:
+    """What each condition finds, and the order by each key."""
+    lines = of_values()
+    for text, parameters, _ in worked_answers.CONDITIONS:
+        lines.append(ask(f"from index 'Values' where {text} select Letter", QueryParameters=parameters))
+    lines += [f"QUERY from index 'values' order by {text} select Letter, F" for text, _ in worked_answers.SORTS]
+    lines += [ask("from index 'Values' order by F select Letter", Start=start, PageSize=4) for start in (0, 3, 17, 20)]
+    yield "what each condition finds", "\n".join(lines)
+    lines = of_values()
+    lines += [f"QUERY from index 'Totals' {text} select Team, Sum" for text, _ in worked_answers.ON_TOTALS]
+    lines += [ask("from index 'Totals'", Start=start, PageSize=3) for start in (0, 8, 10)]
+    yield "what is found of the rows of a reduce", "\n".join(lines)
+
+
+def unanswered() -> Named:
+    """Each refusal of a query, also of one with several faults."""
+    lines = of_values()
+    lines += ["QUERY " + text for text in ("from C", *(text for text, *_ in worked_queries.REFUSED)) if text]
+    lines += ["QUERY " + text for text, _ in worked_queries.PRINTED]
+    for text, parameters, _ in worked_answers.CHECKED:
+        for page in ({}, {"Start": -1}, {"PageSize": 2**31}):
+            lines += [ask(text.replace("'V'", name), QueryParameters=parameters, **page) for name in ("'V'", "'Values'")]
+    lines += [f"QUERY from index 'Values' {text}" for text, _ in worked_answers.FIELDS]
+    lines += [f"QUERY from index 'Totals' {text}" for text, _ in worked_answers.ROW_FIELDS]
+    yield "queries that are refused", "\n".join(lines)
+    good = {"Query": "from V", "QueryParameters": {}, "Start": 0, "PageSize": 1, "CutoffEtag": 0}
+    good |= {"WaitForNonStaleResults": True, "Looks": 64}
+    wrong = [None, True, 7, -1, 0, 65, 2**31, "from", "1", "", [], [7], {}]
+    whole = ["null", "[]", "7", "{}", '{"query":"from V"}', '{"Query":"from V","Start":1.5}', "{", "[" * 101]
+    lines = ["PUT v {}", *(f"ASK {text}" for text in whole)]
+    for name in good:
+        lines.append("ASK " + model.write_json({other: value for other, value in good.items() if other != name}))
+        for value in wrong:
+            lines.append("ASK " + model.write_json({**good, name: value}))
+            # The first of several faults counts.
+            lines += ["ASK " + model.write_json({**good, name: value, other: "x"}) for other in good if other != name]
+    yield "members of a question", "\n".join(lines)
+
+
+def longest() -> Named:
+    """Queries at the limits of the language."""
+    lines = of_values()
+    before = "from index 'Values' where "
+    lines.append("QUERY " + before + " or ".join(["true"] * 8_000))
+    lines.append("QUERY " + before + " and ".join(["true"] * 7_000))
+    conditions = ["(" * 64 + "F = 7" + ")" * 64, "not " * 64 + "F = 7", "exact(" * 64 + "F = 'ada'" + ")" * 64]
+    conditions += ["not (" * 32 + "exact(F = 7)" + ")" * 32, "not (" * 32 + "F = 7" + ")" * 32, *(" or ".join(["F = 7"] * count) for count in (63, 64))]
+    conditions += [f"F in ({', '.join(map(str, range(9_000)))})", "F = '" + "x" * 65_000 + "'"]
+    lines += [f"QUERY {before}{condition} select Letter" for condition in conditions]
+    lines.append("QUERY from index 'Values' select " + ", ".join(f"Letter as L{number}" for number in range(64)))
+    lines.append("QUERY from index 'Values' order by " + ", ".join(["F", "Letter desc"] * 32))
+    lines += [f"QUERY from V include {', '.join(['Letter'] * count)}" for count in (64, 65)]
+    for length in (65_535, 65_536, 65_537):
+        lines.append("QUERY " + "from V".ljust(length))
+    yield "queries at the limits", "\n".join(lines)
+
+
 def at_the_limits() -> collections.abc.Iterator[tuple[str, bytes]]:
-    for scripts_of in (limits, refusals, words, meanings, dates, members, names, reduces):
+    for scripts_of in (limits, refusals, words, meanings, dates, members, names, reduces, answered, unanswered, longest):
         for name, script in scripts_of():
             yield name, script.encode() + b"\n"

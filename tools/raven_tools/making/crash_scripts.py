@@ -100,5 +100,7 @@ def questions(number: int) -> list[bytes]:
     asked = ["STATS", *(lines.get(name) for name in ids_asked()), "PUMP 65536"]
     asked += [f"FIND {index} {field} ada" for index in AUTOS for field in FIELDS if index.endswith(field)]
     asked += [*(f"FIND {name} Name ada" for name in NAMED), "INDEXES"]
+    asked += [f"QUERY from '{collection}' select Name, City, Number" for collection in COLLECTIONS]
+    asked += [f"QUERY from index '{name}' order by Name desc" for name in NAMED]
     asked += [f'PUT {IDS[number % len(IDS)]} {{"Round":{number},"@metadata":{{"@collection":"{COLLECTIONS[number % 4]}"}}}}', "STATS"]
     return [line.encode() for line in asked]

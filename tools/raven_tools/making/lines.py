@@ -40,3 +40,8 @@ def definition(name: str, text: str, reduce: str | None = None) -> str:
     """A definition by the text of a map, and by that of a reduce, if there is one."""
     members = {"Name": name, "Map": text}
     return "INDEX " + model.write_json(members if reduce is None else {**members, "Reduce": reduce})
+
+
+def ask(query: str, **members: object) -> str:
+    """A question with this query, and with further members."""
+    return "ASK " + model.write_json({"Query": query, **members})

@@ -49,12 +49,13 @@ class MapMaker(RandomMaker):
         """A write of a document that others name, before batches and questions."""
         pairs = self.loads()
         name = self.one_of(pairs)[1].spelling if pairs else self.id()
-        self.ahead = [self.pump, self.find, self.find, self.listed][: self.random.randint(2, 4)]
+        self.ahead = [self.pump, self.one_of([self.find, self.query]), self.find, self.listed][: self.random.randint(2, 4)]
         return f"DEL {name}" if self.chance(25) else f"PUT {name} {self.usual_body(name)}"
 
     def kinds_of_lines(self):
         kinds = [self.put] * 10 + [self.delete] * 2 + [self.bulk, self.get, self.auto, self.drop] + [self.stale] * 2
         kinds += [self.index] * 4 + [self.pump] * 4 + [self.pump_one] * 2 + [self.find] * 4 + [self.listed] * 2
+        kinds += [self.query] * 3 + [self.ask] * 2
         return kinds + [self.change] * 5
 
     def line(self) -> bytes:
@@ -135,10 +136,11 @@ class LagMaker(MapMaker):
         members = f'"Age":{self.one_of([1, 9])},"Name":"{self.words()}","Ref":"{self.known_id()}"'
         return f'PUT {name} {{{members},"@metadata":{{"@collection":"{USUAL[name[0].lower()]}"}}}}'
 
-    def question(self, name):
+    def look(self, name):
         field = self.one_of(["Name", "Name", "Kind"])
         text = self.one_of(["none", "some", "ada", "bo", "cy", "di", "É"])
-        return self.one_of([f"FIND {name} {field} {text}"] * 6 + [f"STALE {name}", "INDEXES"])
+        asked = f"QUERY from index '{name}' where {field} = '{text}' order by Name, Kind select Name, Ref include Ref"
+        return self.one_of([f"FIND {name} {field} {text}"] * 4 + [asked] * 2 + [f"STALE {name}", "INDEXES"])
 
     def script(self, count: int) -> bytes:
         names = self.random.sample(sorted(LAGGING), 3)
@@ -148,5 +150,5 @@ class LagMaker(MapMaker):
                 written.append(self.write())
             else:
                 written.append(self.one_of([f"PUMP {self.size()}", f"PUMP {self.size()} {self.one_of(names)}"]))
-            written += [self.question(self.one_of(names)) for _ in range(2)]
+            written += [self.look(self.one_of(names)) for _ in range(2)]
         return self.joined(written)

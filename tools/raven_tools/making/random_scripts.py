@@ -4,7 +4,7 @@ import collections
 import random
 
 from raven_tools import model
-from raven_tools.making import maps, reduces
+from raven_tools.making import maps, questions, reduces
 from raven_tools.making.maker import Maker
 
 IDS = ["users/1", "USERS/1", "Users/1", "users/2", "users/10", "a", "A", "Z", "zz", "é", "É", "@index/x", "@INDEX/y",
@@ -45,6 +45,8 @@ NO_MAPS = ["null", "7", "[]", "{}", '["from","from"]', "[7]", '"from"', "true"]
 NO_REDUCES = ['""', '"from r in results"', "7", "[]", "true", "{}"]
 NO_TEXTS = ["null", "7", "true", "[]", "{}", "1.5"]
 NO_OBJECTS = ["null", "7", "true", "[]", "[{}]", '"{}"']
+NO_NUMBERS = ["null", "true", '"1"', "[1]", "{}", "1.5", "1e0"]
+NO_FLAGS = ["null", "0", '"true"', "[]", "{}"]
 NO_LISTS = ["null", "7", "{}", '"[]"', '{"Id":"a","Type":"DELETE"}']
 TYPES = ["put", "Delete", "", "PUT ", "PATCH"]
 VECTORS = ["A:0-" + model.BASE, "A:1-" + model.BASE, "a:1-" + model.BASE, "A:01-" + model.BASE, "A:1-", "A:1-" + "B" * 22,
@@ -62,7 +64,10 @@ FILL = model.MAX_BODY - len(model.write_json(model.stored({"F": ""})))
 
 
 def kind_of(reply: dict) -> str:
-    """The name of an error, or else the members that a reply has."""
+    """The name of an error, or else the members that a reply has, or what kind of answer it is."""
+    if "IndexName" in reply:
+        names = [("Results", "results"), ("Includes", "includes")]
+        return " ".join(["a stale" if reply["IsStale"] else "a fresh", "answer", *("with " + name for member, name in names if reply[member])])
     if "@metadata" in reply:
         return "a document"
     if any("Definition" in result for result in reply.get("Results", ())):
@@ -82,6 +87,7 @@ class RandomMaker(Maker):
         super().__init__(random.Random(seed), model.Database())
         self.maps = maps.Maps(self.random)
         self.reduces = reduces.Reduces(self.random)
+        self.questions = questions.Questions(self.random)
         # How many in a hundred maps are of those that load.
         self.loading = 30
         # How often the model gives each kind of reply.
@@ -343,6 +349,39 @@ class RandomMaker(Maker):
         field = self.one_of(index.definition.fields() if self.chance(70) else FIELDS)
         return f"FIND {self.in_other_case(index.name)} {field} {self.words()}"
 
+    def question(self):
+        """The text of a query, mostly of an index that is there."""
+        if self.database.indexes and self.chance(75):
+            index = self.one_of(self.database.indexes)
+            name = self.in_other_case(index.name) if self.chance(97) else self.no_index()
+            return self.questions.of_index(index, name)
+        return self.questions.of_collection(self.one_of(COLLECTIONS[:6] if self.chance(90) else COLLECTIONS))
+
+    def query(self):
+        self.questions.parameters = {} if self.chance(4) else None
+        return f"QUERY {self.question()}"
+
+    def cutoff(self):
+        etags = [0, self.database.store.last, 2**63 - 1, *(index.etag for index in self.database.indexes)]
+        return str(max(0, self.one_of(etags) + self.one_of([-1, 0, 0, 1])) if self.chance(97) else self.one_of([-1, 2**63]))
+
+    def page(self):
+        return self.one_of(["0", "1", "1", "2", "3", "5", "9", "2147483647"] if self.chance(96) else ["-1", "2147483648"])
+
+    def ask(self):
+        self.questions.parameters = {}
+        parts = [self.member("Query", self.text(self.question()), NO_TEXTS)]
+        given = model.write_json(self.questions.parameters)
+        parts += [self.member("QueryParameters", given, NO_OBJECTS)] if given != "{}" and self.chance(97) else []
+        parts += [self.member("Start", self.page(), NO_NUMBERS)] if self.chance(35) else []
+        parts += [self.member("PageSize", self.page(), NO_NUMBERS)] if self.chance(45) else []
+        parts += [self.member("CutoffEtag", self.cutoff(), NO_NUMBERS)] if self.chance(30) else []
+        parts += [self.member("WaitForNonStaleResults", self.one_of(["true", "false"]), NO_FLAGS)] if self.chance(15) else []
+        looks = self.one_of(["1", "2", "7", "64"] if self.chance(93) else ["0", "65", "-1"])
+        parts += [self.member("Looks", looks, NO_NUMBERS)] if self.chance(10) else []
+        self.random.shuffle(parts)
+        return "ASK {" + ",".join(self.space() + part for part in parts) + "}"
+
     def other(self):
         return self.one_of(OTHERS)
 
@@ -364,6 +403,7 @@ class RandomMaker(Maker):
     def kinds_of_lines(self):
         kinds = [self.put] * 7 + [self.put_if] * 2 + [self.delete] * 3 + [self.delete_if] * 2 + [self.bulk] * 4 + [self.get] * 3
         kinds += [self.auto] * 2 + [self.pump] * 3 + [self.find] * 6 + [self.stale] * 2 + [self.stats, self.other]
+        kinds += [self.query] * 5 + [self.ask] * 4
         return kinds + [self.index] * 5 + [self.drop] + [self.listed] * 2 + [self.pump_one] * 2
 
     def line(self) -> bytes:

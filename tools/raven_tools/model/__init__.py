@@ -24,4 +24,4 @@ from raven_tools.model.lines import answer, lines, replies
 from raven_tools.model.moments import MOMENT, MOMENTS, at_no_moment
 from raven_tools.model.refused import Refused
 from raven_tools.model.store import Row, Store
-from raven_tools.model.texts import folded, size
+from raven_tools.texts import folded, size

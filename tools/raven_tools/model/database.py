@@ -9,7 +9,7 @@ from raven_tools.model.json import Json
 from raven_tools.model.limits import MAX_ID, MAX_NEW_NAME, MAX_SLOTS
 from raven_tools.model.refused import Refused
 from raven_tools.model.store import Row, Store
-from raven_tools.model.texts import folded, size
+from raven_tools.texts import folded, size
 from raven_tools.model.transactions import Command, perform, result_of, test
 
 Reply: typing.TypeAlias = dict[str, Json]

@@ -2,13 +2,15 @@
 
 import re
 
+from raven_tools.model.asking import Ask, answer_to, read_query
 from raven_tools.model.database import Database, Reply
 from raven_tools.model.definitions import Static
 from raven_tools.model.documents import fault_of
 from raven_tools.model.json import read_json, write_json
-from raven_tools.model.limits import MAX_BATCH, MAX_ID, MAX_NAME
+from raven_tools.model.limits import MAX_BATCH, MAX_ID, MAX_LOOKS, MAX_NAME
 from raven_tools.model.refused import Refused
 from raven_tools.model.transactions import Command
+from raven_tools.scalars import is_number
 
 
 def lines(data: bytes) -> list[bytes]:
@@ -164,6 +166,33 @@ def stale_line(database, rest):
     return database.stale(name_of(rest))
 
 
+def query_line(database, rest):
+    return answer_to(database, Ask(read_query(rest)))
+
+
+def number_of(members, name, least=None, most=None):
+    """A member that may be missing, in which case it is None."""
+    value = members.get(name)
+    if name in members and not is_number(value):
+        raise Refused("BadMember", Name=name)
+    if value is not None and (least is not None and value < least or most is not None and value > most):
+        raise Refused("BadMember", Name=name)
+    return value
+
+
+def ask_line(database, rest):
+    """The members are tested in this order, and the text is read behind them. A script never waits, so looks change nothing."""
+    members = object_of(read_json(rest.encode()), "body")
+    text = text_of(members.get("Query"), "Query")
+    parameters = object_of(members.get("QueryParameters", {}), "QueryParameters")
+    start, size = number_of(members, "Start"), number_of(members, "PageSize")
+    cutoff = number_of(members, "CutoffEtag", least=0)
+    if not isinstance(members.get("WaitForNonStaleResults", False), bool):
+        raise Refused("BadMember", Name="WaitForNonStaleResults")
+    number_of(members, "Looks", 1, MAX_LOOKS)
+    return answer_to(database, Ask(read_query(text), parameters, start or 0, size, cutoff))
+
+
 COMMANDS = {
     "PUT": put_line,
     "PUTIF": put_if_line,
@@ -177,6 +206,8 @@ COMMANDS = {
     "PUMP": pump_line,
     "FIND": find_line,
     "STALE": stale_line,
+    "QUERY": query_line,
+    "ASK": ask_line,
 }
 # Lines without arguments.
 ALONE = {"STATS": Database.stats, "INDEXES": Database.listed}

@@ -6,7 +6,7 @@ from raven_tools.model.documents import vector_of
 from raven_tools.model.json import Json
 from raven_tools.model.limits import BASE
 from raven_tools.model.moments import moment_text
-from raven_tools.model.texts import folded
+from raven_tools.texts import folded
 
 
 @dataclasses.dataclass(frozen=True, eq=False)

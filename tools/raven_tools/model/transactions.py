@@ -7,7 +7,7 @@ from raven_tools.model.json import Json, write_json
 from raven_tools.model.limits import MAX_BODY, MAX_ETAG, MAX_ROWS
 from raven_tools.model.refused import Refused
 from raven_tools.model.store import Store
-from raven_tools.model.texts import folded, size
+from raven_tools.texts import folded, size
 
 
 @dataclasses.dataclass(frozen=True, eq=False)

@@ -27,3 +27,12 @@ class Query:
     sorts: list[Sort] = dataclasses.field(default_factory=list)
     columns: list[tuple[Field, str | None]] = dataclasses.field(default_factory=list)
     includes: list[Path] = dataclasses.field(default_factory=list)
+
+
+def parts_of(condition: Condition) -> list[Condition]:
+    """The conditions inside one that is made of others. A chain of one word may be long, so all that it joins are its parts."""
+    kind, *parts = condition
+    if kind in ("or", "and"):
+        while parts[0][0] == kind:
+            parts[:1] = parts[0][1:]
+    return parts if kind in ("or", "and", "not", "exact") else []
