@@ -71,6 +71,29 @@ def run(command: list[str], script: bytes) -> Outcome:
         return Outcome(taken.read(), seconds, used.ru_utime + used.ru_stime, int(kib[-1]) if kib else None, written)
 
 
+def moments(command: list[str], script: bytes, places: list[int], last: str) -> list[float]:
+    """When so many replies of a run were there, for each of these numbers, which rise: each reply is written as soon as it is known.
+
+    The replies are read as they come, and not kept. It is Wrong if one is a refusal, or the last one is not this.
+    """
+    found: list[float] = []
+    seen, end = 0, b""
+    with tempfile.TemporaryFile() as given:
+        given.write(script)
+        given.seek(0)
+        with subprocess.Popen(command, stdin=given, stdout=subprocess.PIPE, stderr=subprocess.DEVNULL) as started:
+            while piece := os.read(started.stdout.fileno(), 1 << 20):
+                now = time.monotonic()
+                if b'"Error"' in end[-6:] + piece:
+                    raise Wrong(f"a refusal: {piece[:200]!r}")
+                seen += piece.count(b"\n")
+                found += [now] * (sum(place <= seen for place in places) - len(found))
+                end = (end + piece)[-1_000:]
+    if started.returncode or len(found) < len(places) or not end.endswith(last.encode() + b"\n"):
+        raise Wrong(f"status {started.returncode}, {seen} replies, the last {end[-200:]!r} in place of {last!r}")
+    return found
+
+
 def measured(file: str) -> list[str]:
     """What a program is started by, so that its peak of memory is written into the file.
 

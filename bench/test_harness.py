@@ -1,5 +1,5 @@
 #!/usr/bin/env python3
-"""Tests of the harness of the measurements by itself. It needs no program, and takes about a second.
+"""Tests of the harness of the measurements by itself. It needs no program, and takes a few seconds.
 
     bench/test_harness.py
 
@@ -12,7 +12,7 @@ import sys
 sys.dont_write_bytecode = True
 import harness
 import report
-from figures import LINES, documents, stores
+from figures import LINES, documents, queries, stores
 from raven_tools import model
 from raven_tools.places import TOP
 from report import Aim, Figure, Line
@@ -104,8 +104,36 @@ def test_runs():
     stores.sqlite(harness.script_of(lines[:-1]), len(lines) - 1, 8)
 
 
+def test_moments():
+    """Replies are counted as they come. A refusal is found, and so is another end."""
+    lines = [*documents.filling(8), "STATS", "STATS"]
+    script, command, last = harness.script_of(lines), [BENCH.program], harness.stats(8, 0, 8)
+    found = harness.moments(command, script, [1, 2, 3], last)
+    assert len(found) == 3 and found == sorted(found), found
+    for wrong, places, end in ((b"NOTHING\n", [1], last), (b"", [4], last), (b"", [1], "{}")):
+        try:
+            harness.moments(command, wrong + script, places, end)
+            raise AssertionError((wrong, places, end))
+        except harness.Wrong:
+            pass
+
+
+def test_queries():
+    """Each query of the measurement finds as many as it says, and the script has room for those of a large index."""
+    users = queries.Users(100)
+    lines, places = users.lines(dict.fromkeys(queries.KINDS, 2), 1)
+    replies = [model.read_json(reply) for reply in model.replies(harness.script_of(lines)).split(b"\n")[:-1]]
+    results = [(len(replies[place]["Results"]), replies[place]["TotalResults"]) for place in places[:-1]]
+    assert [shown for shown, _ in results] == [1, 100, 10, 20, 20, 20, 20], results
+    assert results[5:] == [(20, 90), (20, 100)] and all(40 <= total <= 60 for _, total in results[3:5]), results
+    users.first = ["x" * (harness.ROOM - 200_000)]
+    counts = users.shared(dict.fromkeys(queries.KINDS, 10**6))
+    assert 150_000 < len(harness.script_of(users.lines(counts, queries.ROUNDS)[0][1:])) < 200_000, counts
+
+
 def main() -> None:
-    for test in (test_differences, test_texts, test_aims, test_page, test_lines, test_documents, test_runs):
+    tests = (test_differences, test_texts, test_aims, test_page, test_lines, test_documents, test_runs, test_moments, test_queries)
+    for test in tests:
         test()
     print("the harness holds")
 

@@ -1,6 +1,6 @@
 """What is measured, by the name that `--only` takes. Each module has its lines of the table, and measures them."""
 
-from figures import batches, file, finds, idle, instructions, memory, puts
+from figures import batches, file, finds, idle, instructions, memory, puts, queries
 
 GROUPS = {
     "puts": puts,
@@ -9,6 +9,7 @@ GROUPS = {
     "batches": batches,
     "idle": idle,
     "finds": finds,
+    "queries": queries,
     "instructions": instructions,
 }
 LINES = [line for group in GROUPS.values() for line in group.LINES]
