@@ -1,2 +1,3 @@
 pub mod FormLemmas
+pub mod ReadLemmas
 pub mod LoadLemmas

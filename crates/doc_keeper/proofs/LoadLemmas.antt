@@ -1,126 +1,69 @@
 -- Rows are loaded one page after another.
-use Rattle.std.proofs.Common.{◌≡◌, ℕ, zero, suc, ◌<◌, ◌≤◌, ◌+◌, ◌-◌, ◌^◌, List, [], ◌∷◌, ◌++◌, Bool, true, false, cond, is_none, Option, Some, None, option_map, IfSome, Result, Ok, Err, IsTrue, ◌↔◌, filter, length, take, drop, min, refl, sym, ap, ◌∙◌, subst, arith}
+use Rattle.std.proofs.Common.{◌≡◌, ℕ, zero, suc, ◌<◌, ◌≤◌, ◌+◌, ◌-◌, ◌^◌, List, [], ◌∷◌, ◌++◌, Bool, true, false, cond, is_some, Option, Some, None, option_map, IfSome, Result, Err, IsTrue, ◌↔◌, filter, length, take, drop, min, refl, sym, ap, ◌∙◌, subst, arith}
 use Rattle.std.proofs.lemmas.Bool.{ltb-true, lt-ltb, le-ltb}
 use Rattle.std.proofs.lemmas.List.{append_assoc, append-nil, length-append, length-take, take-append-drop}
 use Rattle.spec_data.specs.Kept.{KeptRow, EtagsRise, is_past, last_kept}
-use Rattle.spec_data.specs.Rows.{Row, key}
-use Rattle.spec_store.specs.Kept.{can_follow, row_if_it_follows, row_in, or_bad_row, rows_after, rows_in, max_etag}
-use Rattle.spec_store.specs.Store.{Store, row_at, put, last_of, with_row}
-use Rattle.spec_store.proofs.StoreLemmas.{both_true, last_of-put}
-use Rattle.doc_store.specs.Bounds.{IsWithin}
-use Rattle.doc_store.specs.Steps.{MayStand}
-use Rattle.doc_store.proofs.MapLemmas.{none_out}
+use Rattle.spec_data.specs.Rows.{Row}
+use Rattle.spec_store.specs.Kept.{row_in, rows_in}
+use Rattle.spec_store.proofs.StoreLemmas.{both_true}
 use Rattle.raven_ports.proofs.RisingLemmas.{IsPast, last_on, past_on, rises_on}
 use Rattle.raven_ports.specs.Faults.{Rose}
 use Rattle.raven_ports.specs.Plan.{Plan, calls_later, one_later}
+use Rattle.doc_keeper.specs.Reading.{has_place, judged, or_stop, read_on, row_with_place}
 use Rattle.doc_keeper.specs.Loading.{AreCalls, IsCause, IsLoaded, IsPage, IsPageFault}
 use Rattle.doc_keeper.specs.declared.loading.LoadFault.{LoadFault}
 use Rattle.doc_keeper.specs.declared.loading.LoadFault.TheVariants.{Failed, KeptBad, NoMemory}
+use Rattle.doc_keeper.proofs.ReadLemmas.{bad_read, rows_in-judged}
 
--- ONE ROW
+-- PART AFTER PART
 
-no_row : (o : Option Row) → is_none o ≡ true → o ≡ None
-no_row None h = refl
-no_row (Some r) h = cc
+abbrev pub then_read : ℕ → List Row × Option ℕ → List KeptRow → List Row × Option ℕ
+then_read max p ks = elim p.1 [ None ↦ read_on max p.0 ks | Some etag ↦ p ]
 
--- what a row that may go on is
-pub is_newer : (max : ℕ) (rows : List Row) (r : Row) → can_follow max rows r ≡ true → last_of 0 rows < r.etag
-is_newer max rows r h = ltb-true (last_of 0 rows) r.etag (both_true _ _ (both_true _ _ h).0).0
-
-pub is_fresh : (max : ℕ) (rows : List Row) (r : Row) → can_follow max rows r ≡ true → row_at (key r) rows ≡ None
-is_fresh max rows r h = no_row (row_at (key r) rows) (both_true _ _ (both_true _ _ h).0).1
-
-pub has_room : (max : ℕ) (rows : List Row) (r : Row) → can_follow max rows r ≡ true → length rows < max
-has_room max rows r h = ltb-true (length rows) max (both_true _ _ h).1
-
--- it goes to the end
-pub at_end : (max : ℕ) (rows : List Row) (r : Row) → can_follow max rows r ≡ true → put r rows ≡ rows ++ r ∷ []
-at_end max rows r h = ap (λ xs. xs ++ r ∷ []) (none_out (key r) rows (is_fresh max rows r h))
-
-stands_in : (max : ℕ) (S : Store) (r : Row) → can_follow max S.rows r ≡ true → MayStand S r
-stands_in max S r h = record {
-  newer = is_newer max S.rows r h;
-  same = λ x found. let none = is_fresh max S.rows r h in absurd cc;
-}
-
-within_in : (max : ℕ) (S : Store) (r : Row) → can_follow max S.rows r ≡ true → r.etag ≤ max_etag → max < 2 ^ 32 → IsWithin (with_row S r)
-within_in max S r h few small = record {
-  etags = let a = last_of-put 0 r S.rows in omega arith;
-  rows = let a = ap length (at_end max S.rows r h) in let b = has_room max S.rows r h in omega (arith, length-append S.rows (r ∷ []));
-}
-
--- the store of these rows
-abbrev pub IsOf : Store → List Row → Type 0
-IsOf S rows = S ≡ record { rows = rows }
-
-goes_in : (max : ℕ) (S : Store) (rows : List Row) (r : Row) → IsOf S rows → can_follow max rows r ≡ true → can_follow max S.rows r ≡ true
-goes_in max S rows r of h = subst (λ (T : Store). can_follow max T.rows r ≡ true) (sym of) h
-
-pub stands : (max : ℕ) (S : Store) (rows : List Row) (r : Row) → IsOf S rows → can_follow max rows r ≡ true → MayStand S r
-stands max S rows r of h = stands_in max S r (goes_in max S rows r of h)
-
-pub stays_within : (max : ℕ) (S : Store) (rows : List Row) (r : Row) → IsOf S rows → can_follow max rows r ≡ true → r.etag ≤ max_etag → max < 2 ^ 32 → IsWithin (with_row S r)
-stays_within max S rows r of h few small = within_in max S r (goes_in max S rows r of h) few small
-
-pub stays_of : (max : ℕ) (S N : Store) (rows more : List Row) (r : Row) → IsOf S rows → can_follow max rows r ≡ true → N ≡ with_row S r → more ≡ rows ++ r ∷ [] → IsOf N more
-stays_of max S N rows more r of h is so =
-    is ∙ ap (λ (T : Store). with_row T r) of ∙ ap (λ (xs : List Row). record { rows = xs }) (at_end max rows r h ∙ sym so)
-
--- ROWS BEHIND ROWS
-
-abbrev pub then_rows : ℕ → Result (List Row) ℕ → List KeptRow → Result (List Row) ℕ
-then_rows max (Err etag) ks = Err etag
-then_rows max (Ok rows) ks = rows_after max rows ks
-
--- rows go behind, one part of them after another
-pub behind-append : (max : ℕ) (earlier : List Row) (xs ys : List KeptRow) → rows_after max earlier (xs ++ ys) ≡ then_rows max (rows_after max earlier xs) ys
-behind-append max earlier [] ys = refl
-behind-append max earlier (k ∷ xs) ys =
-    elim (row_if_it_follows max earlier (row_in k)) as (λ o. or_bad_row k.etag o (λ r. rows_after max (earlier ++ r ∷ []) (xs ++ ys)) ≡ then_rows max (or_bad_row k.etag o (λ r. rows_after max (earlier ++ r ∷ []) xs)) ys) [
+read_on-append : (max : ℕ) (earlier : List Row) (xs ys : List KeptRow) → read_on max earlier (xs ++ ys) ≡ then_read max (read_on max earlier xs) ys
+read_on-append max earlier [] ys = refl
+read_on-append max earlier (k ∷ xs) ys =
+    elim (row_with_place max earlier (row_in k)) as (λ o. or_stop earlier k.etag o (λ r. read_on max (earlier ++ r ∷ []) (xs ++ ys)) ≡ then_read max (or_stop earlier k.etag o (λ r. read_on max (earlier ++ r ∷ []) xs)) ys) [
       | None ↦ refl
-      | Some r ↦ behind-append max (earlier ++ r ∷ []) xs ys
+      | Some r ↦ read_on-append max (earlier ++ r ∷ []) xs ys
     ]
 
--- a row that is good is passed
-pub passed : (max : ℕ) (earlier more : List Row) (k : KeptRow) (ks : List KeptRow) → rows_after max earlier (k ∷ []) ≡ Ok more → rows_after max earlier (k ∷ ks) ≡ rows_after max more ks
-passed max earlier more k ks is = behind-append max earlier (k ∷ []) ks ∙ ap (λ l. then_rows max l ks) is
+-- after what is good the rest is read
+pub passed : (max : ℕ) (earlier more : List Row) (xs ys : List KeptRow) → read_on max earlier xs ≡ (more, None) → read_on max earlier (xs ++ ys) ≡ read_on max more ys
+passed max earlier more xs ys is = read_on-append max earlier xs ys ∙ ap (λ p. then_read max p ys) is
 
--- a fault among the first is that of all
-fault_then : (max : ℕ) (f : LoadFault) (l : Result (List Row) ℕ) (ks : List KeptRow) → IsPageFault f l → IsPageFault f (then_rows max l ks)
-fault_then max Failed l ks h = h
-fault_then max (KeptBad etag) l ks h = ap (λ x. then_rows max x ks) h
-fault_then max NoMemory l ks h = h
-
-pub fault_on : (max : ℕ) (earlier : List Row) (f : LoadFault) (xs ys : List KeptRow) → IsPageFault f (rows_after max earlier xs) → IsPageFault f (rows_after max earlier (xs ++ ys))
-fault_on max earlier f xs ys h = subst (IsPageFault f) (sym (behind-append max earlier xs ys)) (fault_then max f (rows_after max earlier xs) ys h)
+-- what is bad among the first is so among all
+pub stopped : (max : ℕ) (earlier more : List Row) (etag : ℕ) (xs ys : List KeptRow) → read_on max earlier xs ≡ (more, Some etag) → read_on max earlier (xs ++ ys) ≡ (more, Some etag)
+stopped max earlier more etag xs ys is = read_on-append max earlier xs ys ∙ ap (λ p. then_read max p ys) is
 
 -- HOW MANY ROWS
 
-behind_length : (max : ℕ) (earlier rows : List Row) (ks : List KeptRow) → rows_after max earlier ks ≡ Ok rows → length rows ≡ length earlier + length ks
-behind_length max earlier rows [] is = let same : earlier ≡ rows = cc in let e = ap length same in omega arith
-behind_length max earlier rows (k ∷ ks) is =
-    elim (row_if_it_follows max earlier (row_in k)) as (λ o. or_bad_row k.etag o (λ r. rows_after max (earlier ++ r ∷ []) ks) ≡ Ok rows → length rows ≡ length earlier + suc (length ks)) [
-      | None ↦ λ h. absurd cc
-      | Some r ↦ λ h. let e = behind_length max (earlier ++ r ∷ []) rows ks h in omega (arith, length-append earlier (r ∷ []))
-    ] is
+abbrev counted : List Row × Option ℕ → ℕ → Type 0
+counted p n = p.1 ≡ None → length p.0 ≡ n
 
-row_behind-may : (max : ℕ) (earlier : List Row) (o : Option Row) (r : Row) → row_if_it_follows max earlier o ≡ Some r → can_follow max earlier r ≡ true
-row_behind-may max earlier None r h = absurd cc
-row_behind-may max earlier (Some x) r h =
-    elim (can_follow max earlier x) as (λ b. can_follow max earlier x ≡ b → cond b (Some x) None ≡ Some r → can_follow max earlier r ≡ true) [
-      | true ↦ λ e is. let same : x ≡ r = cc in subst (λ y. can_follow max earlier y ≡ true) same e
+read_length : (max : ℕ) (earlier : List Row) (ks : List KeptRow) → counted (read_on max earlier ks) (length earlier + length ks)
+read_length max earlier [] = λ none. omega arith
+read_length max earlier (k ∷ ks) =
+    elim (row_with_place max earlier (row_in k)) as (λ o. counted (or_stop earlier k.etag o (λ r. read_on max (earlier ++ r ∷ []) ks)) (length earlier + suc (length ks))) [
+      | None ↦ λ none. absurd cc
+      | Some r ↦ λ none. let e = read_length max (earlier ++ r ∷ []) ks none in omega (arith, length-append earlier (r ∷ []))
+    ]
+
+has_room : (max : ℕ) (earlier : List Row) (o : Option Row) (r : Row) → row_with_place max earlier o ≡ Some r → length earlier < max
+has_room max earlier None r h = absurd cc
+has_room max earlier (Some x) r h =
+    elim (has_place max earlier x) as (λ b. has_place max earlier x ≡ b → cond b (Some x) None ≡ Some r → length earlier < max) [
+      | true ↦ λ e is. ltb-true (length earlier) max (both_true _ _ e).1
       | false ↦ λ e is. absurd cc
     ] refl h
 
-behind_most : (max : ℕ) (earlier rows : List Row) (ks : List KeptRow) → length earlier ≤ max → rows_after max earlier ks ≡ Ok rows → length rows ≤ max
-behind_most max earlier rows [] few is = let same : earlier ≡ rows = cc in let e = ap length same in omega arith
-behind_most max earlier rows (k ∷ ks) few is =
-    elim (row_if_it_follows max earlier (row_in k)) as (λ o. row_if_it_follows max earlier (row_in k) ≡ o → or_bad_row k.etag o (λ r. rows_after max (earlier ++ r ∷ []) ks) ≡ Ok rows → length rows ≤ max) [
-      | None ↦ λ e h. absurd cc
-      | Some r ↦ λ e h.
-          let room = has_room max earlier r (row_behind-may max earlier (row_in k) r e) in
-          behind_most max (earlier ++ r ∷ []) rows ks (omega (arith, length-append earlier (r ∷ []))) h
-    ] refl is
+read_most : (max : ℕ) (earlier : List Row) (ks : List KeptRow) → length earlier ≤ max → length (read_on max earlier ks).0 ≤ max
+read_most max earlier [] few = few
+read_most max earlier (k ∷ ks) few =
+    elim (row_with_place max earlier (row_in k)) as (λ o. row_with_place max earlier (row_in k) ≡ o → length (or_stop earlier k.etag o (λ r. read_on max (earlier ++ r ∷ []) ks)).0 ≤ max) [
+      | None ↦ λ e. few
+      | Some r ↦ λ e. let room = has_room max earlier (row_in k) r e in read_most max (earlier ++ r ∷ []) ks (omega (arith, length-append earlier (r ∷ [])))
+    ] refl
 
 -- ETAGS
 
@@ -170,7 +113,7 @@ pub record SoFar (max : ℕ) (held : Option (List KeptRow)) (loaded : List Row) 
   pub given : List KeptRow
   pub rising : EtagsRise None given
   pub last : last_kept None given ≡ after
-  pub read : rows_in max given ≡ Ok loaded
+  pub read : read_on max [] given ≡ (loaded, None)
   pub next : EtagsRise after page
   pub known : IfSome held (IsSplit given page)
 
@@ -179,7 +122,7 @@ split_start None page p = tt
 split_start (Some all) page p = record { rest = all; split = refl; prefix = p.rows ∙ ap (take 1024) (rest_past None [] all p.order); order = p.order }
 
 pub start : (max : ℕ) (held : Option (List KeptRow)) (loaded : List Row) (page : List KeptRow) → loaded ≡ [] → IsPage held None page → SoFar max held loaded None page
-start max held loaded page none p = record { given = []; rising = tt; last = refl; read = ap Ok (sym none); next = p.rising; known = split_start held page p }
+start max held loaded page none p = record { given = []; rising = tt; last = refl; read = ap (λ (rows : List Row). (rows, None)) (sym none); next = p.rising; known = split_start held page p }
 
 split_next : (held : Option (List KeptRow)) (after : Option ℕ) (given page more : List KeptRow) → last_kept None (given ++ page) ≡ after → IfSome held (IsSplit given page) → IsPage held after more
     → IfSome held (IsSplit (given ++ page) more)
@@ -192,14 +135,14 @@ split_next (Some all) after given page more is known p =
     record { rest = drop 1024 known.rest; split = split; prefix = p.rows ∙ ap (take 1024) past; order = p.order }
 
 pub go_on : (max : ℕ) (held : Option (List KeptRow)) (loaded further : List Row) (after now : Option ℕ) (page more : List KeptRow) → SoFar max held loaded after page
-    → rows_after max loaded page ≡ Ok further → now ≡ last_kept after page → IsPage held now more → SoFar max held further now more
+    → read_on max loaded page ≡ (further, None) → now ≡ last_kept after page → IsPage held now more → SoFar max held further now more
 go_on max held loaded further after now page more s is at p =
     let ends : last_kept None (s.given ++ page) ≡ now = last_on None s.given page ∙ ap (λ e. last_kept e page) s.last ∙ sym at in
     record {
       given = s.given ++ page;
       rising = rises_on None s.given page s.rising (subst (λ e. EtagsRise e page) (sym s.last) s.next);
       last = ends;
-      read = behind-append max [] s.given page ∙ ap (λ l. then_rows max l page) s.read ∙ is;
+      read = passed max [] loaded s.given page s.read ∙ is;
       next = p.rising;
       known = split_next held now s.given page more ends s.known p;
     }
@@ -212,37 +155,64 @@ split_done : (held : Option (List KeptRow)) (given : List KeptRow) → IfSome he
 split_done None given known = tt
 split_done (Some all) given known = sym (known.split ∙ ap (λ xs. given ++ xs) (no_rest known.rest known.prefix) ∙ append-nil given)
 
-pub finish : (max : ℕ) (held : Option (List KeptRow)) (loaded rows : List Row) (after : Option ℕ) (page : List KeptRow) → SoFar max held loaded after page → page ≡ [] → rows ≡ loaded → IsLoaded max held (Ok rows)
-finish max held loaded rows after page s none is = record {
+-- all was read, and the rows are those of what was read unless one of them is bad
+pub finish : (max : ℕ) (held : Option (List KeptRow)) (loaded : List Row) (read : Result (List Row) ℕ) (after : Option ℕ) (page : List KeptRow) → SoFar max held loaded after page → page ≡ [] → judged loaded None ≡ read
+    → IsLoaded max held read
+finish max held loaded read after page s none is = record {
   given = s.given;
   rising = s.rising;
   all = split_done held s.given (subst (λ p. IfSome held (IsSplit s.given p)) none s.known);
-  rows = s.read ∙ ap Ok (sym is);
+  rows = rows_in-judged max s.given ∙ ap (λ p. judged p.0 p.1) s.read ∙ is;
 }
 
-bad_in : (max etag : ℕ) (held : Option (List KeptRow)) (given page : List KeptRow) → EtagsRise None (given ++ page) → rows_in max (given ++ page) ≡ Err etag → IfSome held (IsSplit given page)
+pub end : (max : ℕ) (held : Option (List KeptRow)) (loaded : List Row) (after : Option ℕ) (page : List KeptRow) (f : LoadFault) → SoFar max held loaded after page → page ≡ [] → IsPageFault f (judged loaded None) → IsCause max held f
+end max held loaded after page Failed s none h = tt
+end max held loaded after page (KeptBad etag) s none h = finish max held loaded (Err etag) after page s none h
+end max held loaded after page NoMemory s none h = tt
+
+-- a bad row is that of all that the keeper has
+bad_in : (max etag : ℕ) (held : Option (List KeptRow)) (given page : List KeptRow) → EtagsRise None (given ++ page) → ((more : List KeptRow) → rows_in max ((given ++ page) ++ more) ≡ Err etag) → IfSome held (IsSplit given page)
     → IsLoaded max held (Err etag)
-bad_in max etag None given page up bad known = record { given = given ++ page; rising = up; all = tt; rows = bad }
-bad_in max etag (Some all) given page up bad known = record {
-  given = all;
-  rising = known.order;
-  all = refl;
-  rows =
-      ap (rows_in max) (after_page given page all known) ∙ behind-append max [] (given ++ page) (drop 1024 known.rest)
-      ∙ ap (λ l. then_rows max l (drop 1024 known.rest)) bad;
-}
+bad_in max etag None given page up bad known = record { given = given ++ page; rising = up; all = tt; rows = ap (rows_in max) (sym (append-nil (given ++ page))) ∙ bad [] }
+bad_in max etag (Some all) given page up bad known = record { given = all; rising = known.order; all = refl; rows = ap (rows_in max) (after_page given page all known) ∙ bad (drop 1024 known.rest) }
 
-pub stop : (max : ℕ) (held : Option (List KeptRow)) (loaded : List Row) (after : Option ℕ) (page : List KeptRow) (f : LoadFault) → SoFar max held loaded after page
-    → IsPageFault f (rows_after max loaded page) → IsCause max held f
-stop max held loaded after page Failed s h = tt
-stop max held loaded after page (KeptBad etag) s h =
-    bad_in max etag held s.given page (rises_on None s.given page s.rising (subst (λ e. EtagsRise e page) (sym s.last) s.next))
-    (behind-append max [] s.given page ∙ ap (λ l. then_rows max l page) s.read ∙ h) s.known
-stop max held loaded after page NoMemory s h = tt
+rise : (max : ℕ) (held : Option (List KeptRow)) (loaded : List Row) (after : Option ℕ) (page : List KeptRow) (s : SoFar max held loaded after page) → EtagsRise None (s.given ++ page)
+rise max held loaded after page s = rises_on None s.given page s.rising (subst (λ e. EtagsRise e page) (sym s.last) s.next)
 
--- how many rows are loaded
+-- a row of this page is bad, or an earlier one
+pub stop : (max bad : ℕ) (held : Option (List KeptRow)) (loaded further : List Row) (after : Option ℕ) (page : List KeptRow) (f : LoadFault) → SoFar max held loaded after page → read_on max loaded page ≡ (further, Some bad)
+    → IsPageFault f (judged further (Some bad)) → IsCause max held f
+stop max bad held loaded further after page Failed s is h = tt
+stop max bad held loaded further after page (KeptBad etag) s is h =
+    bad_in max etag held s.given page (rise max held loaded after page s)
+    (λ more. rows_in-judged max ((s.given ++ page) ++ more) ∙ ap (λ p. judged p.0 p.1) (stopped max [] further bad (s.given ++ page) more (passed max [] loaded s.given page s.read ∙ is)) ∙ h) s.known
+stop max bad held loaded further after page NoMemory s is h = tt
+
+-- the keeper gives no more, and a row that it gave is bad
+pub broken : (max : ℕ) (held : Option (List KeptRow)) (loaded further : List Row) (after : Option ℕ) (page : List KeptRow) (f : LoadFault) → SoFar max held loaded after page → read_on max loaded page ≡ (further, None)
+    → IsPageFault f (judged further None) → IsCause max held f
+broken max held loaded further after page Failed s is h = tt
+broken max held loaded further after page (KeptBad etag) s is h =
+    bad_in max etag held s.given page (rise max held loaded after page s)
+    (λ more. rows_in-judged max ((s.given ++ page) ++ more) ∙ ap (λ p. judged p.0 p.1) (passed max [] further (s.given ++ page) more (passed max [] loaded s.given page s.read ∙ is)) ∙ bad_read max further more etag h) s.known
+broken max held loaded further after page NoMemory s is h = tt
+
+-- however it goes on
+pub caused : (max : ℕ) (bad : Option ℕ) (held : Option (List KeptRow)) (loaded further : List Row) (after : Option ℕ) (page : List KeptRow) (f : LoadFault) → SoFar max held loaded after page → read_on max loaded page ≡ (further, bad)
+    → IsPageFault f (judged further bad) → IsCause max held f
+caused max None held loaded further after page f s is h = broken max held loaded further after page f s is h
+caused max (Some bad) held loaded further after page f s is h = stop max bad held loaded further after page f s is h
+
+pub not_some : (o : Option ℕ) → is_some o ≡ false → o ≡ None
+not_some None h = refl
+not_some (Some n) h = absurd cc
+
+-- how many rows are read
 pub few : (max : ℕ) (held : Option (List KeptRow)) (loaded : List Row) (after : Option ℕ) (page : List KeptRow) → SoFar max held loaded after page → length loaded ≤ max
-few max held loaded after page s = behind_most max [] loaded s.given (omega arith) s.read
+few max held loaded after page s = subst (λ (p : List Row × Option ℕ). length p.0 ≤ max) s.read (read_most max [] s.given (omega arith))
+
+pub read_few : (max : ℕ) (held : Option (List KeptRow)) (loaded further : List Row) (after : Option ℕ) (page : List KeptRow) (bad : Option ℕ) → SoFar max held loaded after page → read_on max loaded page ≡ (further, bad) → length further ≤ max
+read_few max held loaded further after page bad s is = subst (λ (p : List Row × Option ℕ). length p.0 ≤ max) is (read_most max loaded page (few max held loaded after page s))
 
 -- FAULTS
 
@@ -261,9 +231,11 @@ has_rows : (b : Bool) (page : List KeptRow) → IsTrue b ↔ (page ≡ []) → b
 has_rows b [] is h = let e : b ≡ true = is.1 refl in absurd cc
 has_rows b (k ∷ page) is h = omega arith
 
-pub smaller : (max : ℕ) (loaded further : List Row) (page : List KeptRow) (b : Bool) → length further ≤ max → rows_after max loaded page ≡ Ok further → IsTrue b ↔ (page ≡ []) → b ≡ false
+pub smaller : (max : ℕ) (loaded further : List Row) (page : List KeptRow) (b : Bool) → length further ≤ max → read_on max loaded page ≡ (further, None) → IsTrue b ↔ (page ≡ []) → b ≡ false
     → max - length further < max - length loaded
-smaller max loaded further page b most is none h = let a = behind_length max loaded further page is in let c = has_rows b page none h in omega arith
+smaller max loaded further page b most is none h =
+    let a : length further ≡ length loaded + length page = subst (λ p. counted p (length loaded + length page)) is (read_length max loaded page) refl in
+    let c = has_rows b page none h in omega arith
 
 -- CALLS
 

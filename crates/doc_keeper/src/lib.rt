@@ -7,4 +7,4 @@ mod loading;
 
 pub use form::row_of;
 pub use keeping::{all_kept, kept};
-pub use loading::{LoadFault, load_all};
+pub use loading::{LoadFault, load};

@@ -1,9 +1,11 @@
 //! Loading the rows of a database from their keeper.
-ghost use Rattle.std.specs.Prelude.{◌≡◌, ◌≤◌, ◌++◌, ℕ, [], ◌∷◌, true, option_map, IfErr, IfOk, IsErrOf, Ok, length};
+ghost use Rattle.std.specs.Prelude.{◌≡◌, ◌≤◌, ◌<◌, ◌^◌, ◌⊎◌, ℕ, [], ◌∷◌, option_map, IfErr, IfOk, IsErrOf, None, Ok, length};
+ghost use Rattle.doc_store.specs.Opening.{first_bad};
 ghost use Rattle.doc_keeper.specs.Loading.{AreCalls, IsCause, IsLoaded, IsPage, IsPageFault};
+ghost use Rattle.doc_keeper.specs.Reading.{has_place as spec_has_place, judged, read_on};
 ghost use Rattle.doc_keeper.specs.declared.loading.LoadFault.TheVariants.{NoMemory as OutOfMemory};
 ghost use Rattle.spec_data.specs.Kept.{last_kept};
-ghost use Rattle.spec_store.specs.Kept.{max_etag, can_follow, rows_after};
+ghost use Rattle.spec_store.specs.Store.{last_of as spec_last_of};
 ghost use Rattle.raven_ports.specs.Faults.{Rose};
 ghost use Rattle.raven_ports.specs.Plan.{one_later};
 
@@ -14,7 +16,6 @@ use raven_base::{NoMemory, Sequence};
 use raven_ports::{Keeper, KeeperFault, KeptRow, KeptRows};
 use raven_value::{Row, Rows};
 use std::alloc::Global;
-use std::marker::Model;
 use thiserror::Error;
 
 /// How many rows are loaded at a time.
@@ -47,98 +48,89 @@ impl From<NoMemory> for LoadFault {
     }
 }
 
-// Rows in order of etag, one for each id, and the store of them, in which an id is found.
-#[derive(Drop)]
-struct Loaded {
-    rows: Rows,
-    store: Store,
+// The etag of the last row, or 0.
+fn last_of(rows: &[Row]) -> u64
+    ensures { result ≡ spec_last_of 0 rows.now }
+{
+    match rows.last() {
+        Some(row) => row.etag,
+        None => 0,
+    }
 }
 
-impl Model for Loaded {
-    ghost use Rattle.std.specs.Prelude.{◌≡◌, List};
-    ghost use Rattle.std.specs.Coded.{coded_list};
-    ghost use Rattle.spec_data.specs.Codes.{row_code};
-    ghost use Rattle.spec_data.specs.Rows as rowdata;
-    ghost use Rattle.spec_store.specs.Store as stores;
-
-    ghost Value = { List rowdata.Row };
-
-    ghost coded = { coded_list row_code };
-
-    ghost view = { λ a. a.rows };
-
-    ghost invariant = { λ a. a.store ≡ record { rows = a.rows } };
+// Whether the row may come after these, if its id is new.
+fn has_place(rows: &Rows, row: &Row, max: u32) -> bool
+    ensures { result ≡ spec_has_place max rows.now row.now }
+{
+    last_of(rows.as_slice()) < row.etag && rows.len() < max as usize
 }
 
-impl Loaded {
-    // No rows.
-    fn new(alloc: Global) -> Result<Loaded, NoMemory>
-        ensures { IfOk result (λ loaded. loaded ≡ []) }
-    {
-        Ok(Loaded {
-            rows: Sequence::new(alloc),
-            store: Store::empty(alloc)?,
-        })
+// Adds the row of a stored row. It returns the etag of the stored row if it is bad, and adds nothing then. Ids are not compared.
+fn add_row(
+    alloc: Global,
+    rows: &mut Rows,
+    kept: &KeptRow,
+    max: u32,
+) -> Result<Option<u64>, NoMemory>
+    ensures { IfOk result (λ bad. (rows.new, bad) ≡ read_on max rows.old (kept.now ∷ [])) }
+{
+    let row = match row_of(alloc, kept) {
+        Ok(row) => row,
+        Err(OpenFault::KeptBad { etag }) => return Ok(Some(etag)),
+        Err(OpenFault::NoMemory) => return Err(NoMemory),
+    };
+    if !has_place(rows, &row, max) {
+        return Ok(Some(kept.etag));
     }
+    rows.push(row)?;
+    Ok(None)
+}
 
-    fn into_rows(self) -> Rows
-        ensures { result ≡ self }
-    {
-        let Loaded { rows, .. } = self;
-        rows
-    }
-
-    // Whether the row may come after these.
-    fn may_go_on(&self, row: &Row, max: u32) -> bool
-        ensures { result ≡ can_follow max self.now row.now }
-    {
-        self.store.last() < row.etag && self.store.get(&row.id).is_none() && self.store.len() < max
-    }
-
-    // These rows and one more.
-    fn with_row(self, alloc: Global, row: Row, max: u32) -> Result<Loaded, NoMemory>
-        requires goes_on { can_follow max self row ≡ true }
-        requires etag { row.etag ≤ max_etag }
-        ensures { IfOk result (λ loaded. loaded ≡ self ++ row ∷ []) }
-    {
-        let Loaded { mut rows, store } = self;
-        rows.push(row.clone()?)?;
-        let store = store.put_row(alloc, row)?;
-        Ok(Loaded { rows, store })
-    }
-
-    // These rows and the row of this stored one.
-    fn with_kept(self, alloc: Global, kept: &KeptRow, max: u32) -> Result<Loaded, LoadFault>
-        ensures ok { IfOk result (λ loaded. rows_after max self (kept.now ∷ []) ≡ Ok loaded) }
-        ensures fault { IfErr result (λ fault. IsPageFault fault (rows_after max self (kept.now ∷ []))) }
-    {
-        let row = match row_of(alloc, kept) {
-            Ok(row) => row,
-            Err(OpenFault::KeptBad { etag }) => return Err(LoadFault::KeptBad { etag }),
-            Err(OpenFault::NoMemory) => return Err(LoadFault::NoMemory),
-        };
-        if !self.may_go_on(&row, max) {
-            return Err(LoadFault::KeptBad { etag: kept.etag });
-        }
-        match self.with_row(alloc, row, max) {
-            Ok(loaded) => Ok(loaded),
-            Err(NoMemory) => Err(LoadFault::NoMemory),
+// Adds the rows of stored rows up to the first bad one, whose etag it returns. Ids are not compared.
+fn add_rows(
+    alloc: Global,
+    rows: &mut Rows,
+    page: &[KeptRow],
+    max: u32,
+) -> Result<Option<u64>, NoMemory>
+    ensures { IfOk result (λ bad. (rows.new, bad) ≡ read_on max rows.old page.now) }
+{
+    for kept in page {
+        let bad = add_row(alloc, rows, kept, max)?;
+        if bad.is_some() {
+            return Ok(bad);
         }
     }
+    Ok(None)
+}
 
-    // These rows and the rows of these stored ones.
-    fn with_page(self, alloc: Global, page: &[KeptRow], max: u32) -> Result<Loaded, LoadFault>
-        ensures ok { IfOk result (λ loaded. rows_after max self page.now ≡ Ok loaded) }
-        ensures fault { IfErr result (λ fault. IsPageFault fault (rows_after max self page.now)) }
-    {
-        let mut loaded = self;
-        for kept in page {
-            loaded = match loaded.with_kept(alloc, kept, max) {
-                Ok(more) => more,
-                Err(fault) => return Err(fault),
-            };
-        }
-        Ok(loaded)
+// These rows and their store, unless one of them has the id of an earlier one, or the stored row after them is bad.
+fn opened(alloc: Global, rows: Rows, bad: Option<u64>) -> Result<(Rows, Store), LoadFault>
+    requires few { length rows < 2 ^ 32 }
+    ensures ok { IfOk result (λ r. judged rows bad ≡ Ok r.0) }
+    ensures store { IfOk result (λ r. r.1 ≡ record { rows = r.0 }) }
+    ensures sound { IfOk result (λ r. first_bad [] r.0 ≡ None) }
+    ensures fault { IfErr result (λ fault. IsPageFault fault (judged rows bad)) }
+{
+    let store = match Store::open(alloc, &rows) {
+        Ok(store) => store,
+        Err(OpenFault::KeptBad { etag }) => return Err(LoadFault::KeptBad { etag }),
+        Err(OpenFault::NoMemory) => return Err(LoadFault::NoMemory),
+    };
+    match bad {
+        Some(etag) => Err(LoadFault::KeptBad { etag }),
+        None => Ok((rows, store)),
+    }
+}
+
+// The fault with which the keeper gave no rows after these, unless one of these is bad: then that is reported.
+fn or_bad_row(alloc: Global, rows: Rows, fault: LoadFault) -> LoadFault
+    requires few { length rows < 2 ^ 32 }
+    ensures { (result ≡ fault) ⊎ IsPageFault result (judged rows None) }
+{
+    match opened(alloc, rows, None) {
+        Err(LoadFault::KeptBad { etag }) => LoadFault::KeptBad { etag },
+        _ => fault,
     }
 }
 
@@ -173,40 +165,43 @@ fn load_page<K: Keeper>(
     }
 }
 
-/// All rows that the keeper has, in order of etag.
+/// All rows that the keeper has, in order of etag, and the store of them.
 ///
 /// A stored row is bad if `row_of` refuses it; if its etag is not past those of the rows before it; if one of these has its id,
 /// without regard to case; or if there are `limits.rows` of them. Of several the first is named.
 #[tactic(auto, using(crate::proofs::LoadLemmas::calls))]
-pub fn load_all<K: Keeper>(
+pub fn load<K: Keeper>(
     alloc: Global,
     keeper: &mut K,
     limits: &Limits,
-) -> Result<Rows, LoadFault>
-    ensures ok { IfOk result (λ rows. IsLoaded limits.now.rows (K.state keeper.old).held (Ok rows)) }
-    ensures most { IfOk result (λ rows. length rows ≤ limits.now.rows) }
+) -> Result<(Rows, Store), LoadFault>
+    ensures ok { IfOk result (λ r. IsLoaded limits.now.rows (K.state keeper.old).held (Ok r.0)) }
+    ensures store { IfOk result (λ r. r.1 ≡ record { rows = r.0 }) }
+    ensures sound { IfOk result (λ r. first_bad [] r.0 ≡ None) }
+    ensures most { IfOk result (λ r. length r.0 ≤ limits.now.rows) }
     ensures fault { IfErr result (IsCause limits.now.rows (K.state keeper.old).held) }
     ensures same { (K.state keeper.new).held ≡ (K.state keeper.old).held }
     ensures called { AreCalls (K.state keeper.old).plan (K.state keeper.new).plan }
     ensures later { (K.state keeper.old).count ≤ (K.state keeper.new).count }
     ensures cause { IsErrOf result LoadFault.Failed → Rose (K.state keeper.old).count (K.state keeper.new).count }
 {
-    let mut loaded = Loaded::new(alloc)?;
+    let max = limits.rows;
+    let mut rows = Sequence::new(alloc);
     let mut after = None;
     let mut page = match load_page(alloc, keeper, after) {
         Ok(first) => first,
         Err(fault) => return Err(fault),
     };
     while !page.is_empty() {
-        loaded = match loaded.with_page(alloc, page.as_slice(), limits.rows) {
-            Ok(more) => more,
-            Err(fault) => return Err(fault),
-        };
+        let bad = add_rows(alloc, &mut rows, page.as_slice(), max)?;
+        if bad.is_some() {
+            return opened(alloc, rows, bad);
+        }
         after = last_etag(after, page.as_slice());
         page = match load_page(alloc, keeper, after) {
             Ok(next) => next,
-            Err(fault) => return Err(fault),
+            Err(fault) => return Err(or_bad_row(alloc, rows, fault)),
         };
     }
-    Ok(loaded.into_rows())
+    opened(alloc, rows, None)
 }

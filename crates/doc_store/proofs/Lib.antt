@@ -5,3 +5,4 @@ pub mod WalkLemmas
 pub mod NewestLemmas
 pub mod IdLemmas
 pub mod OpeningLemmas
+pub mod SortLemmas

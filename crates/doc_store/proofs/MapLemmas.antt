@@ -1,5 +1,5 @@
 -- What the maps of a store show after a change.
-use Rattle.std.proofs.Common.{◌≡◌, ℕ, ◌<◌, List, [], ◌∷◌, ◌++◌, Bool, true, false, not, cond, Option, Some, None, filter, option_map, unwrap_or, append-nil, refl, sym, ap, ◌∙◌, subst, arith}
+use Rattle.std.proofs.Common.{◌≡◌, ℕ, ◌<◌, ◌≤◌, ◌+◌, List, [], ◌∷◌, ◌++◌, Bool, true, false, not, cond, Option, Some, None, filter, length, take, get_or, option_map, unwrap_or, append-nil, refl, sym, ap, ◌∙◌, subst, arith}
 use Rattle.std.specs.declared.cmp.Ordering.TheVariants.{Less, Equal, Greater}
 use Rattle.std.specs.Str.{bytes_eq}
 use Rattle.std.specs.Ordering.{nat_cmp, is_eq, match_ordering}
@@ -7,14 +7,14 @@ use Rattle.std.specs.Cmp.{IsTotalOrder, nat_cmp_is, nat_cmp_total, on_total}
 use Rattle.std.specs.Cmp.Lexicographic.{nat_list_cmp_total, nat_list_eq_equiv}
 use Rattle.std.specs.Map.{lookup, remove_entry}
 use Rattle.std.specs.BTreeMap.{is_at, insert_entry}
-use Rattle.std.proofs.lemmas.List.{map-append}
+use Rattle.std.proofs.lemmas.List.{map-append, take_more}
 use Rattle.std.proofs.lemmas.List.Elements.{filter-append}
 use Rattle.std.proofs.lemmas.Map.Text.{is_eq-slice_cmp}
 use Rattle.std.proofs.lemmas.Slice.Eq.{bytes_eq-Decides}
 use Rattle.spec_data.specs.Folding.{folded, key_cmp, same_key}
 use Rattle.spec_data.specs.Rows.{Row, key}
 use Rattle.spec_store.specs.Store.{row_at, put, last_of, AreRising, AreApart, Store, IsStore, with_row}
-use Rattle.spec_store.proofs.StoreLemmas.{row_at-put, found_etag, found_passing, passing_found, none_still, same_means, same_row, last_of-put, AreRising-put, AreApart-put, AreRising-filter, last_of-filter}
+use Rattle.spec_store.proofs.StoreLemmas.{row_at-put, found_etag, found_passing, passing_found, none_still, same_means, same_row, last_of-put, AreRising-put, AreApart-put, AreRising-filter, last_of-append, last_of-filter}
 use Rattle.spec_store.proofs.KeyedLemmas.{key_ties}
 use Rattle.paged_map.specs.Pairs.{AllAnswer, IsRising}
 use Rattle.paged_map.proofs.Laws.{lookup-insert_entry, lookup-remove_entry, insert_last}
@@ -114,6 +114,28 @@ put_shown rows r pairs last s newer is e = subst (ShowsByEtag pairs last) (sym (
   pairs = is;
   last_is = e ∙ sym (last_of-put 0 r rows);
 })
+
+-- all rows at once
+
+pub pairs_on : (rows : List Row) (i : ℕ) (r taken : Row) (etag : ℕ) (pairs more : List (ℕ × Row)) → i < length rows → get_or rows i r ≡ r → taken ≡ r → etag ≡ r.etag → pairs ≡ by_etag (take i rows) → more ≡ pairs ++ (etag, taken) ∷ []
+    → more ≡ by_etag (take (i + 1) rows)
+pairs_on rows i r taken etag pairs more lt is same e was made =
+    made ∙ ap (λ es. es ++ (etag, taken) ∷ []) was ∙ ap (λ n. by_etag (take i rows) ++ (n, taken) ∷ []) e ∙ ap (λ (x : Row). by_etag (take i rows) ++ (r.etag, x) ∷ []) same
+    ∙ sym (ap by_etag (take_more rows i r lt ∙ ap (λ x. take i rows ++ x ∷ []) is) ∙ map-append (λ x. (x.etag, x)) (take i rows) (r ∷ []))
+
+pub last_on : (rows : List Row) (i : ℕ) (r : Row) (etag : ℕ) → i < length rows → get_or rows i r ≡ r → etag ≡ r.etag → etag ≡ last_of 0 (take (i + 1) rows)
+last_on rows i r etag lt is e = e ∙ sym (ap (last_of 0) (take_more rows i r lt ∙ ap (λ x. take i rows ++ x ∷ []) is) ∙ last_of-append 0 (take i rows) (r ∷ []))
+
+all_above : (e low : ℕ) (rows : List Row) → e ≤ low → AreRising low rows → AllAnswer nat_cmp e Less (by_etag rows)
+all_above e low [] le up = tt
+all_above e low (r ∷ rows) le up = (less e r.etag (let a = up.0 in omega arith), all_above e r.etag rows (let a = up.0 in omega arith) up.1)
+
+pub by_etag-rises : (low : ℕ) (rows : List Row) → AreRising low rows → IsRising nat_cmp (by_etag rows)
+by_etag-rises low [] up = tt
+by_etag-rises low (r ∷ rows) up = (all_above r.etag r.etag rows (omega arith) up.1, by_etag-rises r.etag rows up.1)
+
+pub all_shown : (pairs : List (ℕ × Row)) (last : ℕ) (rows : List Row) → IsStore (record { rows = rows }) → pairs ≡ by_etag rows → last ≡ last_of 0 rows → ShowsByEtag pairs last (rows_in pairs)
+all_shown pairs last rows s is e = subst (ShowsByEtag pairs last) (sym (ap rows_in is ∙ rows_in-by_etag rows)) (record { store = s; pairs = is; last_is = e })
 
 -- BY ID
 
@@ -222,4 +244,15 @@ grown ids collections S r ids2 collections2 rows2 s m w a b c =
       by_ids = λ q. ap (lookup (is_at (id_cmp q))) a ∙ ids-with ids r S.rows s.by_ids q;
       filed = subst AreFiled (sym a) (AreFiled-with ids r s.filed);
       by_collections = collections-with collections collections2 r S.rows s.kept.store.apart m.same s.by_collections b;
+    })
+
+-- maps that are made of all rows at once
+pub all_show : (pairs ids : List (List ℕ × Row)) (collections : List (List ℕ × List Row)) (rows shared all : List Row) → all ≡ rows → shared ≡ rows → IsStore (record { rows = rows }) → IsWithin (record { rows = rows }) → ids ≡ pairs
+    → ((q : List ℕ) → lookup (is_at (id_cmp q)) pairs ≡ row_at (folded q) shared) → AreFiled pairs → ((c : List ℕ) → rows_of collections c ≡ filter (is_of c) shared) → Shows ids collections all
+all_show pairs ids collections rows shared all is same s w made found filed by_collections =
+    subst (Shows ids collections) (sym is) (record {
+      kept = record { store = s; within = w };
+      by_ids = λ q. ap (lookup (is_at (id_cmp q))) made ∙ found q ∙ ap (row_at (folded q)) same;
+      filed = subst AreFiled (sym made) filed;
+      by_collections = λ c. by_collections c ∙ ap (filter (is_of c)) same;
     })

@@ -1,7 +1,7 @@
 -- How the maps of a store show its rows.
-use Rattle.std.specs.Prelude.{◌≡◌, ℕ, List, [], ◌∷◌, Bool, Option, Some, None, if◌then◌else◌, nat_lt, map, filter, option_map, unwrap_or}
+use Rattle.std.specs.Prelude.{◌≡◌, ℕ, List, [], ◌∷◌, Bool, false, Option, Some, None, if◌then◌else◌, nat_lt, map, filter, option_map, unwrap_or}
 use Rattle.std.specs.Str.{bytes_eq}
-use Rattle.std.specs.Ordering.{nat_cmp, on}
+use Rattle.std.specs.Ordering.{is_lt, nat_cmp, on}
 use Rattle.std.specs.declared.cmp.Ordering.{Ordering}
 use Rattle.std.specs.Map.{lookup, remove_entry}
 use Rattle.std.specs.BTreeMap.{is_at}
@@ -22,6 +22,10 @@ rows_in pairs = map (λ e. e.1) pairs
 abbrev pub AreFiled : List (List ℕ × Row) → Type 0
 AreFiled [] = Unit {0}
 AreFiled (e ∷ es) = (folded e.0 ≡ key e.1) × AreFiled es
+
+-- rows under their ids
+abbrev pub by_id : List Row → List (List ℕ × Row)
+by_id rows = map (λ r. (r.id, r)) rows
 
 -- rows under their etags
 abbrev pub by_etag : List Row → List (ℕ × Row)
@@ -48,6 +52,16 @@ is_of collection r = bytes_eq r.collection collection
 -- the rows that a map has for a collection
 abbrev pub rows_of : List (List ℕ × List Row) → List ℕ → List Row
 rows_of collections c = unwrap_or (lookup (is_at (key_cmp c)) collections) []
+
+-- no row is of a collection below this one
+abbrev pub NoneBelow : List ℕ → List Row → Type 0
+NoneBelow c [] = Unit {0}
+NoneBelow c (r ∷ rows) = (is_lt (key_cmp r.collection c) ≡ false) × NoneBelow c rows
+
+-- rows in order of their collections
+abbrev pub AreByCollection : List Row → Type 0
+AreByCollection [] = Unit {0}
+AreByCollection (r ∷ rows) = NoneBelow r.collection rows × AreByCollection rows
 
 -- a map shows these rows under their etags, and the etag of the last of them is this
 pub record ShowsByEtag (etags : List (ℕ × Row)) (last : ℕ) (rows : List Row) : Type 0 where

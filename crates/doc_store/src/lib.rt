@@ -4,6 +4,7 @@
 mod opening;
 mod rows;
 mod rows_by_etag;
+mod sorting;
 mod store;
 
 pub use opening::OpenFault;

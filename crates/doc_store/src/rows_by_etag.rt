@@ -3,7 +3,7 @@ ghost use Rattle.std.specs.Prelude.{◌≡◌, ◌↔◌, ◌<◌, [], IfOk, IsT
 ghost use Rattle.std.specs.Option.{option_copied};
 ghost use Rattle.std.specs.List.{find};
 ghost use Rattle.spec_data.specs.Rows.{key};
-ghost use Rattle.spec_store.specs.Store.{AreRising, last_of, put};
+ghost use Rattle.spec_store.specs.Store.{AreRising, IsStore, last_of, put};
 ghost use Rattle.spec_store.specs.Stale.{up_to};
 ghost use Rattle.doc_store.specs.Maps.{etag_at, rows_in, without_etag};
 
@@ -71,6 +71,23 @@ impl RowsByEtag {
         Ok(RowsByEtag {
             rows: PagedMap::new(alloc)?,
             last: 0,
+        })
+    }
+
+    /// These rows, in time that is linear in their number.
+    pub fn of(alloc: Global, rows: &[Shared<Row>]) -> Result<RowsByEtag, NoMemory>
+        requires { IsStore (record { rows = rows.now }) }
+        ensures { IfOk result (λ all. all ≡ rows.now) }
+    {
+        let mut pairs = Vec::with_capacity(alloc, rows.len())?;
+        let mut last = 0;
+        for row in rows {
+            last = row.get().etag;
+            pairs.push((last, row.clone()?))?;
+        }
+        Ok(RowsByEtag {
+            rows: PagedMap::from_sorted(alloc, pairs)?,
+            last,
         })
     }
 

@@ -1,11 +1,11 @@
 //! The store.
 ghost use Rattle.std.specs.Str.{bytes_eq};
-ghost use Rattle.std.specs.Prelude.{◌≡◌, ◌≤◌, ◌<◌, ◌+◌, ◌*◌, ◌&&◌, ◌↔◌, ℕ, IfOk, IsTrue, filter, length, nat_lt, not, option_copied};
+ghost use Rattle.std.specs.Prelude.{◌≡◌, ◌≤◌, ◌<◌, ◌+◌, ◌*◌, ◌&&◌, ◌↔◌, ℕ, IfOk, IfSome, IsSome, IsTrue, filter, length, nat_lt, not, option_copied};
 ghost use Rattle.std.specs.List.{find};
 ghost use Rattle.spec_data.specs.Folding.{folded};
 ghost use Rattle.spec_data.specs.Limits.{max_etag};
-ghost use Rattle.spec_data.specs.Rows.{is_document};
-ghost use Rattle.spec_store.specs.Store.{IsStore, empty_store, last, row_at, with_row, with_rows};
+ghost use Rattle.spec_data.specs.Rows.{is_document, key};
+ghost use Rattle.spec_store.specs.Store.{AreApart, AreRising, IsStore, empty_store, last, row_at, with_row, with_rows};
 ghost use Rattle.spec_store.specs.Later.{MayFollowAll};
 ghost use Rattle.spec_store.specs.Stale.{newest, past, stale, batch_rows};
 ghost use Rattle.spec_data.specs.Tables.{in_scope, table_of};
@@ -18,7 +18,8 @@ use crate::rows::{
     Counts, copies, counts_of, documents_of, earlier, first_of, newest_of, put_among,
 };
 use crate::rows_by_etag::RowsByEtag;
-use paged_map::PagedMap;
+use crate::sorting::{all_shared, by_collection, sorted_by_id};
+use paged_map::{PagedMap, is_rising};
 use raven_base::{NoMemory, Shared, Steps};
 use raven_value::{Id, Row, Rows, Scope, Text};
 use std::alloc::{AllocError, Global};
@@ -62,6 +63,27 @@ impl Store {
             by_etag: RowsByEtag::new(alloc)?,
             by_collection: PagedMap::new(alloc)?,
         })
+    }
+
+    /// The store of these rows, or nothing if two of them have one id. The rows are in order of etag.
+    ///
+    /// Each map is made of a sorted list, and not by one change after another.
+    pub(crate) fn of(alloc: Global, rows: &[Row]) -> Result<Option<Store>, NoMemory>
+        requires rising { AreRising 0 rows.now }
+        requires within { IsWithin (record { rows = rows.now }) }
+        ensures made { IfOk result (λ store. IfSome store (λ s. s ≡ record { rows = rows.now })) }
+        ensures apart { IfOk result (λ store. IsSome store ↔ AreApart rows.now) }
+    {
+        let shared = all_shared(alloc, rows)?;
+        let ids = sorted_by_id(alloc, &shared)?;
+        if !is_rising(&ids) {
+            return Ok(None);
+        }
+        Ok(Some(Store {
+            by_id: PagedMap::from_sorted(alloc, ids)?,
+            by_etag: RowsByEtag::of(alloc, &shared)?,
+            by_collection: by_collection(alloc, shared)?,
+        }))
     }
 
     /// The row of an id, which may be a tombstone. It takes no memory.
@@ -207,12 +229,25 @@ impl Store {
         requires within { IsWithin (with_row self row) }
         ensures { IfOk result (λ store. store ≡ with_row self row) }
     {
-        let shared = Shared::of(alloc, row)?;
-        let kept = shared.get();
-        let replaced = self.etag_of(&kept.id);
-        let id = kept.id.clone()?;
-        let under_id = shared.clone()?;
-        let under_etag = shared.clone()?;
+        let replaced = self.etag_of(&row.id);
+        self.put_shared(alloc, Shared::of(alloc, row)?, replaced)
+    }
+
+    /// As `put_row`, of a row that the maps share, in place of the one with this etag.
+    fn put_shared(
+        self,
+        alloc: Global,
+        row: Shared<Row>,
+        replaced: Option<u64>,
+    ) -> Result<Store, NoMemory>
+        requires replaced { replaced ≡ etag_at (key row) self.rows }
+        requires stands { MayStand self row }
+        requires within { IsWithin (with_row self row) }
+        ensures { IfOk result (λ store. store ≡ with_row self row) }
+    {
+        let id = row.get().id.clone()?;
+        let under_id = row.clone()?;
+        let under_etag = row.clone()?;
         let Store {
             by_id,
             by_etag,
@@ -220,7 +255,7 @@ impl Store {
         } = self;
         let ids = by_id.put(alloc, id, under_id)?;
         let etags = by_etag.put(alloc, under_etag, replaced)?;
-        let collections = put_among(alloc, by_collection, shared, replaced)?;
+        let collections = put_among(alloc, by_collection, row, replaced)?;
         Ok(Store {
             by_id: ids,
             by_etag: etags,

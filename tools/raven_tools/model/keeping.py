@@ -37,6 +37,7 @@ class Keeper:
 
     def __init__(self, rows: collections.abc.Iterable[KeptRow] = (), fails: collections.abc.Iterable[int] = ()):
         self.rows = list(rows)
+        self.ids = {model.folded(row.id) for row in self.rows}
         self.fails = frozenset(fails)
         self.calls = 0
 
@@ -56,7 +57,10 @@ class Keeper:
         except Failed:
             raise model.Refused("KeeperFault") from None
         replaced = {model.folded(row.spelling) for row in rows}
-        self.rows = [row for row in self.rows if model.folded(row.id) not in replaced] + [kept(row) for row in rows]
+        if not replaced.isdisjoint(self.ids):
+            self.rows = [row for row in self.rows if model.folded(row.id) not in replaced]
+        self.rows += [kept(row) for row in rows]
+        self.ids |= replaced
 
 
 def kept(row: model.Row) -> KeptRow:
@@ -100,16 +104,33 @@ def pages(keeper: Keeper) -> collections.abc.Iterator[list[KeptRow]]:
         after = page[-1].etag
 
 
-def load_all(keeper: Keeper) -> tuple[dict[str, model.Row], int]:
-    """The rows by folded id, each tested by itself and against those before it."""
-    rows, last = {}, 0
-    for kept_row in (kept_row for page in pages(keeper) for kept_row in page):
-        row = row_of(kept_row)
-        if row.etag <= last or model.folded(row.spelling) in rows or len(rows) == model.MAX_ROWS:
+def by_id(read: list[model.Row]) -> dict[str, model.Row]:
+    """The rows by folded id, of which no two may have one."""
+    rows = {}
+    for row in read:
+        if model.folded(row.spelling) in rows:
             raise KeptBad(row.etag)
         rows[model.folded(row.spelling)] = row
-        last = row.etag
-    return rows, last
+    return rows
+
+
+def load_all(keeper: Keeper) -> tuple[dict[str, model.Row], int]:
+    """The rows by folded id, each tested by itself and against those before it.
+
+    Ids are compared when no more rows are asked for, and the first bad row is reported, whatever came after it.
+    """
+    read, last = [], 0
+    try:
+        for kept_row in (kept_row for page in pages(keeper) for kept_row in page):
+            row = row_of(kept_row)
+            if row.etag <= last or len(read) == model.MAX_ROWS:
+                raise KeptBad(row.etag)
+            read.append(row)
+            last = row.etag
+    except (Failed, KeptBad):
+        by_id(read)
+        raise
+    return by_id(read), last
 
 
 # Definitions

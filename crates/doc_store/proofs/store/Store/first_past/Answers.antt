@@ -1,4 +1,4 @@
-use Rattle.std.proofs.Common.{◌≡◌, ◌+◌, ◌∙◌, ap, sym, arith}
+use Rattle.std.proofs.Common.{◌∙◌, ap, sym, arith}
 use Rattle.raven_base.specs.Counts.{Counts}
 use Rattle.doc_store.specs.Maps.{Shows}
 use Rattle.doc_store.proofs.MapLemmas.{shown}

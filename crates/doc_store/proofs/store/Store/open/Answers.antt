@@ -1,16 +1,16 @@
-use Rattle.std.proofs.Common.{length, ◌∙◌, ap, sym, arith}
-use Rattle.doc_store.proofs.OpeningLemmas.{opens_within, opens_on, first_bad_on}
+use Rattle.std.proofs.Common.{◌≡◌, ◌<◌, ◌^◌, List, [], None, is_some, length, ◌∙◌, ap, sym, subst}
+use Rattle.spec_data.specs.Rows.{Row}
+use Rattle.doc_store.specs.Opening.{first_bad}
+use Rattle.doc_store.proofs.OpeningLemmas.{all_sound, next_rise, next_within}
 use Rattle.doc_store.proofs.store.Store.open.Goals as goal
 
-pub put_copy-requires-clause-within : goal.put_copy-requires-clause-within
-put_copy-requires-clause-within c =
-    opens_within c.loop-row.store c.as_slice-row-items.result.now c.loop-row.row-index c.row-item.result c.loop-row.invariant.so_far c.loop-row-test.true
-    (let e = ap length c.as_slice-row-items.ensures in let f = c.requires.few in omega arith) (sym c.is_sound_after.ensures ∙ c.if-not-is_sound_after.false)
+pub of-requires-clause-rising : goal.of-requires-clause-rising
+of-requires-clause-rising c = next_rise 0 _ (sym c.are_next.ensures ∙ c.if-are_next.true)
 
-pub loop-row-preserved : goal.loop-row-preserved
-loop-row-preserved c = record {
-  so_far = opens_on c.loop-row.store c.as_slice-row-items.result.now c.loop-row.row-index c.row-item.result c.in_ok-store-2.store c.loop-row.invariant.so_far
-      c.loop-row-test.true (sym c.row-item.is) (sym c.is_sound_after.ensures ∙ c.if-not-is_sound_after.false) c.in_ok-store-2.ensures;
-  bad = first_bad_on c.loop-row.store c.as_slice-row-items.result.now c.loop-row.row-index c.row-item.result c.in_ok-store-2.store _
-      c.loop-row-test.true (sym c.row-item.is) (sym c.is_sound_after.ensures ∙ c.if-not-is_sound_after.false) c.in_ok-store-2.ensures c.loop-row.invariant.bad;
-}
+pub of-requires-clause-within : goal.of-requires-clause-within
+of-requires-clause-within c = next_within _ (sym c.are_next.ensures ∙ c.if-are_next.true) (subst (λ (rows : List Row). length rows < 2 ^ 32) (sym c.as_slice-rows.ensures) c.requires.few)
+
+pub returns-in-Some-clause-sound : goal.returns-in-Some-clause-sound
+returns-in-Some-clause-sound c =
+    subst (λ (rows : List Row). first_bad [] rows ≡ None) c.as_slice-rows.ensures
+    (all_sound c.as_slice-rows.result.now (sym c.are_next.ensures ∙ c.if-are_next.true) (c.in_ok-store.ensures.apart.0 (ap is_some c.in-Some.is)))

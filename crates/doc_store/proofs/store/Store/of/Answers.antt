@@ -1,0 +1,38 @@
+use Rattle.std.proofs.Common.{◌≡◌, List, true, ◌∙◌, ap, sym, subst}
+use Rattle.spec_data.specs.Folding.{folded}
+use Rattle.spec_data.specs.Rows.{Row}
+use Rattle.spec_store.specs.Store.{AreApart, IsStore, row_at}
+use Rattle.paged_map.specs.Pairs.{IsRising}
+use Rattle.doc_store.specs.Maps.{id_cmp}
+use Rattle.doc_store.proofs.MapLemmas.{all_show}
+use Rattle.doc_store.proofs.store.Store.of.Goals as goal
+use Rattle.doc_store.proofs.store.Store.of.Goals.{In_ok-ids, In_ok-from_sorted}
+
+-- the rows that are shared are these
+rows_are : (c : In_ok-ids) → c.deref.result.now ≡ c.args.rows.now
+rows_are c = c.deref.ensures.value ∙ c.in_ok-shared.ensures
+
+pub returns-then-not-is_rising-clause-apart : goal.returns-then-not-is_rising-clause-apart
+returns-then-not-is_rising-clause-apart c = (
+  λ two. absurd cc,
+  λ apart.
+      let shared = subst AreApart (sym (rows_are (goal.at.returns-then-not-is_rising-clause-apart c).In_ok-ids)) apart in
+      let rises : c.is_rising.result ≡ true = c.is_rising.ensures.1 (subst (IsRising id_cmp) (sym c.deref-2.ensures.value) (c.in_ok-ids.ensures.apart.1 shared)) in
+      sym c.if-not-is_rising.true ∙ rises,
+)
+
+are_apart : (c : In_ok-from_sorted) → AreApart c.args.rows.now
+are_apart c =
+    subst AreApart (c.deref.ensures.value ∙ c.in_ok-shared.ensures) (c.in_ok-ids.ensures.apart.0 (subst (IsRising id_cmp) c.deref-2.ensures.value (c.is_rising.ensures.0 c.if-not-is_rising.false)))
+
+pub of-requires : goal.of-requires
+of-requires c =
+    subst (λ (rows : List Row). IsStore (record { rows = rows })) (sym (c.deref-3.ensures.value ∙ c.in_ok-shared.ensures))
+    (record { rising = c.requires.rising; apart = are_apart (goal.at.of-requires c).In_ok-from_sorted })
+
+pub invariant_of-result : goal.invariant_of-result
+invariant_of-result c =
+    let shared : c.in_ok-shared.shared.items ≡ c.args.rows.now = c.in_ok-shared.ensures in
+    all_show c.in_ok-ids.ids.items _ _ c.args.rows.now c.in_ok-shared.shared.items _ (c.in_ok-of.ensures ∙ c.deref-3.ensures.value ∙ shared) shared
+    (record { rising = c.requires.rising; apart = are_apart (goal.at.invariant_of-result c).In_ok-from_sorted }) c.requires.within c.in_ok-from_sorted.ensures
+    (λ q. c.in_ok-ids.ensures.found q ∙ ap (row_at (folded q)) c.deref.ensures.value) c.in_ok-ids.ensures.filed c.in_ok-by_collection.ensures
