@@ -64,7 +64,10 @@ impl<'a> Held<'a> {
     pub fn is_true(&self) -> bool
         ensures { result ≡ is_true (held_of self.now) }
     {
-        matches!(self, Held::Flag(true))
+        match self {
+            Held::Flag(flag) => *flag,
+            _ => false,
+        }
     }
 
     /// The scalar of the same meaning, and null for a list or an object. A text is shared.

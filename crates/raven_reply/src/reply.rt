@@ -78,7 +78,6 @@ pub enum BulkResult {
 pub type BulkResults = Sequence<BulkResult>;
 
 /// The answer to one request. Its fields are the members that are printed. Ids are in the spelling of their rows.
-#[derive(Debug)]
 pub enum Reply {
     /// The document was put.
     Put {

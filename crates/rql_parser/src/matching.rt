@@ -46,7 +46,8 @@ pub fn part(token: &Token) -> Option<&Text>
     ensures { option_copied result ≡ part_as token.now }
 {
     match token {
-        Token::Name(part) | Token::Quoted(part) => Some(part),
+        Token::Name(part) => Some(part),
+        Token::Quoted(part) => Some(part),
         _ => None,
     }
 }
