@@ -6,7 +6,7 @@ ghost use Rattle.raven_console.specs.Devices.{Keeps};
 ghost use Rattle.raven_console.specs.Openings.{Loads, NamesBadRow, Opens};
 
 use crate::machine::Machine;
-use doc_keeper::{LoadFault, load_all};
+use doc_keeper::{LoadFault, load};
 use doc_store::OpenFault;
 use doc_txn::{BaseId, Limits};
 use raven_ports::Keeper;
@@ -27,11 +27,11 @@ pub(crate) fn open_from<K: Keeper>(
     ensures loads { Loads (K.state keeper.old) (K.state keeper.new) }
 {
     let limits = Limits::program();
-    let rows = match load_all(alloc, keeper, &limits) {
-        Ok(rows) => rows,
+    let (rows, store) = match load(alloc, keeper, &limits) {
+        Ok(loaded) => loaded,
         Err(fault) => return Err(fault),
     };
-    match World::open(alloc, &rows, base, limits) {
+    match World::open(alloc, &rows, store, base, limits) {
         Ok(world) => Ok(Machine::of(world)),
         Err(OpenFault::KeptBad { etag }) => Err(LoadFault::KeptBad { etag }),
         Err(OpenFault::NoMemory) => Err(LoadFault::NoMemory),

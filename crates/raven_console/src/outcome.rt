@@ -12,7 +12,7 @@ use doc_txn::Command;
 use raven_base::{NoMemory, Steps};
 use raven_script::Request;
 use raven_value::{Name, Rows, Text};
-use raven_world::{Answered, Change, Reply, World, WorldFault};
+use raven_world::{Answered, Change, Reply, Snapshot, World, WorldFault};
 use rql_plan::QueryAsk;
 use std::alloc::Global;
 use std::marker::Brand;
@@ -71,7 +71,7 @@ fn picked(
     requires { is_part field.now ≡ true }
     ensures { IfOk result (λ outcome. outcome_view outcome ≡ course_of world.now now (Auto collection.now field.now)) }
 {
-    match world.answer(alloc, collection, field)? {
+    match world.snapshot().answer(alloc, collection, field)? {
         Answered::Reply(reply) => Ok(unchanged(reply)),
         Answered::MustMake => settled(world.make(alloc, collection, field, now)),
     }
@@ -100,7 +100,7 @@ fn pumped<L: Ledger>(
 // What a look for a text finds. Nobody reads the counter.
 fn found<L: Ledger>(
     alloc: Global,
-    world: &World,
+    seen: &Snapshot<'_>,
     index: &Name,
     field: &Text,
     text: &Text,
@@ -109,26 +109,26 @@ fn found<L: Ledger>(
     requires name { blank.name ≡ L.name }
     requires parts { blank.parts ≡ L.parts }
     requires enough { 3 ≤ blank.parts }
-    ensures { IfOk result (λ outcome. outcome_view outcome ≡ course_of world.now 0 (Find index.now field.now text.now)) }
+    ensures { IfOk result (λ outcome. outcome_view outcome ≡ course_of seen.now 0 (Find index.now field.now text.now)) }
 {
     let mut steps = Steps::<L>::new(blank);
-    Ok(unchanged(world.find(alloc, index, field, text, &mut steps)?))
+    Ok(unchanged(seen.find(alloc, index, field, text, &mut steps)?))
 }
 
 // What a query finds. Nobody reads the counter.
 fn asked<L: Ledger>(
     alloc: Global,
-    world: &World,
+    seen: &Snapshot<'_>,
     ask: &QueryAsk,
     blank: Blank,
 ) -> Result<Outcome, NoMemory>
     requires name { blank.name ≡ L.name }
     requires parts { blank.parts ≡ L.parts }
     requires enough { 3 ≤ blank.parts }
-    ensures { IfOk result (λ outcome. outcome_view outcome ≡ course_of world.now 0 (Ask ask.now)) }
+    ensures { IfOk result (λ outcome. outcome_view outcome ≡ course_of seen.now 0 (Ask ask.now)) }
 {
     let mut steps = Steps::<L>::new(blank);
-    Ok(unchanged(world.ask(alloc, ask, &mut steps)?))
+    Ok(unchanged(seen.ask(alloc, ask, &mut steps)?))
 }
 
 /// What the request leaves of the world, at this moment.
@@ -141,6 +141,7 @@ pub fn outcome_of(
     requires { IsWellFormed (Do (request_view request)) }
     ensures { IfOk result (λ outcome. outcome_view outcome ≡ course_of world.now now (request_view request)) }
 {
+    let seen = world.snapshot();
     match request {
         Request::Put { id, expected, body } => {
             let command = Command::Put { id, expected, body };
@@ -151,17 +152,17 @@ pub fn outcome_of(
             settled(world.commit_one(alloc, command, now))
         }
         Request::Bulk { commands } => settled(world.commit(alloc, commands, now)),
-        Request::Get { id } => Ok(unchanged(world.get(alloc, &id)?)),
+        Request::Get { id } => Ok(unchanged(seen.get(alloc, &id)?)),
         Request::Auto { collection, field } => picked(alloc, world, now, &collection, &field),
         Request::Find { index, field, text } => {
-            found::<Brand>(alloc, world, &index, &field, &text, Blank::new(3))
+            found::<Brand>(alloc, &seen, &index, &field, &text, Blank::new(3))
         }
-        Request::Ask { ask } => asked::<Brand>(alloc, world, &ask, Blank::new(3)),
+        Request::Ask { ask } => asked::<Brand>(alloc, &seen, &ask, Blank::new(3)),
         Request::Define { definition } => settled(world.define(alloc, definition, now)),
         Request::Remove { name } => settled(world.remove(alloc, &name, now)),
         Request::Pump { max, index } => pumped::<Brand>(alloc, world, max, index, Blank::new(3)),
-        Request::Stale { name, cutoff } => Ok(unchanged(world.stale(alloc, &name, cutoff)?)),
-        Request::Indexes => Ok(unchanged(world.indexes(alloc)?)),
-        Request::Stats => Ok(unchanged(world.stats())),
+        Request::Stale { name, cutoff } => Ok(unchanged(seen.stale(alloc, &name, cutoff)?)),
+        Request::Indexes => Ok(unchanged(seen.indexes(alloc)?)),
+        Request::Stats => Ok(unchanged(seen.stats())),
     }
 }

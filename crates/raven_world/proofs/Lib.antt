@@ -1,9 +1,5 @@
 pub mod Clean
 pub mod Steps
-pub mod Pairs
 pub mod Openings
-pub mod Choices
 pub mod Batches
-pub mod Shown
 pub mod Merging
-pub mod Asking

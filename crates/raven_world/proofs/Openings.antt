@@ -1,5 +1,5 @@
 -- How a world is opened by one row after another.
-use Rattle.std.proofs.Common.{◌≡◌, ◌<◌, ◌≤◌, ◌+◌, ℕ, suc, List, [], ◌∷◌, ◌++◌, length, Bool, true, false, cond, not, ◌&&◌, ◌||◌, Option, Some, None, Result, Ok, Err, drop, refl, sym, ap, ◌∙◌, arith, codes, get_or, IfOk, IsUtf8, inl, inr}
+use Rattle.std.proofs.Common.{◌≡◌, ◌<◌, ◌≤◌, ◌+◌, ℕ, suc, List, [], ◌∷◌, ◌++◌, length, Bool, true, false, cond, not, ◌&&◌, ◌||◌, Option, Some, None, Result, Ok, Err, drop, refl, sym, ap, ◌∙◌, arith, codes, get_or, IfOk, IsUtf8}
 use Rattle.std.proofs.lemmas.Grind.{common_steps}
 use Rattle.std.specs.Prelude.{◌==◌, nat_lt, nat_eq, is_none, option_map, if◌then◌else◌}
 use Rattle.std.specs.List.{position_from, starts_with}
@@ -18,11 +18,8 @@ use Rattle.spec_server.specs.Opening.{ReadRow, and_then, is_defining, is_filed, 
 use Rattle.spec_store.specs.Store.{Store}
 use Rattle.spec_index.specs.World.{Slot, new_version}
 use Rattle.index_lang.specs.Openings.{AreReadRows, EndsAt, IsReadRow, OpensAs}
-use Rattle.doc_store.specs.Opening.{Tells, first_bad}
-use Rattle.doc_store.specs.declared.opening.OpenFault.{OpenFault}
-use Rattle.doc_store.specs.declared.opening.OpenFault.TheVariants.{KeptBad, NoMemory}
 use Rattle.raven_world.specs.Kinds.{begins_as}
-use Rattle.raven_world.specs.Opened.{HasRead, TellsBadRow}
+use Rattle.raven_world.specs.Opened.{HasRead}
 
 -- NAMES
 
@@ -207,13 +204,6 @@ ends-here s rows count slots x lt is right taken h = record {
 
 -- THE WORLD
 
-pub bad-first : (s : Setting) (rows : List Row) (fault : OpenFault) → Tells fault (first_bad [] rows) → TellsBadRow s rows fault
-bad-first s rows (KeptBad etag) h = inl h
-bad-first s rows NoMemory h = tt
-
-pub bad-later : (s : Setting) (rows : List Row) (etag : ℕ) → first_bad [] rows ≡ None → EndsAt s rows etag → TellsBadRow s rows (KeptBad etag)
-bad-later s rows etag sound h = inr (sound, h)
-
 none_left : (rows : List Row) → drop (length rows) rows ≡ []
 none_left rows = grind (arith, common_steps)
 
@@ -230,7 +220,7 @@ opens s rows count store slots all is h =
           ∙ ap (λ (S : Store). Ok (machine_of (record { setting = s; store = S; slots = slots; notes = [] }))) (sym is);
     }
 
-pub ruleset opening = (none-read, one-read, ends-here, bad-first, bad-later, opens)
+pub ruleset opening = (none-read, one-read, ends-here, opens)
 
 -- what holds of a result holds of it in other words
 pub if-ok : {T E : Type 0} (r : Result T E) (P Q : T → Type 0) → ((t : T) → P t → Q t) → IfOk r P → IfOk r Q

@@ -1,8 +1,6 @@
-pub mod ChoiceView
 pub mod WorldView
 pub mod Roomy
 pub mod Transacts
 pub mod Kinds
 pub mod Opened
 pub mod Batches
-pub mod Asked

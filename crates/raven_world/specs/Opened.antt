@@ -1,23 +1,19 @@
 -- Which row keeps a world from being opened, and what is taken of one.
-use Rattle.std.specs.Prelude.{◌≡◌, ℕ, List, [], ◌++◌, ◌⊎◌, Bool, Option, Some, None, Ok, drop, length, if◌then◌else◌}
+use Rattle.std.specs.Prelude.{◌≡◌, ℕ, List, [], ◌++◌, Bool, Option, Some, None, Ok, drop, length, if◌then◌else◌}
 use Rattle.spec_data.specs.Rows.{Row}
 use Rattle.spec_store.specs.Commit.{Setting}
 use Rattle.index_tree.specs.Definitions.{Definition}
 use Rattle.spec_server.specs.Opening.{ReadRow, rows_of, slots_after, slots_from}
 use Rattle.spec_index.specs.World.{Slot}
 use Rattle.index_lang.specs.Openings.{AreReadRows, EndsAt, IsReadRow}
-use Rattle.doc_store.specs.Opening.{first_bad}
 use Rattle.doc_store.specs.declared.opening.OpenFault.{OpenFault}
 use Rattle.doc_store.specs.declared.opening.OpenFault.TheVariants.{KeptBad, NoMemory}
 use Rattle.doc_txn.specs.SettingView.{setting_of}
 use Rattle.doc_txn.specs.declared.limits.Limits.{Limits}
 
--- it is the first that a store does not take; or a store takes all, and it is the first that is of no form
-abbrev pub IsBadRow : Setting → List Row → ℕ → Type 0
-IsBadRow s rows etag = (first_bad [] rows ≡ Some etag) ⊎ ((first_bad [] rows ≡ None) × EndsAt s rows etag)
-
+-- a bad row is named by its etag; memory may run out at any point
 abbrev pub TellsBadRow : Setting → List Row → OpenFault → Type 0
-TellsBadRow s rows (KeptBad etag) = IsBadRow s rows etag
+TellsBadRow s rows (KeptBad etag) = EndsAt s rows etag
 TellsBadRow s rows NoMemory = Unit {0}
 
 abbrev pub read_as : Row → Option Definition → ReadRow

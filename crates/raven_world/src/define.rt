@@ -10,9 +10,7 @@ ghost use Rattle.index_definition.specs.DefinitionView.{definition_view};
 ghost use Rattle.raven_reply.specs.ReplyView.{reply_view};
 ghost use Rattle.raven_world.specs.WorldView.{define_as, answer_view};
 
-use crate::answer::no_index;
 use crate::naming::{index_id, is_reserved_name};
-use crate::slot::{Slot, copies, fresh_slot, others, serving};
 use crate::world::{Change, World, WorldFault};
 use crate::write::refused_at;
 use doc_txn::{Command, Commands, Expect, TxnFault, Writer, commit};
@@ -20,18 +18,10 @@ use index_definition::{Definition, same};
 use index_lang::row_body;
 use raven_base::{NoMemory, Shared};
 use raven_reply::Reply;
+use raven_snapshot::{Slot, copies, fresh_slot, index_reply, no_index, others, serving};
 use raven_value::{MAX_INDEX_NAME, Name};
 use std::alloc::Global;
 use std::sync::Arc;
-
-/// The reply that reports the name of an index.
-pub fn index_reply(name: &Name) -> Result<Reply, NoMemory>
-    ensures { IfOk result (λ reply. reply_view reply ≡ IndexOf name.now) }
-{
-    Ok(Reply::Index {
-        name: name.clone()?,
-    })
-}
 
 fn removed_reply(name: &Name) -> Result<Reply, NoMemory>
     ensures { IfOk result (λ reply. reply_view reply ≡ RemovedOf name.now) }

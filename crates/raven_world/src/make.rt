@@ -1,15 +1,14 @@
-//! Automatic indexes: the one that serves a query, or a new one.
+//! New automatic indexes.
 ghost use Rattle.std.specs.Prelude.{◌≡◌, ◌+◌, IfOk, IfSome, false, length, nat_le, true};
 ghost use Rattle.spec_server.specs.Machine.{Auto as AutoOne, course_of, one_field};
 ghost use Rattle.spec_server.specs.Opening.{is_part};
 ghost use Rattle.spec_index.specs.Optimiser.{Make, name_of, pick as spec_pick};
 ghost use Rattle.spec_store.specs.Store.{last};
-ghost use Rattle.raven_world.specs.WorldView.{AnswersQuery, answer_view};
+ghost use Rattle.raven_world.specs.WorldView.{answer_view};
 
-use crate::choice::{Choice, pick};
-use crate::define::{index_reply, shared};
+use crate::define::shared;
 use crate::naming::{auto_name, is_served};
-use crate::world::{Answered, Change, World, WorldFault};
+use crate::world::{Change, World, WorldFault};
 use index_definition::auto_definition;
 use raven_base::NoMemory;
 use raven_reply::Reply;
@@ -48,21 +47,5 @@ impl World {
         }
         let definition = auto_definition(alloc, name, collection, field)?;
         self.add(alloc, shared(alloc, definition)?, now)
-    }
-
-    /// The automatic index that serves a query of one field of a collection, or that one has to be made.
-    pub fn answer(
-        &self,
-        alloc: Global,
-        collection: &Text,
-        field: &Text,
-    ) -> Result<Answered, NoMemory>
-        ensures { IfOk result (AnswersQuery self.now collection.now field.now) }
-    {
-        match pick(alloc, &self.store, self.live(), collection, field)? {
-            Choice::Use(slot) => Ok(Answered::Reply(index_reply(&slot.name)?)),
-            Choice::Make => Ok(Answered::MustMake),
-            Choice::Merge => Ok(Answered::Reply(Reply::UnknownLine)),
-        }
     }
 }

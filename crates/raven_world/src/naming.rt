@@ -8,9 +8,9 @@ ghost use Rattle.spec_index.specs.Optimiser.{first_free as spec_first_free, name
 ghost use Rattle.raven_value.specs.Refusal.{fault_in};
 ghost use Rattle.spec_index.specs.World.{index_id as spec_index_id, is_reserved_name as spec_is_reserved_name, serving as spec_serving};
 
-use crate::slot::{Slot, serving};
 use index_definition::DefBody;
 use raven_base::NoMemory;
+use raven_snapshot::{Slot, serving};
 use raven_value::{Id, IdRefusal, MAX_INDEX_NAME, Name, Text, starts_folded};
 use std::alloc::Global;
 

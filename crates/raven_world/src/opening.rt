@@ -1,6 +1,5 @@
 //! The world of stored rows.
 ghost use Rattle.std.specs.Prelude.{◌≡◌, ◌<◌, ◌^◌, ℕ, List, [], ◌++◌, ◌∷◌, IfErr, IfOk, IsTrue, None, Some, drop, if◌then◌else◌, length, option_map};
-ghost use Rattle.doc_store.specs.Opening.{first_bad};
 ghost use Rattle.doc_txn.specs.SettingView.{setting_of};
 ghost use Rattle.spec_store.specs.Commit.{is_index_id as spec_is_index_id};
 ghost use Rattle.spec_server.specs.Opening.{is_defining as spec_is_defining, is_filed as spec_is_filed, is_too_many as spec_is_too_many, with_slot};
@@ -11,7 +10,6 @@ ghost use Rattle.spec_index.specs.World.{new_version};
 ghost use Rattle.spec_server.specs.Machine.{machine_of};
 
 use crate::naming::read_name;
-use crate::slot::{Slot, fresh_slot};
 use crate::world::World;
 use doc_store::{OpenFault, Store};
 use doc_txn::{BaseId, Limits, is_index_id};
@@ -19,6 +17,7 @@ use index_definition::{DefBody, Definition};
 use index_lang::of_row_body;
 use index_version::is_document;
 use raven_base::{NoMemory, Shared};
+use raven_snapshot::{Slot, fresh_slot};
 use raven_value::{Body, Id, Name, Row, Rows};
 use std::alloc::Global;
 use std::sync::Arc;
@@ -136,10 +135,10 @@ fn take_row(
 }
 
 impl World {
-    /// The database of these rows, in order of etag: each live row of the collection `@indexes` is an index that has recorded
-    /// nothing yet, and there are no others.
+    /// The database of these rows, in order of etag, of which this is the store: each live row of the collection `@indexes` is an
+    /// index that has recorded nothing yet, and there are no others.
     ///
-    /// The first bad row is reported: first one that `Store::open` refuses, and if it refuses none, the first of these:
+    /// The first of these rows is reported as bad:
     /// - a row with as many rows before it as the limit allows;
     /// - the live row of a definition with as many indexes before it as the limit allows;
     /// - a row whose id begins with `@index/`, without regard to case, and whose collection is not `@indexes`, or the other way
@@ -150,18 +149,15 @@ impl World {
     pub fn open(
         alloc: Global,
         rows: &Rows,
+        store: Store,
         base: BaseId,
         limits: Limits,
     ) -> Result<World, OpenFault>
         requires few { length rows.now < 2 ^ 32 }
-        ensures sound { IfOk result (λ _. first_bad [] rows.now ≡ None) }
+        requires stored { store ≡ record { rows = rows.now } }
         ensures opened { IfOk result (λ world. OpensAs (setting_of base limits) rows.now (machine_of world)) }
         ensures fault { IfErr result (TellsBadRow (setting_of base limits) rows.now) }
     {
-        let store = match Store::open(alloc, rows) {
-            Ok(store) => store,
-            Err(fault) => return Err(fault),
-        };
         let mut slots = Vec::new(alloc);
         for (count, row) in rows.as_slice().iter().enumerate() {
             if !take_row(alloc, &limits, count, &mut slots, row)? {

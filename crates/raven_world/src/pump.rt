@@ -8,14 +8,13 @@ ghost use Rattle.spec_server.specs.Sound.{Sound};
 ghost use Rattle.raven_world.specs.Batches.{AllFit, HaveNoReduce, MergesFew, pumped_one, read_by, read_by_all, touched_by, touched_by_all};
 ghost use Rattle.raven_world.specs.WorldView.{change_view, answer_view};
 
-use crate::answer::no_index;
-use crate::slot::{Slot, is_named};
 use crate::world::{Change, World, WorldFault};
 use doc_store::Store;
 use index_batch::next;
 use index_version::{DefinitionMapper, IndexVersion};
 use raven_base::{NoMemory, Steps};
 use raven_reply::{Pumping, Pumpings, Reply};
+use raven_snapshot::{Slot, is_named, no_index};
 use raven_value::{Name, Rows};
 use std::alloc::Global;
 use std::sync::Arc;

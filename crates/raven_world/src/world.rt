@@ -5,11 +5,11 @@ ghost use Rattle.raven_reply.specs.ReplyView.{reply_view};
 ghost use Rattle.raven_world.specs.WorldView.{change_view};
 ghost use Rattle.raven_world.specs.declared.world.WorldFault.TheVariants.{NoMemory as OutOfMemory};
 
-use crate::slot::Slot;
 use doc_store::Store;
 use doc_txn::{BaseId, Limits};
 use raven_base::{NoMemory, Shared};
 use raven_reply::Reply;
+use raven_snapshot::{Slot, Snapshot};
 use raven_value::Rows;
 use std::alloc::Global;
 use std::marker::Model;
@@ -67,22 +67,24 @@ impl From<NoMemory> for WorldFault {
     }
 }
 
-/// The answer to a query.
-#[derive(Drop)]
-pub enum Answered {
-    /// The reply.
-    Reply(Reply),
-
-    /// An index has to be made for the query first.
-    MustMake,
-}
-
 impl World {
     /// The live indexes.
     pub(crate) fn live(&self) -> &[Slot]
         ensures { result.now ≡ self.now.slots }
     {
         self.slots.get().as_slice()
+    }
+
+    /// The database as it stands.
+    pub fn snapshot(&self) -> Snapshot<'_>
+        ensures { result ≡ self.now }
+    {
+        Snapshot {
+            store: &self.store,
+            slots: self.live(),
+            base: &self.base,
+            limits: self.limits,
+        }
     }
 
     /// The world with this store and these slots.

@@ -1,4 +1,4 @@
-use Rattle.std.proofs.Common.{◌≡◌, [], ◌∙◌, ◌+◌, ◌*◌, ◌≤◌, None, ap, cond, length, subst, sym}
+use Rattle.std.proofs.Common.{[], ◌∙◌, ◌+◌, ◌*◌, ◌≤◌, None, ap, cond, length, subst, sym}
 use Rattle.std.proofs.lemmas.List.Elements.{All-head}
 use Rattle.spec_store.specs.Stale.{batch_rows, stale}
 use Rattle.spec_index.specs.World.{Slot, Version, reads}

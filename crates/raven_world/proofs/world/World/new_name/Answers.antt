@@ -1,4 +1,4 @@
-use Rattle.std.proofs.Common.{◌<◌, ◌^◌, length, ◌∙◌, sym, ap, subst}
+use Rattle.std.proofs.Common.{◌<◌, ◌^◌, length, sym, subst}
 use Rattle.spec_index.specs.World.{World}
 use Rattle.raven_world.proofs.Steps.{few_slots}
 use Rattle.raven_world.proofs.world.World.new_name.Goals as goal

@@ -1,4 +1,4 @@
-use Rattle.std.proofs.Common.{◌<◌, ◌∙◌, List, Some, None, get_or, if◌then◌else◌, inr, length, ap, subst, sym}
+use Rattle.std.proofs.Common.{◌<◌, ◌∙◌, List, Some, None, get_or, if◌then◌else◌, length, ap, subst, sym}
 use Rattle.spec_data.specs.Rows.{Row}
 use Rattle.doc_txn.specs.SettingView.{setting_of}
 use Rattle.index_lang.specs.Openings.{EndsAt}
@@ -19,7 +19,7 @@ returns-then-not-branch-clause-fault c =
     take.right
     (ap (λ good. if good then Some c.take_row.new.slots.items else None) (sym c.if-not-branch.true) ∙ take.taken c.args.base)
     c.loop-count.invariant in
-    inr (c.in-Ok.ensures.sound, subst (λ (y : Row). EndsAt s rows y.etag) (sym c.row.view_is) ends)
+    subst (λ (y : Row). EndsAt s rows y.etag) (sym c.row.view_is) ends
 
 pub loop-count-preserved : goal.loop-count-preserved
 loop-count-preserved c =

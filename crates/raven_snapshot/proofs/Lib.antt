@@ -1,0 +1,4 @@
+pub mod Choices
+pub mod Pairs
+pub mod Shown
+pub mod Asking

@@ -1,0 +1,3 @@
+pub mod AutoAnswer
+pub mod ChoiceView
+pub mod Asked

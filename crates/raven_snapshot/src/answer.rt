@@ -1,0 +1,128 @@
+//! Answers that change nothing.
+ghost use Rattle.std.specs.Prelude.{◌≡◌, IfOk, map};
+ghost use Rattle.spec_server.specs.Machine.{answer_get, answer_indexes, answer_stale, answer_stats, listing as spec_listing, shown as spec_shown};
+ghost use Rattle.spec_index.specs.World.{serving as spec_serving};
+ghost use Rattle.spec_server.specs.Replies.{Document as DocumentOf, Index as IndexOf, NoIndex as NoIndexOf};
+ghost use Rattle.raven_reply.specs.ReplyView.{reply_view};
+
+use crate::documents::shown_metadata;
+use crate::slot::{Slot, is_stale, serving};
+use crate::snapshot::Snapshot;
+use doc_store::Store;
+use doc_txn::{BaseId, spelling};
+use index_lang::definition_value;
+use raven_base::NoMemory;
+use raven_reply::{Listing, Listings, Reply};
+use raven_value::{Body, Document, Id, Name, Row, Text, Value};
+use std::alloc::Global;
+
+// The reply that shows a document. It shares the document that is stored.
+#[tactic(auto, using(crate::proofs::Shown::documents))]
+fn shown(alloc: Global, base: &BaseId, row: &Row, document: &Document) -> Result<Reply, NoMemory>
+    ensures { IfOk result (λ reply. reply_view reply ≡ DocumentOf (spec_shown base.now row.now document.now)) }
+{
+    let value = document.value();
+    let metadata = shown_metadata(alloc, base, row, value.get("@metadata"))?;
+    Ok(Reply::Document {
+        document: document.clone()?,
+        metadata: Value::Map(metadata),
+    })
+}
+
+// What is reported of an index.
+fn listing(alloc: Global, store: &Store, slot: &Slot) -> Result<Listing, NoMemory>
+    ensures { IfOk result (λ listing. listing ≡ spec_listing store.now slot.now) }
+{
+    let version = &slot.version;
+    Ok(Listing {
+        definition: definition_value(alloc, version.definition())?,
+        entries: version.entries(),
+        errors: version.errors(),
+        etag: version.etag(),
+        is_stale: is_stale(alloc, store, version, None)?,
+        name: slot.name.clone()?,
+    })
+}
+
+fn listings(alloc: Global, store: &Store, slots: &[Slot]) -> Result<Vec<Listing>, NoMemory>
+    ensures { IfOk result (λ listings. listings.items ≡ map (spec_listing store.now) slots.now) }
+{
+    let mut listings = Vec::with_capacity(alloc, slots.len())?;
+    for slot in slots {
+        listings.push(listing(alloc, store, slot)?)?;
+    }
+    Ok(listings)
+}
+
+/// The reply if no index serves the name.
+pub fn no_index(alloc: Global, name: &Name) -> Result<Reply, NoMemory>
+    ensures { IfOk result (λ reply. reply_view reply ≡ NoIndexOf name.now) }
+{
+    Ok(Reply::NoIndex {
+        name: Text::of(alloc, name.as_str())?,
+    })
+}
+
+/// The reply that reports the name of an index.
+pub fn index_reply(name: &Name) -> Result<Reply, NoMemory>
+    ensures { IfOk result (λ reply. reply_view reply ≡ IndexOf name.now) }
+{
+    Ok(Reply::Index {
+        name: name.clone()?,
+    })
+}
+
+impl<'w> Snapshot<'w> {
+    /// The document of an id.
+    pub fn get(&self, alloc: Global, id: &Id) -> Result<Reply, NoMemory>
+        ensures { IfOk result (λ reply. reply_view reply ≡ answer_get self.now id.now) }
+    {
+        let row = self.store.get(id);
+        if let Some(row) = row {
+            if let Body::Doc(document) = &row.body {
+                let reply = shown(alloc, self.base, row, document)?;
+                return Ok(reply);
+            }
+        }
+        let id = spelling(id, row)?;
+        Ok(Reply::NoDocument { id })
+    }
+
+    /// How far an index is, whether it lags, and the newest etag that it reads, up to a cutoff if one is given.
+    pub fn stale(&self, alloc: Global, name: &Name, cutoff: Option<u64>) -> Result<Reply, NoMemory>
+        ensures { IfOk result (λ reply. reply_view reply ≡ answer_stale self.now name.now cutoff (spec_serving self.now.slots name.now)) }
+    {
+        let Some(slot) = serving(self.slots, name.as_str()) else {
+            return no_index(alloc, name);
+        };
+        let scope = slot.version.scope(alloc)?;
+        let newest = self.store.newest(&scope, cutoff);
+        let index_etag = slot.version.etag();
+        Ok(Reply::Stale {
+            index_etag,
+            is_stale: index_etag < newest,
+            newest,
+        })
+    }
+
+    /// What each index is and how far it has come, by number.
+    pub fn indexes(&self, alloc: Global) -> Result<Reply, NoMemory>
+        ensures { IfOk result (λ reply. reply_view reply ≡ answer_indexes self.now) }
+    {
+        let results = Listings::of(listings(alloc, self.store, self.slots)?);
+        Ok(Reply::Indexes { results })
+    }
+
+    /// How much the database has.
+    pub fn stats(&self) -> Reply
+        ensures { reply_view result ≡ answer_stats self.now }
+    {
+        let counts = self.store.counts_beside("@indexes");
+        Reply::Stats {
+            count_of_documents: u64::from(counts.documents),
+            count_of_indexes: self.slots.len() as u64,
+            count_of_tombstones: u64::from(counts.tombstones),
+            last_doc_etag: self.store.last(),
+        }
+    }
+}

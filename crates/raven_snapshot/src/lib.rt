@@ -1,0 +1,15 @@
+//! A database as it stands: what is asked of it and changes nothing.
+#![tactic(auto)]
+
+mod answer;
+mod ask;
+mod choice;
+mod documents;
+mod find;
+mod slot;
+mod snapshot;
+
+pub use answer::{index_reply, no_index};
+pub use choice::Answered;
+pub use slot::{Slot, copies, fresh_slot, is_named, others, serving};
+pub use snapshot::Snapshot;

@@ -1,6 +1,0 @@
-use Rattle.std.proofs.Common.{◌≡◌, ◌++◌, drop, map}
-use Rattle.spec_server.specs.Machine.{listing}
-use Rattle.raven_world.proofs.answer.listings.Given as goal
-
-abbrev pub invariant-loop-slot : goal.invariant-loop-slot
-invariant-loop-slot l = l.listings.items ++ map (listing l.store) (drop l.slot-index l.slots) ≡ map (listing l.store) l.slots
