@@ -4,6 +4,3 @@
 mod batch;
 
 pub use batch::next;
-
-#[cfg(test)]
-mod tests;

@@ -5,31 +5,57 @@ use doc_store::Store;
 use doc_txn::{BaseId, Command, Commands, Expect, Limits, TxnFault, TxnKind, Writer, commit};
 use raven_base::{NoMemory, Steps};
 use raven_json::read;
-use raven_value::{Body, Id, Row, Rows, Scope, Text};
+use raven_value::{Body, Document, Id, Row, Rows, Scope, Text};
 use std::alloc::Global;
 use std::marker::Brand;
 use std::sync::ledger::{Blank, Ledger};
 use std::test::Fail;
 
-fn row(alloc: Global, etag: u64, id: &str, collection: &str) -> Result<Row, Fail> {
+fn body(alloc: Global, json: &str) -> Result<Body, Fail> {
+    if json.is_empty() {
+        return Ok(Body::Gone);
+    }
+    let value = read(alloc, json.as_bytes())?;
+    Ok(Body::Doc(Document::of(alloc, value)?))
+}
+
+fn row(alloc: Global, etag: u64, id: &str, collection: &str, json: &str) -> Result<Row, Fail> {
+    let id = Id::new(alloc, id)?;
+    let collection = Text::of(alloc, collection)?;
     Ok(Row {
         etag,
-        id: Id::new(alloc, id)?,
-        collection: Text::of(alloc, collection)?,
-        body: Body::Gone,
+        id,
+        collection,
+        body: body(alloc, json)?,
         changed: 0,
     })
 }
 
-fn store(alloc: Global) -> Result<Store, Fail> {
+fn rows(alloc: Global, all: &[(u64, &str, &str, &str)]) -> Result<Rows, Fail> {
     let mut rows = Rows::new(alloc);
-    rows.push(row(alloc, 2, "Orders/1", "Orders")?)?;
-    rows.push(row(alloc, 3, "users/10", "Users")?)?;
-    rows.push(row(alloc, 4, "users/1", "Users")?)?;
+    for (etag, id, collection, json) in all {
+        rows.push(row(alloc, *etag, id, collection, json)?)?;
+    }
+    Ok(rows)
+}
+
+/// A store of rows, one of each id, in order of etag: each is its etag, its id, its collection and its document. No text means that
+/// the document was deleted.
+pub fn opened(alloc: Global, all: &[(u64, &str, &str, &str)]) -> Result<Store, Fail> {
+    let rows = rows(alloc, all)?;
     if rows.len() > 100 {
         return Err(Fail::new("too many rows"));
     }
     Ok(Store::open(alloc, &rows)?)
+}
+
+fn store(alloc: Global) -> Result<Store, Fail> {
+    let rows = [
+        (2, "Orders/1", "Orders", ""),
+        (3, "users/10", "Users", ""),
+        (4, "users/1", "Users", ""),
+    ];
+    opened(alloc, &rows)
 }
 
 // The etags of all rows, in the order of their ids.

@@ -1,4 +1,4 @@
-use Rattle.index_batch.proofs.tests.calls_told.Given as goal
+use Rattle.raven_tests.proofs.batches.told_batch.Given as goal
 
 abbrev pub ghosts-brought : goal.ghosts-brought
 ghosts-brought a = record { name = a.blank.name; parts = a.blank.parts }
