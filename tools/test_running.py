@@ -6,11 +6,13 @@
 It needs no program. It ends with 0 if every test holds, and otherwise at the first assertion that does not.
 """
 
+import itertools
+import json
 import sys
 
 sys.dont_write_bytecode = True
 from raven_tools import case_file
-from raven_tools.model import running
+from raven_tools.model import keeping, measuring, running
 
 KEEPER = """\
 == A commit fails
@@ -125,10 +127,133 @@ status Done
 """
 
 
+# The first two orders of seed 1 are companies/22, 1996-03-16, 94887 cents and companies/13, 1997-09-19, 55684 cents.
+MEASURE = """\
+== Two orders are measured, and then the store is not empty
+arguments measure --docs 2 --seed 1 --batch 64
+clock 5
+rows
+again
+arguments measure
+== One order is measured
+arguments measure --docs 1
+== The first commit of a measurement fails
+arguments measure --docs 2
+keeps 2
+rows
+== The second commit of a measurement fails
+arguments measure --docs 2
+keeps 3
+rows
+== The summary cannot be written
+arguments measure --docs 1
+writes 1
+again
+> STATS
+== A measurement opens what is kept
+arguments measure
+row 0 0
+id a
+== Arguments of a measurement that are not valid
+arguments measure --docs
+again
+arguments measure --docs 0
+again
+arguments measure --docs 200001
+again
+arguments measure --batch 65537
+again
+arguments measure --seed 2147483647
+again
+arguments measure --seed 00000000001
+again
+arguments measure --seed +1
+again
+arguments measure --docs 1 --docs 1
+again
+arguments measure --data x
+again
+arguments measure --docs 0000000001 --batch 0000000001 --seed 0000000001
+""", """\
+== Two orders are measured, and then the store is not empty
+status Done
+> {"Batches":1,"Docs":2,"Groups":2,"IsStale":false,"Total":150571}
+row 1 5 "@index/Orders/ByCompanyMonth" "@indexes" {"@metadata":{},"Kind":"static","Map":"from o in docs.Orders select new { \
+o.Company, o.OrderedAt.Year, o.OrderedAt.Month, Total = o.Cents, Count = 1 }","Reduce":"from r in results group r by new { \
+r.Company, r.Year, r.Month } into g select new { g.Key.Company, g.Key.Year, g.Key.Month, Total = g.Sum(x => x.Total), \
+Count = g.Sum(x => x.Count) }"}
+row 2 5 "orders/1" "Orders" {"@metadata":{},"Cents":94887,"Company":"companies/22","OrderedAt":"1996-03-16T00:00:00.0000000"}
+row 3 5 "orders/2" "Orders" {"@metadata":{},"Cents":55684,"Company":"companies/13","OrderedAt":"1997-09-19T00:00:00.0000000"}
+again
+status NotEmpty 3
+
+== One order is measured
+status Done
+> {"Batches":1,"Docs":1,"Groups":1,"IsStale":false,"Total":94887}
+
+== The first commit of a measurement fails
+status KeptFault
+
+== The second commit of a measurement fails
+status KeptFault
+row 1 0 "@index/Orders/ByCompanyMonth" "@indexes" {"@metadata":{},"Kind":"static","Map":"from o in docs.Orders select new { \
+o.Company, o.OrderedAt.Year, o.OrderedAt.Month, Total = o.Cents, Count = 1 }","Reduce":"from r in results group r by new { \
+r.Company, r.Year, r.Month } into g select new { g.Key.Company, g.Key.Year, g.Key.Month, Total = g.Sum(x => x.Total), \
+Count = g.Sum(x => x.Count) }"}
+
+== The summary cannot be written
+status WriteFault
+again
+status Done
+> {"CountOfDocuments":1,"CountOfIndexes":1,"CountOfTombstones":0,"LastDocEtag":2}
+
+== A measurement opens what is kept
+status KeptBad 0
+
+== Arguments of a measurement that are not valid
+status Usage
+again
+status Usage
+again
+status Usage
+again
+status Usage
+again
+status Usage
+again
+status Usage
+again
+status Usage
+again
+status Usage
+again
+status Usage
+again
+status Done
+> {"Batches":1,"Docs":1,"Groups":1,"IsStale":false,"Total":94887}
+
+"""
+
+
 def test_worked_cases():
-    for written, printed in (KEEPER, CLOCK, STATUSES):
+    for written, printed in (KEEPER, CLOCK, STATUSES, MEASURE):
         found = "".join(map(case_file.printed, case_file.read(written)))
         assert found == printed, found
+
+
+def test_draws():
+    """The first draws of seed 1."""
+    drawn = itertools.islice(measuring.draws(1), 6)
+    assert list(drawn) == [48271, 182605794, 1291394886, 1914720637, 2078669041, 407355683]
+
+
+def test_measure():
+    """What is measured is what the draws come to, whatever a batch takes. There are 20 batches on the way; then 2,000 rows less 20 of
+    them are left, which are 1,980 of one row, or 12 of 64 rows, or none."""
+    for batch, batches in ((1, 2_000), (64, 32), (1_024, 20)):
+        status, written = measuring.measure(("--seed", "7", "--batch", str(batch)), keeping.Keeper())
+        sums = measuring.summed(measuring.Options(seed=7))
+        assert (status, json.loads(written)) == ("Done", {"Batches": batches, "IsStale": False, **sums}), written
 
 
 def test_mistakes():

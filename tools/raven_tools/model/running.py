@@ -5,7 +5,7 @@ import dataclasses
 import re
 
 from raven_tools import model
-from raven_tools.model import keeping
+from raven_tools.model import keeping, measuring
 
 BASE = re.compile(r"[A-Za-z0-9]{22}", re.ASCII)
 
@@ -81,8 +81,17 @@ def answered(database: model.Database, given: Outside) -> tuple[str, bytes]:
     return "Done", b"".join(written)
 
 
+def measured(given: Outside, keeper: keeping.Keeper) -> tuple[str, bytes]:
+    """The command `measure`. Its summary is one call of the output."""
+    if given.clock.step:
+        raise LeftOpen("which requests of `measure` ask the clock")
+    return measuring.measure(given.arguments[1:], keeper, given.clock.moment, 1 not in given.writes)
+
+
 def run(given: Outside, keeper: keeping.Keeper) -> tuple[str, bytes]:
     """The status and what was written. The causes come in this order; the keeper is left as the run leaves it."""
+    if given.arguments[:1] == ("measure",):
+        return measured(given, keeper)
     found = options(given.arguments)
     if found is None:
         return "Usage", b""

@@ -1,0 +1,5 @@
+pub mod Draws
+pub mod Orders
+pub mod Requests
+pub mod Summary
+pub mod Options
