@@ -25,6 +25,8 @@ ROOM = model.MAX_SCRIPT - 1_000
 # A difference is at least this share of the shorter run, whose time is never quite the same twice.
 SHARE = 0.1
 Lines = list[str]
+# The time of a process, by its number: since any moment that stays the same.
+Clock = collections.abc.Callable[[int], float]
 Spent = collections.abc.Callable[[int], float]
 
 
@@ -71,7 +73,17 @@ def run(command: list[str], script: bytes) -> Outcome:
         return Outcome(taken.read(), seconds, used.ru_utime + used.ru_stime, int(kib[-1]) if kib else None, written)
 
 
-def moments(command: list[str], script: bytes, places: list[int], last: str) -> list[float]:
+def on_clock(_: int) -> float:
+    return time.monotonic()
+
+
+def of_processor(process: int) -> float:
+    """The seconds that the processor has spent in a process, in all its threads. Nobody may have waited for its end yet."""
+    # So Linux names the clock of another process.
+    return time.clock_gettime(~process << 3 | 2)
+
+
+def moments(command: list[str], script: bytes, places: list[int], last: str, clock: Clock = of_processor) -> list[float]:
     """When so many replies of a run were there, for each of these numbers, which rise: each reply is written as soon as it is known.
 
     The replies are read as they come, and not kept. It is Wrong if one is a refusal, or the last one is not this.
@@ -83,7 +95,7 @@ def moments(command: list[str], script: bytes, places: list[int], last: str) -> 
         given.seek(0)
         with subprocess.Popen(command, stdin=given, stdout=subprocess.PIPE, stderr=subprocess.DEVNULL) as started:
             while piece := os.read(started.stdout.fileno(), 1 << 20):
-                now = time.monotonic()
+                now = clock(started.pid)
                 if b'"Error"' in end[-6:] + piece:
                     raise Wrong(f"a refusal: {piece[:200]!r}")
                 seen += piece.count(b"\n")

@@ -6,18 +6,22 @@
 It ends with 0 if every test holds, and otherwise at the first assertion that does not.
 """
 
+import itertools
 import pathlib
+import subprocess
 import sys
+import tempfile
 
 sys.dont_write_bytecode = True
+import draws
 import harness
 import report
-from figures import LINES, documents, queries, stores
+from figures import LINES, documents, queries, reduces, stores, threads, totals
 from raven_tools import model
 from raven_tools.places import TOP
 from report import Aim, Figure, Line
 
-BENCH = harness.Bench(str(TOP / "tools/model.py"), pathlib.Path("/nowhere"))
+BENCH = harness.Bench(str(TOP / "bench/stand_in.py"), pathlib.Path("/nowhere"))
 PAGE = f"# Page\n\n{report.BEGIN}\n{report.END}\n\nbehind\n"
 
 
@@ -91,7 +95,7 @@ def test_documents():
 
 
 def test_runs():
-    """The model is a program too; SQLite writes and reads the same lines."""
+    """The model stands for the program; SQLite writes and reads the same lines."""
     lines = stores.checked_lines(8)
     BENCH.check(lines)
     written = stores.written_by(lines)
@@ -107,9 +111,9 @@ def test_runs():
 def test_moments():
     """Replies are counted as they come. A refusal is found, and so is another end."""
     lines = [*documents.filling(8), "STATS", "STATS"]
-    script, command, last = harness.script_of(lines), [BENCH.program], harness.stats(8, 0, 8)
+    script, command, last = harness.script_of(lines), [BENCH.program, "run"], harness.stats(8, 0, 8)
     found = harness.moments(command, script, [1, 2, 3], last)
-    assert len(found) == 3 and found == sorted(found), found
+    assert len(found) == 3 and 0 < found[0] and found == sorted(found), found
     for wrong, places, end in ((b"NOTHING\n", [1], last), (b"", [4], last), (b"", [1], "{}")):
         try:
             harness.moments(command, wrong + script, places, end)
@@ -131,9 +135,103 @@ def test_queries():
     assert 150_000 < len(harness.script_of(users.lines(counts, queries.ROUNDS)[0][1:])) < 200_000, counts
 
 
+def test_clock():
+    """The time of another process is what it spends, also once it has ended and nobody has waited for it."""
+    with subprocess.Popen([sys.executable, "-c", "print(sum(range(10**6)))"], stdout=subprocess.PIPE) as busy:
+        busy.stdout.read()
+        assert 0.001 < harness.of_processor(busy.pid) < 10
+    with subprocess.Popen(["sleep", "0.3"], stdout=subprocess.PIPE) as idle:
+        idle.stdout.read()
+        assert harness.of_processor(idle.pid) < 0.1
+
+
+def test_draws():
+    """The first draws and orders of seed 1, as the rules of the command have them. The model comes to the same rows."""
+    assert list(itertools.islice(draws.draws(1), 4)) == [48_271, 182_605_794, 1_291_394_886, 1_914_720_637]
+    first, second = draws.orders(1, 2)
+    assert first == draws.Order(1, "companies/22", 94_887, 1996, 3, 16), first
+    assert second == draws.Order(2, "companies/13", 55_684, 1997, 9, 19), second
+    assert draws.summary(1, 2) == '{"Batches":1,"Docs":2,"Groups":2,"IsStale":false,"Total":150571}'
+    count = 250
+    *_, reply = model.replies(harness.script_of(draws.lines(7, count))).splitlines()
+    rows = model.read_json(reply)["Results"]
+    found = {(row["Company"], row["Year"], row["Month"]): (row["Total"], row["Count"]) for row in rows}
+    assert found == draws.totals(7, count) and len(rows) < count * 0.9, len(rows)
+
+
+def test_totals():
+    """A statement for each line of a script that writes, and a summary that is not the one of the draws is found."""
+    assert len(totals.statements(40)) == 44 and totals.statements(10)[-1] == "execute del('orders/5');"
+    assert totals.by_program(BENCH, 40) > 0
+    try:
+        totals.by_program(harness.Bench("/bin/echo", pathlib.Path("/nowhere")), 40)
+        raise AssertionError("any line counts as a summary")
+    except harness.Wrong:
+        pass
+
+
+def test_reduces():
+    """Each round has as many documents as it says between its places, and a script that is too long is cut."""
+    group = reduces.Group(30, 5)
+    first = [*group.filling, *group.pumps]
+    lines, places = group.rounds(first, asked=True)
+    assert len(places) == 4 * reduces.ROUNDS and places == sorted(places)
+    for a, b, c, d in zip(*[iter(places)] * 4):
+        assert all(line.startswith("PUT ") for line in lines[a:b]) and b - a == group.touches
+        assert lines[b:c] == [reduces.PUMP] and lines[c + 1 : d : 2] == [reduces.PUMP] * group.touches and d - c == 2 * group.touches
+    replies = [model.read_json(reply) for reply in model.replies(harness.script_of(lines)).splitlines()]
+    rows = [row for reply in replies for row in reply.get("Results", []) if "Total" in row]
+    assert len(rows) == reduces.ROUNDS and all(row["Low"] < row["High"] for row in rows), rows
+    long = ["x" * 5_000_000] * 7
+    assert [len(some) for some in reduces.parts(long)] == [3, 3, 1]
+
+
+def test_file():
+    """A group that is filled by several runs of one file."""
+    with tempfile.TemporaryDirectory() as folder:
+        bench = harness.Bench(BENCH.program, pathlib.Path(folder))
+        group, room = reduces.Group(documents.AT_ONCE + 1, 2), harness.ROOM
+        try:
+            harness.ROOM = len(harness.script_of(group.filling[:2]))
+            assert len(list(reduces.parts(group.filling))) == 2
+            group.each_in_file(bench)
+        finally:
+            harness.ROOM = room
+
+
+def test_threads():
+    """What is timed is one batch of all documents, by an index that is new."""
+    for text, _, _ in threads.KINDS:
+        lines, places = threads.Batches(text, 12, rounds=2).lines()
+        replies = [model.read_json(reply) for reply in model.replies(harness.script_of(lines)).splitlines()]
+        assert [after - before for before, after in zip(places[::2], places[1::2])] == [1, 1], places
+        assert [replies[place]["Pumped"][0]["From"] for place in places[::2]] == [0, 0], replies
+        assert replies[-1]["CountOfIndexes"] == 2 and replies[-1]["CountOfDocuments"] == 12, replies
+    last = threads.Batches(threads.MAP, max(count for *_, counts in threads.KINDS for count in counts))
+    assert len(harness.script_of(last.lines()[0])) < model.MAX_SCRIPT
+
+
+TESTS = (
+    test_differences,
+    test_texts,
+    test_aims,
+    test_page,
+    test_lines,
+    test_documents,
+    test_runs,
+    test_moments,
+    test_clock,
+    test_queries,
+    test_draws,
+    test_totals,
+    test_reduces,
+    test_file,
+    test_threads,
+)
+
+
 def main() -> None:
-    tests = (test_differences, test_texts, test_aims, test_page, test_lines, test_documents, test_runs, test_moments, test_queries)
-    for test in tests:
+    for test in TESTS:
         test()
     print("the harness holds")
 

@@ -1,6 +1,6 @@
 """What is measured, by the name that `--only` takes. Each module has its lines of the table, and measures them."""
 
-from figures import batches, file, finds, idle, instructions, memory, puts, queries
+from figures import batches, file, finds, idle, instructions, memory, million, puts, queries, reduces, threads, totals
 
 GROUPS = {
     "puts": puts,
@@ -10,6 +10,12 @@ GROUPS = {
     "idle": idle,
     "finds": finds,
     "queries": queries,
+    "totals": totals,
+    "reduces": reduces,
+    "million": million,
+    "threads": threads,
     "instructions": instructions,
 }
+# What takes so long that it is measured only if it is asked for.
+LONG = {"million"}
 LINES = [line for group in GROUPS.values() for line in group.LINES]

@@ -133,7 +133,7 @@ class Users:
         return [*lines, f"STALE {INDEX}"], places
 
     def spent(self, bench: Bench, counts: dict[Kind, int], rounds: int) -> dict[Kind, float]:
-        """What a query of each kind takes, on the clock: of the rounds the middle one counts."""
+        """What a query of each kind takes: of the rounds the middle one counts."""
         lines, places = self.lines(counts, rounds)
         script = script_of(lines)
         if len(script) > model.MAX_SCRIPT:
