@@ -1,13 +1,14 @@
 //! Walks over the rows of a store's maps.
 ghost use Rattle.std.specs.Prelude.{◌≡◌, ◌<◌, ◌^◌, ◌&&◌, ℕ, List, IfOk, filter, if◌then◌else◌, length, nat_lt, not};
 ghost use Rattle.std.specs.List.{find};
+ghost use Rattle.std.specs.BTreeMap.{insert_entry};
 ghost use Rattle.std.specs.Option.{option_copied};
 ghost use Rattle.std.specs.Str.{bytes_eq};
 ghost use Rattle.raven_base.specs.Counts.{one_read_more};
 ghost use Rattle.spec_data.specs.Rows.{is_document, key};
 ghost use Rattle.spec_store.specs.Store.{last_of, put};
 ghost use Rattle.spec_store.specs.Stale.{up_to};
-ghost use Rattle.doc_store.specs.Maps.{earlier, etag_at, is_of, rows_in, rows_of};
+ghost use Rattle.doc_store.specs.Maps.{earlier, etag_at, id_cmp, is_of, rows_in, rows_of};
 
 use crate::rows_by_etag::RowsByEtag;
 use paged_map::{PagedMap, Pairs};
@@ -81,6 +82,19 @@ fn rows_of(
         Some(rows) => Ok(rows.clone()?),
         None => RowsByEtag::new(alloc),
     }
+}
+
+/// The rows by id with this one more, in place of the one of its id.
+pub fn put_under_id(
+    alloc: Global,
+    rows: PagedMap<Id, Shared<Row>>,
+    row: &Shared<Row>,
+) -> Result<PagedMap<Id, Shared<Row>>, NoMemory>
+    ensures { IfOk result (λ changed. changed ≡ insert_entry id_cmp rows row.now.id row.now) }
+{
+    let id = row.get().id.clone()?;
+    let shared = row.clone()?;
+    rows.put(alloc, id, shared)
 }
 
 /// The rows of all collections, with this one put among those of its collection, in place of the one of its id, whose etag is

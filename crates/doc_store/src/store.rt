@@ -15,7 +15,7 @@ ghost use Rattle.doc_store.specs.Maps.{etag_at};
 ghost use Rattle.doc_store.specs.Steps.{MayStand};
 
 use crate::rows::{
-    Counts, copies, counts_of, documents_of, earlier, first_of, newest_of, put_among,
+    Counts, copies, counts_of, documents_of, earlier, first_of, newest_of, put_among, put_under_id,
 };
 use crate::rows_by_etag::RowsByEtag;
 use crate::sorting::{all_shared, by_collection, sorted_by_id};
@@ -245,15 +245,13 @@ impl Store {
         requires within { IsWithin (with_row self row) }
         ensures { IfOk result (λ store. store ≡ with_row self row) }
     {
-        let id = row.get().id.clone()?;
-        let under_id = row.clone()?;
         let under_etag = row.clone()?;
         let Store {
             by_id,
             by_etag,
             by_collection,
         } = self;
-        let ids = by_id.put(alloc, id, under_id)?;
+        let ids = put_under_id(alloc, by_id, &row)?;
         let etags = by_etag.put(alloc, under_etag, replaced)?;
         let collections = put_among(alloc, by_collection, row, replaced)?;
         Ok(Store {

@@ -1,22 +1,21 @@
 use Rattle.std.proofs.Common.{◌≡◌, List, ◌∙◌, ap}
-use Rattle.std.specs.BTreeMap.{insert_entry}
 use Rattle.spec_data.specs.Rows.{Row}
 use Rattle.spec_store.specs.Store.{Store, put}
-use Rattle.doc_store.specs.Maps.{Shows, id_cmp}
+use Rattle.doc_store.specs.Maps.{Shows}
 use Rattle.doc_store.proofs.MapLemmas.{shown, replaced_among, newer_than, grown}
 use Rattle.doc_store.proofs.store.Store.put_shared.Goals as goal
-use Rattle.doc_store.proofs.store.Store.put_shared.Goals.{In_ok-id, In_ok-collections}
+use Rattle.doc_store.proofs.store.Store.put_shared.Goals.{In_ok-under_etag, In_ok-collections}
 
 -- what the maps have is shown
-shows : (c : In_ok-id) → Shows c.self.inside.by_id c.self.inside.by_collection c.args.self.rows
+shows : (c : In_ok-under_etag) → Shows c.self.inside.by_id c.self.inside.by_collection c.args.self.rows
 shows c = shown _ _ _ _ c.self.view_is c.self.invariant
 
 pub put_among-requires-clause-replaced : goal.put_among-requires-clause-replaced
 put_among-requires-clause-replaced c =
-    replaced_among _ _ c.args.self c.args.row c.args.replaced (shows (goal.at.put_among-requires-clause-replaced c).In_ok-id) c.requires.stands c.requires.replaced
+    replaced_among _ _ c.args.self c.args.row c.args.replaced (shows (goal.at.put_among-requires-clause-replaced c).In_ok-under_etag) c.requires.stands c.requires.replaced
 
 pub put_among-requires-clause-newer : goal.put_among-requires-clause-newer
-put_among-requires-clause-newer c = newer_than _ _ c.args.self c.args.row (shows (goal.at.put_among-requires-clause-newer c).In_ok-id) c.requires.stands
+put_among-requires-clause-newer c = newer_than _ _ c.args.self c.args.row (shows (goal.at.put_among-requires-clause-newer c).In_ok-under_etag) c.requires.stands
 
 rows_are : (c : In_ok-collections) → c.in_ok-etags.etags ≡ put c.args.row c.args.self.rows
 rows_are c =
@@ -25,13 +24,8 @@ rows_are c =
 
 pub invariant_of-result : goal.invariant_of-result
 invariant_of-result c =
-    let r : Row = c.args.row in
     let s : Shows c.self.inside.by_id c.self.inside.by_collection c.args.self.rows = shown _ _ _ _ c.self.view_is c.self.invariant in
-    let ids : c.in_ok-ids.ids ≡ insert_entry id_cmp c.self.inside.by_id r.id r =
-    c.in_ok-ids.ensures.pairs
-    ∙ ap (λ id. insert_entry id_cmp c.self.inside.by_id id c.in_ok-under_id.under_id) (c.in_ok-id.ensures.cases ∙ ap (λ (x : Row). x.id) (c.behind-row.view_is ∙ c.get.ensures))
-    ∙ ap (λ v. insert_entry id_cmp c.self.inside.by_id r.id v) c.in_ok-under_id.ensures.cases in
-    grown _ _ c.args.self r _ _ _ s c.requires.stands c.requires.within ids c.in_ok-collections.ensures (rows_are c)
+    grown _ _ c.args.self c.args.row _ _ _ s c.requires.stands c.requires.within c.in_ok-ids.ensures c.in_ok-collections.ensures (rows_are c)
 
 pub returns : goal.returns
 returns c = ap (λ (rows : List Row). let S : Store = record { rows = rows } in S) (rows_are (goal.at.returns c).In_ok-collections)
