@@ -53,8 +53,6 @@ module _ {F G K E R : Type 0} (lifted : F → E → R) (none : F → R) (merged 
   pub without_row : (place : ℕ) → None ≡ result_of (lifted t.1.fold) (none t.1.fold) merged (values t.1.entries) → slice_get (rows_in lifted none merged ts) place ≡ slice_get (rows_in lifted none merged left) place
   without_row place o = ap (λ x. slice_get (found_rows x) place) o ∙ ap (λ l. slice_get (rows_in lifted none merged l) place) (sym is)
 
-pub ruleset places = (here, later, without_row)
-
 -- no group has more entries than can be counted
 pub few_at : {F G K E : Type 0} (cmp : G → G → Ordering) (f : F) (q : G) (ts : List (G × Tree F K E)) → AreSound f ts → length (entries_at cmp q ts) < 2 ^ 64
 few_at cmp f q [] s = omega arith

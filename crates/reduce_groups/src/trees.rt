@@ -39,10 +39,10 @@ pub fn tree_with<
     ensures reads { steps.new.reads ≡ steps.old.reads }
 {
     match trees.get(group) {
-        Some(tree) => Ok(tree.get().with(alloc, key, entry, steps)?),
+        Some(tree) => tree.get().with(alloc, key, entry, steps),
         None => {
             let empty = ReduceTree::new(alloc, fold.clone()?)?;
-            Ok(empty.with(alloc, key, entry, steps)?)
+            empty.with(alloc, key, entry, steps)
         }
     }
 }
@@ -84,7 +84,6 @@ fn trees_and<G: Ord + Exact + Drop, K: Ord + Drop, E: Drop, F: Fold<E>>(
 }
 
 /// The row at a place, under the key of its group. There is none if there are no more rows than that.
-#[tactic(auto, using(crate::proofs::RowLemmas::places))]
 pub fn row_at<G: Ord, K: Ord, E, F: Fold<E>>(
     trees: &PagedMap<G, Shared<ReduceTree<K, E, F>>>,
     place: u64,
