@@ -1,0 +1,9 @@
+use Rattle.std.proofs.Common.{sym, subst}
+use Rattle.exact_parse.specs.Steps.{and_then}
+use Rattle.rql_tokens.specs.declared.token.Token.TheVariants as t
+use Rattle.rql_grammar.specs.FieldReading.{counted_path, list}
+use Rattle.rql_parser.specs.Gives.{Gives}
+use Rattle.rql_parser.proofs.queries.grouping.Goals as goal
+
+pub returns : goal.returns
+returns c = subst (λ o. Gives (and_then o (λ _. list t.Comma counted_path)) c.paths.result c.paths.new.tokens.count c.paths.new.tokens.rest.now) (sym c.in_ok-mark.ensures) c.paths.ensures
