@@ -1,6 +1,6 @@
 """What is measured, by the name that `--only` takes. Each module has its lines of the table, and measures them."""
 
-from figures import batches, file, finds, idle, instructions, memory, million, puts, queries, reduces, threads, totals
+from figures import batches, file, finds, idle, indexes, instructions, memory, million, puts, queries, reduces, threads, totals
 
 GROUPS = {
     "puts": puts,
@@ -10,6 +10,7 @@ GROUPS = {
     "idle": idle,
     "finds": finds,
     "queries": queries,
+    "indexes": indexes,
     "totals": totals,
     "reduces": reduces,
     "million": million,
