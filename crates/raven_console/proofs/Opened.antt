@@ -1,23 +1,15 @@
 -- Opening from what a keeper holds.
-use Rattle.std.proofs.Common.{◌≡◌, ℕ, ◌<◌, ◌≤◌, ◌^◌, List, [], ◌∷◌, ◌++◌, Bool, true, false, not, ◌&&◌, nat_lt, nat_le, is_some, is_none, cond, Option, Some, None, IfSome, Result, Ok, Err, length, inl, inr, refl, sym, ap, ◌∙◌, subst, append_assoc, arith}
-use Rattle.std.specs.Option.{option_map}
-use Rattle.std.proofs.lemmas.Bool.{ltb-true}
-use Rattle.std.proofs.lemmas.List.{append-nil, length-append}
-use Rattle.spec_data.specs.Faults.{is_fit, max_id}
+use Rattle.std.proofs.Common.{◌≡◌, ℕ, ◌<◌, ◌≤◌, ◌^◌, List, Option, Some, None, IfSome, Result, Ok, Err, refl, sym, ap, ◌∙◌, subst, arith}
 use Rattle.spec_data.specs.Kept.{KeptRow, all_kept}
-use Rattle.spec_data.specs.Moments.{moments_end}
-use Rattle.spec_data.specs.Rows.{Row, Body, key}
+use Rattle.spec_data.specs.Rows.{Row}
 use Rattle.spec_store.specs.Commit.{Setting}
-use Rattle.spec_store.specs.Kept.{body_in, is_etag, max_etag, can_follow, row_if_it_follows, row_in, rows_after, rows_in, or_bad_row}
+use Rattle.spec_store.specs.Kept.{rows_in}
 use Rattle.spec_server.specs.Machine.{Machine}
 use Rattle.index_lang.specs.Openings.{EndsAt, IsOpened, IsOpenedBy, OpensAs}
 use Rattle.spec_server.specs.Options.{setting_with}
-use Rattle.spec_store.specs.Store.{last_of, row_at}
 use Rattle.spec_store.specs.Limits.{base_id, program}
-use Rattle.doc_store.specs.Opening.{first_bad, is_sound_after}
 use Rattle.doc_txn.specs.SettingView.{setting_of}
 use Rattle.doc_txn.specs.declared.limits.Limits.{Limits}
-use Rattle.spec_store.proofs.StoreLemmas.{both_true}
 use Rattle.doc_keeper.specs.Loading.{AreCalls, IsLoaded}
 use Rattle.raven_laws.proofs.OpenLemmas.{opened_from-IsMachine, opened_from-rows}
 use Rattle.raven_reading.proofs.TextLemmas.{opened-told}
