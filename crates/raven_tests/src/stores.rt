@@ -73,28 +73,6 @@ fn rows_are_in_order_of_id(rt: HostRuntime) -> Result<(), Fail> {
     Ok(())
 }
 
-fn newest(alloc: Global, collection: &str, upto: Option<u64>) -> Result<u64, Fail> {
-    let mut scope = Scope::new(alloc);
-    scope.push(Text::of(alloc, collection)?)?;
-    Ok(store(alloc)?.newest(&scope, upto))
-}
-
-#[test]
-fn the_newest_row_of_a_collection_is_up_to_an_etag(rt: HostRuntime) -> Result<(), Fail> {
-    let cases = [
-        ("Users", None, 4),
-        ("Users", Some(4), 4),
-        ("Users", Some(3), 3),
-        ("Users", Some(2), 0),
-        ("Orders", Some(9), 2),
-        ("users", None, 0),
-    ];
-    for (collection, upto, wanted) in cases {
-        assert_eq!(rt; newest(rt.alloc(), collection, upto)?, wanted);
-    }
-    Ok(())
-}
-
 // The first rows in scope past an etag, and whether more remain. How many were read is not looked at.
 fn first_rows<L: Ledger>(
     alloc: Global,
