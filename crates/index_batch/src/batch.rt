@@ -17,6 +17,7 @@ use raven_base::{NoMemory, Steps};
 use raven_value::Row;
 use std::alloc::Global;
 use std::sync::ledger::Ledger;
+use std::thread::Threads;
 
 fn etag_after(taken: &[Row], more: bool, store: &Store) -> u64
     ensures { result ≡ cond more (last_of 0 taken.now) (last store.now) }
@@ -27,11 +28,13 @@ fn etag_after(taken: &[Row], more: bool, store: &Store) -> u64
 /// The index after the first `max` rows that it has not seen, or nothing if there are none.
 /// Its etag is that of the last of them if more remain, else the store's last.
 ///
-/// The mapper maps the documents that these rows touch, each at most once, and no others. For each row that is taken, and once
+/// The mapper maps the documents that these rows touch, each at most once, and no others; of many documents as many threads map
+/// some as there are processors, with the same result as one. For each row that is taken, and once
 /// more, at most one row of each collection that the index reads is read. Entries are merged only if the definition has a reduce:
 /// the clause bounds how often, if no group has more than 16^h entries before or after. For an index that is not stale nothing
 /// is counted and no row is read: one search for each of these collections finds that.
-pub fn next<M: Mapper, L: Ledger>(
+pub fn next<R: Threads + Sync, M: Mapper + Sync, L: Ledger>(
+    rt: &R,
     alloc: Global,
     index: &IndexVersion,
     store: &Store,
@@ -59,6 +62,6 @@ pub fn next<M: Mapper, L: Ledger>(
         return Ok(None);
     }
     let etag = etag_after(taken.as_slice(), more, store);
-    let next = index.after(alloc, taken.as_slice(), etag, mapper, steps)?;
+    let next = index.after(rt, alloc, taken.as_slice(), etag, mapper, steps)?;
     Ok(Some(next))
 }

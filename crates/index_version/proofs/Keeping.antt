@@ -1,9 +1,8 @@
 -- What is kept, and stays kept when rows are taken.
-use Rattle.std.proofs.Common.{◌≡◌, ℕ, ◌+◌, ◌<◌, List, [], ◌∷◌, ◌++◌, Bool, true, false, cond, ◌||◌, Some, None, is_some, filter, map, length, take, drop, get_or, refl, sym, ap, ◌∙◌, subst, arith}
+use Rattle.std.proofs.Common.{◌≡◌, ℕ, ◌+◌, List, [], ◌∷◌, ◌++◌, Bool, true, false, cond, ◌||◌, Some, None, filter, refl, sym, ap, ◌∙◌, subst}
 use Rattle.std.specs.FinMap.{FinMap, get, values, empty, get-empty}
 use Rattle.std.specs.List.{cons_option, count_by, filter_map, list_any}
 use Rattle.std.specs.Option.{option_and_then}
-use Rattle.std.proofs.lemmas.List.{drop_more, map-append, take_more}
 use Rattle.std.proofs.lemmas.List.Sums.{sum_by-cons}
 use Rattle.spec_data.specs.Folding.{folded, key_cmp, same_key}
 use Rattle.spec_data.specs.Rows.{Row, key, is_document}
@@ -15,7 +14,7 @@ use Rattle.spec_store.proofs.StoreLemmas.{same_means, same_row}
 use Rattle.reference_track.specs.Tracks.{Track, is_pair}
 use Rattle.reference_track.specs.Sets.{is_id}
 use Rattle.index_version.specs.Kept.{AreKept, Given, IsFiled, entry_given, given_at, given_of, is_loaded}
-use Rattle.index_version.specs.Renewed.{ArePaired, AreRenewed, mapped_among}
+use Rattle.index_version.specs.Renewed.{ArePaired, AreRenewed}
 use Rattle.index_version.proofs.Ordered.{values_derived}
 
 -- EACH ROW UNDER ITS OWN ID
@@ -102,20 +101,6 @@ paired_more m T ids i L H N so_far next = λ x y.
     ∙ one_more (list_any (same_key (folded x)) ids) (same_key (folded x) (folded i)) (is_loaded (folded y) (given_at m T (folded x))) (is_loaded (folded y) (given_at m T (folded i))) (is_pair x y L)
     (λ e. ap (λ k. is_loaded (folded y) (given_at m T k)) (sym (same_means (folded x) (folded i) e)))
     ∙ ap (λ b. cond b (is_loaded (folded y) (given_at m T (folded x))) (is_pair x y L)) (sym (any_last (folded x) (folded i) ids))
-
--- the ids up to a place, and one more
-pub folded_more : (ids : List (List ℕ)) (i : ℕ) (d : List ℕ) → i < length ids → map folded (take (i + 1) ids) ≡ map folded (take i ids) ++ folded (get_or ids i d) ∷ []
-folded_more ids i d lt = ap (map folded) (take_more ids i d lt) ∙ map-append folded (take i ids) (get_or ids i d ∷ [])
-
--- the mapped documents among the ids that are left
-pub mapped_left : (m : Mapper) (T : Table) (ids : List (List ℕ)) (i : ℕ) (d : List ℕ) → i < length ids
-    → length (mapped_among m T (map folded (drop i ids))) ≡ cond (is_some (given_at m T (folded (get_or ids i d)))) 1 0 + length (mapped_among m T (map folded (drop (i + 1) ids)))
-mapped_left m T ids i d lt =
-    ap (λ xs. length (mapped_among m T (map folded xs))) (drop_more ids i d lt)
-    ∙ elim (is_some (given_at m T (folded (get_or ids i d)))) as (λ b. length (cond b (folded (get_or ids i d) ∷ mapped_among m T (map folded (drop (i + 1) ids))) (mapped_among m T (map folded (drop (i + 1) ids)))) ≡ cond b 1 0 + length (mapped_among m T (map folded (drop (i + 1) ids)))) [
-      | true ↦ omega arith
-      | false ↦ omega arith
-    ]
 
 -- ALL IS KEPT AGAIN
 

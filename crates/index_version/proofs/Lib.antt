@@ -10,6 +10,8 @@ pub mod Tallies
 pub mod Words
 pub mod GroupChanges
 pub mod Reducing
+mod Answering
+mod Crossing
 mod Terming
 mod FieldNames
 mod EntryLemmas

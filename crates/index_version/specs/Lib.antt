@@ -2,6 +2,7 @@ pub mod Codes
 pub mod Meaning
 pub mod Named
 pub mod Kept
+pub mod Asked
 pub mod Renewed
 pub mod Reduced
 pub mod Termed

@@ -1,6 +1,7 @@
 //! An index as far as it has come: its definition, the documents that it has recorded, and what its map gives for each.
 #![tactic(auto)]
 
+mod asking;
 mod given;
 mod kept;
 mod mapping;

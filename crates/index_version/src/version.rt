@@ -31,6 +31,7 @@ use std::alloc::Global;
 use std::marker::Model;
 use std::sync::Arc;
 use std::sync::ledger::Ledger;
+use std::thread::Threads;
 use term_index::Terms;
 
 /// The same definition, shared.
@@ -98,10 +99,12 @@ impl IndexVersion {
     ///
     /// The map is asked for the documents that these rows touch, each at most once, and for no others: for those that are taken,
     /// and for those that have looked a taken id up. Time and memory grow with the number of these, times the logarithm of the
-    /// number of documents. If the definition has a reduce, rows are merged on the way from each changed entry to the root of the
+    /// number of documents. If there are many documents to map, as many threads as there are processors map them; what comes of it
+    /// is what comes of one thread. If the definition has a reduce, rows are merged on the way from each changed entry to the root of the
     /// tree of its group; if not, none are.
-    pub fn after<M: Mapper, L: Ledger>(
+    pub fn after<R: Threads + Sync, M: Mapper + Sync, L: Ledger>(
         &self,
+        rt: &R,
         alloc: Global,
         taken: &[Row],
         etag: u64,
@@ -121,7 +124,9 @@ impl IndexVersion {
         let ids = touched_ids(alloc, &self.kept.referrers, taken)?;
         let table = self.table.after(alloc, taken)?;
         let ids = ids.as_slice();
-        let kept = renewed(alloc, &self.kept, ids, &table, definition, mapper, steps)?;
+        let kept = renewed(
+            rt, alloc, &self.kept, ids, &table, definition, mapper, steps,
+        )?;
         let groups = regrouped(alloc, &self.groups, &self.kept, &kept, ids, steps)?;
         let terms = retermed(alloc, &self.terms, &self.kept.given, &kept.given, ids)?;
         Ok(IndexVersion {

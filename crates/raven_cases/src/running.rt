@@ -6,9 +6,14 @@ use raven_console::{Finish, raven};
 use raven_ports::{ByteSink, ByteSource, MemKeeper};
 use std::io::{self, Write};
 use std::sync::Arc;
+use std::thread::Threads;
 
 /// Runs a case, and prints what came of it.
-pub fn run_case<R: AllocGlobal, W: Write>(rt: &R, case: Case, out: &mut W) -> io::Result<()> {
+pub fn run_case<R: AllocGlobal + Threads + Sync, W: Write>(
+    rt: &R,
+    case: Case,
+    out: &mut W,
+) -> io::Result<()> {
     writeln!(out, "== {}", case.name)?;
     let mut keeper = case.keeper;
     let mut is_first = true;
@@ -23,7 +28,7 @@ pub fn run_case<R: AllocGlobal, W: Write>(rt: &R, case: Case, out: &mut W) -> io
 }
 
 /// Runs once, prints what came of it, and returns the keeper.
-fn print_run<R: AllocGlobal, W: Write>(
+fn print_run<R: AllocGlobal + Threads + Sync, W: Write>(
     rt: &R,
     run: Run,
     keeper: MemKeeper,

@@ -1,5 +1,5 @@
 -- What is written for a line, and what it leaves, by what it means.
-use Rattle.std.proofs.Common.{◌≡◌, ℕ, List, [], Option, Some, None, Result, Ok, Err, IfOk, refl, ap, ◌∙◌, subst}
+use Rattle.std.proofs.Common.{◌≡◌, ℕ, List, [], Option, Some, None, Result, Ok, Err, IfOk, refl, sym, ap, ◌∙◌, subst}
 use Rattle.std.specs.Prelude.{option_map}
 use Rattle.spec_data.specs.Faults.{Fault}
 use Rattle.spec_server.specs.Machine as is
@@ -67,6 +67,16 @@ line_means line found h = subst (IsLine line) h.told h.comes
 -- what a line asks is well formed
 pub well_formed : (line : List ℕ) (asks : is.Line) → IsLine line (Ok (Some asks)) → IsWellFormed asks
 well_formed line asks h = line-formed line asks h
+
+-- so it is of what it was read as
+pub formed_as : (line : List ℕ) (found : Option Line) (one : Line) (asks : is.Line) → found ≡ Some one → asks ≡ line_view one → Answers (asked_of line) (Ok found) → IsWellFormed asks
+formed_as line found one asks same e h = subst IsWellFormed (sym e) (well_formed line (line_view one) (subst (λ (o : Option Line). IsLine line (Ok (option_map line_view o))) same (line_means line found h)))
+
+pub answers-as : (line : List ℕ) (now : ℕ) (before after : KeeperState) (M N : Machine) (text : List ℕ) (found : Option Line) (one : Line) (asks : is.Line) → found ≡ Some one → asks ≡ line_view one
+    → Answers (asked_of line) (Ok found) → IsPerformed asks now before after M N text → IsAnswered line now before after M N text
+answers-as line now before after M N text found one asks same e h p =
+    answers-done line now before after M N text (line_view one) (subst (λ (o : Option Line). IsLine line (Ok (option_map line_view o))) same (line_means line found h))
+    (subst (λ (a : is.Line). IsPerformed a now before after M N text) e p)
 
 pub ruleset refusals = (refused_line, refused_id, refused_name)
 

@@ -8,7 +8,7 @@ ghost use Rattle.raven_reply.specs.ReplyView.{reply_view};
 ghost use Rattle.raven_console.specs.Answering.{IsAnswered, IsPerformed};
 ghost use Rattle.raven_console.specs.Devices.{Keeps};
 ghost use Rattle.raven_console.specs.Prepared.{IsPrepared};
-ghost use Rattle.raven_script.specs.RequestView.{request_view};
+ghost use Rattle.raven_script.specs.RequestView.{line_view, request_view};
 
 use crate::keeping::keep;
 use crate::outcome::{Pending, outcome_of};
@@ -19,6 +19,7 @@ use raven_script::{Line, Request, line};
 use raven_world::{Reply, World, reply_text};
 use std::alloc::Global;
 use std::marker::Model;
+use std::thread::Threads;
 
 /// A database that answers one line after another.
 #[derive(Drop)]
@@ -53,11 +54,17 @@ struct Prepared {
     change: Option<Pending>,
 }
 
-fn prepare(alloc: Global, world: &World, now: u64, request: Request) -> Result<Prepared, NoMemory>
+fn prepare<R: Threads + Sync>(
+    rt: &R,
+    alloc: Global,
+    world: &World,
+    now: u64,
+    request: Request,
+) -> Result<Prepared, NoMemory>
     requires { IsWellFormed (Do (request_view request)) }
     ensures { IfOk result (λ p. IsPrepared (course_of world.now now (request_view request)) p) }
 {
-    let outcome = outcome_of(alloc, world, now, request)?;
+    let outcome = outcome_of(rt, alloc, world, now, request)?;
     let text = printed(alloc, &outcome.reply)?;
     Ok(Prepared {
         text,
@@ -69,6 +76,15 @@ fn not_taken(alloc: Global, before: u64, after: u64) -> Result<Vec<u8>, NoMemory
     ensures { IfOk result (λ text. text.items ≡ spec_printed (KeeperFault before after)) }
 {
     printed(alloc, &Reply::KeeperFault { before, after })
+}
+
+// What a line asks the machine to do.
+fn request_in(line: Line) -> Request
+    ensures { Do (request_view result) ≡ line_view line }
+{
+    match line {
+        Line::Do(request) => request,
+    }
 }
 
 impl Machine {
@@ -88,8 +104,9 @@ impl Machine {
     }
 
     #[tactic(auto, using(crate::proofs::Performed::performs))]
-    fn perform<K: Keeper>(
+    fn perform<R: Threads + Sync, K: Keeper>(
         &mut self,
+        rt: &R,
         alloc: Global,
         keeper: &mut K,
         now: u64,
@@ -103,7 +120,7 @@ impl Machine {
         ensures later { (K.state keeper.old).count ≤ (K.state keeper.new).count }
     {
         let before = keeper.faults();
-        let Prepared { text, change } = prepare(alloc, &self.world, now, request)?;
+        let Prepared { text, change } = prepare(rt, alloc, &self.world, now, request)?;
         let Some(change) = change else {
             return Ok(text);
         };
@@ -117,8 +134,9 @@ impl Machine {
     /// What is written for a line at this moment, in microseconds since 1970: the reply with its line end, or nothing for a line without
     /// bytes. The keeper holds the rows of the database, if it reports them. If the keeper fails or memory runs out, nothing changes.
     #[tactic(auto, using(crate::proofs::Answered::answers))]
-    pub fn answer<K: Keeper>(
+    pub fn answer<R: Threads + Sync, K: Keeper>(
         &mut self,
+        rt: &R,
         alloc: Global,
         keeper: &mut K,
         now: u64,
@@ -131,7 +149,7 @@ impl Machine {
         ensures later { (K.state keeper.old).count ≤ (K.state keeper.new).count }
     {
         match line(alloc, bytes) {
-            Ok(Some(Line::Do(request))) => self.perform(alloc, keeper, now, request),
+            Ok(Some(asks)) => self.perform(rt, alloc, keeper, now, request_in(asks)),
             Ok(None) => Ok(Vec::new(alloc)),
             Err(refusal) => {
                 let reply = reply_to_refusal(refusal)?;

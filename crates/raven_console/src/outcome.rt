@@ -17,6 +17,7 @@ use rql_plan::QueryAsk;
 use std::alloc::Global;
 use std::marker::Brand;
 use std::sync::ledger::{Blank, Ledger};
+use std::thread::Threads;
 
 /// A change that waits for the keeper: the rows to store, and the world once they are stored.
 #[derive(Drop)]
@@ -78,7 +79,8 @@ fn picked(
 }
 
 // A batch for each index, or for the one that is named. Nobody reads the counter.
-fn pumped<L: Ledger>(
+fn pumped<R: Threads + Sync, L: Ledger>(
+    rt: &R,
     alloc: Global,
     world: &World,
     max: u32,
@@ -92,8 +94,8 @@ fn pumped<L: Ledger>(
 {
     let mut steps = Steps::<L>::new(blank);
     match index {
-        None => Ok(changed(world.pump(alloc, max, &mut steps)?)),
-        Some(name) => settled(world.pump_one(alloc, max, &name, &mut steps)),
+        None => Ok(changed(world.pump(rt, alloc, max, &mut steps)?)),
+        Some(name) => settled(world.pump_one(rt, alloc, max, &name, &mut steps)),
     }
 }
 
@@ -132,7 +134,8 @@ fn asked<L: Ledger>(
 }
 
 /// What the request leaves of the world, at this moment.
-pub fn outcome_of(
+pub fn outcome_of<R: Threads + Sync>(
+    rt: &R,
     alloc: Global,
     world: &World,
     now: u64,
@@ -160,7 +163,9 @@ pub fn outcome_of(
         Request::Ask { ask } => asked::<Brand>(alloc, &seen, &ask, Blank::new(3)),
         Request::Define { definition } => settled(world.define(alloc, definition, now)),
         Request::Remove { name } => settled(world.remove(alloc, &name, now)),
-        Request::Pump { max, index } => pumped::<Brand>(alloc, world, max, index, Blank::new(3)),
+        Request::Pump { max, index } => {
+            pumped::<R, Brand>(rt, alloc, world, max, index, Blank::new(3))
+        }
         Request::Stale { name, cutoff } => Ok(unchanged(seen.stale(alloc, &name, cutoff)?)),
         Request::Indexes => Ok(unchanged(seen.indexes(alloc)?)),
         Request::Stats => Ok(unchanged(seen.stats())),

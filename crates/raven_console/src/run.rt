@@ -18,6 +18,7 @@ use raven_base::NoMemory;
 use raven_ports::{Clock, Keeper, Sink, SinkFault, Source};
 use std::alloc::Global;
 use std::sync::Arc;
+use std::thread::Threads;
 
 /// How the program ended, and the keeper that it was called with.
 #[derive(Drop)]
@@ -31,7 +32,8 @@ pub struct Finish<K: Drop> {
 /// Answers each line of a script on this machine, and writes the replies. The keeper holds the rows of the machine, if it reports them, and
 /// so it does in the end. After `Failed` the machine is that after the line whose reply failed: no later line was executed.
 #[tactic(auto, using(crate::proofs::Runs::steps))]
-pub fn answer_lines<K: Keeper, C: Clock, O: Sink>(
+pub fn answer_lines<R: Threads + Sync, K: Keeper, C: Clock, O: Sink>(
+    rt: &R,
     alloc: Global,
     machine: &mut Machine,
     keeper: &mut K,
@@ -55,7 +57,7 @@ pub fn answer_lines<K: Keeper, C: Clock, O: Sink>(
     while !rest.is_empty() {
         let (line, more) = next_line(rest);
         let now = clock.now();
-        let Ok(text) = machine.answer(alloc, keeper, now, line) else {
+        let Ok(text) = machine.answer(rt, alloc, keeper, now, line) else {
             return Err(SinkFault::NoMemory);
         };
         if let Err(fault) = give_all(output, &text) {
@@ -68,7 +70,8 @@ pub fn answer_lines<K: Keeper, C: Clock, O: Sink>(
 
 /// The command `run`: it reads the whole input, opens the database, and then answers one line after another.
 #[tactic(auto, using(crate::proofs::Ended::ends))]
-fn run<S: Source, O: Sink, K: Keeper, C: Clock>(
+fn run<R: Threads + Sync, S: Source, O: Sink, K: Keeper, C: Clock>(
+    rt: &R,
     alloc: Global,
     arguments: &[String],
     input: &mut S,
@@ -103,7 +106,7 @@ fn run<S: Source, O: Sink, K: Keeper, C: Clock>(
         Err(LoadFault::KeptBad { etag }) => return Status::KeptBad { etag },
         Err(LoadFault::NoMemory) => return Status::NoMemory,
     };
-    match answer_lines(alloc, &mut machine, keeper, clock, &script, output) {
+    match answer_lines(rt, alloc, &mut machine, keeper, clock, &script, output) {
         Ok(()) => Status::Done,
         Err(SinkFault::Failed) => Status::WriteFault,
         Err(SinkFault::NoMemory) => Status::NoMemory,
@@ -116,7 +119,13 @@ fn run<S: Source, O: Sink, K: Keeper, C: Clock>(
 ///
 /// What each status says of the run is in `EndsRightly`, one named fact after another: `done`, `usage`, `ordered`, `read_fault`,
 /// `write_fault`, `kept_fault`, `kept_bad`, `read`, `stopped`, `memory`, `too_large`, `within` and `complete`.
-pub fn raven<R: AllocGlobal, S: Source, O: Sink, K: Keeper + Drop, C: Clock + Drop>(
+pub fn raven<
+    R: AllocGlobal + Threads + Sync,
+    S: Source,
+    O: Sink,
+    K: Keeper + Drop,
+    C: Clock + Drop,
+>(
     rt: &R,
     arguments: &[String],
     input: &mut S,
@@ -137,7 +146,15 @@ pub fn raven<R: AllocGlobal, S: Source, O: Sink, K: Keeper + Drop, C: Clock + Dr
     ensures back { IsSome result.keeper }
 {
     let mut keeper = keeper;
-    let status = run(rt.alloc(), arguments, input, output, &mut keeper, &*clock);
+    let status = run(
+        rt,
+        rt.alloc(),
+        arguments,
+        input,
+        output,
+        &mut keeper,
+        &*clock,
+    );
     Finish {
         status,
         keeper: Some(keeper),

@@ -8,8 +8,13 @@ use raven_real::{RealClock, RealSink, RealSource};
 use std::io;
 use std::process::ExitCode;
 use std::sync::Arc;
+use std::thread::Threads;
+use std::time::Clock;
 
-fn run(rt: &HostRuntime, arguments: &[String]) -> Status {
+fn run<R: AllocGlobal + Input + Print + Clock + Threads + Sync>(
+    rt: &R,
+    arguments: &[String],
+) -> Status {
     let alloc = rt.alloc();
     let mut input = RealSource::new(rt.reader());
     let mut output = RealSink::new(io::writer(rt));

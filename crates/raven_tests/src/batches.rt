@@ -13,11 +13,12 @@ use map_stage::{Lookup, Mapped, Mapper};
 use raven_base::{NoMemory, Steps};
 use raven_value::{Name, Row};
 use std::alloc::Global;
-use std::cell::Cell;
 use std::marker::Brand;
 use std::sync::Arc;
+use std::sync::atomic::{AtomicU64, Ordering};
 use std::sync::ledger::{Blank, Ledger};
 use std::test::Fail;
+use std::thread::Threads;
 
 const ROWS: &[(u64, &str, &str, &str)] = &[
     (1, "orders/1", "Orders", "{\"Company\":\"companies/1\"}"),
@@ -35,12 +36,12 @@ const MAP: &str =
 
 #[derive(Clone, Copy)]
 struct CountingMapper<'d> {
-    mapper: DefinitionMapper<'d>,
-    calls: &'d Cell<u64>,
+    definition: &'d Definition,
+    calls: &'d AtomicU64,
 }
 
 impl<'d> Mapper for CountingMapper<'d> {
-    ghost meaning = { λ m d find. found_meaning (definition_view m.mapper.definition.now.body) d find };
+    ghost meaning = { λ m d find. found_meaning (definition_view m.definition.now.body) d find };
 
     fn map<T: Lookup, L: Ledger>(
         &self,
@@ -49,11 +50,14 @@ impl<'d> Mapper for CountingMapper<'d> {
         rows: &T,
         steps: &mut Steps<L>,
     ) -> Result<Mapped, NoMemory> {
-        self.calls.set(self.calls.get().wrapping_add(1));
-        self.mapper.map(alloc, doc, rows, steps)
+        self.calls.fetch_add(1, Ordering::SeqCst);
+        let mapper = DefinitionMapper {
+            definition: self.definition,
+        };
+        mapper.map(alloc, doc, rows, steps)
     }
 
-    ghost local = { λ m d find other alike. found_local (definition_view m.mapper.definition.now.body) d find other alike };
+    ghost local = { λ m d find other alike. found_local (definition_view m.definition.now.body) d find other alike };
 }
 
 fn definition(alloc: Global) -> Result<Definition, Fail> {
@@ -65,12 +69,13 @@ fn fresh(alloc: Global) -> Result<IndexVersion, Fail> {
     Ok(IndexVersion::fresh(alloc, definition)?)
 }
 
-fn brought<L: Ledger>(
+fn brought<R: Threads + Sync, L: Ledger>(
+    rt: &R,
     alloc: Global,
     version: &IndexVersion,
     store: &Store,
     max: u32,
-    calls: &Cell<u64>,
+    calls: &AtomicU64,
     blank: Blank,
 ) -> Result<Option<IndexVersion>, NoMemory>
     requires name { blank.name ≡ L.name }
@@ -78,37 +83,41 @@ fn brought<L: Ledger>(
     requires enough { 3 ≤ blank.parts }
 {
     let mapper = CountingMapper {
-        mapper: DefinitionMapper {
-            definition: version.definition(),
-        },
+        definition: version.definition(),
         calls,
     };
     let mut steps = Steps::<L>::new(blank);
-    next(alloc, version, store, &mapper, max, &mut steps)
+    next(rt, alloc, version, store, &mapper, max, &mut steps)
 }
 
 // The version after a batch, if there is something to take. How often the map was called is added to `told`.
-fn told_batch(
+fn told_batch<R: Threads + Sync>(
+    rt: &R,
     alloc: Global,
     version: &IndexVersion,
     store: &Store,
     max: u32,
     told: &mut Vec<u64>,
 ) -> Result<Option<IndexVersion>, NoMemory> {
-    let calls = Cell::new(0);
-    let new = brought::<Brand>(alloc, version, store, max, &calls, Blank::new(3))?;
+    let calls = AtomicU64::new(0);
+    let new = brought::<R, Brand>(rt, alloc, version, store, max, &calls, Blank::new(3))?;
     if new.is_some() {
-        told.push(calls.get())?;
+        told.push(calls.load(Ordering::SeqCst))?;
     }
     Ok(new)
 }
 
 // How often each batch calls the map, until there is nothing to take.
-fn calls_of(alloc: Global, store: &Store, max: u32) -> Result<Vec<u64>, Fail> {
+fn calls_of<R: Threads + Sync>(
+    rt: &R,
+    alloc: Global,
+    store: &Store,
+    max: u32,
+) -> Result<Vec<u64>, Fail> {
     let mut told = Vec::new(alloc);
     let mut version = fresh(alloc)?;
     for _batch in 0..9 {
-        let Some(new) = told_batch(alloc, &version, store, max, &mut told)? else {
+        let Some(new) = told_batch(rt, alloc, &version, store, max, &mut told)? else {
             break;
         };
         version = new;
@@ -120,9 +129,9 @@ fn calls_of(alloc: Global, store: &Store, max: u32) -> Result<Vec<u64>, Fail> {
 fn a_batch_asks_the_map_for_what_it_touches(rt: HostRuntime) -> Result<(), Fail> {
     let alloc = rt.alloc();
     let store = opened(alloc, ROWS)?;
-    let one_by_one = calls_of(alloc, &store, 1)?;
-    let five_by_five = calls_of(alloc, &store, 5)?;
-    let at_once = calls_of(alloc, &store, 64)?;
+    let one_by_one = calls_of(&rt, alloc, &store, 1)?;
+    let five_by_five = calls_of(&rt, alloc, &store, 5)?;
+    let at_once = calls_of(&rt, alloc, &store, 64)?;
     assert_eq!(rt; one_by_one.as_slice(), [1u64, 1, 1, 2, 1, 0, 0].as_slice());
     assert_eq!(rt; five_by_five.as_slice(), [3u64, 0].as_slice());
     assert_eq!(rt; at_once.as_slice(), [3u64].as_slice());

@@ -19,9 +19,11 @@ use raven_value::{Name, Rows};
 use std::alloc::Global;
 use std::sync::Arc;
 use std::sync::ledger::Ledger;
+use std::thread::Threads;
 
 // What a batch gives for a slot, if it has not seen all rows.
-fn next_batch<L: Ledger>(
+fn next_batch<R: Threads + Sync, L: Ledger>(
+    rt: &R,
     alloc: Global,
     store: &Store,
     max: u32,
@@ -38,7 +40,7 @@ fn next_batch<L: Ledger>(
     let mapper = DefinitionMapper {
         definition: version.definition(),
     };
-    next(alloc, version, store, &mapper, max, steps)
+    next(rt, alloc, version, store, &mapper, max, steps)
 }
 
 fn with_version(slot: &Slot, version: Arc<IndexVersion>) -> Result<Slot, NoMemory>
@@ -52,7 +54,8 @@ fn with_version(slot: &Slot, version: Arc<IndexVersion>) -> Result<Slot, NoMemor
     })
 }
 
-fn after_batch<L: Ledger>(
+fn after_batch<R: Threads + Sync, L: Ledger>(
+    rt: &R,
     alloc: Global,
     store: &Store,
     max: u32,
@@ -65,7 +68,7 @@ fn after_batch<L: Ledger>(
     ensures merges { OnOk result (IsStore store.now → AllFit store.now (slot.now ∷ []) → MergesFew store.now max (slot.now ∷ []) steps.old steps.new) }
     ensures reads { steps.new.reads ≤ steps.old.reads + read_by store.now max slot.now }
 {
-    let Some(version) = next_batch(alloc, store, max, slot, steps)? else {
+    let Some(version) = next_batch(rt, alloc, store, max, slot, steps)? else {
         return Ok(slot.clone()?);
     };
     let version = Arc::new(alloc, version)?;
@@ -83,7 +86,8 @@ fn pumping_of(before: &Slot, now: &Slot) -> Result<Pumping, NoMemory>
 }
 
 // The slot after a batch, and what the batch did to it.
-fn brought_on<L: Ledger>(
+fn brought_on<R: Threads + Sync, L: Ledger>(
+    rt: &R,
     alloc: Global,
     store: &Store,
     max: u32,
@@ -97,12 +101,13 @@ fn brought_on<L: Ledger>(
     ensures merges { OnOk result (IsStore store.now → AllFit store.now (slot.now ∷ []) → MergesFew store.now max (slot.now ∷ []) steps.old steps.new) }
     ensures reads { steps.new.reads ≤ steps.old.reads + read_by store.now max slot.now }
 {
-    let brought = after_batch(alloc, store, max, slot, steps)?;
+    let brought = after_batch(rt, alloc, store, max, slot, steps)?;
     let pumped = pumping_of(slot, &brought)?;
     Ok((brought, pumped))
 }
 
-fn all_brought_on<L: Ledger>(
+fn all_brought_on<R: Threads + Sync, L: Ledger>(
+    rt: &R,
     alloc: Global,
     store: &Store,
     max: u32,
@@ -119,7 +124,7 @@ fn all_brought_on<L: Ledger>(
     let mut new = Vec::with_capacity(alloc, slots.len())?;
     let mut all = Pumpings::new(alloc);
     for slot in slots {
-        let (brought, pumped) = brought_on(alloc, store, max, slot, steps)?;
+        let (brought, pumped) = brought_on(rt, alloc, store, max, slot, steps)?;
         new.push(brought)?;
         all.push(pumped)?;
     }
@@ -127,7 +132,8 @@ fn all_brought_on<L: Ledger>(
 }
 
 // The slot, after a batch if it serves the name, and what that batch did to it.
-fn brought_on_if<L: Ledger>(
+fn brought_on_if<R: Threads + Sync, L: Ledger>(
+    rt: &R,
     alloc: Global,
     store: &Store,
     max: u32,
@@ -145,13 +151,14 @@ fn brought_on_if<L: Ledger>(
     if !is_named(slot, name.as_str()) {
         return Ok((slot.clone()?, None));
     }
-    let (brought, pumped) = brought_on(alloc, store, max, slot, steps)?;
+    let (brought, pumped) = brought_on(rt, alloc, store, max, slot, steps)?;
     Ok((brought, Some(pumped)))
 }
 
 // All slots, those that serve the name after a batch, and what it did to the first of these. In a sound world one slot serves
 // a name.
-fn one_brought_on<L: Ledger>(
+fn one_brought_on<R: Threads + Sync, L: Ledger>(
+    rt: &R,
     alloc: Global,
     store: &Store,
     max: u32,
@@ -169,7 +176,7 @@ fn one_brought_on<L: Ledger>(
     let mut new = Vec::with_capacity(alloc, slots.len())?;
     let mut first: Option<Pumping> = None;
     for slot in slots {
-        let (brought, pumped) = brought_on_if(alloc, store, max, name, slot, steps)?;
+        let (brought, pumped) = brought_on_if(rt, alloc, store, max, name, slot, steps)?;
         new.push(brought)?;
         first = first.or(pumped);
     }
@@ -212,8 +219,9 @@ impl World {
 
     /// Each index catches up by one batch of at most `max` rows. A document that several of them map counts for each, and so does
     /// a row that several of them read. Entries are merged only for definitions with a reduce.
-    pub fn pump<L: Ledger>(
+    pub fn pump<R: Threads + Sync, L: Ledger>(
         &self,
+        rt: &R,
         alloc: Global,
         max: u32,
         steps: &mut Steps<L>,
@@ -224,13 +232,14 @@ impl World {
         ensures merges { OnOk result (Sound self.now → MergesFew self.now.store max self.now.slots steps.old steps.new) }
         ensures reads { steps.new.reads ≤ steps.old.reads + read_by_all self.now.store max self.now.slots }
     {
-        let (slots, pumped) = all_brought_on(alloc, &self.store, max, self.live(), steps)?;
+        let (slots, pumped) = all_brought_on(rt, alloc, &self.store, max, self.live(), steps)?;
         self.after_batches(alloc, slots, pumped)
     }
 
     /// The index of this name catches up by one batch of at most `max` rows.
-    pub fn pump_one<L: Ledger>(
+    pub fn pump_one<R: Threads + Sync, L: Ledger>(
         &self,
+        rt: &R,
         alloc: Global,
         max: u32,
         name: &Name,
@@ -242,7 +251,15 @@ impl World {
         ensures merges { OnOk result (Sound self.now → MergesFew self.now.store max (filter (spec_is_named name.now) self.now.slots) steps.old steps.new) }
         ensures reads { steps.new.reads ≤ steps.old.reads + read_by_all self.now.store max (filter (spec_is_named name.now) self.now.slots) }
     {
-        let (slots, pumped) = one_brought_on(alloc, &self.store, max, name, self.live(), steps)?;
+        let (slots, pumped) = one_brought_on(
+            rt,
+            alloc,
+            &self.store,
+            max,
+            name,
+            self.live(),
+            steps,
+        )?;
         self.after_one(alloc, name, slots, pumped)
     }
 }

@@ -1,34 +1,93 @@
-use Rattle.std.proofs.Common.{◌∙◌, ◌+◌, ap, sym, subst, arith, cond, drop, is_some, length, map, take, ◌++◌, ◌∷◌, []}
-use Rattle.std.specs.FinMap.{get}
-use Rattle.spec_data.specs.Folding.{folded, same_key}
+use Rattle.std.proofs.Common.{◌≡◌, ◌≤◌, ◌+◌, ◌++◌, ◌∷◌, [], map, length, ap, sym, subst, ◌∙◌, append_assoc, append-nil, arith}
+use Rattle.std.specs.List.{All, count_by}
+use Rattle.std.specs.Vec.Iter.{into_iter_items}
+use Rattle.std.proofs.lemmas.List.{nil_from_length}
+use Rattle.std.proofs.lemmas.List.Elements.{All-head, All-tail}
+use Rattle.spec_data.specs.Folding.{folded}
 use Rattle.index_tree.specs.Mapper.{mapper_of}
 use Rattle.index_definition.specs.DefinitionView.{definition_view}
-use Rattle.reference_track.specs.Sets.{is_id}
-use Rattle.reference_track.specs.Tracks.{is_pair}
 use Rattle.reference_track.specs.Folded.{by_folded}
-use Rattle.index_version.specs.Kept.{given_at, is_loaded}
+use Rattle.index_version.specs.Asked.{IsAnswered, was_mapped}
 use Rattle.index_version.specs.Renewed.{ArePaired, AreRenewed, mapped_among}
-use Rattle.index_version.proofs.Keeping.{mapped_left, folded_more, paired_more, renewed_more}
+use Rattle.index_version.proofs.Answering.{all_counted, folded_answered, folded_ids, none_paired, none_renewed, paired_answer, renewed_answer}
+use Rattle.index_version.proofs.renewal.renewed.Given.{Over}
 use Rattle.index_version.proofs.renewal.renewed.Goals as goal
+use Rattle.index_version.proofs.renewal.renewed.Goals.{After-count_maps, In-None}
 
-pub loop-id-preserved : goal.loop-id-preserved
-loop-id-preserved g c =
+-- each document that is mapped is counted
+counted : (g : Over) (c : After-count_maps g) → c.count_maps.new.steps.maps ≡ c.args.steps.now.maps + length (mapped_among (mapper_of (definition_view c.args.definition.now.body)) c.args.table.now (map folded c.args.ids.now))
+counted g c =
+    c.count_maps.ensures.maps
+    ∙ ap (λ n. c.args.steps.now.maps + n) (ap (λ all. count_by (λ a. was_mapped a.given) all) c.deref.ensures.value
+    ∙ all_counted (mapper_of (definition_view c.args.definition.now.body)) c.args.table.now c.in_ok-all.all.items c.args.ids.now c.in_ok-all.ensures.ids c.in_ok-all.ensures.answered)
+
+at_most : (g : Over) (c : After-count_maps g) → c.count_maps.new.steps.maps ≤ c.args.steps.now.maps + length (mapped_among (mapper_of (definition_view c.args.definition.now.body)) c.args.table.now (map folded c.args.ids.now))
+at_most g c = let all = counted g c in omega (arith, all)
+
+pub returns-in_err-new-clause-maps : goal.returns-in_err-new-clause-maps
+returns-in_err-new-clause-maps g c = at_most g (goal.at.returns-in_err-new-clause-maps g c).After-count_maps
+
+pub returns-in_err-given-clause-maps : goal.returns-in_err-given-clause-maps
+returns-in_err-given-clause-maps g c = at_most g (goal.at.returns-in_err-given-clause-maps g c).After-count_maps
+
+pub returns-in_err-new-2-clause-maps : goal.returns-in_err-new-2-clause-maps
+returns-in_err-new-2-clause-maps g c = at_most g (goal.at.returns-in_err-new-2-clause-maps g c).After-count_maps
+
+pub returns-clause-maps : goal.returns-clause-maps
+returns-clause-maps g c = at_most g (goal.at.returns-clause-maps g c).After-count_maps
+
+pub returns-clause-counted : goal.returns-clause-counted
+returns-clause-counted g c = counted g (goal.at.returns-clause-counted g c).After-count_maps
+
+pub loop-answer-init : goal.loop-answer-init
+loop-answer-init g c =
     let m = mapper_of (definition_view c.args.definition.now.body) in
     let T = c.args.table.now in
-    let i = c.loop-id.id-index in
-    let id = c.id-item.result in
-    let more = folded_more c.args.ids.now i id c.loop-id-test.true ∙ ap (λ k. map folded (take i c.args.ids.now) ++ folded k ∷ []) (sym c.id-item.is) in
-    let left = mapped_left m T c.args.ids.now i id c.loop-id-test.true ∙ ap (λ k. cond (is_some (given_at m T (folded k))) 1 0 + length (mapped_among m T (map folded (drop (i + 1) c.args.ids.now)))) (sym c.id-item.is) in
-    let so_far = c.loop-id.invariant.maps in
-    let here = c.in_ok-given.ensures.maps in
+    let items = c.into_iter-answer-iterator.ensures.into_iter_gives.0 in
     record {
-      results = subst (λ ids. AreRenewed m T ids (by_folded c.args.kept.now.given) (by_folded c.in_ok-new-2.new.given)) (sym more)
-          (renewed_more m T (map folded (take i c.args.ids.now)) (folded id) _ (by_folded c.loop-id.new.given) _ c.loop-id.invariant.results
-          (λ q. c.in_ok-new-2.ensures.results q ∙ ap (λ o. cond (same_key q (folded id)) o (get (by_folded c.loop-id.new.given) q)) c.in_ok-given.ensures.given));
-      pairs = subst (λ ids. ArePaired m T ids c.args.kept.now.referrers c.in_ok-new-2.new.referrers) (sym more)
-          (paired_more m T (map folded (take i c.args.ids.now)) id c.args.kept.now.referrers c.loop-id.new.referrers c.in_ok-new-2.new.referrers c.loop-id.invariant.pairs
-          (λ x y. c.in_ok-new-2.ensures.pairs x y ∙ ap (λ o. cond (is_id x id) (is_loaded (folded y) o) (is_pair x y c.loop-id.new.referrers)) c.in_ok-given.ensures.given));
-      maps = omega (arith, left, so_far, here);
-      merges = c.in_ok-given.ensures.merges ∙ c.loop-id.invariant.merges;
-      reads = c.in_ok-given.ensures.reads ∙ c.loop-id.invariant.reads;
+      ids = ap folded_ids items ∙ folded_answered c.in_ok-all.all.items c.args.ids.now c.in_ok-all.ensures.ids;
+      answered = subst (All (IsAnswered m T)) (sym items) c.in_ok-all.ensures.answered;
+      left = c.into_iter-answer-iterator.ensures.into_iter_gives.1 ∙ c.in_ok-all.all.ok.0 ∙ ap length (sym items);
+      results = subst (λ k. AreRenewed m T [] (by_folded c.args.kept.now.given) (by_folded k.given)) (sym c.in_ok-new.ensures) (none_renewed m T (by_folded c.args.kept.now.given));
+      pairs = subst (λ k. ArePaired m T [] c.args.kept.now.referrers k.referrers) (sym c.in_ok-new.ensures) (none_paired m T c.args.kept.now.referrers);
     }
+
+pub loop-answer-preserved : goal.loop-answer-preserved
+loop-answer-preserved g c =
+    let m = mapper_of (definition_view c.args.definition.now.body) in
+    let T = c.args.table.now in
+    let done = c.loop-answer.yielded in
+    let a = c.in-Some.answer in
+    let rest = into_iter_items c.next.new.self in
+    let split = c.in-Some.ensures.steps.0 in
+    let all = subst (All (IsAnswered m T)) split c.loop-answer.invariant.answered in
+    let answered = All-head (IsAnswered m T) a rest all in
+    record {
+      ids = ap folded_ids (append_assoc done (a ∷ []) rest) ∙ ap (λ left. folded_ids (done ++ left)) (sym split) ∙ c.loop-answer.invariant.ids;
+      answered = All-tail (IsAnswered m T) a rest all;
+      left =
+          let was = c.loop-answer.invariant.left in
+          let gone = c.in-Some.ensures.steps.1 in
+          let short = ap length split in
+          omega arith;
+      results = renewed_answer m T done a c.in_ok-given.field-0 (by_folded c.args.kept.now.given) (by_folded c.loop-answer.new.given) (by_folded c.in_ok-new-2.new.given) answered c.in_ok-given.was
+          c.loop-answer.invariant.results c.in_ok-new-2.ensures.results;
+      pairs = paired_answer m T done a c.in_ok-given.field-0 c.args.kept.now.referrers c.loop-answer.new.referrers c.in_ok-new-2.new.referrers answered c.in_ok-given.was
+          c.loop-answer.invariant.pairs c.in_ok-new-2.ensures.pairs;
+    }
+
+-- at the end all answers are stored
+whole : (g : Over) (c : In-None g) → folded_ids c.loop-answer.yielded ≡ map folded c.args.ids.now
+whole g c =
+    let none = nil_from_length (into_iter_items c.loop-answer.answer-iterator) (sym c.loop-answer.invariant.left ∙ c.in-None.ensures.steps.0) in
+    ap folded_ids (sym (append-nil c.loop-answer.yielded) ∙ ap (λ left. c.loop-answer.yielded ++ left) (sym none)) ∙ c.loop-answer.invariant.ids
+
+pub returns-clause-results : goal.returns-clause-results
+returns-clause-results g c =
+    subst (λ ids. AreRenewed (mapper_of (definition_view c.args.definition.now.body)) c.args.table.now ids (by_folded c.args.kept.now.given) (by_folded c.loop-answer.new.given))
+    (whole g (goal.at.returns-clause-results g c).In-None) c.loop-answer.invariant.results
+
+pub returns-clause-pairs : goal.returns-clause-pairs
+returns-clause-pairs g c =
+    subst (λ ids. ArePaired (mapper_of (definition_view c.args.definition.now.body)) c.args.table.now ids c.args.kept.now.referrers c.loop-answer.new.referrers)
+    (whole g (goal.at.returns-clause-pairs g c).In-None) c.loop-answer.invariant.pairs

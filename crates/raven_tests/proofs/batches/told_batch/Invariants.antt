@@ -1,4 +1,4 @@
 use Rattle.raven_tests.proofs.batches.told_batch.Given as goal
 
 abbrev pub ghosts-brought : goal.ghosts-brought
-ghosts-brought a = record { name = a.blank.name; parts = a.blank.parts }
+ghosts-brought g a = record { name = a.blank.name; parts = a.blank.parts }

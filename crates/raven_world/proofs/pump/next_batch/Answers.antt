@@ -13,14 +13,12 @@ use Rattle.raven_world.proofs.Batches.{read_if_stale}
 use Rattle.raven_world.proofs.Merging.{NoReduce, if_ok_both, merged_by_next}
 use Rattle.raven_world.proofs.pump.next_batch.Goals as goal
 
-pub next-requires : goal.next-requires
-next-requires g c =
+pub next-requires-clause-means : goal.next-requires-clause-means
+next-requires-clause-means g c κs within =
     let own = definition_view c.deref-2.result.now.body in
-    record {
-      means = subst (Means (found_meaning own))
-          (ap (λ (d : Definition). definition_view d.body) c.deref-2.ensures ∙ c.definition.ensures.body ∙ ap (λ (v : NamedVersion). v.version.definition) (c.deref.ensures ∙ sym c.deref-3.ensures))
-          (definition_means own);
-    }
+    subst (Means (found_meaning own))
+    (ap (λ (d : Definition). definition_view d.body) c.deref-2.ensures ∙ c.definition.ensures.body ∙ ap (λ (v : NamedVersion). v.version.definition) (c.deref.ensures ∙ sym c.deref-3.ensures))
+    (definition_means own)
 
 pub returns-clause-maps : goal.returns-clause-maps
 returns-clause-maps g c =
