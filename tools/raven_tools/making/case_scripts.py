@@ -121,19 +121,19 @@ def reduces() -> Named:
     companies = ["a", "b", "a", None, 7, "A"]
     lines = []
     for number, (text, _) in enumerate(worked.PRINTED_REDUCES):
-        lines.append(definition(f"R{number}", worked.REDUCED_MAP, text))
+        lines.append(definition(f"Sums{number}", worked.REDUCED_MAP, text))
     for number, company in enumerate(companies):
         body = {"Cents": number, "Company": company, "@metadata": {"@collection": "Orders"}}
         lines.append(f"PUT orders/{number} " + model.write_json(body))
-    lines += [definition("Plain", worked.REDUCED_MAP), "STALE R0", "PUMP 4", "INDEXES"]
-    for name in ("R0", "Plain", "r1", "R2"):
+    lines += [definition("Plain", worked.REDUCED_MAP), "STALE Sums0", "PUMP 4", "INDEXES"]
+    for name in ("Sums0", "Plain", "sums1", "Sums2"):
         lines += [f"FIND {name} Company a", f"FIND {name} Company x", f"FIND {name} Total a", f"FIND {name} Gone a"]
-    lines += ["DEL orders/0", "STALE R0", "PUMP 64 R0", "FIND R0 Company a", "FIND Plain Company a", "INDEXES"]
+    lines += ["DEL orders/0", "STALE Sums0", "PUMP 64 Sums0", "FIND Sums0 Company a", "FIND Plain Company a", "INDEXES"]
     # The same trees in another spelling, and other trees under a name that serves.
     for number, (_, printed) in enumerate(worked.PRINTED_REDUCES):
-        lines += [definition(f"r{number}", worked.REDUCED_MAP, text) for text in (printed, printed.replace("g", "h"))]
-    lines += [definition("Plain", worked.REDUCED_MAP, worked.PRINTED_REDUCES[0][1]), definition("R0", worked.REDUCED_MAP)]
-    lines += ["GET @index/R0", "DROP R0", "GET @index/R0", "FIND R0 Company a", "INDEXES", "STATS"]
+        lines += [definition(f"sums{number}", worked.REDUCED_MAP, text) for text in (printed, printed.replace("g", "h"))]
+    lines += [definition("Plain", worked.REDUCED_MAP, worked.PRINTED_REDUCES[0][1]), definition("Sums0", worked.REDUCED_MAP)]
+    lines += ["GET @index/Sums0", "DROP Sums0", "GET @index/Sums0", "FIND Sums0 Company a", "INDEXES", "STATS"]
     yield "what reduces answer", "\n".join(lines)
 
 
