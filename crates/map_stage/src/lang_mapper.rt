@@ -5,11 +5,11 @@ ghost use Rattle.index_tree.specs.Meaning as meaning;
 use crate::entry::outcome_of;
 use crate::lookup::Lookup;
 use crate::mapper::{Mapped, Mapper};
+use crate::ticket::Ticket;
 use index_tree::MapQuery;
-use raven_base::{NoMemory, Steps};
+use raven_base::NoMemory;
 use raven_value::{Ids, Row};
 use std::alloc::Global;
-use std::sync::ledger::Ledger;
 
 /// The map that a query means.
 #[derive(Clone, Copy, Debug)]
@@ -20,14 +20,13 @@ pub struct LangMapper<'q> {
 impl<'q> Mapper for LangMapper<'q> {
     ghost meaning = { λ m d find. meaning.meaning m.query.now d find };
 
-    fn map<T: Lookup, L: Ledger>(
+    fn map<T: Lookup>(
         &self,
         alloc: Global,
         doc: &Row,
         rows: &T,
-        steps: &mut Steps<L>,
+        _ticket: Ticket,
     ) -> Result<Mapped, NoMemory> {
-        steps.map_done();
         let mut loads = Ids::new(alloc);
         let outcome = outcome_of(alloc, self.query, doc, rows, &mut loads)?;
         Ok(Mapped { outcome, loads })

@@ -13,9 +13,11 @@ mod mapper;
 mod number;
 mod operator;
 mod scene;
+mod ticket;
 
 pub use fields::Entry;
 pub use held::scalar_of;
 pub use lang_mapper::LangMapper;
 pub use lookup::Lookup;
 pub use mapper::{Mapped, Mapper, Outcome};
+pub use ticket::Ticket;

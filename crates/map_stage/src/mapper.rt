@@ -3,16 +3,15 @@ ghost use Rattle.std.specs.Prelude.{◌≡◌, List, ℕ, IfOk};
 ghost use Rattle.spec_data.specs.Rows as is;
 ghost use Rattle.index_tree.specs.Asking as asking;
 ghost use Rattle.index_tree.specs.Meaning as meaning;
-ghost use Rattle.raven_base.specs.Counts.{one_map_more};
 ghost use Rattle.map_stage.specs.MappedView.{mapped_view};
 ghost use Rattle.map_stage.specs.Words.{OutcomeHasWords};
 
 use crate::fields::Entry;
 use crate::lookup::Lookup;
-use raven_base::{NoMemory, Steps};
+use crate::ticket::Ticket;
+use raven_base::NoMemory;
 use raven_value::{Ids, Row};
 use std::alloc::Global;
-use std::sync::ledger::Ledger;
 
 /// What the map gives for a document.
 #[derive(Debug, Drop)]
@@ -41,17 +40,16 @@ pub trait Mapper {
 
     /// The result for a document. What is not a document is taken as null. Each number of an entry has 64 bits.
     ///
-    /// Each call counts one map, whatever it gives, also if no memory was found. It does not count the rows that are looked up.
-    fn map<T: Lookup, L: Ledger>(
+    /// Each call takes a ticket, for which one map was counted. The rows that are looked up are not counted.
+    fn map<T: Lookup>(
         &self,
         alloc: Global,
         doc: &Row,
         rows: &T,
-        steps: &mut Steps<L>,
+        ticket: Ticket,
     ) -> Result<Mapped, NoMemory>
         ensures mapped { IfOk result (λ mapped. mapped_view mapped ≡ meaning self.now doc.now (T.rows rows.now)) }
-        ensures words { IfOk result (λ mapped. OutcomeHasWords (mapped_view mapped).outcome) }
-        ensures counted { steps.new ≡ one_map_more steps.old };
+        ensures words { IfOk result (λ mapped. OutcomeHasWords (mapped_view mapped).outcome) };
 
     /// It depends on the document and on what the lookups give, and on nothing else.
     ghost local: { (m : Self) (d : is.Row) (find other : asking.Lookup) →
