@@ -1,61 +1,63 @@
 -- What the map gave for ids, one by one and all together.
-use Rattle.std.proofs.Common.{◌≡◌, ℕ, ◌+◌, List, [], ◌∷◌, ◌++◌, Bool, true, false, cond, Ok, IfOk, Option, map, is_some, length, refl, sym, ap, subst, ◌∙◌, arith}
-use Rattle.std.specs.List.{All, AllZip, count_by}
+use Rattle.std.proofs.Common.{◌≡◌, ℕ, suc, ◌<◌, List, [], ◌∷◌, ◌++◌, cond, Ok, IfOk, Option, map, length, refl, sym, ap, subst, ◌∙◌, arith, slice_index_or, take}
+use Rattle.std.specs.List.{All, AllZip}
 use Rattle.std.proofs.lemmas.List.{map_push}
-use Rattle.std.proofs.lemmas.List.Sums.{sum_by-cons}
 use Rattle.std.proofs.lemmas.List.Elements.{All-nil, All-cons, All-head, All-tail}
 use Rattle.std.specs.FinMap.{FinMap, get}
 use Rattle.spec_data.specs.Folding.{folded, key_cmp, same_key}
+use Rattle.spec_data.specs.Rows.{Row}
 use Rattle.spec_data.specs.Tables.{Table}
+use Rattle.index_tree.specs.Meaning.{Mapped}
 use Rattle.index_tree.specs.Mapper.{Mapper}
-use Rattle.index_version.specs.Asked.{IsAnswered, was_mapped}
+use Rattle.index_version.specs.Asked.{IsAnswer, IsAnswered, IsQuestion}
 use Rattle.reference_track.specs.Sets.{is_id}
 use Rattle.reference_track.specs.Tracks.{Track, is_pair}
 use Rattle.index_version.specs.Kept.{Given, given_at, is_loaded}
-use Rattle.index_version.specs.Renewed.{ArePaired, AreRenewed, mapped_among}
+use Rattle.index_version.specs.Renewed.{ArePaired, AreRenewed}
 use Rattle.index_version.proofs.Keeping.{paired_more, renewed_more}
-use Rattle.index_version.specs.declared.asking.Answer.{Answer}
+use Rattle.index_version.specs.declared.asking.Asked.{Asked}
 
--- the answer is that for the id
-abbrev pub IsFor : Mapper → Table → List ℕ → Answer → Type 0
-IsFor m T id a = (a.id.now ≡ id) × IsAnswered m T a
+-- if each place has the answer to its question, the lists have
+pub each_answer : (meaning : Row → Mapped) (before after : List Asked) → length after ≡ length before
+    → ((i : ℕ) (d : Asked) → i < length before → IsAnswer meaning (slice_index_or before i d) (slice_index_or after i d)) → AllZip (IsAnswer meaning) before after
+each_answer meaning [] [] same each = tt
+each_answer meaning [] (b ∷ after) same each = absurd (omega (arith, same))
+each_answer meaning (a ∷ before) [] same each = absurd (omega (arith, same))
+each_answer meaning (a ∷ before) (b ∷ after) same each =
+    (each 0 a (omega arith), each_answer meaning before after (omega (arith, same)) (λ i d within. each (suc i) d (omega (arith, within))))
 
-pub ids_answered : (m : Mapper) (T : Table) (ids : List (List ℕ)) (all : List Answer) → AllZip (IsFor m T) ids all → map (λ a. a.id.now) all ≡ ids
-ids_answered m T [] [] h = refl
-ids_answered m T [] (a ∷ all) h = absurd h
-ids_answered m T (id ∷ ids) [] h = absurd h
-ids_answered m T (id ∷ ids) (a ∷ all) h = λ i. h.0.0 i ∷ ids_answered m T ids all h.1 i
+pub ids_answered : (meaning : Row → Mapped) (before after : List Asked) → AllZip (IsAnswer meaning) before after → map (λ a. a.id.now) after ≡ map (λ a. a.id.now) before
+ids_answered meaning [] [] h = refl
+ids_answered meaning [] (b ∷ after) h = absurd h
+ids_answered meaning (a ∷ before) [] h = absurd h
+ids_answered meaning (a ∷ before) (b ∷ after) h = λ i. h.0.0 i ∷ ids_answered meaning before after h.1 i
 
-pub all_answered : (m : Mapper) (T : Table) (ids : List (List ℕ)) (all : List Answer) → AllZip (IsFor m T) ids all → All (IsAnswered m T) all
-all_answered m T [] [] h = All-nil (IsAnswered m T)
-all_answered m T [] (a ∷ all) h = absurd h
-all_answered m T (id ∷ ids) [] h = absurd h
-all_answered m T (id ∷ ids) (a ∷ all) h = All-cons (IsAnswered m T) a all h.0.1 (all_answered m T ids all h.1)
+is_answered : (m : Mapper) (T : Table) (before after : Asked) → IsQuestion m T before → IsAnswer (λ d. m.meaning d T) before after → IsAnswered m T after
+is_answered m T before after question answer =
+    subst (λ expected. IfOk after.given (λ given. given ≡ expected)) (question ∙ ap (λ id. given_at m T (folded id)) (sym answer.0)) answer.1
 
-abbrev pub folded_ids : List Answer → List (List ℕ)
+-- the answers to questions are what the map gives for their ids
+pub all_answered : (m : Mapper) (T : Table) (before after : List Asked) → All (IsQuestion m T) before → AllZip (IsAnswer (λ d. m.meaning d T)) before after → All (IsAnswered m T) after
+all_answered m T [] [] questions answers = All-nil (IsAnswered m T)
+all_answered m T [] (b ∷ after) questions answers = absurd answers
+all_answered m T (a ∷ before) [] questions answers = absurd answers
+all_answered m T (a ∷ before) (b ∷ after) questions answers =
+    All-cons (IsAnswered m T) b after (is_answered m T a b (All-head (IsQuestion m T) a before questions) answers.0)
+    (all_answered m T before after (All-tail (IsQuestion m T) a before questions) answers.1)
+
+pub taken : (n : ℕ) (xs ys : List Asked) → length xs ≡ n → take n (xs ++ ys) ≡ xs
+taken n [] ys same = ap (λ k. take k ys) (sym same)
+taken n (x ∷ xs) ys same = ap (λ k. take k (x ∷ xs ++ ys)) (sym same) ∙ ap (λ rest. x ∷ rest) (taken (length xs) xs ys refl)
+
+abbrev pub folded_ids : List Asked → List (List ℕ)
 folded_ids all = map (λ a. folded a.id.now) all
 
-pub folded_answered : (all : List Answer) (ids : List (List ℕ)) → map (λ a. a.id.now) all ≡ ids → folded_ids all ≡ map folded ids
+pub folded_answered : (all : List Asked) (ids : List (List ℕ)) → map (λ a. a.id.now) all ≡ ids → folded_ids all ≡ map folded ids
 folded_answered all ids h = each all ∙ ap (map folded) h
   where
-    each : (all : List Answer) → folded_ids all ≡ map folded (map (λ a. a.id.now) all)
+    each : (all : List Asked) → folded_ids all ≡ map folded (map (λ a. a.id.now) all)
     each [] = refl
     each (a ∷ all) = ap (λ xs. folded a.id.now ∷ xs) (each all)
-
-counted_one : (b : Bool) (n : ℕ) (x : List ℕ) (xs : List (List ℕ)) → n ≡ length xs → cond b 1 0 + n ≡ length (cond b (x ∷ xs) xs)
-counted_one true n x xs h = omega (arith, h)
-counted_one false n x xs h = omega (arith, h)
-
-counted_mapped : (m : Mapper) (T : Table) (all : List Answer) → All (IsAnswered m T) all → count_by (λ a. was_mapped a.given) all ≡ length (mapped_among m T (folded_ids all))
-counted_mapped m T [] h = refl
-counted_mapped m T (a ∷ all) h =
-    let here : was_mapped a.given ≡ is_some (given_at m T (folded a.id.now)) = (All-head (IsAnswered m T) a all h).1 in
-    sum_by-cons _ a all ∙ ap (λ b. cond b 1 0 + count_by (λ x. was_mapped x.given) all) here
-    ∙ counted_one (is_some (given_at m T (folded a.id.now))) (count_by (λ x. was_mapped x.given) all) (folded a.id.now) (mapped_among m T (folded_ids all)) (counted_mapped m T all (All-tail (IsAnswered m T) a all h))
-
--- as many questions are counted as documents of the ids are mapped
-pub all_counted : (m : Mapper) (T : Table) (all : List Answer) (ids : List (List ℕ)) → map (λ a. a.id.now) all ≡ ids → All (IsAnswered m T) all → count_by (λ a. was_mapped a.given) all ≡ length (mapped_among m T (map folded ids))
-all_counted m T all ids same answered = counted_mapped m T all answered ∙ ap (λ qs. length (mapped_among m T qs)) (folded_answered all ids same)
 
 -- nothing is stored before the first answer
 pub none_renewed : (m : Mapper) (T : Table) (G : FinMap key_cmp Given) → AreRenewed m T [] G G
@@ -64,21 +66,21 @@ none_renewed m T G = λ q. refl
 pub none_paired : (m : Mapper) (T : Table) (L : Track) → ArePaired m T [] L L
 none_paired m T L = λ x y. refl
 
-one_more : (yielded : List Answer) (a : Answer) → folded_ids (yielded ++ a ∷ []) ≡ folded_ids yielded ++ folded a.id.now ∷ []
-one_more yielded a = map_push (λ (x : Answer). folded x.id.now) yielded a
+one_more : (yielded : List Asked) (a : Asked) → folded_ids (yielded ++ a ∷ []) ≡ folded_ids yielded ++ folded a.id.now ∷ []
+one_more yielded a = map_push (λ (x : Asked). folded x.id.now) yielded a
 
-given_is : (m : Mapper) (T : Table) (a : Answer) (given : Option Given) → IsAnswered m T a → a.given ≡ Ok given → given ≡ given_at m T (folded a.id.now)
-given_is m T a given answered is = subst (λ r. IfOk r (λ g. g ≡ given_at m T (folded a.id.now))) is answered.0
+given_is : (m : Mapper) (T : Table) (a : Asked) (given : Option Given) → IsAnswered m T a → a.given ≡ Ok given → given ≡ given_at m T (folded a.id.now)
+given_is m T a given answered is = subst (λ r. IfOk r (λ g. g ≡ given_at m T (folded a.id.now))) is answered
 
 -- one answer more is stored
-pub renewed_answer : (m : Mapper) (T : Table) (yielded : List Answer) (a : Answer) (given : Option Given) (G H N : FinMap key_cmp Given) → IsAnswered m T a → a.given ≡ Ok given
+pub renewed_answer : (m : Mapper) (T : Table) (yielded : List Asked) (a : Asked) (given : Option Given) (G H N : FinMap key_cmp Given) → IsAnswered m T a → a.given ≡ Ok given
     → AreRenewed m T (folded_ids yielded) G H → ((q : List ℕ) → get N q ≡ cond (same_key q (folded a.id.now)) given (get H q)) → AreRenewed m T (folded_ids (yielded ++ a ∷ [])) G N
 renewed_answer m T yielded a given G H N answered is so_far next =
     subst (λ ids. AreRenewed m T ids G N) (sym (one_more yielded a))
     (renewed_more m T (folded_ids yielded) (folded a.id.now) G H N so_far
     (λ q. next q ∙ ap (λ o. cond (same_key q (folded a.id.now)) o (get H q)) (given_is m T a given answered is)))
 
-pub paired_answer : (m : Mapper) (T : Table) (yielded : List Answer) (a : Answer) (given : Option Given) (L H N : Track) → IsAnswered m T a → a.given ≡ Ok given
+pub paired_answer : (m : Mapper) (T : Table) (yielded : List Asked) (a : Asked) (given : Option Given) (L H N : Track) → IsAnswered m T a → a.given ≡ Ok given
     → ArePaired m T (folded_ids yielded) L H → ((x y : List ℕ) → is_pair x y N ≡ cond (is_id x a.id.now) (is_loaded (folded y) given) (is_pair x y H)) → ArePaired m T (folded_ids (yielded ++ a ∷ [])) L N
 paired_answer m T yielded a given L H N answered is so_far next =
     subst (λ ids. ArePaired m T ids L N) (sym (one_more yielded a))

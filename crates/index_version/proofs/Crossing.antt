@@ -48,7 +48,7 @@ document_sync = search (sendable, crosses, value_send, value_sync) depth 60 fits
 row_send : IsSend Row.the_row
 row_send = search (sendable, crosses, id.the_send, text.the_send, document_send) depth 60 fits 4000
 
-row_sync : IsSync Row.the_row
+pub row_sync : IsSync Row.the_row
 row_sync = search (sendable, crosses, id.the_sync, text.the_sync, document_sync) depth 60 fits 4000
 
 shared_send : IsSend (Shared.the_row Row.the_row)

@@ -1,134 +1,182 @@
 //! What the map gives for the documents of a batch, which several threads ask it for.
-ghost use Rattle.std.specs.Prelude.{◌≡◌, ◌+◌, ◌≤◌, IfOk, cond, is_some, map};
-ghost use Rattle.std.specs.List.{All, count_by};
+ghost use Rattle.std.specs.Prelude.{◌≡◌, ◌+◌, ◌≤◌, ◌<◌, Some, IfOk, cond, is_some, length, map, option_map};
+ghost use Rattle.std.specs.FinMap.{get};
+ghost use Rattle.std.specs.List.{All, AllZip};
 ghost use Rattle.raven_base.specs.Counts.{one_map_more};
 ghost use Rattle.spec_data.specs.Folding.{folded};
 ghost use Rattle.index_tree.specs.Mapper.{mapper_of};
 ghost use Rattle.index_definition.specs.DefinitionView.{definition_view};
-ghost use Rattle.index_version.specs.Asked.{IsAnswered, was_mapped};
+ghost use Rattle.index_version.specs.Asked.{IsAnswer, IsAnswered, IsQuestion, given_by};
 ghost use Rattle.index_version.specs.Kept.{given_at};
 ghost use Rattle.index_version.specs.Meaning.{Means};
+ghost use Rattle.index_version.specs.Renewed.{mapped_among};
 
 use crate::given::Given;
 use crate::mapping::mapped_collection;
 use crate::table::Table;
-use index_definition::Definition;
-use map_stage::{Lookup, Mapper};
+use index_definition::{DefBody, Definition};
+use map_stage::{Lookup, Mapper, Ticket};
 use raven_base::{NoMemory, Steps};
-use raven_value::Id;
-use rayon::prelude::*;
+use raven_value::{Id, Row};
 use std::alloc::Global;
-use std::marker::Brand;
-use std::sync::ledger::{Blank, Ledger};
+use std::num::NonZeroUsize;
+use std::sync::ledger::Ledger;
+use std::thread;
 use std::thread::Threads;
 
 /// How few documents are worth a thread of their own.
 const LEAST_PIECE: usize = 128;
 
-/// An id, and what the map gave for its document: nothing if there is none, or if it is not mapped.
+/// How few bytes the text of a map may have that is worth several threads. What a shorter one computes takes less time than threads lose
+/// that take memory beside one another.
+const LEAST_TEXT: usize = 512;
+
+/// An id that is asked for: the document that is to be mapped, if there is one, with the ticket for its map; and then what was given.
 #[derive(Drop)]
-pub struct Answer<'a> {
+pub struct Asked<'a> {
     pub id: &'a Id,
+    pub about: Option<(&'a Row, Ticket)>,
     pub given: Result<Option<Given>, NoMemory>,
 }
 
-/// What the map gives for the document of an id, if the table has one and it is mapped. Else the map is not asked.
-fn given_at<M: Mapper, L: Ledger>(
-    alloc: Global,
-    id: &Id,
-    table: &Table,
-    definition: &Definition,
-    mapper: &M,
-    steps: &mut Steps<L>,
-) -> Result<Option<Given>, NoMemory>
-    requires means { Means (M.meaning mapper.now) (definition_view definition.now.body) }
-    ensures given { IfOk result (λ given. given ≡ given_at (mapper_of (definition_view definition.now.body)) table.now (folded id.now)) }
-    ensures mapped { was_mapped result ≡ is_some (given_at (mapper_of (definition_view definition.now.body)) table.now (folded id.now)) }
-    ensures counted { steps.new ≡ cond (was_mapped result) (one_map_more steps.old) steps.old }
-{
-    let Some(row) = table.find(id) else {
-        return Ok(None);
-    };
-    if row.collection != *mapped_collection(definition) {
-        return Ok(None);
+impl<'a> Asked<'a> {
+    /// The question for an id. Its map is counted here.
+    fn of<L: Ledger>(
+        id: &'a Id,
+        table: &'a Table,
+        definition: &Definition,
+        steps: &mut Steps<L>,
+    ) -> Asked<'a>
+        ensures id { result.id.now ≡ id.now }
+        ensures question { IsQuestion (mapper_of (definition_view definition.now.body)) table.now result }
+        ensures counted { steps.new ≡ cond (is_some (given_at (mapper_of (definition_view definition.now.body)) table.now (folded id.now))) (one_map_more steps.old) steps.old }
+    {
+        let about = match mapped_row(id, table, definition) {
+            Some(row) => Some((row, Ticket::of(steps))),
+            None => None,
+        };
+        Asked {
+            id,
+            about,
+            given: Ok(None),
+        }
     }
-    let mapped = mapper.map(alloc, row, table, steps)?;
+
+    /// Asks the map.
+    fn answer<M: Mapper>(&mut self, alloc: Global, table: &Table, mapper: &M)
+        ensures { IsAnswer (λ d. M.meaning mapper.now d (get table.now)) self.old self.new }
+    {
+        self.given = match self.about.take() {
+            Some((row, ticket)) => given_for(alloc, row, table, mapper, ticket),
+            None => Ok(None),
+        };
+    }
+}
+
+/// The document of an id, if it is mapped.
+fn mapped_row<'a>(id: &Id, table: &'a Table, definition: &Definition) -> Option<&'a Row>
+    ensures { option_map (λ row. given_by (λ d. (mapper_of (definition_view definition.now.body)).meaning d table.now) row.now) result ≡ given_at (mapper_of (definition_view definition.now.body)) table.now (folded id.now) }
+{
+    let row = table.find(id)?;
+    if row.collection != *mapped_collection(definition) {
+        return None;
+    }
+    Some(row)
+}
+
+fn given_for<M: Mapper>(
+    alloc: Global,
+    row: &Row,
+    table: &Table,
+    mapper: &M,
+    ticket: Ticket,
+) -> Result<Option<Given>, NoMemory>
+    ensures { IfOk result (λ given. given ≡ Some (given_by (λ d. M.meaning mapper.now d (get table.now)) row.now)) }
+{
+    let mapped = mapper.map(alloc, row, table, ticket)?;
     Ok(Some(Given::of(row.id.clone()?, mapped)))
 }
 
-/// The same, counted by a counter of its own, since no two threads have one. By the answer is known what it has counted: one map,
-/// unless nothing is given.
-fn given_alone<M: Mapper, L: Ledger>(
-    alloc: Global,
-    id: &Id,
-    table: &Table,
-    definition: &Definition,
-    mapper: &M,
-    blank: Blank,
-) -> Result<Option<Given>, NoMemory>
-    requires name { blank.name ≡ L.name }
-    requires parts { blank.parts ≡ L.parts }
-    requires enough { 3 ≤ blank.parts }
-    requires means { Means (M.meaning mapper.now) (definition_view definition.now.body) }
-    ensures given { IfOk result (λ given. given ≡ given_at (mapper_of (definition_view definition.now.body)) table.now (folded id.now)) }
-    ensures mapped { was_mapped result ≡ is_some (given_at (mapper_of (definition_view definition.now.body)) table.now (folded id.now)) }
-{
-    let mut steps = Steps::<L>::new(blank);
-    given_at(alloc, id, table, definition, mapper, &mut steps)
-}
-
-fn answer_of<'a, M: Mapper>(
-    alloc: Global,
-    id: &'a Id,
-    table: &Table,
-    definition: &Definition,
-    mapper: &M,
-) -> Answer<'a>
-    requires means { Means (M.meaning mapper.now) (definition_view definition.now.body) }
-    ensures id { result.id.now ≡ id.now }
-    ensures answered { IsAnswered (mapper_of (definition_view definition.now.body)) table.now result }
-{
-    let blank = Blank::new(3);
-    let given = given_alone::<M, Brand>(alloc, id, table, definition, mapper, blank);
-    Answer { id, given }
-}
-
-/// What the map gives for each of these ids, in their order. If there are enough of them, as many threads as there are processors
-/// ask it; the answers are those that one thread gets.
-pub fn all_answers<'a, R: Threads + Sync, M: Mapper + Sync>(
-    rt: &R,
+/// The questions for these ids, in their order. All maps are counted before the first one is made.
+fn questions<'a, L: Ledger>(
     alloc: Global,
     ids: &'a [Id],
-    table: &Table,
+    table: &'a Table,
     definition: &Definition,
-    mapper: &M,
-) -> Result<Vec<Answer<'a>>, NoMemory>
-    requires means { Means (M.meaning mapper.now) (definition_view definition.now.body) }
+    steps: &mut Steps<L>,
+) -> Result<Vec<Asked<'a>>, NoMemory>
     ensures ids { IfOk result (λ all. map (λ a. a.id.now) all.items ≡ ids.now) }
-    ensures answered { IfOk result (λ all. All (IsAnswered (mapper_of (definition_view definition.now.body)) table.now) all.items) }
-{
-    let all = ids
-        .par_iter()
-        .with_min_len(LEAST_PIECE)
-        .map(
-            |id: &Id| -> Answer<'_>
-                requires { Means (M.meaning mapper.now) (definition_view definition.now.body) }
-                ensures { (result.id.now ≡ id.entry.now) × IsAnswered (mapper_of (definition_view definition.entry.now.body)) table.entry.now result }
-            { answer_of(alloc, id, table, definition, mapper) },
-        )
-        .collect(rt, alloc)?;
-    Ok(all)
-}
-
-/// Adds what the counters of these questions have counted.
-pub fn count_maps<L: Ledger>(all: &[Answer<'_>], steps: &mut Steps<L>)
-    ensures maps { steps.new.maps ≡ steps.old.maps + count_by (λ a. was_mapped a.given) all.now }
+    ensures questions { IfOk result (λ all. All (IsQuestion (mapper_of (definition_view definition.now.body)) table.now) all.items) }
+    ensures counted { IfOk result (λ _. steps.new.maps ≡ steps.old.maps + length (mapped_among (mapper_of (definition_view definition.now.body)) table.now (map folded ids.now))) }
+    ensures maps { steps.new.maps ≤ steps.old.maps + length (mapped_among (mapper_of (definition_view definition.now.body)) table.now (map folded ids.now)) }
     ensures merges { steps.new.merges ≡ steps.old.merges }
     ensures reads { steps.new.reads ≡ steps.old.reads }
 {
-    for asked in all {
-        if !matches!(asked.given, Ok(None)) {
-            steps.map_done();
-        }
+    let mut all = Vec::with_capacity(alloc, ids.len())?;
+    for id in ids {
+        all.push(Asked::of(id, table, definition, steps))?;
     }
+    Ok(all)
+}
+
+/// Asks the map in so many threads at most.
+fn answer_all<R: Threads + Sync, M: Mapper + Sync>(
+    rt: &R,
+    alloc: Global,
+    asked: &mut [Asked<'_>],
+    table: &Table,
+    mapper: &M,
+    threads: usize,
+)
+    requires { 0 < threads }
+    ensures { AllZip (IsAnswer (λ d. M.meaning mapper.now d (get table.now))) asked.old asked.new }
+{
+    thread::for_each_mut(
+        rt,
+        asked,
+        threads,
+        &|_: usize, one: &mut Asked<'_>|
+            ensures { IsAnswer (λ d. M.meaning mapper.entry.now d (get table.entry.now)) one.entry.now one.exit.now }
+        { one.answer(alloc, table, mapper) },
+    );
+}
+
+/// How many threads map so many documents.
+fn threads_for<R: Threads>(rt: &R, documents: usize, definition: &Definition) -> usize
+    ensures { 0 < result }
+{
+    let DefBody::Static { map_text, .. } = &definition.body else {
+        return 1;
+    };
+    if map_text.as_str().len() < LEAST_TEXT {
+        return 1;
+    }
+    let processors = thread::available_parallelism(rt).map_or(1, NonZeroUsize::get);
+    processors.min(documents / LEAST_PIECE).max(1)
+}
+
+/// What the map gives for each of these ids, in their order. The map is asked for those of them that are mapped: each is counted, also if
+/// no memory is found. If there are enough of them, and the map is long enough, several threads ask it; the answers are those that one
+/// thread gets.
+pub fn all_answers<'a, R: Threads + Sync, M: Mapper + Sync, L: Ledger>(
+    rt: &R,
+    alloc: Global,
+    ids: &'a [Id],
+    table: &'a Table,
+    definition: &Definition,
+    mapper: &M,
+    steps: &mut Steps<L>,
+) -> Result<Vec<Asked<'a>>, NoMemory>
+    requires means { Means (M.meaning mapper.now) (definition_view definition.now.body) }
+    ensures ids { IfOk result (λ all. map (λ a. a.id.now) all.items ≡ ids.now) }
+    ensures answered { IfOk result (λ all. All (IsAnswered (mapper_of (definition_view definition.now.body)) table.now) all.items) }
+    ensures counted { IfOk result (λ _. steps.new.maps ≡ steps.old.maps + length (mapped_among (mapper_of (definition_view definition.now.body)) table.now (map folded ids.now))) }
+    ensures maps { steps.new.maps ≤ steps.old.maps + length (mapped_among (mapper_of (definition_view definition.now.body)) table.now (map folded ids.now)) }
+    ensures merges { steps.new.merges ≡ steps.old.merges }
+    ensures reads { steps.new.reads ≡ steps.old.reads }
+{
+    let mut all = questions(alloc, ids, table, definition, steps)?;
+    let threads = threads_for(rt, ids.len(), definition);
+    answer_all(rt, alloc, &mut all, table, mapper, threads);
+    Ok(all)
 }

@@ -10,11 +10,10 @@ ghost use Rattle.index_definition.specs.DefinitionView.{definition_view};
 ghost use Rattle.index_version.specs.Meaning.{found_local, found_meaning};
 
 use index_definition::{DefBody, Definition, joined_name};
-use map_stage::{Entry, LangMapper, Lookup, Mapped, Mapper, Outcome, scalar_of};
-use raven_base::{NoMemory, Steps};
+use map_stage::{Entry, LangMapper, Lookup, Mapped, Mapper, Outcome, Ticket, scalar_of};
+use raven_base::NoMemory;
 use raven_value::{Body, Ids, Path, Row, Scalar, Text};
 use std::alloc::Global;
-use std::sync::ledger::Ledger;
 
 /// The map that a definition means. That of an automatic index gives an entry for each document, and looks nothing up.
 #[derive(Clone, Copy)]
@@ -25,22 +24,19 @@ pub struct DefinitionMapper<'d> {
 impl<'d> Mapper for DefinitionMapper<'d> {
     ghost meaning = { λ m d find. found_meaning (definition_view m.definition.now.body) d find };
 
-    fn map<T: Lookup, L: Ledger>(
+    fn map<T: Lookup>(
         &self,
         alloc: Global,
         doc: &Row,
         rows: &T,
-        steps: &mut Steps<L>,
+        ticket: Ticket,
     ) -> Result<Mapped, NoMemory> {
         match &self.definition.body {
             DefBody::Static { map, .. } => {
                 let mapper = LangMapper { query: map };
-                mapper.map(alloc, doc, rows, steps)
+                mapper.map(alloc, doc, rows, ticket)
             }
-            DefBody::Auto { fields, .. } => {
-                steps.map_done();
-                auto_mapped(alloc, fields.as_slice(), doc)
-            }
+            DefBody::Auto { fields, .. } => auto_mapped(alloc, fields.as_slice(), doc),
         }
     }
 

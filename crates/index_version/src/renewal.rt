@@ -7,7 +7,7 @@ ghost use Rattle.reference_track.specs.Folded.{by_folded};
 ghost use Rattle.index_version.specs.Meaning.{Means};
 ghost use Rattle.index_version.specs.Renewed.{ArePaired, AreRenewed, mapped_among};
 
-use crate::asking::{Answer, all_answers, count_maps};
+use crate::asking::all_answers;
 use crate::kept::Kept;
 use crate::table::Table;
 use index_definition::Definition;
@@ -38,12 +38,10 @@ pub fn renewed<R: Threads + Sync, M: Mapper + Sync, L: Ledger>(
     ensures merges { steps.new.merges ≡ steps.old.merges }
     ensures reads { steps.new.reads ≡ steps.old.reads }
 {
-    let all = all_answers(rt, alloc, ids, table, definition, mapper)?;
-    count_maps(&all, steps);
+    let all = all_answers(rt, alloc, ids, table, definition, mapper, steps)?;
     let mut new = kept.copy()?;
     for answer in all {
-        let Answer { id, given } = answer;
-        new = new.put(alloc, id, given?)?;
+        new = new.put(alloc, answer.id, answer.given?)?;
     }
     Ok(new)
 }

@@ -9,7 +9,7 @@ use index_batch::next;
 use index_definition::Definition;
 use index_lang::parse;
 use index_version::{DefinitionMapper, IndexVersion};
-use map_stage::{Lookup, Mapped, Mapper};
+use map_stage::{Lookup, Mapped, Mapper, Ticket};
 use raven_base::{NoMemory, Steps};
 use raven_value::{Name, Row};
 use std::alloc::Global;
@@ -43,18 +43,18 @@ struct CountingMapper<'d> {
 impl<'d> Mapper for CountingMapper<'d> {
     ghost meaning = { λ m d find. found_meaning (definition_view m.definition.now.body) d find };
 
-    fn map<T: Lookup, L: Ledger>(
+    fn map<T: Lookup>(
         &self,
         alloc: Global,
         doc: &Row,
         rows: &T,
-        steps: &mut Steps<L>,
+        ticket: Ticket,
     ) -> Result<Mapped, NoMemory> {
         self.calls.fetch_add(1, Ordering::SeqCst);
         let mapper = DefinitionMapper {
             definition: self.definition,
         };
-        mapper.map(alloc, doc, rows, steps)
+        mapper.map(alloc, doc, rows, ticket)
     }
 
     ghost local = { λ m d find other alike. found_local (definition_view m.definition.now.body) d find other alike };

@@ -1,52 +1,37 @@
-use denote.Param.Send.{IsSend, IsSync, sendable, copied_send, copied_sync, param_send}
-use contract.Lifetimes.{Lfts}
-use Rattle.index_version.specs.contracts.asking.all_answers.{M-row}
-use Rattle.index_version.proofs.asking.all_answers.Given.{Over}
-use Rattle.index_version.proofs.asking.all_answers.Lts.{arg-2-3, arg-3-0}
-use Rattle.std.proofs.Common.{ap, ◌∙◌}
-use Rattle.std.proofs.Crossing.{crosses, sync}
-use Rattle.rayon.proofs.iter.map.Map.TheSendSync as map
-use Rattle.rayon.proofs.iter.min_len.MinLen.TheSendSync as min_len
-use Rattle.rayon.proofs.slice.Iter.TheSendSync as iter
-use Rattle.raven_value.proofs.id.Id.TheSendSync as id
-use Rattle.rayon.proofs.ToStd.{slice-AllZip}
+use Rattle.std.proofs.Common.{◌≡◌, ◌++◌, List, ap, drop, length, map, subst, sym, take, ◌∙◌}
+use Rattle.std.specs.FinMap.{get}
+use Rattle.std.specs.List.{All, AllZip}
+use Rattle.spec_data.specs.Rows.{Row}
+use Rattle.index_tree.specs.Meaning.{Mapped}
 use Rattle.index_tree.specs.Mapper.{mapper_of}
 use Rattle.index_definition.specs.DefinitionView.{definition_view}
-use Rattle.index_version.proofs.Answering.{IsFor, all_answered, ids_answered}
-use Rattle.index_version.proofs.Crossing.{definition_sync, table_sync}
+use Rattle.index_version.specs.Asked.{IsAnswer, IsAnswered}
+use Rattle.index_version.proofs.Answering.{all_answered, ids_answered, taken}
+use Rattle.index_version.proofs.asking.all_answers.Given.{Over}
 use Rattle.index_version.proofs.asking.all_answers.Goals as goal
+use Rattle.index_version.proofs.asking.all_answers.Goals.{After-answer_all}
+
+-- all questions are answered, in their places
+whole : (g : Over) (c : After-answer_all g) → take c.in_ok-all.all.len (c.answer_all.new.asked ++ drop (length c.answer_all.new.asked) c.in_ok-all.all.items) ≡ c.answer_all.new.asked
+whole g c = taken c.in_ok-all.all.len c.answer_all.new.asked (drop (length c.answer_all.new.asked) c.in_ok-all.all.items)
+    (c.answer_all.auto.asked ∙ ap length c.deref_mut.ensures.value ∙ sym c.in_ok-all.all.ok.0)
+
+abbrev meaning_of : (g : Over) (c : After-answer_all g) → Row → Mapped
+meaning_of g c d = g.M.Mapper.meaning c.args.mapper.now d (get c.args.table.now)
+
+answers : (g : Over) (c : After-answer_all g) → AllZip (IsAnswer (meaning_of g c)) c.in_ok-all.all.items c.answer_all.new.asked
+answers g c = subst (λ before. AllZip (IsAnswer (meaning_of g c)) before c.answer_all.new.asked) c.deref_mut.ensures.value c.answer_all.ensures
 
 pub returns-clause-ids : goal.returns-clause-ids
 returns-clause-ids g c =
-    let m = mapper_of (definition_view c.args.definition.now.body) in
-    let slice = ap (λ it. it.base.slice.now) c.map.ensures.base ∙ (ap (λ it. it.slice.now) c.with_min_len.ensures.base ∙ c.par_iter.ensures) in
-    let chain = rw c.map.ensures.f at c.in_ok-all.ensures.1 in
-    rw c.in_ok-all.ensures.2 (ids_answered m c.args.table.now c.args.ids.now c.in_ok-all.ensures.0
-    (slice-AllZip chain.0 c.args.ids.now (chain.1 ∙ slice) (IsFor m c.args.table.now) c.in_ok-all.ensures.0 chain.2))
+    let c = (goal.at.returns-clause-ids g c).After-answer_all in
+    ap (map (λ a. a.id.now)) (whole g c) ∙ ids_answered (meaning_of g c) c.in_ok-all.all.items c.answer_all.new.asked (answers g c) ∙ c.in_ok-all.ensures.ids
 
 pub returns-clause-answered : goal.returns-clause-answered
 returns-clause-answered g c =
+    let c = (goal.at.returns-clause-answered g c).After-answer_all in
     let m = mapper_of (definition_view c.args.definition.now.body) in
-    let slice = ap (λ it. it.base.slice.now) c.map.ensures.base ∙ (ap (λ it. it.slice.now) c.with_min_len.ensures.base ∙ c.par_iter.ensures) in
-    let chain = rw c.map.ensures.f at c.in_ok-all.ensures.1 in
-    rw c.in_ok-all.ensures.2 (all_answered m c.args.table.now c.args.ids.now c.in_ok-all.ensures.0
-    (slice-AllZip chain.0 c.args.ids.now (chain.1 ∙ slice) (IsFor m c.args.table.now) c.in_ok-all.ensures.0 chain.2))
-
--- what a thread is given may be given to it
-closure_send : (g : Over) (κs : Lfts 8) → IsSync (M-row g.row.R g.row.M) → IsSend (arg-2-3 g.row.R g.row.M g.R.laws g.M.laws g.R.Threads-dict g.M.Mapper-dict κs)
-closure_send g κs mapper_sync = search (sendable, crosses, sync, definition_sync, table_sync) depth 60 fits 4000
-
-closure_sync : (g : Over) (κs : Lfts 8) → IsSync (M-row g.row.R g.row.M) → IsSync (arg-2-3 g.row.R g.row.M g.R.laws g.M.laws g.R.Threads-dict g.M.Mapper-dict κs)
-closure_sync g κs mapper_sync = search (sendable, crosses, sync, definition_sync, table_sync) depth 60 fits 4000
-
-chain_send : (g : Over) (κs : Lfts 10) → IsSync (M-row g.row.R g.row.M) → IsSend (arg-3-0 g.row.R g.row.M g.R.laws g.M.laws g.R.Threads-dict g.M.Mapper-dict κs)
-chain_send g κs mapper_sync = search (sendable, crosses, sync, definition_sync, table_sync, map.the_send, min_len.the_send, iter.the_send, id.the_sync) depth 60 fits 4000
-
-pub map-requires-send-F : goal.map-requires-send-F
-map-requires-send-F g c κs within = copied_send 3 (arg-2-3 g.row.R g.row.M g.R.laws g.M.laws g.R.Threads-dict g.M.Mapper-dict κs) (closure_send g κs c.type_bounds.sync-M)
-
-pub map-requires-sync-F : goal.map-requires-sync-F
-map-requires-sync-F g c κs within = copied_sync 3 (arg-2-3 g.row.R g.row.M g.R.laws g.M.laws g.R.Threads-dict g.M.Mapper-dict κs) (closure_sync g κs c.type_bounds.sync-M)
-
-pub collect-requires-send-Self : goal.collect-requires-send-Self
-collect-requires-send-Self g c κs within = param_send 0 (arg-3-0 g.row.R g.row.M g.R.laws g.M.laws g.R.Threads-dict g.M.Mapper-dict κs) (chain_send g κs c.type_bounds.sync-M)
+    let T = c.args.table.now in
+    subst (All (IsAnswered m T)) (sym (whole g c))
+    (all_answered m T c.in_ok-all.all.items c.answer_all.new.asked c.in_ok-all.ensures.questions
+    (subst (λ meaning. AllZip (IsAnswer meaning) c.in_ok-all.all.items c.answer_all.new.asked) (λ i d. c.requires.means d T i) (answers g c)))

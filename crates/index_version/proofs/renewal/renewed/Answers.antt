@@ -1,5 +1,5 @@
-use Rattle.std.proofs.Common.{◌≡◌, ◌≤◌, ◌+◌, ◌++◌, ◌∷◌, [], map, length, ap, sym, subst, ◌∙◌, append_assoc, append-nil, arith}
-use Rattle.std.specs.List.{All, count_by}
+use Rattle.std.proofs.Common.{◌≡◌, ◌++◌, ◌∷◌, [], map, length, ap, sym, subst, ◌∙◌, append_assoc, append-nil, arith}
+use Rattle.std.specs.List.{All}
 use Rattle.std.specs.Vec.Iter.{into_iter_items}
 use Rattle.std.proofs.lemmas.List.{nil_from_length}
 use Rattle.std.proofs.lemmas.List.Elements.{All-head, All-tail}
@@ -7,37 +7,12 @@ use Rattle.spec_data.specs.Folding.{folded}
 use Rattle.index_tree.specs.Mapper.{mapper_of}
 use Rattle.index_definition.specs.DefinitionView.{definition_view}
 use Rattle.reference_track.specs.Folded.{by_folded}
-use Rattle.index_version.specs.Asked.{IsAnswered, was_mapped}
-use Rattle.index_version.specs.Renewed.{ArePaired, AreRenewed, mapped_among}
-use Rattle.index_version.proofs.Answering.{all_counted, folded_answered, folded_ids, none_paired, none_renewed, paired_answer, renewed_answer}
+use Rattle.index_version.specs.Asked.{IsAnswered}
+use Rattle.index_version.specs.Renewed.{ArePaired, AreRenewed}
+use Rattle.index_version.proofs.Answering.{folded_answered, folded_ids, none_paired, none_renewed, paired_answer, renewed_answer}
 use Rattle.index_version.proofs.renewal.renewed.Given.{Over}
 use Rattle.index_version.proofs.renewal.renewed.Goals as goal
-use Rattle.index_version.proofs.renewal.renewed.Goals.{After-count_maps, In-None}
-
--- each document that is mapped is counted
-counted : (g : Over) (c : After-count_maps g) → c.count_maps.new.steps.maps ≡ c.args.steps.now.maps + length (mapped_among (mapper_of (definition_view c.args.definition.now.body)) c.args.table.now (map folded c.args.ids.now))
-counted g c =
-    c.count_maps.ensures.maps
-    ∙ ap (λ n. c.args.steps.now.maps + n) (ap (λ all. count_by (λ a. was_mapped a.given) all) c.deref.ensures.value
-    ∙ all_counted (mapper_of (definition_view c.args.definition.now.body)) c.args.table.now c.in_ok-all.all.items c.args.ids.now c.in_ok-all.ensures.ids c.in_ok-all.ensures.answered)
-
-at_most : (g : Over) (c : After-count_maps g) → c.count_maps.new.steps.maps ≤ c.args.steps.now.maps + length (mapped_among (mapper_of (definition_view c.args.definition.now.body)) c.args.table.now (map folded c.args.ids.now))
-at_most g c = let all = counted g c in omega (arith, all)
-
-pub returns-in_err-new-clause-maps : goal.returns-in_err-new-clause-maps
-returns-in_err-new-clause-maps g c = at_most g (goal.at.returns-in_err-new-clause-maps g c).After-count_maps
-
-pub returns-in_err-given-clause-maps : goal.returns-in_err-given-clause-maps
-returns-in_err-given-clause-maps g c = at_most g (goal.at.returns-in_err-given-clause-maps g c).After-count_maps
-
-pub returns-in_err-new-2-clause-maps : goal.returns-in_err-new-2-clause-maps
-returns-in_err-new-2-clause-maps g c = at_most g (goal.at.returns-in_err-new-2-clause-maps g c).After-count_maps
-
-pub returns-clause-maps : goal.returns-clause-maps
-returns-clause-maps g c = at_most g (goal.at.returns-clause-maps g c).After-count_maps
-
-pub returns-clause-counted : goal.returns-clause-counted
-returns-clause-counted g c = counted g (goal.at.returns-clause-counted g c).After-count_maps
+use Rattle.index_version.proofs.renewal.renewed.Goals.{In-None}
 
 pub loop-answer-init : goal.loop-answer-init
 loop-answer-init g c =
@@ -70,9 +45,9 @@ loop-answer-preserved g c =
           let gone = c.in-Some.ensures.steps.1 in
           let short = ap length split in
           omega arith;
-      results = renewed_answer m T done a c.in_ok-given.field-0 (by_folded c.args.kept.now.given) (by_folded c.loop-answer.new.given) (by_folded c.in_ok-new-2.new.given) answered c.in_ok-given.was
+      results = renewed_answer m T done a c.in_ok-answer.field-0 (by_folded c.args.kept.now.given) (by_folded c.loop-answer.new.given) (by_folded c.in_ok-new-2.new.given) answered c.in_ok-answer.was
           c.loop-answer.invariant.results c.in_ok-new-2.ensures.results;
-      pairs = paired_answer m T done a c.in_ok-given.field-0 c.args.kept.now.referrers c.loop-answer.new.referrers c.in_ok-new-2.new.referrers answered c.in_ok-given.was
+      pairs = paired_answer m T done a c.in_ok-answer.field-0 c.args.kept.now.referrers c.loop-answer.new.referrers c.in_ok-new-2.new.referrers answered c.in_ok-answer.was
           c.loop-answer.invariant.pairs c.in_ok-new-2.ensures.pairs;
     }
 
