@@ -1,5 +1,5 @@
 -- What the map is asked for, and what it gives.
-use Rattle.std.specs.Prelude.{◌≡◌, Option, Ok, IfOk, option_map}
+use Rattle.std.specs.Prelude.{◌≡◌, Option, IfOk, option_map}
 use Rattle.spec_data.specs.Folding.{folded}
 use Rattle.spec_data.specs.Rows.{Row}
 use Rattle.spec_data.specs.Tables.{Table}

@@ -1,8 +1,7 @@
 -- What is mapped again when an index takes rows, and how often the map is asked.
-use Rattle.std.specs.Prelude.{◌≡◌, ◌≤◌, ◌+◌, ℕ, List, cond, is_some, filter}
+use Rattle.std.specs.Prelude.{◌≡◌, ℕ, List, cond, is_some, filter}
 use Rattle.std.specs.FinMap.{FinMap, get}
 use Rattle.std.specs.List.{list_any}
-use Rattle.raven_base.specs.Counts.{Counts}
 use Rattle.spec_data.specs.Folding.{folded, key_cmp, same_key}
 use Rattle.spec_data.specs.Rows.{Row}
 use Rattle.spec_data.specs.Tables.{Table, note_rows}
