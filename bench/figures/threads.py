@@ -17,12 +17,19 @@ from raven_tools.making.lines import bulk, definition, put_command
 from report import Figure, Line, duration, ratio
 
 MAP = "from o in docs.Orders let at = o.OrderedAt select new { o.Company, at.Year, at.Month, Total = o.Cents * o.Count }"
-SUM = " + ".join(["o.Cents", "o.Count"] * 50)
-LONG_MAP = "from o in docs.Orders select new { " + ", ".join(f"S{at} = {SUM}" for at in range(48)) + " }"
+
+
+def sums(count: int, operands: int) -> str:
+    """A map of so many sums."""
+    added = " + ".join(["o.Cents", "o.Count"] * (operands // 2))
+    return "from o in docs.Orders select new { " + ", ".join(f"S{at} = {added}" for at in range(count)) + " }"
+
+
 # A map, what is said of it, and of how many documents the batches are.
 KINDS = (
     (MAP, "", (100, 300, 1_000, 10_000, 60_000)),
-    (LONG_MAP, ", by a map of 48 sums of 100", (1_000, 10_000)),
+    (sums(4, 24), ", by a map of 4 sums of 24", (1_000, 10_000)),
+    (sums(48, 100), ", by a map of 48 sums of 100", (1_000, 10_000)),
 )
 PROCESSORS = (2, 4)
 # An index of each round is new. So many documents are mapped at least by all rounds, of which there are so many at most.
