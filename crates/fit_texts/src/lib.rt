@@ -1,0 +1,2 @@
+//! Lemmas on texts that are fit to be ids and names. There is no code.
+#![tactic(auto)]
