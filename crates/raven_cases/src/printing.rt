@@ -13,8 +13,10 @@ pub fn out_of_memory(_error: NoMemory) -> io::Error {
 
 pub fn print_status<W: Write>(out: &mut W, status: Status) -> io::Result<()> {
     write!(out, "status {}", status.name())?;
-    if let Status::KeptBad { etag } = status {
-        write!(out, " {etag}")?;
+    match status {
+        Status::KeptBad { etag } => write!(out, " {etag}")?,
+        Status::NotEmpty { last } => write!(out, " {last}")?,
+        _ => {}
     }
     writeln!(out)
 }

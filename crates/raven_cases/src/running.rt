@@ -2,7 +2,8 @@
 use crate::case::{Case, Run};
 use crate::printing::{out_of_memory, print_rows, print_status, print_written};
 use raven_base::Bytes;
-use raven_console::{Finish, raven};
+use raven_console::Finish;
+use raven_measure::raven;
 use raven_ports::{ByteSink, ByteSource, MemKeeper};
 use std::io::{self, Write};
 use std::sync::Arc;

@@ -36,6 +36,7 @@ Cause run is.KeptFault = AreValid run × Rose run.before.keeper.count run.after.
 Cause run (is.KeptBad etag) = AreValid run × IsKeptBad run etag × Read run
 Cause run is.InputTooLarge = AreValid run × TakesMore run.before.input.left run.after.input.left
 Cause run is.NoMemory = HoldsSame run ⊎ Short run
+Cause run (is.NotEmpty last) = ⊥
 
 done_of : (run : Run) (s : Status) → Cause run s → s ≡ is.Done → Finished run
 done_of run is.Done c e = c.2
@@ -57,6 +58,7 @@ ordered_of run is.KeptFault c e = absurd (not_malformed run c.0 e)
 ordered_of run (is.KeptBad etag) c e = absurd (not_malformed run c.0 e)
 ordered_of run is.InputTooLarge c e = absurd (not_malformed run c.0 e)
 ordered_of run is.NoMemory c e = inr refl
+ordered_of run (is.NotEmpty last) c e = absurd c
 
 read_fault_of : (run : Run) (s : Status) → Cause run s → s ≡ is.ReadFault → Rose run.before.input.faults run.after.input.faults
 read_fault_of run is.ReadFault c e = c.1
@@ -83,6 +85,7 @@ read_of run is.Usage c e = absurd e
 read_of run is.ReadFault c e = absurd e
 read_of run is.InputTooLarge c e = absurd e
 read_of run is.NoMemory c e = absurd e
+read_of run (is.NotEmpty last) c e = absurd e
 
 stopped_of : (run : Run) (s : Status) → Cause run s → s ≡ is.WriteFault → Stopped run
 stopped_of run is.WriteFault c e = c.3
@@ -109,6 +112,11 @@ complete_of run is.KeptFault c v n = absurd (n.keeper c.1)
 complete_of run (is.KeptBad etag) c v n = absurd (not_bad run etag v c.1)
 complete_of run is.InputTooLarge c v n = absurd (not_more run v c.1)
 complete_of run is.NoMemory c v n = inr refl
+complete_of run (is.NotEmpty last) c v n = absurd c
+
+empty_of : (run : Run) (s : Status) → Cause run s → (last : ℕ) → s ≡ is.NotEmpty last → ⊥
+empty_of run (is.NotEmpty found) c last e = c
+empty_of run other c last e = absurd cc
 
 ends_as : (run : Run) (s : Status) → Cause run s → EndsRightly s run
 ends_as run s c = record {
@@ -125,6 +133,7 @@ ends_as run s c = record {
   too_large = too_large_of run s c;
   within = within_of run s c;
   complete = complete_of run s c;
+  empty = empty_of run s c;
 }
 
 -- ENDS BEFORE THE FIRST LINE

@@ -3,7 +3,7 @@ use Rattle.std.specs.Prelude.{◌≡◌, ℕ, ◌⊎◌, None}
 use Rattle.raven_ports.specs.Faults.{Rose}
 use Rattle.spec_server.specs.Options.{asked_in}
 use Rattle.raven_console.specs.declared.status.Status.{Status}
-use Rattle.raven_console.specs.declared.status.Status.TheVariants.{Done, InputTooLarge, KeptBad, KeptFault, NoMemory, ReadFault, Usage, WriteFault}
+use Rattle.raven_console.specs.declared.status.Status.TheVariants.{Done, InputTooLarge, KeptBad, KeptFault, NoMemory, NotEmpty, ReadFault, Usage, WriteFault}
 use Rattle.raven_console.specs.Input.{IsRead, TakesMore, TakesWithin}
 use Rattle.raven_console.specs.Runs.{Finished, HasNoFault, HoldsSame, IsKeptBad, IsValid, Run, Stopped, StoppedEarly}
 
@@ -41,6 +41,8 @@ pub record EndsRightly (status : Status) (run : Run) : Type 0 where
   pub within : status ≡ ReadFault → TakesWithin run.before.input.left run.after.input.left
   -- a valid input is answered to its end, if no device fails and there is memory
   pub complete : IsValid run → HasNoFault run → (status ≡ Done) ⊎ (status ≡ NoMemory)
+  -- rows that are kept are no hindrance
+  pub empty : (last : ℕ) → status ≡ NotEmpty last → ⊥
 
 -- no line was executed, because of what the keeper holds or does
 abbrev pub IsUnopened : Status → Type 0

@@ -13,6 +13,7 @@ number_of is.KeptFault = 5
 number_of (is.KeptBad etag) = 6
 number_of is.InputTooLarge = 9
 number_of is.NoMemory = 10
+number_of (is.NotEmpty last) = 13
 
 -- the name, as it is written to standard error
 abbrev pub name_of : Status → List ℕ
@@ -24,3 +25,4 @@ name_of is.KeptFault = codes "KeptFault"
 name_of (is.KeptBad etag) = codes "KeptBad"
 name_of is.InputTooLarge = codes "InputTooLarge"
 name_of is.NoMemory = codes "NoMemory"
+name_of (is.NotEmpty last) = codes "NotEmpty"

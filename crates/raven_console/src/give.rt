@@ -8,7 +8,7 @@ use raven_ports::{Sink, SinkFault};
 
 /// Gives all of these bytes to a sink; if it fails, a prefix of them.
 #[tactic(auto, using(crate::proofs::Pieces::runs))]
-pub(crate) fn give_all<O: Sink>(sink: &mut O, bytes: &[u8]) -> Result<(), SinkFault>
+pub fn give_all<O: Sink>(sink: &mut O, bytes: &[u8]) -> Result<(), SinkFault>
     ensures ok { OnOk result ((O.state sink.new).held ≡ appended (O.state sink.old).held bytes.now) }
     ensures err { OnErr result (GivesPrefix (O.state sink.old).held (O.state sink.new).held bytes.now) }
     ensures later { (O.state sink.old).faults ≤ (O.state sink.new).faults }

@@ -11,7 +11,7 @@ use std::alloc::Global;
 
 /// Asks the keeper once if there are rows, and returns whether it took them all. A keeper that took none holds what it held.
 #[tactic(auto, using(crate::proofs::Asking::asking))]
-pub(crate) fn keep<K: Keeper>(alloc: Global, keeper: &mut K, rows: &Rows) -> Result<bool, NoMemory>
+pub fn keep<K: Keeper>(alloc: Global, keeper: &mut K, rows: &Rows) -> Result<bool, NoMemory>
     requires rising { EtagsRise None (spec_all_kept rows.now) }
     requires past { IfSome (K.state keeper.old).held (λ all. EtagsRise (last_kept None all) (spec_all_kept rows.now)) }
     ensures asked { IfOk result (IsKept (K.state keeper.old) (K.state keeper.new) rows.now) }

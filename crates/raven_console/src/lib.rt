@@ -15,8 +15,12 @@ mod run;
 mod status;
 
 pub use arguments::outside;
+pub use give::give_all;
+pub use keeping::keep;
 pub use machine::Machine;
+pub use opening::open_from;
 pub use options::Outside;
+pub use outcome::{Outcome, Pending, outcome_of};
 pub use raven_script::{Line, ReadRefusal, Request, line};
 pub use run::{Finish, answer_lines, raven};
 pub use status::Status;

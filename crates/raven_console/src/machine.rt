@@ -95,6 +95,13 @@ impl Machine {
         Machine { world }
     }
 
+    /// Its world.
+    pub fn into_world(self) -> World
+        ensures { machine_of result ≡ self }
+    {
+        self.world
+    }
+
     // Puts the new world in place, which takes no memory.
     fn take(&mut self, change: Pending)
         ensures { self.new ≡ machine_of change.world }

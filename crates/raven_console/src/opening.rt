@@ -15,7 +15,7 @@ use std::alloc::Global;
 
 /// The machine of the rows that the keeper holds. The keeper holds what it held, whatever is returned.
 #[tactic(auto, using(crate::proofs::Opened::opening))]
-pub(crate) fn open_from<K: Keeper>(
+pub fn open_from<K: Keeper>(
     alloc: Global,
     keeper: &mut K,
     base: BaseId,

@@ -30,6 +30,12 @@ pub enum Status {
 
     /// Memory ran out. The replies to all earlier lines are whole.
     NoMemory,
+
+    /// What is measured is a database of its own, but the keeper holds rows. Nothing was written.
+    NotEmpty {
+        /// The last etag of the database.
+        last: u64,
+    },
 }
 
 impl Status {
@@ -48,6 +54,7 @@ impl Status {
             Status::KeptBad { .. } => 6,
             Status::InputTooLarge => 9,
             Status::NoMemory => 10,
+            Status::NotEmpty { .. } => 13,
         }
     }
 
@@ -64,6 +71,7 @@ impl Status {
             Status::KeptBad { .. } => "KeptBad",
             Status::InputTooLarge => "InputTooLarge",
             Status::NoMemory => "NoMemory",
+            Status::NotEmpty { .. } => "NotEmpty",
         }
     }
 }

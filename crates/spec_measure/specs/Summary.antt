@@ -3,9 +3,7 @@ use Rattle.std.specs.Prelude.{ℕ, ℤ, pos, ◌+◌, ◌+ℤ◌, List, [], ◌�
 use Rattle.std.specs.List.{list_any}
 use Rattle.spec_data.specs.Data.{Data, flag, num}
 use Rattle.spec_data.specs.Members.{member_of}
-use Rattle.spec_data.specs.Scalars.{number as number_scalar}
 use Rattle.spec_data.specs.Written.{text_of}
-use Rattle.spec_query.specs.Results.{scalar_data}
 use Rattle.spec_server.specs.Asking.{answer_ask}
 use Rattle.spec_server.specs.Machine.{Do, Event, Machine, Request, after, count_documents, course_of, takes_all}
 use Rattle.spec_server.specs.Replies.{Answer, Pumped, Reply, members, number}
@@ -70,14 +68,13 @@ summary_by batches docs other = record { batches = batches; docs = docs; groups 
 abbrev pub summary_of : ℕ → Machine → Summary
 summary_of batches M = summary_by batches (count_documents M.world.store) (answer_ask M.world rows_ask)
 
--- a total outside 64 bits is a text
 abbrev pub summary_data : Summary → Data
 summary_data s = members (
     (codes "Batches", number s.batches)
     ∷ (codes "Docs", number s.docs)
     ∷ (codes "Groups", number s.groups)
     ∷ (codes "IsStale", flag s.is_stale)
-    ∷ (codes "Total", scalar_data (number_scalar s.total))
+    ∷ (codes "Total", num s.total)
     ∷ [])
 
 -- as one line

@@ -1,0 +1,4 @@
+pub mod Texts
+pub mod IdLemmas
+pub mod NumberLemmas
+pub mod PairLemmas

@@ -1,0 +1,19 @@
+-- The request that defines the index.
+use Rattle.std.specs.Prelude.{◌≡◌, List, [], ◌∷◌, Option, Some, None, Result}
+use Rattle.index_lang.specs.Says.{Says}
+use Rattle.index_tree.specs.Definitions.{Definition}
+use Rattle.index_tree.specs.Language.{LangRefusal}
+use Rattle.raven_script.specs.RequestView.{request_view}
+use Rattle.raven_script.specs.declared.request.Request.{Request}
+use Rattle.spec_measure.specs.Requests.{definitions, index_texts}
+use Rattle.spec_server.specs.Machine as is
+
+abbrev pub requests_view : Option Request → List is.Request
+requests_view None = []
+requests_view (Some request) = request_view request ∷ []
+
+-- it asks for what the texts of the index say
+pub record IsDefining (request : Option Request) : Type 0 where
+  pub answer : Result Definition LangRefusal
+  pub says : Says index_texts answer
+  pub asks : requests_view request ≡ definitions answer

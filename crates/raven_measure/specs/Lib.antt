@@ -1,0 +1,5 @@
+pub mod Doing
+pub mod Defining
+pub mod Measures
+pub mod Ends
+pub mod Arguments
