@@ -1,4 +1,5 @@
 pub mod Doing
+pub mod Told
 pub mod Defining
 pub mod Measures
 pub mod Ends

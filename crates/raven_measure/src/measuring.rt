@@ -10,9 +10,11 @@ ghost use Rattle.raven_ports.specs.States.{SourceState};
 ghost use Rattle.raven_console.specs.Devices.{Keeps};
 ghost use Rattle.raven_console.specs.Openings.{Loads};
 ghost use Rattle.raven_console.specs.Runs.{devices_of};
+ghost use Rattle.raven_reply.specs.ReplyView.{reply_view};
 ghost use Rattle.raven_measure.specs.Doing.{state_view};
 ghost use Rattle.raven_measure.specs.Ends.{IsRefused, IsUnmeasured, MeasuresRightly, status_of};
 ghost use Rattle.raven_measure.specs.Measures.{Measures, OpensEmpty};
+ghost use Rattle.raven_measure.specs.Told.{last_told as spec_last_told};
 
 use crate::making::{Measured, Stop};
 use crate::summary::summary_line;
@@ -20,7 +22,7 @@ use doc_keeper::LoadFault;
 use doc_txn::BaseId;
 use measure_orders::{Options, options_in};
 use raven_base::NoMemory;
-use raven_console::{Request, Status, give_all, open_from, outcome_of};
+use raven_console::{Status, give_all, open_from};
 use raven_ports::{Clock, Keeper, Sink, SinkFault};
 use raven_world::{Reply, World};
 use std::alloc::Global;
@@ -36,22 +38,24 @@ fn stopped(stop: Stop) -> Status
     }
 }
 
-fn last_of<R: Threads + Sync>(rt: &R, alloc: Global, world: &World) -> Result<u64, NoMemory>
-    ensures { IfOk result (λ etag. etag ≡ last world.now.store) }
+// The last etag that a reply tells of.
+fn last_told(reply: &Reply) -> u64
+    ensures { result ≡ spec_last_told (reply_view reply.now) }
 {
-    let outcome = outcome_of(rt, alloc, world, 0, Request::Stats)?;
-    match &outcome.reply {
-        Reply::Stats { last_doc_etag, .. } => Ok(*last_doc_etag),
-        _ => Ok(0),
+    match reply {
+        Reply::Stats { last_doc_etag, .. } => *last_doc_etag,
+        _ => 0,
     }
 }
 
+fn last_of(world: &World) -> u64
+    ensures { result ≡ last world.now.store }
+{
+    last_told(&world.snapshot().stats())
+}
+
 // The database of the rows that the keeper holds, which have to be none.
-fn empty_from<R: Threads + Sync, K: Keeper>(
-    rt: &R,
-    alloc: Global,
-    keeper: &mut K,
-) -> Result<Measured, Status>
+fn empty_from<K: Keeper>(alloc: Global, keeper: &mut K) -> Result<Measured, Status>
     ensures opens { IfOk result (λ measured. OpensEmpty (K.state keeper.old).held (state_view measured)) }
     ensures keeps { IfOk result (λ measured. Keeps (K.state keeper.new).held (machine_of measured.world)) }
     ensures cause { IfErr result (IsUnmeasured (K.state keeper.old) (K.state keeper.new)) }
@@ -66,10 +70,9 @@ fn empty_from<R: Threads + Sync, K: Keeper>(
         Err(LoadFault::KeptBad { etag }) => return Err(Status::KeptBad { etag }),
         Err(LoadFault::NoMemory) => return Err(Status::NoMemory),
     };
-    match last_of(rt, alloc, &world) {
-        Ok(0) => Ok(Measured { world, batches: 0 }),
-        Ok(last) => Err(Status::NotEmpty { last }),
-        Err(NoMemory) => Err(Status::NoMemory),
+    match last_of(&world) {
+        0 => Ok(Measured { world, batches: 0 }),
+        last => Err(Status::NotEmpty { last }),
     }
 }
 
@@ -79,18 +82,18 @@ fn line_of<R: Threads + Sync, K: Keeper, C: Clock>(
     measured: &mut Measured,
     keeper: &mut K,
     clock: &C,
-    options: &Options,
+    options: Options,
 ) -> Result<String, Stop>
     requires keeps { Keeps (K.state keeper.old).held (machine_of measured.old.world) }
     requires none { measured.old.batches ≡ 0 }
-    ensures done { IfOk result (λ _. Measures (C.moment clock.now) (options_view options.now) (state_view measured.old) (state_view measured.new)) }
+    ensures done { IfOk result (λ _. Measures (C.moment clock.now) (options_view options) (state_view measured.old) (state_view measured.new)) }
     ensures line { IfOk result (λ line. string_bytes line ≡ printed_summary (summary_of measured.new.batches (machine_of measured.new.world))) }
     ensures keeps { Keeps (K.state keeper.new).held (machine_of measured.new.world) }
     ensures later { (K.state keeper.old).count ≤ (K.state keeper.new).count }
     ensures cause { IsErrOf result Stop.Kept → Rose (K.state keeper.old).count (K.state keeper.new).count }
 {
-    measured.fill(rt, alloc, keeper, clock, options)?;
-    measured.catch_up(rt, alloc, keeper, clock, options)?;
+    measured.fill(rt, alloc, keeper, clock, &options)?;
+    measured.catch_up(rt, alloc, keeper, clock, &options)?;
     Ok(summary_line(rt, alloc, measured)?)
 }
 
@@ -117,11 +120,11 @@ pub fn measure<R: Threads + Sync, O: Sink, K: Keeper, C: Clock>(
         Ok(None) => return Status::Usage,
         Err(NoMemory) => return Status::NoMemory,
     };
-    let mut measured = match empty_from(rt, alloc, keeper) {
+    let mut measured = match empty_from(alloc, keeper) {
         Ok(measured) => measured,
         Err(status) => return status,
     };
-    let line = match line_of(rt, alloc, &mut measured, keeper, clock, &options) {
+    let line = match line_of(rt, alloc, &mut measured, keeper, clock, options) {
         Ok(line) => line,
         Err(stop) => return stopped(stop),
     };

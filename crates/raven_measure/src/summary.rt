@@ -1,11 +1,14 @@
 //! The summary of a measurement.
-ghost use Rattle.std.specs.Prelude.{◌≡◌, IfOk, codes, map, string_bytes};
+ghost use Rattle.std.specs.Prelude.{◌≡◌, FitsSigned, IfOk, codes, map, string_bytes};
+ghost use Rattle.std.specs.Int.{w64};
 ghost use Rattle.spec_measure.specs.Requests.{rows_ask as spec_rows_ask};
-ghost use Rattle.spec_measure.specs.Summary.{printed_summary, summary_of as spec_summary_of, total_at as spec_total_at, total_of as spec_total_of};
+ghost use Rattle.spec_measure.specs.Summary.{printed_summary, summary_by as spec_summary_by, summary_of as spec_summary_of, total_at as spec_total_at, total_of as spec_total_of};
 ghost use Rattle.spec_data.specs.Members.{member_of};
 ghost use Rattle.spec_server.specs.Machine.{count_documents, machine_of};
 ghost use Rattle.raven_value.specs.View.{data_of};
+ghost use Rattle.raven_reply.specs.ReplyView.{reply_view};
 ghost use Rattle.raven_measure.specs.Doing.{summary_view};
+ghost use Rattle.raven_measure.specs.Told.{documents_told as spec_documents_told};
 
 use crate::definition::INDEX;
 use crate::making::Measured;
@@ -22,6 +25,7 @@ use std::thread::Threads;
 const MAX_LOOKS: u32 = 64;
 
 /// What a measurement comes to.
+#[derive(Drop)]
 struct Summary {
     batches: u64,
     docs: u64,
@@ -54,7 +58,8 @@ fn rows_ask(alloc: Global) -> Result<QueryAsk, NoMemory>
 }
 
 fn total_at(row: &Value) -> i128
-    ensures { result ≡ spec_total_at (member_of (codes "Total") (data_of row.now)) }
+    ensures total { result ≡ spec_total_at (member_of (codes "Total") (data_of row.now)) }
+    ensures fits { FitsSigned w64 result }
 {
     match row.get("Total") {
         Some(Value::Num(total)) => i128::from(*total),
@@ -72,16 +77,49 @@ fn total_of(rows: &[Value]) -> i128
     total
 }
 
-fn documents_of<R: Threads + Sync>(rt: &R, alloc: Global, world: &World) -> Result<u64, NoMemory>
-    ensures { IfOk result (λ count. count ≡ count_documents world.now.store) }
+// How many documents a reply tells of.
+fn documents_told(reply: &Reply) -> u64
+    ensures { result ≡ spec_documents_told (reply_view reply.now) }
 {
-    let outcome = outcome_of(rt, alloc, world, 0, Request::Stats)?;
-    match &outcome.reply {
+    match reply {
         Reply::Stats {
             count_of_documents,
             ..
-        } => Ok(*count_of_documents),
-        _ => Ok(0),
+        } => *count_of_documents,
+        _ => 0,
+    }
+}
+
+fn documents_of(world: &World) -> u64
+    ensures { result ≡ count_documents world.now.store }
+{
+    documents_told(&world.snapshot().stats())
+}
+
+// The summary after so many batches and with so many documents, by the answer to the query for all rows.
+fn summary_by(batches: u64, docs: u64, answer: &Reply) -> Summary
+    ensures { summary_view result ≡ spec_summary_by batches docs (reply_view answer.now) }
+{
+    match answer {
+        Reply::Answer {
+            is_stale,
+            results,
+            total_results,
+            ..
+        } => Summary {
+            batches,
+            docs,
+            groups: *total_results,
+            is_stale: *is_stale,
+            total: total_of(results.as_slice()),
+        },
+        _ => Summary {
+            batches,
+            docs,
+            groups: 0,
+            is_stale: false,
+            total: 0,
+        },
     }
 }
 
@@ -92,40 +130,15 @@ fn summary_of<R: Threads + Sync>(
 ) -> Result<Summary, NoMemory>
     ensures { IfOk result (λ summary. summary_view summary ≡ spec_summary_of measured.now.batches (machine_of measured.now.world)) }
 {
-    let docs = documents_of(rt, alloc, &measured.world)?;
+    let Measured { world, batches } = measured;
     let ask = rows_ask(alloc)?;
-    let batches = measured.batches;
-    let outcome = outcome_of(rt, alloc, &measured.world, 0, Request::Ask { ask })?;
-    match &outcome.reply {
-        Reply::Answer {
-            is_stale,
-            results,
-            total_results,
-            ..
-        } => Ok(Summary {
-            batches,
-            docs,
-            groups: *total_results,
-            is_stale: *is_stale,
-            total: total_of(results.as_slice()),
-        }),
-        _ => Ok(Summary {
-            batches,
-            docs,
-            groups: 0,
-            is_stale: false,
-            total: 0,
-        }),
-    }
+    let outcome = outcome_of(rt, alloc, world, 0, Request::Ask { ask })?;
+    Ok(summary_by(*batches, documents_of(world), &outcome.reply))
 }
 
-/// The summary as one line.
-pub fn summary_line<R: Threads + Sync>(
-    rt: &R,
-    alloc: Global,
-    measured: &Measured,
-) -> Result<String, NoMemory>
-    ensures { IfOk result (λ line. string_bytes line ≡ printed_summary (spec_summary_of measured.now.batches (machine_of measured.now.world))) }
+// A summary as one line.
+fn printed(alloc: Global, summary: &Summary) -> Result<String, NoMemory>
+    ensures { IfOk result (λ line. string_bytes line ≡ printed_summary (summary_view summary.now)) }
 {
     let Summary {
         batches,
@@ -133,17 +146,20 @@ pub fn summary_line<R: Threads + Sync>(
         groups,
         is_stale,
         total,
-    } = summary_of(rt, alloc, measured)?;
-    let mut line = String::from_str(alloc, "{\"Batches\":")?;
-    line.push_str(batches.to_string(alloc)?.as_str())?;
-    line.push_str(",\"Docs\":")?;
-    line.push_str(docs.to_string(alloc)?.as_str())?;
-    line.push_str(",\"Groups\":")?;
-    line.push_str(groups.to_string(alloc)?.as_str())?;
-    line.push_str(",\"IsStale\":")?;
-    line.push_str(if is_stale { "true" } else { "false" })?;
-    line.push_str(",\"Total\":")?;
-    line.push_str(total.to_string(alloc)?.as_str())?;
-    line.push_str("}\n")?;
-    Ok(line)
+    } = summary;
+    Ok(format!(in alloc;
+        "{{\"Batches\":{batches},\"Docs\":{docs},\"Groups\":{groups},\"IsStale\":{is_stale},\"Total\":{total}}}\n"
+    )?)
+}
+
+/// The summary of a measurement, as one line.
+pub fn summary_line<R: Threads + Sync>(
+    rt: &R,
+    alloc: Global,
+    measured: &Measured,
+) -> Result<String, NoMemory>
+    ensures { IfOk result (λ line. string_bytes line ≡ printed_summary (spec_summary_of measured.now.batches (machine_of measured.now.world))) }
+{
+    let summary = summary_of(rt, alloc, measured)?;
+    printed(alloc, &summary)
 }
