@@ -57,7 +57,7 @@ lowers name M now max o = by (serving M.world.slots name) refl
 
     by : (found : Option Slot) → serving W.slots name ≡ found → is_moving (course_of W now (Pump max (Some name))).reply ≡ true
         → behind name (after M (event_of (record { request = Pump max (Some name); now = now }))).world < behind name W
-    by None e h = absurd (let g = rw (sym e) h in cc)
+    by None e h = let none : false ≡ true = sym (ap (λ found. is_moving (pump_at W max name found).reply) e) ∙ h in absurd cc
     by (Some s) e h =
         let t : Slot = after_batch W.store max s in
         let found = find-Has (λ x. same_key (folded name) (folded x.name)) W.slots s e in

@@ -10,7 +10,7 @@ after_all-append [] us M = refl
 after_all-append (t ∷ ts) us M = after_all-append ts us (after M (event_of t))
 
 moving-append : (ts us : List Timed) (M : Machine) → moving (ts ++ us) M ≡ moving ts M + moving us (after_all ts M)
-moving-append [] us M = refl
+moving-append [] us M = omega arith
 moving-append (t ∷ ts) us M =
     let h = moving-append ts us (after M (event_of t)) in
     let n = one_if (is_moving (course_of M.world t.now t.request).reply) in
@@ -23,9 +23,6 @@ asked-append (t ∷ ts) us = ap (λ z. t.request ∷ z) (asked-append ts us)
 AreMoments-append : (clock : Option ℕ) (ts us : List Timed) → AreMoments clock ts → AreMoments clock us → AreMoments clock (ts ++ us)
 AreMoments-append clock [] us a b = b
 AreMoments-append clock (t ∷ ts) us a b = (a.0, AreMoments-append clock ts us a.1 b)
-
-pub does_nothing : (clock : Option ℕ) (A : State) → Does clock A [] A
-does_nothing clock A = record { timed = []; asked = refl; moments = tt; left = refl; moved = omega arith }
 
 pub does_more : (clock : Option ℕ) (A B C : State) (xs ys : List Request) → Does clock A xs B → Does clock B ys C → Does clock A (xs ++ ys) C
 does_more clock A B C xs ys a b = record {
@@ -44,7 +41,7 @@ does_more clock A B C xs ys a b = record {
 -- ONE REQUEST
 
 -- what a course without a change leaves, and one with a change whose rows are taken
-settled_none : (M : Machine) (c : Course) → c.changes ≡ [] → (settled M takes_all c).machine ≡ M
+pub settled_none : (M : Machine) (c : Course) → c.changes ≡ [] → (settled M takes_all c).machine ≡ M
 settled_none M c e = ap (λ (changes : List Change). (made takes_all M [] changes c.reply).machine) e
 
 taken_one : (M : Machine) (x : Change) (c : Course) → (made takes_all M [] (x ∷ []) c.reply).machine ≡ with_world M x.world
@@ -54,11 +51,9 @@ taken_one M x c = by x.rows refl
     by [] e = rw e refl
     by (r ∷ rows) e = rw e refl
 
-settled_one : (M : Machine) (c : Course) (x : Change) → c.changes ≡ x ∷ [] → (settled M takes_all c).machine ≡ with_world M x.world
+pub settled_one : (M : Machine) (c : Course) (x : Change) → c.changes ≡ x ∷ [] → (settled M takes_all c).machine ≡ with_world M x.world
 settled_one M c x e = ap (λ (changes : List Change). (made takes_all M [] changes c.reply).machine) e ∙ taken_one M x c
 
 pub does_one : (clock : Option ℕ) (A B : State) (now : ℕ) (r : Request) → MayGive clock now → B.machine ≡ after A.machine (event_of (record { request = r; now = now }))
     → B.moved ≡ A.moved + one_if (is_moving (course_of A.machine.world now r).reply) → Does clock A (r ∷ []) B
 does_one clock A B now r m e n = record { timed = record { request = r; now = now } ∷ []; asked = refl; moments = (m, tt); left = e; moved = omega (arith, n) }
-
-pub ruleset doing = (does_nothing, does_more, does_one, settled_none, settled_one)

@@ -4,3 +4,4 @@ pub mod Defining
 pub mod Measures
 pub mod Ends
 pub mod Arguments
+pub mod Taking

@@ -51,6 +51,12 @@ pub record OpensEmpty (held : Option (List KeptRow)) (opened : State) : Type 0 w
 
 -- THE REQUESTS
 
+-- the index was defined, if its texts are a definition
+pub record Defines (clock : Option ℕ) (before after : State) : Type 0 where
+  pub answer : Result Definition LangRefusal
+  pub says : Says index_texts answer
+  pub does : Does clock before (definitions answer) after
+
 -- the index was defined, and all orders were written
 pub record Fills (clock : Option ℕ) (o : Options) (before after : State) : Type 0 where
   pub answer : Result Definition LangRefusal

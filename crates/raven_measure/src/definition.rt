@@ -40,7 +40,7 @@ pub fn defining(alloc: Global) -> Result<Option<Request>, NoMemory>
             let definition = Arc::new(alloc, definition)?;
             Ok(Some(Request::Define { definition }))
         }
+        Err(LangRefusal::At { .. }) => Ok(None),
         Err(LangRefusal::NoMemory) => Err(NoMemory),
-        Err(_) => Ok(None),
     }
 }

@@ -3,14 +3,14 @@ ghost use Rattle.std.specs.Prelude.{◌≡◌, ℕ, ◌+◌, ◌*◌, ◌<◌, �
 ghost use Rattle.spec_store.specs.Commit.{AnyVector};
 ghost use Rattle.spec_measure.specs.Draws.{draw, next};
 ghost use Rattle.spec_measure.specs.Orders.{order as spec_order, order_id as spec_order_id};
-ghost use Rattle.spec_measure.specs.Requests.{pumping as spec_pumping, requests_with};
+ghost use Rattle.spec_measure.specs.Requests.{batches as spec_batches, deletions, pumping as spec_pumping, requests_with};
 ghost use Rattle.spec_server.specs.Machine.{Delete, Put, machine_of};
 ghost use Rattle.measure_orders.specs.OptionsView.{options_view};
 ghost use Rattle.raven_ports.specs.Faults.{Rose};
 ghost use Rattle.raven_script.specs.RequestView.{request_view};
 ghost use Rattle.raven_console.specs.Devices.{Keeps};
 ghost use Rattle.raven_measure.specs.Doing.{Does, state_view};
-ghost use Rattle.raven_measure.specs.Measures.{Fills};
+ghost use Rattle.raven_measure.specs.Measures.{Defines, Fills};
 
 use crate::definition::{defining, index_name};
 use crate::making::{Measured, Stop};
@@ -55,6 +55,54 @@ fn deleting(alloc: Global, number: u64) -> Result<Request, NoMemory>
 }
 
 impl Measured {
+    // Behind each tenth order, deletes the one that is five before it.
+    fn delete_behind<R: Threads + Sync, K: Keeper, C: Clock>(
+        &mut self,
+        rt: &R,
+        alloc: Global,
+        keeper: &mut K,
+        clock: &C,
+        number: u64,
+    ) -> Result<(), Stop>
+        requires keeps { Keeps (K.state keeper.old).held (machine_of self.old.world) }
+        requires number { 1 ≤ number }
+        requires room { self.old.batches + 1 < 2 ^ 64 }
+        ensures done { OnOk result (Does (C.moment clock.now) (state_view self.old) (deletions number) (state_view self.new)) }
+        ensures still { self.new.batches ≡ self.old.batches }
+        ensures keeps { Keeps (K.state keeper.new).held (machine_of self.new.world) }
+        ensures later { (K.state keeper.old).count ≤ (K.state keeper.new).count }
+        ensures cause { IsErrOf result Stop.Kept → Rose (K.state keeper.old).count (K.state keeper.new).count }
+    {
+        if !number.is_multiple_of(10) {
+            return Ok(());
+        }
+        self.make(rt, alloc, keeper, clock, deleting(alloc, number - 5)?)
+    }
+
+    // Behind each hundredth order, makes a batch.
+    fn pump_behind<R: Threads + Sync, K: Keeper, C: Clock>(
+        &mut self,
+        rt: &R,
+        alloc: Global,
+        keeper: &mut K,
+        clock: &C,
+        options: &Options,
+        number: u64,
+    ) -> Result<(), Stop>
+        requires keeps { Keeps (K.state keeper.old).held (machine_of self.old.world) }
+        requires room { self.old.batches + 1 < 2 ^ 64 }
+        ensures done { OnOk result (Does (C.moment clock.now) (state_view self.old) (spec_batches (options_view options.now) number) (state_view self.new)) }
+        ensures few { self.new.batches ≤ self.old.batches + 1 }
+        ensures keeps { Keeps (K.state keeper.new).held (machine_of self.new.world) }
+        ensures later { (K.state keeper.old).count ≤ (K.state keeper.new).count }
+        ensures cause { IsErrOf result Stop.Kept → Rose (K.state keeper.old).count (K.state keeper.new).count }
+    {
+        if !number.is_multiple_of(100) {
+            return Ok(());
+        }
+        self.make(rt, alloc, keeper, clock, pumping(alloc, options)?)
+    }
+
     // What is asked with the order of this number.
     fn with_order<R: Threads + Sync, K: Keeper, C: Clock>(
         &mut self,
@@ -78,13 +126,30 @@ impl Measured {
         ensures cause { IsErrOf result Stop.Kept → Rose (K.state keeper.old).count (K.state keeper.new).count }
     {
         self.make(rt, alloc, keeper, clock, putting(alloc, number, draws)?)?;
-        if number.is_multiple_of(10) {
-            self.make(rt, alloc, keeper, clock, deleting(alloc, number - 5)?)?;
-        }
-        if number.is_multiple_of(100) {
-            self.make(rt, alloc, keeper, clock, pumping(alloc, options)?)?;
-        }
-        Ok(())
+        self.delete_behind(rt, alloc, keeper, clock, number)?;
+        self.pump_behind(rt, alloc, keeper, clock, options, number)
+    }
+
+    // Defines the index, if its texts are a definition.
+    fn define<R: Threads + Sync, K: Keeper, C: Clock>(
+        &mut self,
+        rt: &R,
+        alloc: Global,
+        keeper: &mut K,
+        clock: &C,
+    ) -> Result<(), Stop>
+        requires keeps { Keeps (K.state keeper.old).held (machine_of self.old.world) }
+        requires room { self.old.batches + 1 < 2 ^ 64 }
+        ensures done { OnOk result (Defines (C.moment clock.now) (state_view self.old) (state_view self.new)) }
+        ensures still { self.new.batches ≡ self.old.batches }
+        ensures keeps { Keeps (K.state keeper.new).held (machine_of self.new.world) }
+        ensures later { (K.state keeper.old).count ≤ (K.state keeper.new).count }
+        ensures cause { IsErrOf result Stop.Kept → Rose (K.state keeper.old).count (K.state keeper.new).count }
+    {
+        let Some(request) = defining(alloc)? else {
+            return Ok(());
+        };
+        self.make(rt, alloc, keeper, clock, request)
     }
 
     /// Defines the index, and writes all orders.
@@ -104,12 +169,10 @@ impl Measured {
         ensures later { (K.state keeper.old).count ≤ (K.state keeper.new).count }
         ensures cause { IsErrOf result Stop.Kept → Rose (K.state keeper.old).count (K.state keeper.new).count }
     {
-        if let Some(request) = defining(alloc)? {
-            self.make(rt, alloc, keeper, clock, request)?;
-        }
+        self.define(rt, alloc, keeper, clock)?;
         let mut draws = Draws::of(options.seed);
-        for number in 1..=u64::from(options.docs) {
-            self.with_order(rt, alloc, keeper, clock, options, number, &mut draws)?;
+        for earlier in 0..u64::from(options.docs) {
+            self.with_order(rt, alloc, keeper, clock, options, earlier + 1, &mut draws)?;
         }
         Ok(())
     }

@@ -1,8 +1,10 @@
 //! Requests, made one after another.
-ghost use Rattle.std.specs.Prelude.{◌≡◌, ◌+◌, ◌<◌, ◌≤◌, ◌==◌, ◌^◌, [], ◌∷◌, OnOk, OnErr, IsErrOf, not};
+ghost use Rattle.std.specs.Prelude.{◌≡◌, ◌+◌, ◌<◌, ◌≤◌, ◌==◌, ◌^◌, [], ◌∷◌, None, IfSome, OnOk, OnErr, IsErrOf, not};
 ghost use Rattle.std.specs.List.{list_any};
+ghost use Rattle.spec_data.specs.Kept.{EtagsRise, all_kept, last_kept};
 ghost use Rattle.raven_console.specs.Devices.{Keeps};
 ghost use Rattle.raven_measure.specs.Doing.{Does, state_view};
+ghost use Rattle.raven_measure.specs.Taking.{IsTaken};
 ghost use Rattle.raven_ports.specs.Faults.{Rose};
 ghost use Rattle.raven_reply.specs.ReplyView.{reply_view};
 ghost use Rattle.raven_script.specs.RequestView.{request_view};
@@ -11,7 +13,7 @@ ghost use Rattle.spec_server.specs.Machine.{Do, machine_of};
 ghost use Rattle.spec_server.specs.WellFormed.{IsWellFormed};
 
 use raven_base::NoMemory;
-use raven_console::{Outcome, Request, keep, outcome_of};
+use raven_console::{Outcome, Pending, Request, keep, outcome_of};
 use raven_ports::{Clock, Keeper};
 use raven_world::{Pumping, Reply, World};
 use std::alloc::Global;
@@ -66,6 +68,30 @@ fn is_moving(reply: &Reply) -> bool
     }
 }
 
+// Puts the world of a change in place, if there is one, once the keeper has taken its rows.
+fn take<K: Keeper>(
+    alloc: Global,
+    keeper: &mut K,
+    world: &mut World,
+    change: Option<Pending>,
+) -> Result<(), Stop>
+    requires rising { IfSome change (λ p. EtagsRise None (all_kept p.rows)) }
+    requires past { IfSome change (λ p. IfSome (K.state keeper.old).held (λ all. EtagsRise (last_kept None all) (all_kept p.rows))) }
+    ensures taken { OnOk result (IsTaken (K.state keeper.old) (K.state keeper.new) change world.old world.new) }
+    ensures err { OnErr result ((world.new ≡ world.old) × ((K.state keeper.new).held ≡ (K.state keeper.old).held)) }
+    ensures later { (K.state keeper.old).count ≤ (K.state keeper.new).count }
+    ensures cause { IsErrOf result Stop.Kept → Rose (K.state keeper.old).count (K.state keeper.new).count }
+{
+    let Some(change) = change else {
+        return Ok(());
+    };
+    if !keep(alloc, keeper, &change.rows)? {
+        return Err(Stop::Kept);
+    }
+    *world = change.world;
+    Ok(())
+}
+
 impl Measured {
     /// Makes a request at the moment that the clock gives. If the keeper fails or memory runs out, nothing changes.
     pub fn make<R: Threads + Sync, K: Keeper, C: Clock>(
@@ -86,12 +112,7 @@ impl Measured {
         ensures cause { IsErrOf result Stop.Kept → Rose (K.state keeper.old).count (K.state keeper.new).count }
     {
         let Outcome { reply, change } = outcome_of(rt, alloc, &self.world, clock.now(), request)?;
-        if let Some(change) = change {
-            if !keep(alloc, keeper, &change.rows)? {
-                return Err(Stop::Kept);
-            }
-            self.world = change.world;
-        }
+        take(alloc, keeper, &mut self.world, change)?;
         if is_moving(&reply) {
             self.batches += 1;
         }
