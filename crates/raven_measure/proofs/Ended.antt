@@ -1,5 +1,5 @@
 -- How a measurement ends, by its status.
-use Rattle.std.proofs.Common.{◌≡◌, ◌<◌, ◌⊎◌, inl, inr, ℕ, List, Option, Some, None, Result, Ok, Err, refl, sym, ap, ◌∙◌, subst, arith}
+use Rattle.std.proofs.Common.{◌≡◌, ◌<◌, ◌≤◌, ◌⊎◌, inl, inr, ℕ, List, Option, Some, None, Result, Ok, Err, refl, sym, ap, ◌∙◌, subst, arith}
 use Rattle.std.specs.Option.{option_and_then}
 use Rattle.spec_data.specs.Kept.{KeptRow}
 use Rattle.spec_measure.specs.Options.{is_measure, measured_in, options_in}
@@ -21,8 +21,10 @@ use Rattle.raven_console.specs.Devices.{Keeps}
 use Rattle.raven_console.specs.Openings.{IsBad, Loads, Opens}
 use Rattle.raven_console.specs.Runs.{HasNoFault, Run}
 use Rattle.raven_measure.specs.Doing.{State}
-use Rattle.raven_measure.specs.Ends.{IsUnmeasured, MeasuresRightly}
-use Rattle.raven_measure.specs.Measures.{Begins, Finished, IsKeptBad, IsNotEmpty, IsValid, Measures, OpensEmpty, Ran, Stopped}
+use Rattle.raven_measure.specs.Ends.{IsUnmeasured, MeasuresRightly, status_of}
+use Rattle.raven_measure.specs.declared.making.Stop.{Stop}
+use Rattle.raven_measure.specs.declared.making.Stop.TheVariants as stop
+use Rattle.raven_measure.specs.Measures.{Begins, Finished, HasBegun, IsKeptBad, IsNotEmpty, IsValid, Measures, OpensEmpty, Ran, Stopped}
 
 -- A VALID CALL IS DONE
 
@@ -66,7 +68,7 @@ Cause run is.Done = AreValid run × Finished run
 Cause run is.Usage = measured_in run.arguments ≡ None
 Cause run is.ReadFault = ⊥
 Cause run is.WriteFault = AreValid run × Rose run.before.output.faults run.after.output.faults × Stopped run
-Cause run is.KeptFault = AreValid run × Rose run.before.keeper.count run.after.keeper.count
+Cause run is.KeptFault = AreValid run × Rose run.before.keeper.count run.after.keeper.count × ((run.after.keeper.held ≡ run.before.keeper.held) ⊎ HasBegun run)
 Cause run (is.KeptBad etag) = AreValid run × IsKeptBad run etag
 Cause run is.InputTooLarge = ⊥
 Cause run is.NoMemory = Unit {0}
@@ -101,6 +103,10 @@ write_fault_of run other c e = absurd cc
 kept_fault_of : (run : Run) (s : Status) → Cause run s → s ≡ is.KeptFault → Rose run.before.keeper.count run.after.keeper.count
 kept_fault_of run is.KeptFault c e = c.1
 kept_fault_of run other c e = absurd cc
+
+unopened_of : (run : Run) (s : Status) → Cause run s → s ≡ is.KeptFault → (run.after.keeper.held ≡ run.before.keeper.held) ⊎ HasBegun run
+unopened_of run is.KeptFault c e = c.2
+unopened_of run other c e = absurd cc
 
 kept_bad_of : (run : Run) (s : Status) → Cause run s → (etag : ℕ) → s ≡ is.KeptBad etag → IsKeptBad run etag
 kept_bad_of run (is.KeptBad found) c etag e = let same : found ≡ etag = cc in subst (IsKeptBad run) same c.1
@@ -138,6 +144,7 @@ ends_as run s c = record {
   ordered = ordered_of run s c;
   write_fault = write_fault_of run s c;
   kept_fault = kept_fault_of run s c;
+  unopened = unopened_of run s c;
   kept_bad = kept_bad_of run s c;
   not_empty = not_empty_of run s c;
   stopped = stopped_of run s c;
@@ -159,7 +166,7 @@ begins_with run o begun M e p l = record { options = o; ordered = e; opens = p; 
 pub ends_unmeasured : (run : Run) (o : Options) (s : Status) → measured_in run.arguments ≡ Some o → Loads run.before.keeper run.after.keeper → IsUnmeasured run.before.keeper run.after.keeper s
     → MeasuresRightly s run
 ends_unmeasured run o (is.KeptBad etag) e l c = ends_as run (is.KeptBad etag) ((o, e), record { options = o; ordered = e; bad = c })
-ends_unmeasured run o is.KeptFault e l c = ends_as run is.KeptFault ((o, e), c)
+ends_unmeasured run o is.KeptFault e l c = ends_as run is.KeptFault ((o, e), c, inl l.same)
 ends_unmeasured run o (is.NotEmpty etag) e l c =
     ends_as run (is.NotEmpty etag) ((o, e), record { begun = run.after.keeper; machine = c.machine; begins = begins_with run o run.after.keeper c.machine e c.opens l; is = c.is; above = c.above })
 ends_unmeasured run o is.NoMemory e l c = ends_as run is.NoMemory tt
@@ -168,6 +175,22 @@ ends_unmeasured run o is.Usage e l c = absurd c
 ends_unmeasured run o is.ReadFault e l c = absurd c
 ends_unmeasured run o is.WriteFault e l c = absurd c
 ends_unmeasured run o is.InputTooLarge e l c = absurd c
+
+-- ENDS BETWEEN REQUESTS
+
+rose_later : (before between after : ℕ) → before ≤ between → Rose between after → Rose before after
+rose_later before between after h r = omega (arith, h, r)
+
+-- a request could not be made
+pub ends_stopped : (run : Run) (o : Options) (begun : KeeperState) (opened : State) (why : Stop) → measured_in run.arguments ≡ Some o → OpensEmpty run.before.keeper.held opened → Loads run.before.keeper begun
+    → (why ≡ stop.Kept → Rose begun.count run.after.keeper.count) → MeasuresRightly (status_of why) run
+ends_stopped run o begun opened stop.Kept e p l c =
+    ends_as run is.KeptFault (
+      (o, e),
+      rose_later run.before.keeper.count begun.count run.after.keeper.count l.later (c refl),
+      inr (record { begun = begun; machine = opened.machine; begins = begins_with run o begun opened.machine e p.opens l; empty = p.empty }),
+    )
+ends_stopped run o begun opened stop.NoMemory e p l c = ends_as run is.NoMemory tt
 
 -- ENDS AFTER THE LAST REQUEST
 

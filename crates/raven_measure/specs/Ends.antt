@@ -14,7 +14,7 @@ use Rattle.raven_console.specs.declared.status.Status.{Status}
 use Rattle.raven_console.specs.declared.status.Status.TheVariants.{Done, InputTooLarge, KeptBad, KeptFault, NoMemory, NotEmpty, ReadFault, Usage, WriteFault}
 use Rattle.raven_measure.specs.declared.making.Stop.{Stop}
 use Rattle.raven_measure.specs.declared.making.Stop.TheVariants as stop
-use Rattle.raven_measure.specs.Measures.{Finished, IsKeptBad, IsNotEmpty, IsValid, Stopped}
+use Rattle.raven_measure.specs.Measures.{Finished, HasBegun, IsKeptBad, IsNotEmpty, IsValid, Stopped}
 
 -- The measurement ended with this status. The output and the keeper are spoken of as far as they report their contents.
 pub record MeasuresRightly (status : Status) (run : Run) : Type 0 where
@@ -27,6 +27,8 @@ pub record MeasuresRightly (status : Status) (run : Run) : Type 0 where
   -- a device has failed only if its count of faults rose
   pub write_fault : status ≡ WriteFault → Rose run.before.output.faults run.after.output.faults
   pub kept_fault : status ≡ KeptFault → Rose run.before.keeper.count run.after.keeper.count
+  -- and if it failed while the database was opened, it holds what it held
+  pub unopened : status ≡ KeptFault → (run.after.keeper.held ≡ run.before.keeper.held) ⊎ HasBegun run
   -- the first invalid row that the keeper holds has this etag
   pub kept_bad : (etag : ℕ) → status ≡ KeptBad etag → IsKeptBad run etag
   -- the keeper holds rows, and the last etag is this

@@ -43,6 +43,13 @@ pub record IsNotEmpty (run : Run) (etag : ℕ) : Type 0 where
   pub is : last machine.world.store ≡ etag
   pub above : 0 < etag
 
+-- the stored rows opened an empty database
+pub record HasBegun (run : Run) : Type 0 where
+  pub begun : KeeperState
+  pub machine : Machine
+  pub begins : Begins run begun machine
+  pub empty : last machine.world.store ≡ 0
+
 -- the empty database of the rows that the keeper holds, of which no batch was made
 pub record OpensEmpty (held : Option (List KeptRow)) (opened : State) : Type 0 where
   pub opens : Opens (setting_with base_id) held opened.machine

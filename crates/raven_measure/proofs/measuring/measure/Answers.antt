@@ -1,7 +1,9 @@
-use Rattle.std.proofs.Common.{Err, option_map, sym, ap, ◌∙◌}
+use Rattle.std.proofs.Common.{Err, option_map, subst, sym, ap, ◌∙◌}
+use Rattle.raven_console.specs.Runs.{devices_of}
+use Rattle.raven_measure.specs.Ends.{MeasuresRightly}
 use Rattle.measure_orders.specs.OptionsView.{options_view}
 use Rattle.raven_measure.specs.Doing.{state_view}
-use Rattle.raven_measure.proofs.Ended.{ends_done, ends_unmeasured, ends_write_fault, ordered_by}
+use Rattle.raven_measure.proofs.Ended.{ends_done, ends_stopped, ends_unmeasured, ends_write_fault, ordered_by}
 use Rattle.raven_measure.proofs.measuring.measure.Goals as goal
 
 pub returns-in-Err-empty_from-clause-ends : goal.returns-in-Err-empty_from-clause-ends
@@ -38,3 +40,15 @@ returns-in-Err-Failed-clause-ends g c = λ words input e.
     })
     c.in-Err-Failed.ensures.err
     (c.in-Err-Failed.ensures.cause (ap Err c.in-Err-Failed.field-0-is))
+
+pub returns-in-Err-line_of-clause-ends : goal.returns-in-Err-line_of-clause-ends
+returns-in-Err-line_of-clause-ends g c = λ words input e.
+    subst (λ status. MeasuresRightly status (record {
+      arguments = words;
+      clock = g.C.Clock.moment c.args.clock.now;
+      before = devices_of input (g.O.Sink.state c.args.output.now) (g.K.Keeper.state c.args.keeper.now);
+      after = devices_of input (g.O.Sink.state c.args.output.now) (g.K.Keeper.state c.line_of.new.keeper);
+    })) (sym c.stopped.ensures)
+    (ends_stopped _ (options_view c.in-Ok-Some.options) (g.K.Keeper.state c.empty_from.new.keeper) (state_view c.in-Ok.measured) c.in-Err-line_of.stop
+    (ordered_by words _ _ e (sym c.in-Ok-Some.ensures ∙ ap (option_map options_view) c.in-Ok-Some.field-0-is))
+    c.in-Ok.ensures.opens c.empty_from.ensures.loads (λ kept. c.in-Err-line_of.ensures.cause (ap Err kept)))
