@@ -31,12 +31,22 @@ use std::sync::ledger::Ledger;
 ///
 /// A clone shares all pages and takes no memory, and a change copies only pages that others have too. So a change takes time
 /// and memory that grow with the logarithm of the number of rows.
-#[derive(Drop)]
 pub struct Store {
     by_id: PagedMap<Id, Shared<Row>>,
     by_etag: RowsByEtag,
     /// The rows of each collection, so that an index reads no rows but those in its scope.
     by_collection: PagedMap<Text, RowsByEtag>,
+}
+
+// By hand, so that no proof about what drops one goes through its parts.
+impl Drop for Store {
+    fn drop(self) {
+        let Store {
+            by_id: _by_id,
+            by_etag: _by_etag,
+            by_collection: _by_collection,
+        } = self;
+    }
 }
 
 impl Model for Store {
@@ -245,12 +255,12 @@ impl Store {
         requires within { IsWithin (with_row self row) }
         ensures { IfOk result (λ store. store ≡ with_row self row) }
     {
-        let under_etag = row.clone()?;
         let Store {
             by_id,
             by_etag,
             by_collection,
         } = self;
+        let under_etag = row.clone()?;
         let ids = put_under_id(alloc, by_id, &row)?;
         let etags = by_etag.put(alloc, under_etag, replaced)?;
         let collections = put_among(alloc, by_collection, row, replaced)?;

@@ -15,7 +15,7 @@ use std::marker::Model;
 const BASE_LEN: usize = 22;
 
 /// The base id of a database: 22 ASCII letters or digits.
-#[derive(Debug, Drop)]
+#[derive(Drop)]
 pub struct BaseId {
     text: Text,
 }

@@ -14,7 +14,7 @@ pub enum Writer {
 }
 
 /// What a command expects of the document of its id.
-#[derive(Debug, Drop)]
+#[derive(Drop)]
 pub enum Expect {
     /// Anything.
     Any,
@@ -24,7 +24,7 @@ pub enum Expect {
 }
 
 /// One write.
-#[derive(Debug, Drop)]
+#[derive(Drop)]
 pub enum Command {
     /// Write the document of this id.
     Put {

@@ -9,14 +9,13 @@ use raven_value::{Name, Path, Paths, Text};
 use std::alloc::Global;
 
 /// An index under a name.
-#[derive(Debug, Drop)]
+#[derive(Drop)]
 pub struct Definition {
     pub name: Name,
     pub body: DefBody,
 }
 
 /// What an index keeps.
-#[derive(Debug)]
 pub enum DefBody {
     /// What a map gives, and how it is reduced, if it is. The texts are those that were read.
     Static {

@@ -8,7 +8,7 @@ use raven_value::Text;
 use std::alloc::Global;
 
 /// Which documents a map is of.
-#[derive(Debug, Drop)]
+#[derive(Drop)]
 pub struct Origin {
     /// The name of the document.
     pub var: Text,
@@ -18,7 +18,7 @@ pub struct Origin {
 }
 
 /// A member and its place.
-#[derive(Debug, Drop)]
+#[derive(Drop)]
 pub struct PlacedMember {
     /// The place of the first byte of its first token, counted from 0.
     pub at: usize,
@@ -29,7 +29,7 @@ pub struct PlacedMember {
 pub type PlacedMembers = Sequence<PlacedMember>;
 
 /// A map as it is spelled.
-#[derive(Debug, Drop)]
+#[derive(Drop)]
 pub struct SpelledMap {
     /// The name of the document.
     pub var: Text,

@@ -14,9 +14,15 @@ use std::cmp::Ordering;
 use std::marker::Model;
 
 /// The parts of a group's key, ordered part by part. A clone shares them.
-#[derive(Drop)]
 pub struct GroupKey {
     scalars: Shared<Sequence<Scalar>>,
+}
+
+// By hand, so that no proof about what drops one goes through its parts.
+impl Drop for GroupKey {
+    fn drop(self) {
+        let GroupKey { scalars: _scalars } = self;
+    }
 }
 
 impl Model for GroupKey {

@@ -28,10 +28,19 @@ pub const NOTHING: Tally = Tally {
 };
 
 /// The id of a document, and what the map gave for it.
-#[derive(Drop)]
 pub struct Given {
     id: Id,
     mapped: Mapped,
+}
+
+// By hand, so that no proof about what drops one goes through its parts.
+impl Drop for Given {
+    fn drop(self) {
+        let Given {
+            id: _id,
+            mapped: _mapped,
+        } = self;
+    }
 }
 
 impl Model for Given {

@@ -24,10 +24,19 @@ use std::alloc::Global;
 /// What the map has given for each document that it maps, under the ids of these, and which of them load which ids.
 ///
 /// A copy shares all pages, and a change copies only pages that others have too.
-#[derive(Drop)]
 pub struct Kept {
     pub given: Results,
     pub referrers: Referrers,
+}
+
+// By hand, so that no proof about what drops one goes through its parts.
+impl Drop for Kept {
+    fn drop(self) {
+        let Kept {
+            given: _given,
+            referrers: _referrers,
+        } = self;
+    }
 }
 
 impl Kept {

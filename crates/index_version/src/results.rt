@@ -20,10 +20,19 @@ use std::marker::Model;
 /// Each change keeps the numbers of entries and of failures, so both are known without a walk.
 ///
 /// A clone shares all pages, and a change copies only pages that others have too.
-#[derive(Drop)]
 pub struct Results {
     given: PagedMap<Id, Shared<Given>>,
     tally: Tally,
+}
+
+// By hand, so that no proof about what drops one goes through its parts.
+impl Drop for Results {
+    fn drop(self) {
+        let Results {
+            given: _given,
+            tally: _tally,
+        } = self;
+    }
 }
 
 impl Model for Results {

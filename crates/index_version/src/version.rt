@@ -45,7 +45,6 @@ fn share(definition: &Arc<Definition>) -> Result<Arc<Definition>, NoMemory>
 /// recorded.
 /// Its entries are those that its map gives over these documents from scratch, and its errors those that fail there. If the
 /// definition has a reduce, its rows are those that the reduce gives for these entries.
-#[derive(Drop)]
 pub struct IndexVersion {
     definition: Arc<Definition>,
     etag: u64,
@@ -53,6 +52,20 @@ pub struct IndexVersion {
     kept: Kept,
     groups: Option<GivenGroups>,
     terms: Terms,
+}
+
+// By hand, so that no proof about what drops one goes through its parts.
+impl Drop for IndexVersion {
+    fn drop(self) {
+        let IndexVersion {
+            definition: _definition,
+            etag: _etag,
+            table: _table,
+            kept: _kept,
+            groups: _groups,
+            terms: _terms,
+        } = self;
+    }
 }
 
 impl Model for IndexVersion {

@@ -11,9 +11,15 @@ use std::alloc::Global;
 use std::marker::Model;
 
 /// The fields of an entry, rising by the bytes of their names, so that each name is there once.
-#[derive(Debug, Drop)]
 pub struct Entry {
     items: Vec<(Text, Scalar)>,
+}
+
+// By hand, so that no proof about what drops one goes through its parts.
+impl Drop for Entry {
+    fn drop(self) {
+        let Entry { items: _items } = self;
+    }
 }
 
 impl Model for Entry {

@@ -12,7 +12,7 @@ use raven_value::{Ids, Row};
 use std::alloc::Global;
 
 /// The map that a query means.
-#[derive(Clone, Copy, Debug)]
+#[derive(Clone, Copy)]
 pub struct LangMapper<'q> {
     pub query: &'q MapQuery,
 }

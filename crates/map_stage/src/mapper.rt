@@ -14,7 +14,6 @@ use raven_value::{Ids, Row};
 use std::alloc::Global;
 
 /// What the map gives for a document.
-#[derive(Debug, Drop)]
 pub enum Outcome {
     /// Its entry.
     Entry(Entry),
@@ -24,13 +23,33 @@ pub enum Outcome {
     Failed,
 }
 
+// By hand, so that no proof about what drops one goes through its parts.
+impl Drop for Outcome {
+    fn drop(self) {
+        match self {
+            Outcome::Entry(_value) => {}
+            Outcome::Nothing => {}
+            Outcome::Failed => {}
+        }
+    }
+}
+
 /// What a map gives for a document.
-#[derive(Debug, Drop)]
 pub struct Mapped {
     pub outcome: Outcome,
 
     /// The ids that were looked up, in order, also those before a failure; in which spelling is not promised.
     pub loads: Ids,
+}
+
+// By hand, so that no proof about what drops one goes through its parts.
+impl Drop for Mapped {
+    fn drop(self) {
+        let Mapped {
+            outcome: _outcome,
+            loads: _loads,
+        } = self;
+    }
 }
 
 /// A map from documents to entries.

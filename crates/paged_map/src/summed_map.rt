@@ -31,10 +31,19 @@ use std::sync::ledger::Ledger;
 ///
 /// In all else it is as `PagedMap`, which is this map without totals: a change gives a new map, which shares most pages with
 /// the old one, and keys that compare equal are the same key, whose first spelling stays.
-#[derive(Drop)]
 pub struct SummedMap<K: Ord, V, S: Summary<V>> {
     root: Arc<Page<K, V, S>>,
     len: u64,
+}
+
+// By hand, so that no proof about what drops one goes through its parts.
+impl<K: Ord + Drop, V: Drop, S: Summary<V> + Drop> Drop for SummedMap<K, V, S> {
+    fn drop(self) {
+        let SummedMap {
+            root: _root,
+            len: _len,
+        } = self;
+    }
 }
 
 impl<K: Ord, V, S: Summary<V>> Model for SummedMap<K, V, S> {

@@ -8,9 +8,15 @@ use std::marker::Model;
 use std::sync::Arc;
 
 /// A value that its clones share, seen by contracts as the value. A clone takes no memory.
-#[derive(Drop)]
 pub struct Shared<V> {
     shared: Arc<V>,
+}
+
+// By hand, so that no proof about what drops one goes through its parts.
+impl<V: Drop> Drop for Shared<V> {
+    fn drop(self) {
+        let Shared { shared: _shared } = self;
+    }
 }
 
 impl<V> Model for Shared<V> {

@@ -3,7 +3,7 @@ use doc_txn::BaseId;
 use raven_value::Text;
 
 /// The options of `run`.
-#[derive(Debug, Drop)]
+#[derive(Drop)]
 pub(crate) struct RunOptions {
     /// The file of the documents. Without one they are stored in memory alone.
     pub(crate) file: Option<Text>,
@@ -13,7 +13,7 @@ pub(crate) struct RunOptions {
 }
 
 /// What the arguments ask the caller to make before the program is called.
-#[derive(Debug, Drop)]
+#[derive(Drop)]
 pub struct Outside {
     /// The file of the documents. Without one they are stored in memory alone.
     pub file: Option<Text>,

@@ -2,8 +2,7 @@
 #![tactic(auto)]
 
 use raven_base::{Numbers, Sequence};
-use raven_console::Status;
-use raven_measure::raven;
+use raven_console::{Status, raven};
 use raven_ports::MemKeeper;
 use raven_real::{RealClock, RealSink, RealSource};
 use std::io;

@@ -13,7 +13,6 @@ use std::marker::Model;
 use thiserror::Error;
 
 /// A row as it is stored.
-#[derive(Debug, Drop)]
 pub struct KeptRow {
     pub etag: u64,
 
@@ -27,6 +26,19 @@ pub struct KeptRow {
 
     /// When it was written, in microseconds since 1970 in UTC.
     pub changed: u64,
+}
+
+// By hand, so that no proof about what drops one goes through its parts.
+impl Drop for KeptRow {
+    fn drop(self) {
+        let KeptRow {
+            etag: _etag,
+            id: _id,
+            collection: _collection,
+            body: _body,
+            changed: _changed,
+        } = self;
+    }
 }
 
 impl Model for KeptRow {

@@ -19,13 +19,23 @@ use std::marker::Model;
 ///
 /// A commit takes time and memory that grow with the number of its rows and the logarithm of the number of rows that were
 /// committed before; and time, but no memory, with the number of the rows that it was made with.
-#[derive(Drop)]
 pub struct MemKeeper {
     /// What it was made with, without what commits have replaced. Several of these may have one id.
     given: Vec<KeptRow>,
     /// What was committed to it; none before the first commit.
     committed: Option<Committed>,
     calls: Calls,
+}
+
+// By hand, so that no proof about what drops one goes through its parts.
+impl Drop for MemKeeper {
+    fn drop(self) {
+        let MemKeeper {
+            given: _given,
+            committed: _committed,
+            calls: _calls,
+        } = self;
+    }
 }
 
 impl Model for MemKeeper {

@@ -6,7 +6,7 @@ use crate::keeper::Clock;
 use std::marker::Model;
 
 /// A clock that always gives one moment, seen by contracts as that moment.
-#[derive(Debug, Drop)]
+#[derive(Drop)]
 pub struct StillClock {
     moment: u64,
 }

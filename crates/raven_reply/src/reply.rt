@@ -6,7 +6,7 @@ use rql_grammar::RqlKind;
 use std::marker::Model;
 
 /// How far a batch brought an index. The two etags are equal exactly if there was nothing to do.
-#[derive(Debug, Drop)]
+#[derive(Drop)]
 pub struct Pumping {
     pub from: u64,
     pub index: Name,
@@ -28,7 +28,7 @@ impl Model for Pumping {
 pub type Pumpings = Sequence<Pumping>;
 
 /// What is reported of an index.
-#[derive(Debug, Drop)]
+#[derive(Drop)]
 pub struct Listing {
     /// What it was defined by.
     pub definition: Value,
@@ -65,7 +65,7 @@ impl Model for Listing {
 pub type Listings = Sequence<Listing>;
 
 /// What one command of a transaction did.
-#[derive(Debug, Drop)]
+#[derive(Drop)]
 pub enum BulkResult {
     /// The document was put.
     Put { change_vector: Text, id: Id },

@@ -13,7 +13,7 @@ use std::sync::Arc;
 use thiserror::Error;
 
 /// A request to the database.
-#[derive(Debug, Drop)]
+#[derive(Drop)]
 pub enum Request {
     /// Write the document of this id.
     Put {
@@ -105,7 +105,7 @@ pub enum Request {
 }
 
 /// What one line asks.
-#[derive(Debug, Drop)]
+#[derive(Drop)]
 pub enum Line {
     /// The machine is to do this.
     Do(Request),

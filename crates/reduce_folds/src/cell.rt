@@ -12,10 +12,19 @@ use std::cmp::Ordering;
 use std::marker::Model;
 
 /// What the values of a field come to. Only folds make cells.
-#[derive(Debug, Drop)]
 pub struct Cell {
     kind: FoldKind,
     value: Scalar,
+}
+
+// By hand, so that no proof about what drops one goes through its parts.
+impl Drop for Cell {
+    fn drop(self) {
+        let Cell {
+            kind: _kind,
+            value: _value,
+        } = self;
+    }
 }
 
 impl Model for Cell {

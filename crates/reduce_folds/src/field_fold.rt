@@ -13,10 +13,19 @@ use std::alloc::Global;
 use std::sync::ledger::Ledger;
 
 /// Folds the values of one field: their sum, their least or their greatest. A missing field is as null.
-#[derive(Drop)]
 pub struct FieldFold {
     pub kind: FoldKind,
     pub field: Text,
+}
+
+// By hand, so that no proof about what drops one goes through its parts.
+impl Drop for FieldFold {
+    fn drop(self) {
+        let FieldFold {
+            kind: _kind,
+            field: _field,
+        } = self;
+    }
 }
 
 impl FieldFold {

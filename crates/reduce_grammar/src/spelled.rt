@@ -4,7 +4,7 @@ use raven_base::Sequence;
 use raven_value::Text;
 
 /// How a key is written.
-#[derive(Debug, Drop)]
+#[derive(Drop)]
 pub enum KeyForm {
     /// One part by itself.
     Alone(Text),
@@ -13,7 +13,7 @@ pub enum KeyForm {
 }
 
 /// A key and its place.
-#[derive(Debug, Drop)]
+#[derive(Drop)]
 pub struct SpelledKey {
     /// The place of the first byte of its first token, counted from 0.
     pub at: usize,
@@ -21,7 +21,7 @@ pub struct SpelledKey {
 }
 
 /// A member and its place.
-#[derive(Debug, Drop)]
+#[derive(Drop)]
 pub struct PlacedFold {
     /// The place of the first byte of its first token, counted from 0.
     pub at: usize,
@@ -32,7 +32,7 @@ pub struct PlacedFold {
 pub type PlacedFolds = Sequence<PlacedFold>;
 
 /// A reduce as it is spelled.
-#[derive(Debug, Drop)]
+#[derive(Drop)]
 pub struct SpelledReduce {
     /// The name of an entry.
     pub var: Text,

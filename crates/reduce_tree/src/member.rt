@@ -8,10 +8,19 @@ use std::alloc::{AllocError, Global};
 use std::sync::ledger::Ledger;
 
 /// An entry and its row, so that a row is lifted once.
-#[derive(Drop)]
 pub struct Member<E, R> {
     pub entry: E,
     pub row: R,
+}
+
+// By hand, so that no proof about what drops one goes through its parts.
+impl<E: Drop, R: Drop> Drop for Member<E, R> {
+    fn drop(self) {
+        let Member {
+            entry: _entry,
+            row: _row,
+        } = self;
+    }
 }
 
 impl<E: Exact, R: Exact> Clone for Member<E, R> {
@@ -26,9 +35,15 @@ impl<E: Exact, R: Exact> Clone for Member<E, R> {
 }
 
 /// Sums up members by merging their rows.
-#[derive(Drop)]
 pub struct MergedRows<F> {
     pub fold: Shared<F>,
+}
+
+// By hand, so that no proof about what drops one goes through its parts.
+impl<F: Drop> Drop for MergedRows<F> {
+    fn drop(self) {
+        let MergedRows { fold: _fold } = self;
+    }
 }
 
 impl<E, F: Fold<E>> Summary<Member<E, F::Row>> for MergedRows<F> {

@@ -22,10 +22,19 @@ use std::sync::ledger::Ledger;
 ///
 /// A change gives a new tree and leaves the old one as it was; the two share most pages. Each page has the row of the entries
 /// below it. So a change merges the rows on the way from a leaf to the root anew, and no others.
-#[derive(Drop)]
 pub struct ReduceTree<K: Ord, E, F: Fold<E>> {
     rows: MergedRows<F>,
     members: SummedMap<K, Member<E, F::Row>, MergedRows<F>>,
+}
+
+// By hand, so that no proof about what drops one goes through its parts.
+impl<K: Ord + Drop, E: Drop, F: Fold<E> + Drop> Drop for ReduceTree<K, E, F> {
+    fn drop(self) {
+        let ReduceTree {
+            rows: _rows,
+            members: _members,
+        } = self;
+    }
 }
 
 impl<K: Ord, E, F: Fold<E>> Model for ReduceTree<K, E, F> {

@@ -13,7 +13,7 @@ use std::cmp::Reverse;
 
 /// What a key compares of a value: its number or its text form, from the least or from the greatest on. Values without it come
 /// first, or last if the greatest comes first.
-#[derive(Debug, Drop, PartialEq, Eq, PartialOrd, Ord)]
+#[derive(Drop, PartialEq, Eq, PartialOrd, Ord)]
 pub enum SortValue {
     Number(Option<i128>),
     Text(Option<Folded>),

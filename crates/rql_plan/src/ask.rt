@@ -4,7 +4,7 @@ use rql_tree::Query;
 use std::marker::Model;
 
 /// A query, the values of its parameters and its page.
-#[derive(Debug, Drop)]
+#[derive(Drop)]
 pub struct QueryAsk {
     pub query: Query,
 

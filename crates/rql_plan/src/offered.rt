@@ -19,7 +19,7 @@ use std::alloc::Global;
 use std::marker::Model;
 
 /// The fields of an index.
-#[derive(Debug, Drop)]
+#[derive(Drop)]
 struct Offered {
     names: Names,
 

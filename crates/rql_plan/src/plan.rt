@@ -15,7 +15,6 @@ use std::alloc::Global;
 use std::marker::Model;
 
 /// A key of an order, by the name of its field in the index.
-#[derive(Debug, Drop)]
 pub struct SortKey {
     pub field: Text,
     /// Whether values are compared as numbers, and not as texts.
@@ -24,11 +23,31 @@ pub struct SortKey {
     pub desc: bool,
 }
 
+// By hand, so that no proof about what drops one goes through its parts.
+impl Drop for SortKey {
+    fn drop(self) {
+        let SortKey {
+            field: _field,
+            long: _long,
+            desc: _desc,
+        } = self;
+    }
+}
+
 /// A field of the results, under its name there.
-#[derive(Debug, Drop)]
 pub struct Selected {
     pub name: Text,
     pub field: Field,
+}
+
+// By hand, so that no proof about what drops one goes through its parts.
+impl Drop for Selected {
+    fn drop(self) {
+        let Selected {
+            name: _name,
+            field: _field,
+        } = self;
+    }
 }
 
 /// Keys of an order, the first one first.
@@ -38,7 +57,6 @@ pub type SortKeys = Sequence<SortKey>;
 pub type SelectedFields = Sequence<Selected>;
 
 /// A query with values in place of its parameters, for an index that has the fields that it names. `bind` alone makes one.
-#[derive(Debug, Drop)]
 pub struct Plan {
     condition: Condition,
     order: SortKeys,
@@ -46,6 +64,20 @@ pub struct Plan {
     includes: Paths,
     start: u64,
     size: Option<u64>,
+}
+
+// By hand, so that no proof about what drops one goes through its parts.
+impl Drop for Plan {
+    fn drop(self) {
+        let Plan {
+            condition: _condition,
+            order: _order,
+            columns: _columns,
+            includes: _includes,
+            start: _start,
+            size: _size,
+        } = self;
+    }
 }
 
 impl Model for SortKey {

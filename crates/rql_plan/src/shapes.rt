@@ -16,7 +16,6 @@ use std::alloc::Global;
 use std::marker::Model;
 
 /// What a query asks of an automatic index.
-#[derive(Debug, Drop)]
 pub struct Shape {
     pub collection: Text,
 
@@ -28,6 +27,18 @@ pub struct Shape {
 
     /// Whether it groups.
     pub grouped: bool,
+}
+
+// By hand, so that no proof about what drops one goes through its parts.
+impl Drop for Shape {
+    fn drop(self) {
+        let Shape {
+            collection: _collection,
+            groups: _groups,
+            fields: _fields,
+            grouped: _grouped,
+        } = self;
+    }
 }
 
 impl Model for Shape {

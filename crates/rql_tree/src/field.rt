@@ -6,7 +6,6 @@ use raven_value::Path;
 use std::alloc::AllocError;
 
 /// What a query reads of a row.
-#[derive(Debug, Drop)]
 pub enum Field {
     /// The value at a path.
     Path(Path),
@@ -14,6 +13,17 @@ pub enum Field {
     Count,
     /// `sum(..)`, the sum of the values of a group at a path.
     Sum(Path),
+}
+
+// By hand, so that no proof about what drops one goes through its parts.
+impl Drop for Field {
+    fn drop(self) {
+        match self {
+            Field::Path(_value) => {}
+            Field::Count => {}
+            Field::Sum(_value) => {}
+        }
+    }
 }
 
 impl Clone for Field {

@@ -9,7 +9,7 @@ use std::alloc::AllocError;
 use std::marker::Model;
 
 /// What a query is about.
-#[derive(Debug, Drop)]
+#[derive(Drop)]
 pub enum Origin {
     /// The index of a name.
     Index(Text),
@@ -18,7 +18,6 @@ pub enum Origin {
 }
 
 /// A key of the order of rows.
-#[derive(Debug, Drop)]
 pub struct Sort {
     pub field: Field,
     /// Whether values are compared as numbers, and not as texts.
@@ -27,12 +26,32 @@ pub struct Sort {
     pub desc: bool,
 }
 
+// By hand, so that no proof about what drops one goes through its parts.
+impl Drop for Sort {
+    fn drop(self) {
+        let Sort {
+            field: _field,
+            long: _long,
+            desc: _desc,
+        } = self;
+    }
+}
+
 /// A field of the results.
-#[derive(Debug, Drop)]
 pub struct Column {
     pub field: Field,
     /// The name that the query gives to it.
     pub name: Option<Text>,
+}
+
+// By hand, so that no proof about what drops one goes through its parts.
+impl Drop for Column {
+    fn drop(self) {
+        let Column {
+            field: _field,
+            name: _name,
+        } = self;
+    }
 }
 
 /// Keys of an order, the first one first.
@@ -42,7 +61,7 @@ pub type Sorts = Sequence<Sort>;
 pub type Columns = Sequence<Column>;
 
 /// What the text of a query says, seen by contracts as plain data.
-#[derive(Debug, Drop)]
+#[derive(Drop)]
 pub struct Query {
     pub origin: Origin,
 

@@ -19,9 +19,15 @@ use std::alloc::{AllocError, Global};
 use std::marker::Model;
 
 /// A value for each of some ids, seen by contracts as the map from their folded ids to the values.
-#[derive(Drop)]
 pub struct Column {
     terms: TermSet,
+}
+
+// By hand, so that no proof about what drops one goes through its parts.
+impl Drop for Column {
+    fn drop(self) {
+        let Column { terms: _terms } = self;
+    }
 }
 
 impl Model for Column {

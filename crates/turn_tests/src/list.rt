@@ -8,7 +8,7 @@ use std::alloc::Global;
 use std::marker::Model;
 
 /// The tags of all that were added, in order. Contracts see it as their list.
-#[derive(Debug, Drop)]
+#[derive(Drop)]
 pub struct Entries {
     tags: Sequence<u64>,
 }

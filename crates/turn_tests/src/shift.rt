@@ -28,7 +28,7 @@ pub struct Report<V: Rising> {
 
 /// How often a thread raised the value and how often it looked at it, and whether each look of a pass showed at least
 /// as much as the look before.
-#[derive(Debug, Drop)]
+#[derive(Drop)]
 pub struct Work {
     pub raised: u64,
     pub looked: u64,

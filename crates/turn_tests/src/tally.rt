@@ -7,7 +7,7 @@ use raven_turn::Grows;
 use std::alloc::Global;
 
 /// How often it was raised.
-#[derive(Debug, Drop)]
+#[derive(Drop)]
 pub struct Tally {
     pub count: u64,
 }

@@ -12,7 +12,6 @@ returns-in_ok-put c =
     let k = c.in_ok-clone-2.field-0 in
     noted_document c.args.rows c.in_ok-put.field-0 r (sym c.is_document.ensures ∙ c.if-is_document.true)
     (c.in_ok-put.ensures.pairs
-    ∙ ap (λ es. insert_entry id_cmp es k c.in_ok-shared.shared) c.rows.view_is
     ∙ ap (λ id. insert_entry id_cmp c.args.rows id c.in_ok-shared.shared) (c.in_ok-clone-2.ensures.cases ∙ ap (λ (x : Row). x.id) c.row.view_is)
     ∙ ap (λ v. insert_entry id_cmp c.args.rows r.id v) (c.in_ok-shared.ensures ∙ c.in_ok-clone.ensures.cases))
 

@@ -9,7 +9,6 @@ pub returns-clause-results : goal.returns-clause-results
 returns-clause-results c =
     results_with c.args.self.given c.in_ok-put.field-0 c.args.id.now c.args.given
     (c.in_ok-put.ensures
-    ∙ ap (λ es. insert_entry id_cmp es c.in_ok-clone.field-0 c.args.given) c.all.view_is
     ∙ ap (λ id. insert_entry id_cmp c.args.self.given id c.args.given) c.in_ok-clone.ensures.cases)
 
 pub returns-clause-pairs : goal.returns-clause-pairs
