@@ -22,7 +22,7 @@ use thiserror::Error;
 const PAGE: u32 = 1024;
 
 /// Why rows are not loaded.
-#[derive(Clone, Copy, Debug, Drop, Error, PartialEq, Eq)]
+#[derive(Clone, Copy, Debug, Drop, Error)]
 pub enum LoadFault {
     /// The keeper failed, and its count of faults rose.
     #[error("the keeper failed")]

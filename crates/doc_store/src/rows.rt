@@ -149,7 +149,7 @@ pub fn newest_of(
 }
 
 /// How many documents and tombstones there are.
-#[derive(Clone, Copy, Debug, PartialEq, Eq)]
+#[derive(Clone, Copy)]
 pub struct Counts {
     pub documents: u32,
     pub tombstones: u32,

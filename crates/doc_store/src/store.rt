@@ -38,7 +38,7 @@ pub struct Store {
     by_collection: PagedMap<Text, RowsByEtag>,
 }
 
-// By hand, so that no proof about what drops one goes through its parts.
+// By hand, so that the proof of code that drops one need not go through its parts.
 impl Drop for Store {
     fn drop(self) {
         let Store {

@@ -7,7 +7,7 @@ use raven_base::Sequence;
 use raven_value::{Id, Text, Value};
 
 /// Who writes. A client may not write the definitions of indexes.
-#[derive(Clone, Copy, Debug, PartialEq, Eq)]
+#[derive(Clone, Copy)]
 pub enum Writer {
     Client,
     Server,

@@ -7,7 +7,7 @@ use raven_value::Text;
 use thiserror::Error;
 
 /// Why a command is refused.
-#[derive(Debug, Drop, Error, PartialEq, Eq)]
+#[derive(Debug, Drop, Error)]
 pub enum TxnKind {
     /// A client may not write this id, or not into this collection.
     #[error("the id or the collection is the server's")]
@@ -52,7 +52,7 @@ pub enum TxnKind {
 }
 
 /// Why a transaction was not taken. Nothing of it was written.
-#[derive(Debug, Drop, Error, PartialEq, Eq)]
+#[derive(Debug, Drop, Error)]
 pub enum TxnFault {
     /// A command is refused.
     #[error("command {at} is refused: {kind}")]

@@ -4,7 +4,7 @@ ghost use Rattle.spec_store.specs.Limits.{base_id, program as spec_program};
 ghost use Rattle.doc_txn.specs.SettingView.{setting_of};
 
 /// How much a database may hold.
-#[derive(Clone, Copy, Debug, PartialEq, Eq)]
+#[derive(Clone, Copy)]
 pub struct Limits {
     /// Rows, tombstones among them.
     pub rows: u32,

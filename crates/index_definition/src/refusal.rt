@@ -4,14 +4,14 @@ use std::alloc::AllocError;
 use thiserror::Error;
 
 /// A text of a definition.
-#[derive(Clone, Copy, Debug, PartialEq, Eq, Drop)]
+#[derive(Clone, Copy, Debug, Drop)]
 pub enum Part {
     Map,
     Reduce,
 }
 
 /// What is wrong with a text.
-#[derive(Clone, Copy, Debug, PartialEq, Eq, Drop)]
+#[derive(Clone, Copy, Debug, Drop)]
 pub enum LangKind {
     /// No text of the language goes on with this token.
     Unexpected,
@@ -33,7 +33,7 @@ pub enum LangKind {
 }
 
 /// Why texts are no definition.
-#[derive(Clone, Copy, Debug, PartialEq, Eq, Drop, Error)]
+#[derive(Clone, Copy, Debug, Drop, Error)]
 pub enum LangRefusal {
     /// The cause, and its place.
     #[error("the definition is refused at byte {at}")]

@@ -30,7 +30,7 @@ pub struct IndexGroups<E: HasFields> {
     groups: Groups<GroupKey, Id, E, RowFold>,
 }
 
-// By hand, so that no proof about what drops one goes through its parts.
+// By hand, so that the proof of code that drops one need not go through its parts.
 impl<E: HasFields + Drop> Drop for IndexGroups<E> {
     fn drop(self) {
         let IndexGroups {

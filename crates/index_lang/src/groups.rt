@@ -12,7 +12,7 @@ use raven_value::Text;
 use reduce_grammar::SpelledReduce;
 
 /// Where a pass over the tokens of a reduce is.
-#[derive(Clone, Copy, Debug)]
+#[derive(Clone, Copy)]
 pub struct GroupScan {
     /// Whether the name of a group is bound.
     pub grouped: bool,
@@ -22,7 +22,7 @@ pub struct GroupScan {
 }
 
 /// What the pass does at a token.
-#[derive(Clone, Copy, Debug)]
+#[derive(Clone, Copy)]
 pub enum GroupStep {
     /// A name at this place is not bound, or is bound again.
     Found(usize),

@@ -14,7 +14,7 @@ use index_tree::Clause;
 use raven_value::Text;
 
 /// Where a pass over the tokens of a map is.
-#[derive(Clone, Copy, Debug)]
+#[derive(Clone, Copy)]
 pub struct Scanned {
     /// Of how many clauses the names are bound.
     pub bound: usize,
@@ -27,7 +27,7 @@ pub struct Scanned {
 }
 
 /// What the pass does at a token.
-#[derive(Clone, Copy, Debug)]
+#[derive(Clone, Copy)]
 pub enum Step {
     /// A name at this place is not bound, or is bound again.
     Found(usize),

@@ -3,3 +3,4 @@ pub mod PrefixLemmas
 pub mod TurnLemmas
 pub mod WordLemmas
 pub mod Taking
+pub mod ReservedLemmas

@@ -6,19 +6,22 @@ ghost use Rattle.index_tokens.specs.Spelling.{is_reserved as spec_is_reserved};
 pub fn is_reserved(word: &str) -> bool
     ensures { result ≡ spec_is_reserved word.now }
 {
-    word == "from"
-        || word == "in"
-        || word == "docs"
-        || word == "where"
-        || word == "let"
-        || word == "select"
-        || word == "new"
-        || word == "results"
-        || word == "group"
-        || word == "by"
-        || word == "into"
-        || word == "true"
-        || word == "false"
-        || word == "null"
-        || word == "LoadDocument"
+    [
+        "from",
+        "in",
+        "docs",
+        "where",
+        "let",
+        "select",
+        "new",
+        "results",
+        "group",
+        "by",
+        "into",
+        "true",
+        "false",
+        "null",
+        "LoadDocument",
+    ]
+    .contains(&word)
 }

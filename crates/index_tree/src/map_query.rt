@@ -11,7 +11,7 @@ pub enum Clause {
     Let { var: Text, value: Expr },
 }
 
-// By hand, so that no proof about what drops one goes through its parts.
+// By hand, so that the proof of code that drops one need not go through its parts.
 impl Drop for Clause {
     fn drop(self) {
         match self {
@@ -30,7 +30,7 @@ pub struct MapMember {
     pub value: Expr,
 }
 
-// By hand, so that no proof about what drops one goes through its parts.
+// By hand, so that the proof of code that drops one need not go through its parts.
 impl Drop for MapMember {
     fn drop(self) {
         let MapMember {
@@ -59,7 +59,7 @@ pub struct MapQuery {
     pub members: MapMembers,
 }
 
-// By hand, so that no proof about what drops one goes through its parts.
+// By hand, so that the proof of code that drops one need not go through its parts.
 impl Drop for MapQuery {
     fn drop(self) {
         let MapQuery {

@@ -3,7 +3,7 @@ use raven_base::Sequence;
 use raven_value::Text;
 
 /// How the values of a field become one.
-#[derive(Clone, Copy, Debug, PartialEq, Eq, Drop)]
+#[derive(Clone, Copy, Drop)]
 pub enum FoldKind {
     /// The sum of the numbers.
     Sum,
@@ -25,7 +25,7 @@ pub enum FoldValue {
     },
 }
 
-// By hand, so that no proof about what drops one goes through its parts.
+// By hand, so that the proof of code that drops one need not go through its parts.
 impl Drop for FoldValue {
     fn drop(self) {
         match self {
@@ -45,7 +45,7 @@ pub struct FoldMember {
     pub value: FoldValue,
 }
 
-// By hand, so that no proof about what drops one goes through its parts.
+// By hand, so that the proof of code that drops one need not go through its parts.
 impl Drop for FoldMember {
     fn drop(self) {
         let FoldMember {
@@ -75,7 +75,7 @@ pub struct ReduceQuery {
     pub members: FoldMembers,
 }
 
-// By hand, so that no proof about what drops one goes through its parts.
+// By hand, so that the proof of code that drops one need not go through its parts.
 impl Drop for ReduceQuery {
     fn drop(self) {
         let ReduceQuery {

@@ -33,7 +33,7 @@ pub struct Given {
     mapped: Mapped,
 }
 
-// By hand, so that no proof about what drops one goes through its parts.
+// By hand, so that the proof of code that drops one need not go through its parts.
 impl Drop for Given {
     fn drop(self) {
         let Given {

@@ -29,7 +29,7 @@ pub struct Kept {
     pub referrers: Referrers,
 }
 
-// By hand, so that no proof about what drops one goes through its parts.
+// By hand, so that the proof of code that drops one need not go through its parts.
 impl Drop for Kept {
     fn drop(self) {
         let Kept {

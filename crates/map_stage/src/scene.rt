@@ -10,10 +10,19 @@ use raven_value::Text;
 use std::alloc::Global;
 
 /// A name and its value.
-#[derive(Drop)]
 pub struct Binding<'a> {
     pub name: &'a Text,
     pub value: Held<'a>,
+}
+
+// By hand, so that the proof of code that drops one need not go through its parts.
+impl<'a> Drop for Binding<'a> {
+    fn drop(self) {
+        let Binding {
+            name: _name,
+            value: _value,
+        } = self;
+    }
 }
 
 /// The memory, the rows that loads find, and the names bound so far, the latest last.

@@ -11,7 +11,7 @@ use raven_base::NoMemory;
 use std::alloc::Global;
 
 /// How the orders are drawn.
-#[derive(Clone, Copy, Debug, PartialEq, Eq)]
+#[derive(Clone, Copy)]
 pub struct Options {
     /// The seed, from 1 to 2,147,483,646.
     pub seed: u32,

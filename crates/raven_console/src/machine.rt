@@ -26,7 +26,7 @@ pub struct Machine {
     world: World,
 }
 
-// By hand, so that no proof about what drops one goes through its parts.
+// By hand, so that the proof of code that drops one need not go through its parts.
 impl Drop for Machine {
     fn drop(self) {
         let Machine { world: _world } = self;

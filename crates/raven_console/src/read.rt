@@ -11,7 +11,7 @@ use std::alloc::Global;
 const MAX_INPUT: usize = 16_777_216;
 
 /// Why an input was not read to its end.
-#[derive(Clone, Copy, Debug, PartialEq, Eq)]
+#[derive(Clone, Copy)]
 pub(crate) enum ReadEnd {
     /// A call of the source failed.
     Fault,

@@ -12,7 +12,7 @@ use std::alloc::Global;
 use thiserror::Error;
 
 /// Why bytes are not read. `TooDeep` is tested first, then `NotJson`, then `NumberNotWhole`.
-#[derive(Clone, Copy, Debug, Error, PartialEq, Eq)]
+#[derive(Clone, Copy, Debug, Error)]
 pub enum JsonRefusal {
     /// The bytes are not the JSON text of one value, or a number in them is beyond every float.
     #[error("the bytes are not JSON")]

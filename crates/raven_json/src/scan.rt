@@ -7,7 +7,7 @@ ghost use Rattle.raven_json.specs.PlaceView.{place_view};
 use raven_value::MAX_DEPTH;
 
 /// Where a byte is: outside texts, in a text, or after a backslash in a text.
-#[derive(Clone, Copy, PartialEq, Eq)]
+#[derive(Clone, Copy)]
 pub(crate) enum Place {
     Outside,
     InText,

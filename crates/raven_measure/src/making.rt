@@ -20,7 +20,7 @@ use std::alloc::Global;
 use std::thread::Threads;
 
 /// Why a measurement stops.
-#[derive(Clone, Copy, Debug, PartialEq, Eq)]
+#[derive(Clone, Copy)]
 pub enum Stop {
     /// The keeper did not take the rows of a request.
     Kept,

@@ -28,7 +28,7 @@ pub struct KeptRow {
     pub changed: u64,
 }
 
-// By hand, so that no proof about what drops one goes through its parts.
+// By hand, so that the proof of code that drops one need not go through its parts.
 impl Drop for KeptRow {
     fn drop(self) {
         let KeptRow {
@@ -74,7 +74,7 @@ impl Exact for KeptRow {
 pub type KeptRows = Sequence<KeptRow>;
 
 /// Why a call of a keeper failed. The keeper holds what it held before.
-#[derive(Clone, Copy, Debug, Error, PartialEq, Eq)]
+#[derive(Clone, Copy, Debug, Error)]
 pub enum KeeperFault {
     /// The call failed, and the keeper's count of faults rose.
     #[error("the keeper failed")]

@@ -27,7 +27,7 @@ pub struct MemKeeper {
     calls: Calls,
 }
 
-// By hand, so that no proof about what drops one goes through its parts.
+// By hand, so that the proof of code that drops one need not go through its parts.
 impl Drop for MemKeeper {
     fn drop(self) {
         let MemKeeper {

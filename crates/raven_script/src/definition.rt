@@ -17,10 +17,19 @@ use std::alloc::Global;
 use std::sync::Arc;
 
 /// The texts of a definition.
-#[derive(Drop)]
 pub struct Texts {
     pub map: Text,
     pub reduce: Option<Text>,
+}
+
+// By hand, so that the proof of code that drops one need not go through its parts.
+impl Drop for Texts {
+    fn drop(self) {
+        let Texts {
+            map: _map,
+            reduce: _reduce,
+        } = self;
+    }
 }
 
 #[tactic(auto, using(crate::proofs::Readings::members))]

@@ -112,7 +112,7 @@ pub enum Line {
 }
 
 /// Why a line is not read.
-#[derive(Debug, Drop, Error, PartialEq, Eq)]
+#[derive(Debug, Drop, Error)]
 pub enum ReadRefusal {
     /// The line has no form of a script's lines.
     #[error("the line has no known form")]

@@ -28,7 +28,7 @@ pub struct Slot {
     pub row: u64,
 }
 
-// By hand, so that no proof about what drops one goes through its parts.
+// By hand, so that the proof of code that drops one need not go through its parts.
 impl Drop for Slot {
     fn drop(self) {
         let Slot {

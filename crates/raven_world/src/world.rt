@@ -23,7 +23,7 @@ pub struct World {
     pub(crate) limits: Limits,
 }
 
-// By hand, so that no proof about what drops one goes through its parts.
+// By hand, so that the proof of code that drops one need not go through its parts.
 impl Drop for World {
     fn drop(self) {
         let World {

@@ -17,7 +17,7 @@ pub struct Cell {
     value: Scalar,
 }
 
-// By hand, so that no proof about what drops one goes through its parts.
+// By hand, so that the proof of code that drops one need not go through its parts.
 impl Drop for Cell {
     fn drop(self) {
         let Cell {

@@ -1,7 +1,7 @@
 //! Why a text is no query.
 
 /// Why a text is no query. At one token the kind that stands first here is the one that is reported.
-#[derive(Clone, Copy, Debug, PartialEq, Eq, Drop)]
+#[derive(Clone, Copy, Debug, Drop)]
 pub enum RqlKind {
     /// Too many bytes; the 65th part within others, each a parenthesis, an `exact` or a `not`; or the 65th field.
     TooLarge,

@@ -5,7 +5,7 @@ ghost use Rattle.rql_parser.specs.Parts.{rank_of, section_as};
 use rql_tokens::{KeyWord, Token};
 
 /// A clause, by its first word.
-#[derive(Clone, Copy, Debug, PartialEq, Eq, Drop)]
+#[derive(Clone, Copy, Drop)]
 pub enum Section {
     Group,
     Where,

@@ -4,7 +4,6 @@ use rql_tree::Query;
 use std::marker::Model;
 
 /// A query, the values of its parameters and its page.
-#[derive(Drop)]
 pub struct QueryAsk {
     pub query: Query,
 
@@ -25,6 +24,21 @@ pub struct QueryAsk {
 
     /// How often to look for one, from 1 to 64.
     pub looks: u32,
+}
+
+// By hand, so that the proof of code that drops one need not go through its parts.
+impl Drop for QueryAsk {
+    fn drop(self) {
+        let QueryAsk {
+            query: _query,
+            parameters: _parameters,
+            start: _start,
+            size: _size,
+            cutoff: _cutoff,
+            wait: _wait,
+            looks: _looks,
+        } = self;
+    }
 }
 
 impl Model for QueryAsk {

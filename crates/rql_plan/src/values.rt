@@ -83,8 +83,8 @@ fn scalars_in(alloc: Global, parameters: &Members, operands: &Operands) -> Resul
 fn words_of(alloc: Global, value: Scalar) -> Result<Text, NoMemory>
     ensures { IfOk result (λ text. text ≡ words_in (scalar_view value)) }
 {
-    match value {
-        Scalar::Text(text) => Ok(text),
+    match &value {
+        Scalar::Text(text) => Ok(text.clone()?),
         Scalar::Null => Text::of(alloc, ""),
         Scalar::Flag(_) => Text::of(alloc, ""),
         Scalar::Num(_) => Text::of(alloc, ""),

@@ -6,7 +6,7 @@ ghost use Rattle.rql_tokens.specs.KeyWords.{all_functions, all_keys, function_of
 use std::array;
 
 /// A key word, which is no name.
-#[derive(Clone, Copy, Debug, PartialEq, Eq, Drop)]
+#[derive(Clone, Copy, Drop)]
 pub enum KeyWord {
     From,
     Index,
@@ -29,7 +29,7 @@ pub enum KeyWord {
 }
 
 /// What a name before `(` calls.
-#[derive(Clone, Copy, Debug, PartialEq, Eq, Drop)]
+#[derive(Clone, Copy, Drop)]
 pub enum Function {
     StartsWith,
     Exists,

@@ -13,7 +13,7 @@ pub enum Operand {
     Parameter(Text),
 }
 
-// By hand, so that no proof about what drops one goes through its parts.
+// By hand, so that the proof of code that drops one need not go through its parts.
 impl Drop for Operand {
     fn drop(self) {
         match self {
@@ -27,7 +27,7 @@ impl Drop for Operand {
 pub type Operands = Sequence<Operand>;
 
 /// How a field is compared with an operand.
-#[derive(Clone, Copy, Debug, PartialEq, Eq, Drop)]
+#[derive(Clone, Copy, Drop)]
 pub enum CompareOp {
     /// `=`
     Is,

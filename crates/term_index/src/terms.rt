@@ -26,7 +26,7 @@ pub struct Terms {
     columns: Vec<(Shared<Text>, Column)>,
 }
 
-// By hand, so that no proof about what drops one goes through its parts.
+// By hand, so that the proof of code that drops one need not go through its parts.
 impl Drop for Terms {
     fn drop(self) {
         let Terms { columns: _columns } = self;

@@ -2,7 +2,7 @@
 use thiserror::Error;
 
 /// Why tokens are no text that is taken. A place is that of the first byte of the refused token, counted from 0.
-#[derive(Clone, Copy, Debug, PartialEq, Eq, Drop, Error)]
+#[derive(Clone, Copy, Debug, Drop, Error)]
 pub enum Refusal {
     #[error("no memory was found")]
     NoMemory,

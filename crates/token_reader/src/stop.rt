@@ -3,7 +3,7 @@ use raven_base::NoMemory;
 use std::alloc::AllocError;
 
 /// Why a rule stops, at the next token.
-#[derive(Clone, Copy, Debug, PartialEq, Eq, Drop)]
+#[derive(Clone, Copy, Drop)]
 pub enum Stop {
     NoMemory,
 

@@ -2,18 +2,17 @@
 //! report, whatever the schedule. The tests run 8 and 64 threads over a counter and over a list.
 #![tactic(auto)]
 
+#[cfg(test)]
 mod crew;
+#[cfg(test)]
 mod job;
+#[cfg(test)]
 mod list;
+#[cfg(test)]
 mod rising;
+#[cfg(test)]
 mod shift;
+#[cfg(test)]
 mod tally;
 #[cfg(test)]
 mod tests;
-
-pub use crew::together;
-pub use job::{Job, run_all};
-pub use list::Entries;
-pub use rising::{Raise, Rising};
-pub use shift::{Report, Shift, Work};
-pub use tally::Tally;

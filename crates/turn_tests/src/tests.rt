@@ -1,5 +1,8 @@
 //! A counter and a list under one turn, with 8 and with 64 threads.
-use crate::{Entries, Tally, Work, together};
+use crate::crew::together;
+use crate::list::Entries;
+use crate::shift::Work;
+use crate::tally::Tally;
 use std::test::Fail;
 
 // The threads of a run, and the rounds of each pass.
