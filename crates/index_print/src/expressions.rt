@@ -1,5 +1,6 @@
 //! Expressions.
 ghost use Rattle.std.specs.Prelude.{◌≡◌, ◌++◌, OnOk, string_bytes};
+ghost use Rattle.index_tree.specs.Trees.{Binary as BinaryTree, If as IfTree, Load as LoadTree};
 ghost use Rattle.index_print.specs.Print.{sign as spec_sign, mark as spec_mark, is_compound as spec_is_compound, operand, printed};
 
 use crate::quoting::{add, add_quoted};
@@ -45,26 +46,59 @@ fn is_compound(expr: &Expr) -> bool
     }
 }
 
+#[cycle(expression)]
+fn add_conditional(
+    alloc: Global,
+    out: &mut String,
+    test: &Expr,
+    value: &Expr,
+    other: &Expr,
+) -> Result<(), NoMemory>
+    ensures { OnOk result (string_bytes out.new ≡ string_bytes out.old ++ printed (IfTree test.now value.now other.now)) }
+{
+    add_operand(alloc, out, test)?;
+    add(out, " ? ")?;
+    add_operand(alloc, out, value)?;
+    add(out, " : ")?;
+    add_operand(alloc, out, other)
+}
+
+#[cycle(expression)]
+fn add_binary(
+    alloc: Global,
+    out: &mut String,
+    op: BinaryOp,
+    left: &Expr,
+    right: &Expr,
+) -> Result<(), NoMemory>
+    ensures { OnOk result (string_bytes out.new ≡ string_bytes out.old ++ printed (BinaryTree op left.now right.now)) }
+{
+    add_operand(alloc, out, left)?;
+    add(out, " ")?;
+    add(out, sign(op))?;
+    add(out, " ")?;
+    add_operand(alloc, out, right)
+}
+
+#[cycle(expression)]
+fn add_load(alloc: Global, out: &mut String, id: &Expr, collection: &str) -> Result<(), NoMemory>
+    ensures { OnOk result (string_bytes out.new ≡ string_bytes out.old ++ printed (LoadTree id.now collection.now)) }
+{
+    add(out, "LoadDocument(")?;
+    add_expression(alloc, out, id)?;
+    add(out, ", ")?;
+    add_quoted(out, collection)?;
+    add(out, ")")
+}
+
 /// Adds the canonical spelling of an expression at the end.
 #[cycle(expression)]
 pub fn add_expression(alloc: Global, out: &mut String, expr: &Expr) -> Result<(), NoMemory>
     ensures { OnOk result (string_bytes out.new ≡ string_bytes out.old ++ printed expr.now) }
 {
     match expr.kind() {
-        ExprKind::If(test, value, other) => {
-            add_operand(alloc, out, test)?;
-            add(out, " ? ")?;
-            add_operand(alloc, out, value)?;
-            add(out, " : ")?;
-            add_operand(alloc, out, other)
-        }
-        ExprKind::Binary(op, left, right) => {
-            add_operand(alloc, out, left)?;
-            add(out, " ")?;
-            add(out, sign(*op))?;
-            add(out, " ")?;
-            add_operand(alloc, out, right)
-        }
+        ExprKind::If(test, value, other) => add_conditional(alloc, out, test, value, other),
+        ExprKind::Binary(op, left, right) => add_binary(alloc, out, *op, left, right),
         ExprKind::Unary(op, value) => {
             add(out, mark(*op))?;
             add_operand(alloc, out, value)
@@ -74,13 +108,7 @@ pub fn add_expression(alloc: Global, out: &mut String, expr: &Expr) -> Result<()
             add(out, ".")?;
             add(out, name.as_str())
         }
-        ExprKind::Load(id, collection) => {
-            add(out, "LoadDocument(")?;
-            add_expression(alloc, out, id)?;
-            add(out, ", ")?;
-            add_quoted(out, collection.as_str())?;
-            add(out, ")")
-        }
+        ExprKind::Load(id, collection) => add_load(alloc, out, id, collection.as_str()),
         ExprKind::Num(number) => add(out, number.to_string(alloc)?.as_str()),
         ExprKind::Text(text) => add_quoted(out, text.as_str()),
         ExprKind::Flag(true) => add(out, "true"),
