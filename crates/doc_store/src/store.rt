@@ -38,7 +38,7 @@ pub struct Store {
     by_collection: PagedMap<Text, RowsByEtag>,
 }
 
-// By hand, so that the proof of code that drops one need not go through its parts.
+// Opaque drop: see raven_base.
 impl Drop for Store {
     fn drop(self) {
         let Store {
@@ -199,7 +199,7 @@ impl Store {
     }
 
     /// The greatest etag of a row in scope up to a bound, or 0. An index is stale up to that bound exactly if its etag is less.
-    /// It takes no memory, and reads no rows of other collections.
+    /// It takes no memory, and counts no row as read.
     pub fn newest(&self, scope: &Scope, upto: Option<u64>) -> u64
         ensures newest { result ≡ newest self.now scope.now upto }
         ensures stale { (etag : ℕ) → stale self.now scope.now etag upto ≡ nat_lt etag result }

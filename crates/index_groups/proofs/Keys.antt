@@ -5,7 +5,7 @@ use Rattle.std.specs.Cmp.Lexicographic.{slice_cmp}
 use Rattle.spec_data.specs.Scalars.{order}
 use Rattle.raven_value.specs.ScalarView.{scalar_view}
 use Rattle.raven_value.specs.declared.scalar.Scalar.{Scalar}
-use Rattle.spec_reduce.specs.Rows.{key_order}
+use Rattle.spec_index.specs.Rows.{key_order}
 
 pub parts_compared : (xs ys : List Scalar) → slice_cmp (on scalar_view order) xs ys ≡ key_order (map scalar_view xs) (map scalar_view ys)
 parts_compared [] [] = refl

@@ -31,8 +31,8 @@ use Rattle.reduce_folds.specs.Cells.{Cell, cell_of, merged_cell, merged_row, no_
 use Rattle.reduce_folds.specs.Cells as cells
 use Rattle.reduce_folds.specs.Exact.{AreWords}
 use Rattle.reduce_folds.proofs.Sums.{exact_fold, row_is}
-use Rattle.spec_reduce.specs.Folds.{addend, as_one}
-use Rattle.spec_reduce.specs.Rows.{Key, column, group, key_of, key_order, member_value, reduced, row_of, row_with, value_at}
+use Rattle.spec_index.specs.Folds.{addend, as_one}
+use Rattle.spec_index.specs.Rows.{Key, column, group, key_of, key_order, member_value, reduced, row_of, row_with, value_at}
 use Rattle.index_groups.specs.Cells.{cells_after, fold_in, folds_of, row_from, value_from}
 use Rattle.index_groups.specs.Groups.{HaveWords, fields_of}
 use Rattle.index_groups.specs.KeyLaws.{keys_tie, keys_total}

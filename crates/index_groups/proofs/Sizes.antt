@@ -9,7 +9,7 @@ use Rattle.reduce_tree.specs.Tree.{Tree}
 use Rattle.reduce_groups.specs.Groups.{AllSmall, entries_at}
 use Rattle.reduce_groups.specs.Grouping.{of_group}
 use Rattle.reduce_folds.specs.declared.row_fold.RowFold.{RowFold}
-use Rattle.spec_reduce.specs.Rows.{Key, group, key_order}
+use Rattle.spec_index.specs.Rows.{Key, group, key_order}
 use Rattle.index_groups.specs.Groups.{AreSmall, Grouped}
 use Rattle.index_groups.specs.KeyLaws.{keys_total}
 use Rattle.index_groups.specs.Trees.{AreIndexed, entries_in, key_in}

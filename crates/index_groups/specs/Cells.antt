@@ -9,7 +9,7 @@ use Rattle.index_tree.specs.declared.reduce_query.FoldValue.{FoldValue}
 use Rattle.index_tree.specs.declared.reduce_query.FoldValue.TheVariants as value
 use Rattle.reduce_folds.specs.declared.field_fold.FieldFold.{FieldFold}
 use Rattle.reduce_folds.specs.Cells.{Cell}
-use Rattle.spec_reduce.specs.Rows.{Key, value_at}
+use Rattle.spec_index.specs.Rows.{Key, value_at}
 
 -- the fold of a member that is no part of the key
 abbrev pub fold_in : FoldValue → Option FieldFold

@@ -8,7 +8,7 @@ use Rattle.index_tree.specs.Definitions.{reduce_code}
 use Rattle.index_tree.specs.Meaning.{Fields}
 use Rattle.index_tree.specs.declared.reduce_query.ReduceQuery.{ReduceQuery}
 use Rattle.map_stage.specs.Words.{HasWords}
-use Rattle.spec_reduce.specs.Rows.{Key, group}
+use Rattle.spec_index.specs.Rows.{Key, group}
 
 -- the fields of entries, by the folded ids of their documents
 abbrev pub Entries : Type 0

@@ -6,7 +6,7 @@ use Rattle.paged_map.specs.Pairs.{IsRising}
 use Rattle.reduce_tree.specs.Tree.{Tree}
 use Rattle.reduce_groups.specs.Grouping.{AreGrouped}
 use Rattle.reduce_folds.specs.declared.row_fold.RowFold.{RowFold}
-use Rattle.spec_reduce.specs.Rows.{Key, key_of, key_order}
+use Rattle.spec_index.specs.Rows.{Key, key_of, key_order}
 use Rattle.index_groups.specs.Cells.{folds_of}
 use Rattle.reference_track.specs.Folded.{by_folded}
 use Rattle.reference_track.specs.Sets.{id_cmp}

@@ -3,7 +3,7 @@ ghost use Rattle.std.specs.Prelude.{◌≡◌, ◌≤◌, ◌+◌, ◌*◌, ℕ,
 ghost use Rattle.std.specs.FinMap.{empty, values};
 ghost use Rattle.std.specs.List.{slice_get};
 ghost use Rattle.paged_map.specs.Merges.{MergesAtMost};
-ghost use Rattle.spec_reduce.specs.Rows.{reduced};
+ghost use Rattle.spec_index.specs.Rows.{reduced};
 ghost use Rattle.index_groups.specs.Groups.{AreNew, AreSmall, AreThere, HaveWords, fields_of, with_all, without_all};
 ghost use Rattle.index_groups.specs.Trees.{insertion, removal};
 
@@ -30,7 +30,7 @@ pub struct IndexGroups<E: HasFields> {
     groups: Groups<GroupKey, Id, E, RowFold>,
 }
 
-// By hand, so that the proof of code that drops one need not go through its parts.
+// Opaque drop: see raven_base.
 impl<E: HasFields + Drop> Drop for IndexGroups<E> {
     fn drop(self) {
         let IndexGroups {

@@ -3,7 +3,7 @@ ghost use Rattle.std.specs.Prelude.{◌≡◌, IfOk, Some, map, refl};
 ghost use Rattle.std.specs.Cmp.{eq_by_cmp_equiv, partial_equiv_from_equiv, po};
 ghost use Rattle.std.specs.Ordering.{eq_by_cmp};
 ghost use Rattle.raven_value.specs.ScalarView.{scalar_view};
-ghost use Rattle.spec_reduce.specs.Rows.{key_of, key_order, value_at};
+ghost use Rattle.spec_index.specs.Rows.{key_of, key_order, value_at};
 ghost use Rattle.index_groups.specs.KeyLaws.{keys_total};
 
 use raven_base::{Exact, NoMemory, Sequence, Shared};
@@ -18,7 +18,7 @@ pub struct GroupKey {
     scalars: Shared<Sequence<Scalar>>,
 }
 
-// By hand, so that the proof of code that drops one need not go through its parts.
+// Opaque drop: see raven_base.
 impl Drop for GroupKey {
     fn drop(self) {
         let GroupKey { scalars: _scalars } = self;
@@ -29,7 +29,7 @@ impl Model for GroupKey {
     ghost use Rattle.std.specs.Prelude.{map};
     ghost use Rattle.std.specs.Coded.{coded_list};
     ghost use Rattle.spec_data.specs.Codes.{scalar_code};
-    ghost use Rattle.spec_reduce.specs.Rows.{Key};
+    ghost use Rattle.spec_index.specs.Rows.{Key};
     ghost use Rattle.raven_value.specs.ScalarView.{scalar_view};
 
     ghost Value = { Key };

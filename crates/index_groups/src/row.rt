@@ -2,7 +2,7 @@
 ghost use Rattle.std.specs.Prelude.{◌≡◌, [], IfOk, map};
 ghost use Rattle.std.specs.List.{zip};
 ghost use Rattle.raven_value.specs.ScalarView.{scalar_view};
-ghost use Rattle.spec_reduce.specs.Rows.{value_at};
+ghost use Rattle.spec_index.specs.Rows.{value_at};
 ghost use Rattle.index_groups.specs.Cells.{all_but_first, cells_after, first_value, row_from, value_from};
 
 use crate::key::GroupKey;

@@ -63,7 +63,7 @@ pub enum Token {
     End,
 }
 
-// By hand, so that the proof of code that drops one need not go through its parts.
+// Opaque drop: see raven_base.
 impl Drop for Token {
     fn drop(self) {
         match self {
@@ -108,7 +108,7 @@ pub struct Placed {
     pub token: Token,
 }
 
-// By hand, so that the proof of code that drops one need not go through its parts.
+// Opaque drop: see raven_base.
 impl Drop for Placed {
     fn drop(self) {
         let Placed {

@@ -53,7 +53,7 @@ pub struct Expr {
     kind: Box<ExprKind>,
 }
 
-// By hand, so that the proof of code that drops one need not go through its parts.
+// Opaque drop: see raven_base.
 impl Drop for Expr {
     #[cycle(dropped)]
     fn drop(self) {
@@ -86,7 +86,7 @@ pub enum ExprKind {
     Var(Text),
 }
 
-// By hand, so that the proof of code that drops one need not go through its parts.
+// Opaque drop: see raven_base.
 impl Drop for ExprKind {
     #[cycle(dropped)]
     fn drop(self) {

@@ -11,7 +11,7 @@ pub enum Clause {
     Let { var: Text, value: Expr },
 }
 
-// By hand, so that the proof of code that drops one need not go through its parts.
+// Opaque drop: see raven_base.
 impl Drop for Clause {
     fn drop(self) {
         match self {
@@ -30,7 +30,7 @@ pub struct MapMember {
     pub value: Expr,
 }
 
-// By hand, so that the proof of code that drops one need not go through its parts.
+// Opaque drop: see raven_base.
 impl Drop for MapMember {
     fn drop(self) {
         let MapMember {
@@ -59,7 +59,7 @@ pub struct MapQuery {
     pub members: MapMembers,
 }
 
-// By hand, so that the proof of code that drops one need not go through its parts.
+// Opaque drop: see raven_base.
 impl Drop for MapQuery {
     fn drop(self) {
         let MapQuery {

@@ -25,7 +25,7 @@ pub enum FoldValue {
     },
 }
 
-// By hand, so that the proof of code that drops one need not go through its parts.
+// Opaque drop: see raven_base.
 impl Drop for FoldValue {
     fn drop(self) {
         match self {
@@ -45,7 +45,7 @@ pub struct FoldMember {
     pub value: FoldValue,
 }
 
-// By hand, so that the proof of code that drops one need not go through its parts.
+// Opaque drop: see raven_base.
 impl Drop for FoldMember {
     fn drop(self) {
         let FoldMember {
@@ -75,7 +75,7 @@ pub struct ReduceQuery {
     pub members: FoldMembers,
 }
 
-// By hand, so that the proof of code that drops one need not go through its parts.
+// Opaque drop: see raven_base.
 impl Drop for ReduceQuery {
     fn drop(self) {
         let ReduceQuery {

@@ -14,7 +14,7 @@ use Rattle.index_tree.specs.Meaning.{Fields, Outcome, Entry, NoEntry, Failed}
 use Rattle.index_tree.specs.declared.reduce_query.ReduceQuery.{ReduceQuery}
 use Rattle.spec_index.specs.Mapping.{entry_of, touched}
 use Rattle.spec_index.specs.World.{Version}
-use Rattle.spec_reduce.specs.Rows.{group, reduced}
+use Rattle.spec_index.specs.Rows.{group, reduced}
 use Rattle.paged_map.specs.Merges.{MergesAtMost}
 use Rattle.reference_track.specs.Sets.{AreInOrder}
 use Rattle.reference_track.specs.Tracks.{Track}

@@ -14,8 +14,8 @@ use Rattle.index_tree.specs.Meaning.{Fields}
 use Rattle.index_tree.specs.declared.reduce_query.ReduceQuery.{ReduceQuery}
 use Rattle.spec_index.specs.Mapping.{scratch}
 use Rattle.spec_index.specs.World.{Version}
-pub use Rattle.spec_reduce.specs.Reduces.{reduce_of}
-use Rattle.spec_reduce.specs.Rows.{Key, group, reduced}
+pub use Rattle.spec_index.specs.Reduces.{reduce_of}
+use Rattle.spec_index.specs.Rows.{Key, group, reduced}
 use Rattle.reference_track.specs.Sets.{id_cmp}
 use Rattle.index_groups.specs.Groups.{Grouped}
 use Rattle.index_version.specs.Kept.{Given, has_entry, outcome_fields}

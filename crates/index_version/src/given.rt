@@ -33,7 +33,7 @@ pub struct Given {
     mapped: Mapped,
 }
 
-// By hand, so that the proof of code that drops one need not go through its parts.
+// Opaque drop: see raven_base.
 impl Drop for Given {
     fn drop(self) {
         let Given {

@@ -29,7 +29,7 @@ pub struct Kept {
     pub referrers: Referrers,
 }
 
-// By hand, so that the proof of code that drops one need not go through its parts.
+// Opaque drop: see raven_base.
 impl Drop for Kept {
     fn drop(self) {
         let Kept {

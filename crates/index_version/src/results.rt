@@ -25,7 +25,7 @@ pub struct Results {
     tally: Tally,
 }
 
-// By hand, so that the proof of code that drops one need not go through its parts.
+// Opaque drop: see raven_base.
 impl Drop for Results {
     fn drop(self) {
         let Results {

@@ -20,7 +20,7 @@ pub struct Table {
     rows: PagedMap<Id, Shared<Row>>,
 }
 
-// By hand, so that the proof of code that drops one need not go through its parts.
+// Opaque drop: see raven_base.
 impl Drop for Table {
     fn drop(self) {
         let Table { rows: _rows } = self;

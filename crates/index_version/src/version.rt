@@ -54,7 +54,7 @@ pub struct IndexVersion {
     terms: Terms,
 }
 
-// By hand, so that the proof of code that drops one need not go through its parts.
+// Opaque drop: see raven_base.
 impl Drop for IndexVersion {
     fn drop(self) {
         let IndexVersion {

@@ -15,7 +15,7 @@ pub struct Entry {
     items: Vec<(Text, Scalar)>,
 }
 
-// By hand, so that the proof of code that drops one need not go through its parts.
+// Opaque drop: see raven_base.
 impl Drop for Entry {
     fn drop(self) {
         let Entry { items: _items } = self;

@@ -22,7 +22,7 @@ pub enum Held<'a> {
     Map(&'a Members),
 }
 
-// By hand, so that the proof of code that drops one need not go through its parts.
+// Opaque drop: see raven_base.
 impl<'a> Drop for Held<'a> {
     fn drop(self) {
         match self {

@@ -23,7 +23,7 @@ pub enum Outcome {
     Failed,
 }
 
-// By hand, so that the proof of code that drops one need not go through its parts.
+// Opaque drop: see raven_base.
 impl Drop for Outcome {
     fn drop(self) {
         match self {
@@ -42,7 +42,7 @@ pub struct Mapped {
     pub loads: Ids,
 }
 
-// By hand, so that the proof of code that drops one need not go through its parts.
+// Opaque drop: see raven_base.
 impl Drop for Mapped {
     fn drop(self) {
         let Mapped {

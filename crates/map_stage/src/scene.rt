@@ -15,7 +15,7 @@ pub struct Binding<'a> {
     pub value: Held<'a>,
 }
 
-// By hand, so that the proof of code that drops one need not go through its parts.
+// Opaque drop: see raven_base.
 impl<'a> Drop for Binding<'a> {
     fn drop(self) {
         let Binding {

@@ -3,7 +3,7 @@ use Rattle.std.proofs.Common.{◌≡◌, ◌<◌, ◌^◌, ◌+◌, ℕ, List, [
 use Rattle.std.specs.Fmt.{decimal}
 use Rattle.spec_data.specs.Faults.{fault_of}
 use Rattle.spec_data.specs.Limits.{max_id}
-use Rattle.fit_texts.proofs.Clean.{IsClean, clean-decimal, faultless, few-decimal}
+use Rattle.spec_data.proofs.Clean.{IsClean, clean-decimal, faultless, few-decimal}
 use Rattle.spec_measure.specs.Orders.{order_id}
 
 length-append : (xs ys : List ℕ) → length (xs ++ ys) ≡ length xs + length ys

@@ -36,7 +36,7 @@ pub struct SummedMap<K: Ord, V, S: Summary<V>> {
     len: u64,
 }
 
-// By hand, so that the proof of code that drops one need not go through its parts.
+// Opaque drop: see raven_base.
 impl<K: Ord + Drop, V: Drop, S: Summary<V> + Drop> Drop for SummedMap<K, V, S> {
     fn drop(self) {
         let SummedMap {

@@ -26,7 +26,7 @@ pub struct Machine {
     world: World,
 }
 
-// By hand, so that the proof of code that drops one need not go through its parts.
+// Opaque drop: see raven_base.
 impl Drop for Machine {
     fn drop(self) {
         let Machine { world: _world } = self;

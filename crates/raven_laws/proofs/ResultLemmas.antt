@@ -23,7 +23,7 @@ use Rattle.spec_query.specs.Plan.{Plan, meeting, page, up_to}
 use Rattle.spec_query.specs.Printing.{field_text}
 use Rattle.spec_query.specs.Query.{Ask, Cond, OfCollection, Query, is_empty, is_of_index, is_whole}
 use Rattle.spec_query.specs.Sorting.{inserted, keys_order, sorted}
-use Rattle.spec_reduce.specs.Reduces.{reduce_of}
+use Rattle.spec_index.specs.Reduces.{reduce_of}
 use Rattle.spec_index.specs.Index.{documents}
 use Rattle.spec_index.specs.Mapping.{scratch}
 use Rattle.spec_index.specs.World.{Slot, World, reads}

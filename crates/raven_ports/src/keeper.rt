@@ -28,7 +28,7 @@ pub struct KeptRow {
     pub changed: u64,
 }
 
-// By hand, so that the proof of code that drops one need not go through its parts.
+// Opaque drop: see raven_base.
 impl Drop for KeptRow {
     fn drop(self) {
         let KeptRow {

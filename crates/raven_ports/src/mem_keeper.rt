@@ -27,7 +27,7 @@ pub struct MemKeeper {
     calls: Calls,
 }
 
-// By hand, so that the proof of code that drops one need not go through its parts.
+// Opaque drop: see raven_base.
 impl Drop for MemKeeper {
     fn drop(self) {
         let MemKeeper {

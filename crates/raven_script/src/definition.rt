@@ -22,7 +22,7 @@ pub struct Texts {
     pub reduce: Option<Text>,
 }
 
-// By hand, so that the proof of code that drops one need not go through its parts.
+// Opaque drop: see raven_base.
 impl Drop for Texts {
     fn drop(self) {
         let Texts {

@@ -22,7 +22,7 @@ use Rattle.spec_query.specs.Parameters.{bound_where}
 use Rattle.spec_query.specs.Plan.{Plan}
 use Rattle.spec_query.specs.Query.{Ask, Origin, OfIndex, OfCollection, Query, is_empty, is_of_index, is_whole}
 use Rattle.spec_query.specs.Printing.{field_text}
-use Rattle.spec_reduce.specs.Reduces.{reduce_of}
+use Rattle.spec_index.specs.Reduces.{reduce_of}
 use Rattle.spec_index.specs.Find.{field_is_text, found_in, is_text}
 use Rattle.spec_index.specs.World.{Slot, Version, World, reads, serving}
 use Rattle.spec_server.specs.Asking.{answer_ask, answer_by, answer_from, answer_from_collection, answer_from_index, answer_if_bound, answer_of, answer_over, found_by, found_over, unless_refused, without_ids}

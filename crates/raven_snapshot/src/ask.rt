@@ -3,7 +3,7 @@ ghost use Rattle.std.specs.Prelude.{◌≡◌, ◌++◌, IfOk, Option, codes, tr
 ghost use Rattle.spec_query.specs.Binding as is;
 ghost use Rattle.spec_query.specs.Binding.{check as spec_check};
 ghost use Rattle.spec_query.specs.Query.{OfCollection, is_whole as spec_is_whole};
-ghost use Rattle.spec_reduce.specs.Reduces.{reduce_of};
+ghost use Rattle.spec_index.specs.Reduces.{reduce_of};
 ghost use Rattle.spec_index.specs.World.{serving as spec_serving};
 ghost use Rattle.spec_server.specs.Asking.{answer_ask, answer_by, answer_from_collection, answer_from_index, answer_of as spec_answer_of, found_by, unless_refused};
 ghost use Rattle.spec_server.specs.Replies.{Reply as ReplyIs};
@@ -16,12 +16,12 @@ ghost use Rattle.rql_plan.specs.RefusalView.{Refuses};
 ghost use Rattle.raven_snapshot.specs.Asked.{ReadsWhatItCounts};
 
 use crate::documents::{ShownBy, StoreRows};
+use crate::entries::IndexEntries;
 use crate::find::has_reduce;
 use crate::slot::{Slot, is_stale, serving};
 use crate::snapshot::Snapshot;
 use doc_store::Store;
 use doc_txn::BaseId;
-use index_entries::IndexEntries;
 use index_version::IndexVersion;
 use raven_base::{NoMemory, Steps};
 use raven_reply::Reply;

@@ -9,11 +9,11 @@ ghost use Rattle.rql_eval.specs.Pages.{ReadsAtMost};
 ghost use Rattle.raven_snapshot.specs.Asked.{ReadsWhatItCounts};
 
 use crate::answer::no_index;
+use crate::entries::IndexEntries;
 use crate::slot::{Slot, is_stale, serving};
 use crate::snapshot::Snapshot;
 use doc_store::Store;
 use index_definition::{DefBody, Definition};
-use index_entries::IndexEntries;
 use index_version::IndexVersion;
 use raven_base::{NoMemory, Steps};
 use raven_reply::Reply;

@@ -5,6 +5,7 @@ mod answer;
 mod ask;
 mod choice;
 mod documents;
+mod entries;
 mod find;
 mod slot;
 mod snapshot;

@@ -4,12 +4,26 @@
 #[cfg(test)]
 mod batches;
 #[cfg(test)]
+mod crew;
+#[cfg(test)]
+mod job;
+#[cfg(test)]
+mod list;
+#[cfg(test)]
 mod pages;
 #[cfg(test)]
 mod replies;
 #[cfg(test)]
+mod rising;
+#[cfg(test)]
 mod sharing;
 #[cfg(test)]
+mod shift;
+#[cfg(test)]
 mod stores;
+#[cfg(test)]
+mod tally;
+#[cfg(test)]
+mod turns;
 #[cfg(test)]
 mod values;

@@ -6,7 +6,7 @@ use Rattle.std.specs.Fmt.{decimal}
 use Rattle.std.specs.List.{position_from}
 use Rattle.spec_data.specs.Faults.{empty, too_long, control, fault_of, is_control, is_fit}
 use Rattle.spec_data.specs.Limits.{max_id, max_name}
-use Rattle.fit_texts.proofs.Clean.{IsClean, clean-append, clean-decimal, faultless, few-decimal}
+use Rattle.spec_data.proofs.Clean.{IsClean, clean-append, clean-decimal, faultless, few-decimal}
 use Rattle.spec_index.specs.Optimiser.{free_name, first_free}
 use Rattle.spec_index.specs.World.{Slot, serving, index_id}
 

@@ -23,7 +23,7 @@ pub struct World {
     pub(crate) limits: Limits,
 }
 
-// By hand, so that the proof of code that drops one need not go through its parts.
+// Opaque drop: see raven_base.
 impl Drop for World {
     fn drop(self) {
         let World {

@@ -16,8 +16,8 @@ use Rattle.reduce_folds.specs.declared.field_fold.FieldFold.{FieldFold}
 use Rattle.reduce_folds.specs.Cells.{Cell, cell_of, lifted, merged_cell, merged_row, no_cell, no_row, no_value, row_of}
 use Rattle.reduce_folds.specs.Exact.{AreWords}
 use Rattle.reduce_folds.specs.CellLaws.{zero_fits}
-use Rattle.spec_reduce.specs.Folds.{addend, as_one, greatest_of, least_of, sum_of}
-use Rattle.spec_reduce.specs.Rows.{column, value_at}
+use Rattle.spec_index.specs.Folds.{addend, as_one, greatest_of, least_of, sum_of}
+use Rattle.spec_index.specs.Rows.{column, value_at}
 
 -- rows are folded field by field
 abbrev cells_of : List FieldFold → List Fields → List Cell

@@ -9,9 +9,9 @@ use Rattle.index_tree.specs.declared.reduce_query.FoldKind.{FoldKind}
 use Rattle.index_tree.specs.declared.reduce_query.FoldKind.TheVariants as kind
 use Rattle.reduce_folds.specs.declared.field_fold.FieldFold.{FieldFold}
 use Rattle.reduce_folds.specs.Cells.{Cell, cell_of, joined, lifted, merged_cell, merged_row, no_cell, no_row, no_value, row_of}
-use Rattle.spec_reduce.specs.Folds.{addend}
-use Rattle.spec_reduce.specs.Rows.{value_at}
-use Rattle.spec_reduce.proofs.Folding.{greatest_assoc, greatest_comm, greatest_none, least_assoc, least_comm, least_none}
+use Rattle.spec_index.specs.Folds.{addend}
+use Rattle.spec_index.specs.Rows.{value_at}
+use Rattle.spec_index.proofs.Folding.{greatest_assoc, greatest_comm, greatest_none, least_assoc, least_comm, least_none}
 
 joined_comm : (k : FoldKind) (a b : Scalar) → joined k a b ≡ joined k b a
 joined_comm kind.Sum a b = ap (λ n. number (int_wrap w128 n)) (+ℤ_comm (addend a) (addend b))

@@ -7,8 +7,8 @@ use Rattle.index_tree.specs.Meaning.{Fields}
 use Rattle.index_tree.specs.declared.reduce_query.FoldKind.{FoldKind}
 use Rattle.index_tree.specs.declared.reduce_query.FoldKind.TheVariants as kind
 use Rattle.reduce_folds.specs.declared.field_fold.FieldFold.{FieldFold}
-use Rattle.spec_reduce.specs.Folds.{addend, backwards, first, null_last}
-use Rattle.spec_reduce.specs.Rows.{value_at}
+use Rattle.spec_index.specs.Folds.{addend, backwards, first, null_last}
+use Rattle.spec_index.specs.Rows.{value_at}
 
 -- how values become one, and what they come to
 abbrev pub Cell : Type 0

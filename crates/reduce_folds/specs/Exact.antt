@@ -2,7 +2,7 @@
 use Rattle.std.specs.Prelude.{◌≤◌, List, [], ◌∷◌}
 use Rattle.std.specs.Int.RustNames.{unsigned_abs}
 use Rattle.spec_data.specs.Scalars.{Scalar}
-use Rattle.spec_reduce.specs.Folds.{addend}
+use Rattle.spec_index.specs.Folds.{addend}
 
 -- each number among the values is of 64 bits
 abbrev pub AreWords : List Scalar → Type 0

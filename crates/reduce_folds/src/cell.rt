@@ -17,7 +17,7 @@ pub struct Cell {
     value: Scalar,
 }
 
-// By hand, so that the proof of code that drops one need not go through its parts.
+// Opaque drop: see raven_base.
 impl Drop for Cell {
     fn drop(self) {
         let Cell {

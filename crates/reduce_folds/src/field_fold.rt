@@ -18,7 +18,7 @@ pub struct FieldFold {
     pub field: Text,
 }
 
-// By hand, so that the proof of code that drops one need not go through its parts.
+// Opaque drop: see raven_base.
 impl Drop for FieldFold {
     fn drop(self) {
         let FieldFold {

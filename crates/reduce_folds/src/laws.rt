@@ -8,8 +8,8 @@ ghost use Rattle.reduce_folds.specs.declared.field_fold.FieldFold.{FieldFold};
 ghost use Rattle.reduce_folds.specs.Cells.{cell_of, merged_cell, merged_row, no_cell, no_row, row_of};
 ghost use Rattle.reduce_folds.specs.Exact.{AreWords};
 ghost use Rattle.reduce_tree.specs.Folding.{fold_of};
-ghost use Rattle.spec_reduce.specs.Folds.{as_one, both};
-ghost use Rattle.spec_reduce.specs.Rows.{IsReordered, Key, column, group, reduced};
+ghost use Rattle.spec_index.specs.Folds.{as_one, both};
+ghost use Rattle.spec_index.specs.Rows.{IsReordered, Key, column, group, reduced};
 
 /// A reduce gives the same rows for the same entries in another order.
 pub fn order_changes_no_row()

@@ -17,7 +17,7 @@ pub struct RowFold {
     pub fields: Sequence<FieldFold>,
 }
 
-// By hand, so that the proof of code that drops one need not go through its parts.
+// Opaque drop: see raven_base.
 impl Drop for RowFold {
     fn drop(self) {
         let RowFold { fields: _fields } = self;
@@ -29,7 +29,7 @@ pub struct Cells {
     cells: Shared<Sequence<Cell>>,
 }
 
-// By hand, so that the proof of code that drops one need not go through its parts.
+// Opaque drop: see raven_base.
 impl Drop for Cells {
     fn drop(self) {
         let Cells { cells: _cells } = self;

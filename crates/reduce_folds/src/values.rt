@@ -2,7 +2,7 @@
 ghost use Rattle.std.specs.Prelude.{◌≡◌, ◌+ℤ◌};
 ghost use Rattle.std.specs.Int.{int_wrap, w128};
 ghost use Rattle.raven_value.specs.ScalarView.{scalar_view};
-ghost use Rattle.spec_reduce.specs.Folds.{addend, backwards, first, null_last};
+ghost use Rattle.spec_index.specs.Folds.{addend, backwards, first, null_last};
 
 use raven_value::{Scalar, compare};
 use std::cmp::Ordering;

@@ -28,7 +28,7 @@ pub struct Groups<G: Ord, K: Ord, E, F: Fold<E>> {
     trees: PagedMap<G, Shared<ReduceTree<K, E, F>>>,
 }
 
-// By hand, so that the proof of code that drops one need not go through its parts.
+// Opaque drop: see raven_base.
 impl<G: Ord + Drop, K: Ord + Drop, E: Drop, F: Fold<E> + Drop> Drop for Groups<G, K, E, F> {
     fn drop(self) {
         let Groups {

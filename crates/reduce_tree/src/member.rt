@@ -13,7 +13,7 @@ pub struct Member<E, R> {
     pub row: R,
 }
 
-// By hand, so that the proof of code that drops one need not go through its parts.
+// Opaque drop: see raven_base.
 impl<E: Drop, R: Drop> Drop for Member<E, R> {
     fn drop(self) {
         let Member {
@@ -39,7 +39,7 @@ pub struct MergedRows<F> {
     pub fold: Shared<F>,
 }
 
-// By hand, so that the proof of code that drops one need not go through its parts.
+// Opaque drop: see raven_base.
 impl<F: Drop> Drop for MergedRows<F> {
     fn drop(self) {
         let MergedRows { fold: _fold } = self;

@@ -27,7 +27,7 @@ pub struct ReduceTree<K: Ord, E, F: Fold<E>> {
     members: SummedMap<K, Member<E, F::Row>, MergedRows<F>>,
 }
 
-// By hand, so that the proof of code that drops one need not go through its parts.
+// Opaque drop: see raven_base.
 impl<K: Ord + Drop, E: Drop, F: Fold<E> + Drop> Drop for ReduceTree<K, E, F> {
     fn drop(self) {
         let ReduceTree {

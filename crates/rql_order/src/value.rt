@@ -21,7 +21,7 @@ pub enum SortValue {
     TextDown(Reverse<Option<Folded>>),
 }
 
-// By hand, so that the proof of code that drops one need not go through its parts.
+// Opaque drop: see raven_base.
 impl Drop for SortValue {
     fn drop(self) {
         match self {

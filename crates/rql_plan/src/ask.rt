@@ -26,7 +26,7 @@ pub struct QueryAsk {
     pub looks: u32,
 }
 
-// By hand, so that the proof of code that drops one need not go through its parts.
+// Opaque drop: see raven_base.
 impl Drop for QueryAsk {
     fn drop(self) {
         let QueryAsk {

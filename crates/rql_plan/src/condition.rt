@@ -13,7 +13,7 @@ pub struct Condition {
     kind: Box<ConditionKind>,
 }
 
-// By hand, so that the proof of code that drops one need not go through its parts.
+// Opaque drop: see raven_base.
 impl Drop for Condition {
     #[cycle(dropped)]
     fn drop(self) {
@@ -35,7 +35,7 @@ pub enum ConditionKind {
     Has(Text, Test),
 }
 
-// By hand, so that the proof of code that drops one need not go through its parts.
+// Opaque drop: see raven_base.
 impl Drop for ConditionKind {
     #[cycle(dropped)]
     fn drop(self) {

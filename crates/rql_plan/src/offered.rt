@@ -26,7 +26,7 @@ struct Offered {
     reduced: bool,
 }
 
-// By hand, so that the proof of code that drops one need not go through its parts.
+// Opaque drop: see raven_base.
 impl Drop for Offered {
     fn drop(self) {
         let Offered {

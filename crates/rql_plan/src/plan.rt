@@ -23,7 +23,7 @@ pub struct SortKey {
     pub desc: bool,
 }
 
-// By hand, so that the proof of code that drops one need not go through its parts.
+// Opaque drop: see raven_base.
 impl Drop for SortKey {
     fn drop(self) {
         let SortKey {
@@ -40,7 +40,7 @@ pub struct Selected {
     pub field: Field,
 }
 
-// By hand, so that the proof of code that drops one need not go through its parts.
+// Opaque drop: see raven_base.
 impl Drop for Selected {
     fn drop(self) {
         let Selected {
@@ -66,7 +66,7 @@ pub struct Plan {
     size: Option<u64>,
 }
 
-// By hand, so that the proof of code that drops one need not go through its parts.
+// Opaque drop: see raven_base.
 impl Drop for Plan {
     fn drop(self) {
         let Plan {

@@ -29,7 +29,7 @@ pub struct Shape {
     pub grouped: bool,
 }
 
-// By hand, so that the proof of code that drops one need not go through its parts.
+// Opaque drop: see raven_base.
 impl Drop for Shape {
     fn drop(self) {
         let Shape {

@@ -42,7 +42,7 @@ pub enum Token {
     End,
 }
 
-// By hand, so that the proof of code that drops one need not go through its parts.
+// Opaque drop: see raven_base.
 impl Drop for Token {
     fn drop(self) {
         match self {
@@ -78,7 +78,7 @@ pub struct Placed {
     pub called: bool,
 }
 
-// By hand, so that the proof of code that drops one need not go through its parts.
+// Opaque drop: see raven_base.
 impl Drop for Placed {
     fn drop(self) {
         let Placed {

@@ -14,7 +14,7 @@ pub struct Cond {
     kind: Box<CondKind>,
 }
 
-// By hand, so that the proof of code that drops one need not go through its parts.
+// Opaque drop: see raven_base.
 impl Drop for Cond {
     #[cycle(dropped)]
     fn drop(self) {
@@ -47,7 +47,7 @@ pub enum CondKind {
     In(Field, Operands),
 }
 
-// By hand, so that the proof of code that drops one need not go through its parts.
+// Opaque drop: see raven_base.
 impl Drop for CondKind {
     #[cycle(dropped)]
     fn drop(self) {

@@ -15,7 +15,7 @@ pub enum Field {
     Sum(Path),
 }
 
-// By hand, so that the proof of code that drops one need not go through its parts.
+// Opaque drop: see raven_base.
 impl Drop for Field {
     fn drop(self) {
         match self {

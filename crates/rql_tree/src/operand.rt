@@ -13,7 +13,7 @@ pub enum Operand {
     Parameter(Text),
 }
 
-// By hand, so that the proof of code that drops one need not go through its parts.
+// Opaque drop: see raven_base.
 impl Drop for Operand {
     fn drop(self) {
         match self {

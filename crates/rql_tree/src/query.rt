@@ -16,7 +16,7 @@ pub enum Origin {
     Collection(Text),
 }
 
-// By hand, so that the proof of code that drops one need not go through its parts.
+// Opaque drop: see raven_base.
 impl Drop for Origin {
     fn drop(self) {
         match self {
@@ -35,7 +35,7 @@ pub struct Sort {
     pub desc: bool,
 }
 
-// By hand, so that the proof of code that drops one need not go through its parts.
+// Opaque drop: see raven_base.
 impl Drop for Sort {
     fn drop(self) {
         let Sort {
@@ -53,7 +53,7 @@ pub struct Column {
     pub name: Option<Text>,
 }
 
-// By hand, so that the proof of code that drops one need not go through its parts.
+// Opaque drop: see raven_base.
 impl Drop for Column {
     fn drop(self) {
         let Column {

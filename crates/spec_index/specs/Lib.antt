@@ -4,3 +4,6 @@ pub mod Index
 pub mod Mapping
 pub mod World
 pub mod Optimiser
+pub mod Folds
+pub mod Rows
+pub mod Reduces

@@ -14,8 +14,8 @@ use Rattle.spec_query.specs.Finding.{Found, found_in_collection, found_in_groups
 use Rattle.spec_query.specs.Offering.{offered_of}
 use Rattle.spec_query.specs.Plan.{Plan}
 use Rattle.spec_query.specs.Query.{Ask, OfIndex, OfCollection, is_whole}
-use Rattle.spec_reduce.specs.Reduces.{reduce_of}
-use Rattle.spec_reduce.specs.Rows.{reduced}
+use Rattle.spec_index.specs.Reduces.{reduce_of}
+use Rattle.spec_index.specs.Rows.{reduced}
 use Rattle.spec_index.specs.Mapping.{scratch}
 use Rattle.spec_index.specs.World.{Slot, World, reads, serving}
 use Rattle.spec_server.specs.Replies.{Reply, Answer, BadPlan, NoIndex, UnknownLine}

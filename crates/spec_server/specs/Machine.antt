@@ -9,7 +9,7 @@ use Rattle.spec_store.specs.Store.{Store, row_at, last, empty_store}
 use Rattle.spec_store.specs.Stale.{stale, newest}
 use Rattle.index_tree.specs.Definitions.{Definition}
 use Rattle.spec_query.specs.Query as query
-use Rattle.spec_reduce.specs.Reduces.{reduce_of}
+use Rattle.spec_index.specs.Reduces.{reduce_of}
 use Rattle.spec_index.specs.Mapping.{failures, scratch}
 use Rattle.index_tree.specs.Mapper.{mapper_of}
 use Rattle.spec_store.specs.Commit.{Command, Expect, Client, Server, Setting, Refusal, Written, Refused, commit, vector_of, row_spelling, etags_taken}

@@ -23,7 +23,7 @@ pub struct Column {
     terms: TermSet,
 }
 
-// By hand, so that the proof of code that drops one need not go through its parts.
+// Opaque drop: see raven_base.
 impl Drop for Column {
     fn drop(self) {
         let Column { terms: _terms } = self;

@@ -19,7 +19,7 @@ pub struct Term {
     pub id: Shared<Id>,
 }
 
-// By hand, so that the proof of code that drops one need not go through its parts.
+// Opaque drop: see raven_base.
 impl Drop for Term {
     fn drop(self) {
         let Term {
@@ -39,7 +39,7 @@ pub enum Key {
     End,
 }
 
-// By hand, so that the proof of code that drops one need not go through its parts.
+// Opaque drop: see raven_base.
 impl Drop for Key {
     fn drop(self) {
         match self {

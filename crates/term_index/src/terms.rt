@@ -26,7 +26,7 @@ pub struct Terms {
     columns: Vec<(Shared<Text>, Column)>,
 }
 
-// By hand, so that the proof of code that drops one need not go through its parts.
+// Opaque drop: see raven_base.
 impl Drop for Terms {
     fn drop(self) {
         let Terms { columns: _columns } = self;

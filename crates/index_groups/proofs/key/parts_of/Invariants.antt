@@ -1,6 +1,6 @@
 use Rattle.std.proofs.Common.{◌≡◌, ◌++◌, drop, map}
 use Rattle.raven_value.specs.ScalarView.{scalar_view}
-use Rattle.spec_reduce.specs.Rows.{key_of}
+use Rattle.spec_index.specs.Rows.{key_of}
 use Rattle.index_groups.proofs.key.parts_of.Given as goal
 
 abbrev pub invariant-loop-name : goal.invariant-loop-name

@@ -1,7 +1,7 @@
 use Rattle.std.proofs.Common.{◌≡◌, length, map}
 use Rattle.std.specs.List.{zip}
 use Rattle.raven_value.specs.ScalarView.{scalar_view}
-use Rattle.spec_reduce.specs.Rows.{value_at}
+use Rattle.spec_index.specs.Rows.{value_at}
 use Rattle.index_groups.proofs.row.part_named.Given as goal
 
 -- the rests have what the wholes have

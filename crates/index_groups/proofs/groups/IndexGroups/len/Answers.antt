@@ -1,6 +1,6 @@
 use Rattle.std.proofs.Common.{length, ap, ◌∙◌}
 use Rattle.std.specs.FinMap.{values}
-use Rattle.spec_reduce.specs.Rows.{reduced}
+use Rattle.spec_index.specs.Rows.{reduced}
 use Rattle.index_groups.specs.Groups.{Grouped}
 use Rattle.index_groups.proofs.Rows.{count_is}
 use Rattle.index_groups.proofs.groups.IndexGroups.len.Goals as goal

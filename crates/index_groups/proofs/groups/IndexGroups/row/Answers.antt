@@ -2,7 +2,7 @@ use Rattle.std.proofs.Common.{Option, Some, None, List, [], slice_get, ap, â—Œâˆ
 use Rattle.std.specs.FinMap.{values}
 use Rattle.index_tree.specs.declared.reduce_query.ReduceQuery.{ReduceQuery}
 use Rattle.reduce_folds.specs.Cells.{Cell}
-use Rattle.spec_reduce.specs.Rows.{Key, reduced}
+use Rattle.spec_index.specs.Rows.{Key, reduced}
 use Rattle.index_groups.specs.Cells.{row_from}
 use Rattle.index_groups.specs.Groups.{Grouped}
 use Rattle.index_groups.specs.KeyLaws.{keys_tie}

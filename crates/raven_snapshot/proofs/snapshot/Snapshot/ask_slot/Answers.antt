@@ -5,7 +5,7 @@ use Rattle.index_definition.specs.DefinitionView.{definition_view}
 use Rattle.index_definition.specs.declared.definition.Definition.{Definition}
 use Rattle.index_version.specs.Named.{NamedVersion}
 use Rattle.index_version.specs.Entries.{all_entries}
-use Rattle.spec_reduce.specs.Reduces.{reduce_of}
+use Rattle.spec_index.specs.Reduces.{reduce_of}
 use Rattle.spec_query.specs.Binding.{bind, refusal_of}
 use Rattle.spec_query.specs.Offering.{offered_of}
 use Rattle.spec_query.specs.Query.{Ask}

@@ -1,7 +1,7 @@
 use Rattle.std.proofs.Common.{◌≡◌, ◌+◌, ◌∷◌, [], ◌∙◌, ap, subst, arith}
 use Rattle.raven_turn.specs.Passes.{AfterAll}
-use Rattle.turn_tests.proofs.Zips.{all_over}
-use Rattle.turn_tests.proofs.crew.together.Goals as goal
+use Rattle.raven_tests.proofs.Zips.{all_over}
+use Rattle.raven_tests.proofs.crew.together.Goals as goal
 
 pub gather-requires-clause-reports : goal.gather-requires-clause-reports
 gather-requires-clause-reports g c = let turn = c.in-Ok.turn.turn in

@@ -10,8 +10,8 @@ use Rattle.std.proofs.lemmas.Map.Lookups.{exact_signed, exact_unsigned, exact_by
 use Rattle.spec_data.specs.Folding.{folded}
 use Rattle.spec_data.specs.Orders.{order-total}
 use Rattle.spec_data.specs.Scalars.{Scalar, nothing, truth, number, words, order, rank, number_in, words_in}
-use Rattle.spec_reduce.specs.Folds.{null_last, nullness, backwards}
-use Rattle.spec_reduce.specs.Rows.{key_order}
+use Rattle.spec_index.specs.Folds.{null_last, nullness, backwards}
+use Rattle.spec_index.specs.Rows.{key_order}
 
 then_first : (a b : Ordering) → ordering_then a b ≡ Equal → a ≡ Equal
 then_first Less b e = e

@@ -1,5 +1,5 @@
 use Rattle.std.proofs.Common.{◌≡◌, ◌+◌, ◌*◌, All}
-use Rattle.turn_tests.proofs.crew.shifts.Given as goal
+use Rattle.raven_tests.proofs.crew.shifts.Given as goal
 
 abbrev pub invariant-loop-tag : goal.invariant-loop-tag
 invariant-loop-tag g l =

@@ -13,7 +13,7 @@ use Rattle.index_tree.specs.declared.reduce_query.FoldMember.{FoldMember}
 use Rattle.index_tree.specs.declared.reduce_query.FoldValue.{FoldValue}
 use Rattle.index_tree.specs.declared.reduce_query.FoldValue.TheVariants as value
 use Rattle.index_tree.specs.declared.reduce_query.ReduceQuery.{ReduceQuery}
-use Rattle.spec_reduce.specs.Folds.{as_one}
+use Rattle.spec_index.specs.Folds.{as_one}
 
 -- the value of that name, null if there is none
 abbrev pub value_at : List ℕ → Fields → Scalar

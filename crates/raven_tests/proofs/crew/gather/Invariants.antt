@@ -1,7 +1,7 @@
 use Rattle.std.proofs.Common.{◌≡◌, ◌+◌, All, sum_by}
 use Rattle.std.specs.Vec.Iter.{into_iter_items}
 use Rattle.raven_turn.specs.Passes.{Grew}
-use Rattle.turn_tests.proofs.crew.gather.Given as goal
+use Rattle.raven_tests.proofs.crew.gather.Given as goal
 
 abbrev pub invariant-loop-pass : goal.invariant-loop-pass
 invariant-loop-pass g l =

@@ -12,10 +12,10 @@ use Rattle.index_tree.specs.declared.reduce_query.FoldMember.{FoldMember}
 use Rattle.index_tree.specs.declared.reduce_query.FoldValue.{FoldValue}
 use Rattle.index_tree.specs.declared.reduce_query.FoldValue.TheVariants as value
 use Rattle.index_tree.specs.declared.reduce_query.ReduceQuery.{ReduceQuery}
-use Rattle.spec_reduce.specs.Rows.{IsReordered, Key, column, group, key_of, key_order, member_value, reduced, row_of, row_with, rows_of, value_at}
-use Rattle.spec_reduce.specs.Folds.{as_one, both}
-use Rattle.spec_reduce.proofs.Folding.{as_one_parted, as_one_reordered}
-use Rattle.spec_reduce.proofs.Ties.{key_order-total, key_ties}
+use Rattle.spec_index.specs.Rows.{IsReordered, Key, column, group, key_of, key_order, member_value, reduced, row_of, row_with, rows_of, value_at}
+use Rattle.spec_index.specs.Folds.{as_one, both}
+use Rattle.spec_index.proofs.Folding.{as_one_parted, as_one_reordered}
+use Rattle.spec_index.proofs.Ties.{key_order-total, key_ties}
 
 map_append : {A B : Type 0} (f : A → B) (xs ys : List A) → map f (xs ++ ys) ≡ map f xs ++ map f ys
 map_append f [] ys = refl

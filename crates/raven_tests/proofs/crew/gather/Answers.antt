@@ -1,7 +1,7 @@
 use Rattle.std.proofs.Common.{◌≡◌, ◌+◌, rules, arith}
 use Rattle.std.proofs.lemmas.Grind.{common_steps}
 use Rattle.raven_turn.proofs.Growing.{grew_on, grew_join}
-use Rattle.turn_tests.proofs.crew.gather.Goals as goal
+use Rattle.raven_tests.proofs.crew.gather.Goals as goal
 
 pub loop-pass-preserved : goal.loop-pass-preserved
 loop-pass-preserved g c =

@@ -4,7 +4,7 @@ use Rattle.std.specs.declared.cmp.Ordering.{Ordering}
 use Rattle.std.specs.declared.cmp.Ordering.TheVariants.{Less, Equal, Greater}
 use Rattle.std.specs.Ordering.{match_ordering, ordering_reverse}
 use Rattle.std.specs.Cmp.{IsTotalOrder}
-use Rattle.spec_reduce.specs.Folds.{first}
+use Rattle.spec_index.specs.Folds.{first}
 
 module _ {A : Type 0} (R : A → A → Ordering) (o : IsTotalOrder R) (ties : (a b : A) → R a b ≡ Equal → a ≡ b) where
   back : (a b : A) (r : Ordering) → R a b ≡ r → R b a ≡ ordering_reverse r

@@ -4,10 +4,10 @@ use Rattle.std.proofs.Math.IntN.{+ℤ_comm, +ℤ_assoc, +ℤ_idl}
 use Rattle.spec_data.specs.Scalars.{Scalar, nothing, truth, number, words}
 use Rattle.index_tree.specs.declared.reduce_query.FoldKind.{FoldKind}
 use Rattle.index_tree.specs.declared.reduce_query.FoldKind.TheVariants as kind
-use Rattle.spec_reduce.specs.Folds.{addend, as_one, backwards, both, first, greatest_of, least_of, null_last, sum_of}
-use Rattle.spec_reduce.specs.Rows.{IsReordered}
-use Rattle.spec_reduce.proofs.Firsts.{first_comm, first_assoc}
-use Rattle.spec_reduce.proofs.Ties.{null_last-total, null_last-ties, backwards-total, backwards-ties}
+use Rattle.spec_index.specs.Folds.{addend, as_one, backwards, both, first, greatest_of, least_of, null_last, sum_of}
+use Rattle.spec_index.specs.Rows.{IsReordered}
+use Rattle.spec_index.proofs.Firsts.{first_comm, first_assoc}
+use Rattle.spec_index.proofs.Ties.{null_last-total, null_last-ties, backwards-total, backwards-ties}
 
 pub least_comm : (a b : Scalar) → first null_last a b ≡ first null_last b a
 least_comm = first_comm null_last null_last-total null_last-ties

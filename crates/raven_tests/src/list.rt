@@ -41,7 +41,7 @@ impl Entries {
 
 impl Grows for Entries {
     ghost use Rattle.std.specs.Prelude.{◌≡◌, length};
-    ghost use Rattle.turn_tests.specs.Begins.{Begins, begins_itself, begins_on, begins_shorter};
+    ghost use Rattle.raven_tests.specs.Begins.{Begins, begins_itself, begins_on, begins_shorter};
 
     type Shot = usize;
 

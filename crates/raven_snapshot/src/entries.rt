@@ -12,8 +12,8 @@ use term_index::Terms;
 
 /// The entries that a version of an index has, under the ids of their documents.
 #[derive(Drop)]
-pub struct IndexEntries<'v> {
-    pub version: &'v IndexVersion,
+pub(crate) struct IndexEntries<'v> {
+    pub(crate) version: &'v IndexVersion,
 }
 
 impl<'v> Entries for IndexEntries<'v> {
