@@ -1,6 +1,7 @@
 //! The devices of the program: input, output, keeper and clock, and the same in memory.
 #![tactic(auto)]
 
+mod byte_conn;
 mod calls;
 mod committed;
 mod keeper;
@@ -10,9 +11,10 @@ mod ports;
 mod rising;
 mod still_clock;
 
+pub use byte_conn::ByteConn;
 pub use keeper::{Clock, Keeper, KeeperFault, KeptRow, KeptRows};
 pub use mem_keeper::MemKeeper;
 pub use memory::{ByteSink, ByteSource};
-pub use ports::{Failed, Sink, SinkFault, Source};
+pub use ports::{Connection, Failed, Sink, SinkFault, Source};
 pub use rising::etags_rise;
 pub use still_clock::StillClock;
