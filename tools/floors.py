@@ -1,17 +1,17 @@
 #!/usr/bin/env python3
 """Reads crates.txt: on which floor each crate stands, the longest chain, and whether the order holds.
 
-    tools/floors.py            checks crates.txt, and the drawing of it in docs/map.md
-    tools/floors.py --write    puts the drawing into docs/map.md, between its two comments `floors`
+    tools/floors.py            checks crates.txt, and the tables of it in docs/map.md
+    tools/floors.py --write    puts the tables into docs/map.md, between its two comments `floors`
 
 A crate stands one floor above the highest of the crates that it lists. The lines of crates.txt go from the
 lowest floor to the highest, each floor under a comment of its own, `# Floor 3: ..`. The status is 1 if a crate
-lists a crate of no earlier line, cites a crate that it does not list, or stands under the comment of another floor.
+lists a crate of no earlier line or one that it does not cite, cites a crate that it does not list, or stands under the comment of
+another floor.
 """
 import os
 import re
 import sys
-import textwrap
 
 FLOOR = re.compile(r"#\s*Floor (\d+): (.*?)\.?$")
 BEGIN, END = "<!-- floors: made by tools/floors.py -->", "<!-- floors: end -->"
@@ -77,6 +77,9 @@ def faults_of(rows, floors, crates):
         unlisted = (cited(os.path.join(crates, row.name)) & own) - {row.name, *row.deps}
         if unlisted:
             yield f"line {row.line}: {row.name} cites {', '.join(sorted(unlisted))}, and does not list it"
+        idle = (set(row.deps) & own) - cited(os.path.join(crates, row.name))
+        if idle:
+            yield f"line {row.line}: {row.name} lists {', '.join(sorted(idle))}, and cites it nowhere"
     for low, high in zip(rows, rows[1:]):
         if floors[high.name] < floors[low.name]:
             yield f"line {high.line}: {high.name} stands on a lower floor than the line above it"
@@ -91,14 +94,25 @@ def chain_to(name, rows, floors):
     return chain
 
 
-def drawing(rows, floors, titles):
-    """The floors as a page shows them, the highest first."""
-    out = ["```"]
+def purpose_of(folder):
+    """The first sentence of what stands at the head of a crate."""
+    for root in ("lib.rt", "main.rt"):
+        file = os.path.join(folder, "src", root)
+        if os.path.exists(file):
+            with open(file, encoding="utf-8") as text:
+                said = " ".join(line[3:].strip() for line in text if line.startswith("//!"))
+            end = re.search(r"\.(?=\s|$)", said)
+            return said[: end.end()] if end else said
+    return ""
+
+
+def drawing(rows, floors, titles, crates):
+    """The floors as a page shows them, the highest first, each with its crates and what they are."""
+    out = []
     for floor in range(max(floors.values()), 0, -1):
-        names = " ".join(row.name for row in rows if floors[row.name] == floor)
-        out.append(f"{floor:2}  {titles.get(floor, '')}")
-        out += textwrap.wrap(names, 110, initial_indent="      ", subsequent_indent="      ")
-    return "\n".join(out + ["```"])
+        out += ["", f"**Floor {floor}**: {titles.get(floor, '')}", "", "| Crate | What it is |", "|---|---|"]
+        out += [f"| `{row.name}` | {purpose_of(os.path.join(crates, row.name))} |" for row in rows if floors[row.name] == floor]
+    return "\n".join(out[1:])
 
 
 def with_drawing(page, drawn):
@@ -112,12 +126,12 @@ def main():
     top = os.path.dirname(os.path.dirname(os.path.abspath(__file__)))
     rows, titles = rows_of(os.path.join(top, "crates.txt"))
     floors, faults = floors_of(rows)
-    drawn = drawing(rows, floors, titles)
-    print(drawn)
+    crates = os.path.join(top, "crates")
+    drawn = drawing(rows, floors, titles, crates)
     highest = max(rows, key=lambda row: floors[row.name])
     chain = chain_to(highest.name, rows, floors)
     print(f"{len(rows)} crates list {sum(len(row.deps) for row in rows)}; the longest chain has {len(chain)}: " + ", ".join(chain))
-    faults += faults_of(rows, floors, os.path.join(top, "crates"))
+    faults += faults_of(rows, floors, crates)
     faults += page_faults(os.path.join(top, "docs", "map.md"), drawn)
     for fault in faults:
         print(fault, file=sys.stderr)
@@ -131,7 +145,7 @@ def page_faults(file, drawn):
     if new == page:
         return []
     if "--write" not in sys.argv:
-        return [f"{file}: its drawing is not that of crates.txt; tools/floors.py --write puts it right"]
+        return [f"{file}: its tables are not those of crates.txt and of the crates; tools/floors.py --write puts them right"]
     with open(file, "w", encoding="utf-8") as text:
         text.write(new)
     return []

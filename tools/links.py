@@ -18,8 +18,23 @@ PATH = re.compile(r"`((?:\.ci|bench|crates|docs|examples|tools)/[^`\s]*)")
 
 def links_of(page, text):
     """The files that the page links to, without those of other places."""
-    targets = [target.split("#")[0] for target in LINK.findall(text) if not re.match(r"[a-z]+:", target)]
+    targets = [target.partition("#")[0] for target in LINK.findall(text) if not re.match(r"[a-z]+:", target)]
     return [(target, page.parent / target) for target in targets if target]
+
+
+def anchors_in(page):
+    """The anchors of the headings of a page, made of their text as hosts of such pages do."""
+    heads = [line.lstrip("#").strip().lower() for line in page.read_text().splitlines() if line.startswith("#")]
+    return {re.sub(r"[^\w\- ]", "", head).replace(" ", "-") for head in heads}
+
+
+def lost_anchors(page, text):
+    """The links of the page that lead to a heading that is not there."""
+    for target in LINK.findall(text):
+        file, mark, anchor = target.partition("#")
+        other = page.parent / file if file else page
+        if mark and not re.match(r"[a-z]+:", target) and other.suffix == ".md" and other.exists() and anchor not in anchors_in(other):
+            yield target
 
 
 def paths_of(text):
@@ -43,6 +58,9 @@ def main():
             if not is_there(target):
                 lost += 1
                 print(f"{page.relative_to(TOP)}: {name} leads nowhere")
+        for name in lost_anchors(page, text):
+            lost += 1
+            print(f"{page.relative_to(TOP)}: {name} leads to no heading")
     print(f"{lost} of {count} links and paths lead nowhere")
     return 1 if lost else 0
 
