@@ -33,7 +33,7 @@ fn etag_after(taken: &[Row], more: bool, store: &Store) -> u64
 /// more, at most one row of each collection that the index reads is read. Entries are merged only if the definition has a reduce:
 /// the clause bounds how often, if no group has more than 16^h entries before or after. For an index that is not stale nothing
 /// is counted and no row is read: one search for each of these collections finds that.
-pub fn next<R: Threads + Sync, M: Mapper + Sync, L: Ledger>(
+pub fn next<R: Threads, M: Mapper + Sync, L: Ledger>(
     rt: &R,
     alloc: Global,
     index: &IndexVersion,

@@ -1,5 +1,5 @@
 -- What the map gave for ids, one by one and all together.
-use Rattle.std.proofs.Common.{◌≡◌, ℕ, suc, ◌<◌, List, [], ◌∷◌, ◌++◌, cond, Ok, IfOk, Option, map, length, refl, sym, ap, subst, ◌∙◌, arith, slice_index_or, take}
+use Rattle.std.proofs.Common.{◌≡◌, ℕ, List, [], ◌∷◌, ◌++◌, cond, Ok, IfOk, Option, map, length, refl, sym, ap, subst, ◌∙◌, take}
 use Rattle.std.specs.List.{All, AllZip}
 use Rattle.std.proofs.lemmas.List.{map_push}
 use Rattle.std.proofs.lemmas.List.Elements.{All-nil, All-cons, All-head, All-tail}
@@ -16,15 +16,6 @@ use Rattle.index_version.specs.Kept.{Given, given_at, is_loaded}
 use Rattle.index_version.specs.Renewed.{ArePaired, AreRenewed}
 use Rattle.index_version.proofs.Keeping.{paired_more, renewed_more}
 use Rattle.index_version.specs.declared.asking.Asked.{Asked}
-
--- if each place has the answer to its question, the lists have
-pub each_answer : (meaning : Row → Mapped) (before after : List Asked) → length after ≡ length before
-    → ((i : ℕ) (d : Asked) → i < length before → IsAnswer meaning (slice_index_or before i d) (slice_index_or after i d)) → AllZip (IsAnswer meaning) before after
-each_answer meaning [] [] same each = tt
-each_answer meaning [] (b ∷ after) same each = absurd (omega (arith, same))
-each_answer meaning (a ∷ before) [] same each = absurd (omega (arith, same))
-each_answer meaning (a ∷ before) (b ∷ after) same each =
-    (each 0 a (omega arith), each_answer meaning before after (omega (arith, same)) (λ i d within. each (suc i) d (omega (arith, within))))
 
 pub ids_answered : (meaning : Row → Mapped) (before after : List Asked) → AllZip (IsAnswer meaning) before after → map (λ a. a.id.now) after ≡ map (λ a. a.id.now) before
 ids_answered meaning [] [] h = refl

@@ -1,8 +1,8 @@
 -- The entries from scratch are found under their ids, and by their terms.
 use Rattle.std.proofs.Common.{◌≡◌, ℕ, List, [], ◌∷◌, Bool, true, false, cond, ◌||◌, Option, Some, None, find, map, refl, sym, ap, ◌∙◌, subst}
 use Rattle.std.specs.declared.cmp.Ordering.TheVariants.{Less, Equal, Greater}
-use Rattle.std.specs.FinMap.{FinMap, get, entries, values, find as found_at, get-entries}
-use Rattle.std.specs.List.{filter_map, list_any}
+use Rattle.std.specs.FinMap.{FinMap, get, entries, find as found_at, get-entries}
+use Rattle.std.specs.List.{list_any}
 use Rattle.std.specs.Map.{lookup, values_of}
 use Rattle.std.specs.Option.{option_and_then}
 use Rattle.std.specs.Ordering.{is_eq}
@@ -14,7 +14,7 @@ use Rattle.spec_data.specs.Tables.{Table}
 use Rattle.spec_store.proofs.StoreLemmas.{same_itself}
 use Rattle.spec_store.proofs.TableLemmas.{tied}
 use Rattle.index_tree.specs.Mapper.{Mapper, is_mapped, mapper_of}
-use Rattle.index_tree.specs.Meaning.{Fields, Outcome, Entry, NoEntry, Failed, Mapped, field_named}
+use Rattle.index_tree.specs.Meaning.{Fields, Outcome, Entry, NoEntry, Failed, field_named}
 use Rattle.index_definition.specs.DefinitionView.{definition_view}
 use Rattle.index_definition.specs.Shape.{fields}
 use Rattle.index_definition.specs.declared.definition.DefBody.{DefBody}
@@ -23,7 +23,7 @@ use Rattle.paged_map.specs.Pairs.{AllAnswer, IsRising}
 use Rattle.reference_track.specs.Sets.{AreInOrder, IsBelowAll}
 use Rattle.reference_track.specs.Tracks.{Track}
 use Rattle.term_index.specs.Columns.{Columns, HasFields, value_at, value_of}
-use Rattle.index_version.specs.Kept.{AreKept, Given, entry_given, given_at, given_of, outcome_fields}
+use Rattle.index_version.specs.Kept.{AreKept, Given, entry_given, given_of, outcome_fields}
 use Rattle.index_version.specs.Termed.{AreTermed, given_fields, names_of}
 use Rattle.index_version.proofs.FieldNames.{not_in_entry}
 use Rattle.index_version.proofs.Keeping.{entries_kept}

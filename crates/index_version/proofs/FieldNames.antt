@@ -18,7 +18,7 @@ use Rattle.index_tree.specs.declared.map_query.MapQuery.{MapQuery}
 use Rattle.index_tree.specs.Asking.{Lookup, Asking, gives, goes_on}
 use Rattle.index_tree.specs.Evaluate.{Bindings, document_of, evaluate}
 use Rattle.index_tree.specs.Mapper.{field_of, fields_at, joined, mapper_of}
-use Rattle.index_tree.specs.Meaning.{Fields, Outcome, Entry, field_named, where_some, bound_after, fields_with, fields_under, entry_of, outcome_of, meaning}
+use Rattle.index_tree.specs.Meaning.{Fields, Entry, field_named, where_some, bound_after, fields_with, fields_under, entry_of, outcome_of, meaning}
 use Rattle.index_definition.specs.DefinitionView.{definition_view}
 use Rattle.index_definition.specs.Shape.{fields, names, put_all}
 use Rattle.index_definition.specs.declared.definition.DefBody.{DefBody}

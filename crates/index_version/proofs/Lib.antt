@@ -8,6 +8,7 @@ pub mod Meanings
 pub mod Walking
 pub mod Tallies
 pub mod Words
+mod Zips
 pub mod GroupChanges
 pub mod Reducing
 mod Answering

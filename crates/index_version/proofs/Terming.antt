@@ -1,7 +1,6 @@
 -- The terms of an index are of what its map gives, and a batch changes those of few ids.
-use Rattle.std.proofs.Common.{◌≡◌, ℕ, zero, suc, ◌||◌, List, [], ◌∷◌, drop, Bool, true, false, cond, Option, Some, None, map, refl, sym, ap, ◌∙◌, subst}
+use Rattle.std.proofs.Common.{◌≡◌, ℕ, zero, suc, ◌||◌, List, [], ◌∷◌, drop, Bool, true, false, cond, Option, Some, None, refl, sym, ap, ◌∙◌, subst}
 use Rattle.std.specs.FinMap.{FinMap, empty, get, get-empty, get-insert, get-remove}
-use Rattle.std.specs.List.{list_any}
 use Rattle.spec_data.specs.Folding.{folded, key_cmp, same_key}
 use Rattle.spec_data.specs.Scalars.{Scalar}
 use Rattle.index_tree.specs.Meaning.{Fields}

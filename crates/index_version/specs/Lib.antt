@@ -4,6 +4,7 @@ pub mod Named
 pub mod Kept
 pub mod Asked
 pub mod Renewed
+pub mod Pieces
 pub mod Reduced
 pub mod Termed
 pub mod Entries

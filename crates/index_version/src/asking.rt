@@ -13,6 +13,7 @@ ghost use Rattle.index_version.specs.Renewed.{mapped_among};
 
 use crate::given::Given;
 use crate::mapping::mapped_collection;
+use crate::pieces::for_each_in_pieces;
 use crate::table::Table;
 use index_definition::{DefBody, Definition};
 use map_stage::{Lookup, Mapper, Ticket};
@@ -120,7 +121,7 @@ fn questions<'a, L: Ledger>(
 }
 
 /// Asks the map in so many threads at most.
-fn answer_all<R: Threads + Sync, M: Mapper + Sync>(
+fn answer_all<R: Threads, M: Mapper + Sync>(
     rt: &R,
     alloc: Global,
     asked: &mut [Asked<'_>],
@@ -131,13 +132,13 @@ fn answer_all<R: Threads + Sync, M: Mapper + Sync>(
     requires { 0 < threads }
     ensures { AllZip (IsAnswer (λ d. M.meaning mapper.now d (get table.now))) asked.old asked.new }
 {
-    thread::for_each_mut(
+    for_each_in_pieces(
         rt,
-        asked,
-        threads,
-        &|_: usize, one: &mut Asked<'_>|
+        &|one: &mut Asked<'_>|
             ensures { IsAnswer (λ d. M.meaning mapper.entry.now d (get table.entry.now)) one.entry.now one.exit.now }
         { one.answer(alloc, table, mapper) },
+        threads,
+        asked,
     );
 }
 
@@ -158,7 +159,7 @@ fn threads_for<R: Threads>(rt: &R, documents: usize, definition: &Definition) ->
 /// What the map gives for each of these ids, in their order. The map is asked for those of them that are mapped: each is counted, also if
 /// no memory is found. If there are enough of them, and the map is long enough, several threads ask it; the answers are those that one
 /// thread gets.
-pub fn all_answers<'a, R: Threads + Sync, M: Mapper + Sync, L: Ledger>(
+pub fn all_answers<'a, R: Threads, M: Mapper + Sync, L: Ledger>(
     rt: &R,
     alloc: Global,
     ids: &'a [Id],

@@ -5,6 +5,7 @@ mod asking;
 mod given;
 mod kept;
 mod mapping;
+mod pieces;
 mod regrouping;
 mod renewal;
 mod results;

@@ -22,7 +22,7 @@ use std::sync::ledger::Ledger;
 use std::thread::Threads;
 
 // What a batch gives for a slot, if it has not seen all rows.
-fn next_batch<R: Threads + Sync, L: Ledger>(
+fn next_batch<R: Threads, L: Ledger>(
     rt: &R,
     alloc: Global,
     store: &Store,
@@ -54,7 +54,7 @@ fn with_version(slot: &Slot, version: Arc<IndexVersion>) -> Result<Slot, NoMemor
     })
 }
 
-fn after_batch<R: Threads + Sync, L: Ledger>(
+fn after_batch<R: Threads, L: Ledger>(
     rt: &R,
     alloc: Global,
     store: &Store,
@@ -86,7 +86,7 @@ fn pumping_of(before: &Slot, now: &Slot) -> Result<Pumping, NoMemory>
 }
 
 // The slot after a batch, and what the batch did to it.
-fn brought_on<R: Threads + Sync, L: Ledger>(
+fn brought_on<R: Threads, L: Ledger>(
     rt: &R,
     alloc: Global,
     store: &Store,
@@ -106,7 +106,7 @@ fn brought_on<R: Threads + Sync, L: Ledger>(
     Ok((brought, pumped))
 }
 
-fn all_brought_on<R: Threads + Sync, L: Ledger>(
+fn all_brought_on<R: Threads, L: Ledger>(
     rt: &R,
     alloc: Global,
     store: &Store,
@@ -132,7 +132,7 @@ fn all_brought_on<R: Threads + Sync, L: Ledger>(
 }
 
 // The slot, after a batch if it serves the name, and what that batch did to it.
-fn brought_on_if<R: Threads + Sync, L: Ledger>(
+fn brought_on_if<R: Threads, L: Ledger>(
     rt: &R,
     alloc: Global,
     store: &Store,
@@ -157,7 +157,7 @@ fn brought_on_if<R: Threads + Sync, L: Ledger>(
 
 // All slots, those that serve the name after a batch, and what it did to the first of these. In a sound world one slot serves
 // a name.
-fn one_brought_on<R: Threads + Sync, L: Ledger>(
+fn one_brought_on<R: Threads, L: Ledger>(
     rt: &R,
     alloc: Global,
     store: &Store,
@@ -219,7 +219,7 @@ impl World {
 
     /// Each index catches up by one batch of at most `max` rows. A document that several of them map counts for each, and so does
     /// a row that several of them read. Entries are merged only for definitions with a reduce.
-    pub fn pump<R: Threads + Sync, L: Ledger>(
+    pub fn pump<R: Threads, L: Ledger>(
         &self,
         rt: &R,
         alloc: Global,
@@ -237,7 +237,7 @@ impl World {
     }
 
     /// The index of this name catches up by one batch of at most `max` rows.
-    pub fn pump_one<R: Threads + Sync, L: Ledger>(
+    pub fn pump_one<R: Threads, L: Ledger>(
         &self,
         rt: &R,
         alloc: Global,

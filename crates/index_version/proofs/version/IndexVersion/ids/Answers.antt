@@ -1,6 +1,5 @@
-use Rattle.std.proofs.Common.{List, ◌∙◌, ap, sym, map}
+use Rattle.std.proofs.Common.{◌∙◌, ap, sym}
 use Rattle.std.specs.List.{filter_map}
-use Rattle.index_tree.specs.Meaning.{Fields}
 use Rattle.index_version.specs.Entries.{all_entries}
 use Rattle.index_version.specs.Kept.{entry_given}
 use Rattle.index_version.specs.Named.{NamedVersion}
