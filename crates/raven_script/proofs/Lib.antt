@@ -4,6 +4,7 @@ pub mod Readings
 pub mod LineLemmas
 pub mod PumpLemmas
 pub mod Answering
+pub mod Requesting
 pub mod Asking
 pub mod Maps
 pub mod Querying

@@ -1,57 +1,19 @@
--- What is answered of lines that ask a query.
+-- The members of a query.
 use Rattle.std.proofs.Common.{◌≡◌, ◌∙◌, ℕ, List, [], ◌∷◌, Option, Some, None, Result, Ok, Err, Bool, true, false, refl, sym, ap, subst, codes}
 use Rattle.std.specs.Prelude.{option_map, if◌then◌else◌}
 use Rattle.std.specs.Str.{bytes_eq}
 use Rattle.std.proofs.lemmas.Slice.Eq.{bytes_eq-Decides}
-use Rattle.rql_grammar.specs.declared.kind.RqlKind.{RqlKind}
-use Rattle.rql_parser.specs.Parse.{IsParsed}
-use Rattle.rql_parser.specs.declared.refusal.RqlRefusal.TheVariants.{At}
-use Rattle.raven_lines.specs.SaysQuery.{query_refusal}
-use Rattle.spec_query.specs.Query.{Query}
 use Rattle.spec_data.specs.Data.{entries_of}
 use Rattle.spec_data.specs.Members.{member}
 use Rattle.spec_data.specs.Rising.{Pairs, without}
 use Rattle.spec_data.proofs.MemberLemmas.{pairs_of-entries_of}
-use Rattle.spec_server.specs.Machine.{Ask, Do}
 use Rattle.spec_server.specs.Script.{Asking, Querying, asked_by_text, asked_to_query, asking_with, beside_in, parameters_member, then_read, whole_ask}
 use Rattle.spec_server.specs.Script as read
-use Rattle.raven_script.specs.LineView.{Answers, asking_view}
-use Rattle.raven_script.specs.RequestView.{Reads, Refuses, line_view}
-use Rattle.raven_script.proofs.Answering.{answers-plain, not_refused}
+use Rattle.raven_script.specs.LineView.{asking_view}
+use Rattle.raven_script.specs.RequestView.{Reads, Refuses}
 use Rattle.raven_script.proofs.Readings.{bad_member, refused_on}
 use Rattle.raven_script.specs.declared.query.Asking as program
-use Rattle.raven_script.specs.declared.request.Line.{Line}
 use Rattle.raven_script.specs.declared.request.ReadRefusal.{ReadRefusal}
-use Rattle.raven_script.specs.declared.request.ReadRefusal.TheVariants as refusal
-
--- the text and what is asked beside it are not found
-pub answers-unasked : (given : Result (List ℕ × Asking) read.ReadRefusal) (why : ReadRefusal) → Refuses why given → Answers (asked_to_query given) (Err why)
-answers-unasked (Ok given) why h = not_refused (Querying given.0 given.1) given why h
-answers-unasked (Err told) why h = answers-plain (Err told) (Err why) (refused_on why (Err told) (λ given. Ok None) h)
-
--- they are found
-pub answers-asked-query : (text : List ℕ) (asking : Asking) (given : Result (List ℕ × Asking) read.ReadRefusal) (result : Result (Option Line) ReadRefusal)
-    → given ≡ Ok (text, asking) → Answers (Querying text asking) result → Answers (asked_to_query given) result
-answers-asked-query text asking given result is h = subst (λ g. Answers (asked_to_query g) result) (sym is) h
-
--- the text says a query
-pub answers-query : (text : List ℕ) (asking : Asking) (q : Query) (found : Option Line) → IsParsed text (Ok q)
-    → option_map line_view found ≡ Some (Do (Ask (whole_ask asking q))) → Answers (Querying text asking) (Ok found)
-answers-query text asking q found parsed is = record {
-  read = asked_by_text asking (Ok q);
-  comes = record { answer = Ok q; says = parsed; read = refl };
-  told = ap Ok (sym is);
-}
-
--- the text is refused
-pub answers-no-query : (text : List ℕ) (asking : Asking) (at : ℕ) (kind : RqlKind) → IsParsed text (Err (At at kind)) → Answers (Querying text asking) (Err (refusal.BadQuery at kind))
-answers-no-query text asking at kind parsed = record {
-  read = Err (read.BadQuery (query_refusal at kind));
-  comes = record { answer = Err (query_refusal at kind); says = record { at = at; kind = kind; given = parsed; seen = refl }; read = refl };
-  told = refl;
-}
-
-pub ruleset querying = (answers-unasked, answers-asked-query, answers-query, answers-no-query)
 
 -- MEMBERS
 

@@ -39,10 +39,10 @@ pub fn name_of(alloc: Global, text: &str) -> Result<Name, ReadRefusal>
 }
 
 /// The value of this JSON.
-pub fn json_of(alloc: Global, text: &str) -> Result<Value, ReadRefusal>
+pub fn json_of(alloc: Global, text: &[u8]) -> Result<Value, ReadRefusal>
     ensures { Reads (λ value. data_of value) result (json_read (reading text.now)) }
 {
-    match read(alloc, text.as_bytes()) {
+    match read(alloc, text) {
         Ok(value) => Ok(value),
         Err(JsonRefusal::NotJson) => Err(ReadRefusal::NotJson),
         Err(JsonRefusal::NumberNotWhole) => Err(ReadRefusal::NumberNotWhole),
@@ -83,7 +83,12 @@ pub fn object_of(alloc: Global, name: &str, value: Option<Value>) -> Result<Valu
 
 /// A put of this body. The JSON is read first, then the id, and then the body has to be an object.
 #[tactic(auto, using(crate::proofs::Readings::readings))]
-pub fn put_of(alloc: Global, id: &str, expected: Expect, body: &str) -> Result<Request, ReadRefusal>
+pub fn put_of(
+    alloc: Global,
+    id: &str,
+    expected: Expect,
+    body: &[u8],
+) -> Result<Request, ReadRefusal>
     ensures { Reads request_view result (put_read id.now (expect_view expected) (reading body.now)) }
 {
     let value = match json_of(alloc, body) {

@@ -152,7 +152,7 @@ pub fn commands_of(alloc: Global, value: Value) -> Result<Commands, ReadRefusal>
 
 /// A transaction of this JSON.
 #[tactic(auto, using(crate::proofs::Readings::readings))]
-pub fn bulk_of(alloc: Global, text: &str) -> Result<Request, ReadRefusal>
+pub fn bulk_of(alloc: Global, text: &[u8]) -> Result<Request, ReadRefusal>
     ensures { Reads request_view result (bulk_read text.now) }
 {
     let value = match json_of(alloc, text) {

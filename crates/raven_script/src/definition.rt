@@ -4,11 +4,12 @@ ghost use Rattle.spec_data.specs.Data.{entries_of};
 ghost use Rattle.raven_value.specs.View.{data_of};
 ghost use Rattle.spec_server.specs.Script.{Defining, asked_to_define, index_of as spec_index_of, map_member as spec_map_member, name_member as spec_name_member, reduce_member as spec_reduce_member, texts_in as spec_texts_in, texts_of_body as spec_texts_of_body};
 ghost use Rattle.spec_data.specs.Members.{member};
-ghost use Rattle.raven_script.specs.LineView.{Answers, texts_view};
+ghost use Rattle.raven_script.specs.LineView.{texts_view};
+ghost use Rattle.raven_script.specs.RequestRead.{Asks};
 ghost use Rattle.raven_script.specs.RequestView.{Reads};
 
 use crate::body::{bad_member, json_of, name_of};
-use crate::request::{Line, ReadRefusal, Request};
+use crate::request::{ReadRefusal, Request};
 use index_definition::{Definition, LangRefusal};
 use index_lang::{only_item, parse, text_in};
 use raven_base::NoMemory;
@@ -85,8 +86,9 @@ fn reduce_member(alloc: Global, reduce: Option<&Value>) -> Result<Option<Text>, 
     }
 }
 
+/// The name and the texts that these members have.
 #[tactic(auto, using(crate::proofs::Readings::readings))]
-fn texts_in(alloc: Global, members: &Members) -> Result<(Name, Texts), ReadRefusal>
+pub fn texts_in(alloc: Global, members: &Members) -> Result<(Name, Texts), ReadRefusal>
     ensures { Reads (λ asked. (asked.0, texts_view asked.1)) result (spec_texts_in (entries_of members.now)) }
 {
     let name = match name_member(alloc, members.get("Name")) {
@@ -115,7 +117,7 @@ fn texts_of_body(alloc: Global, value: &Value) -> Result<(Name, Texts), ReadRefu
 
 // The name of the index and its texts.
 #[tactic(auto, using(crate::proofs::Readings::readings))]
-fn texts_of(alloc: Global, text: &str) -> Result<(Name, Texts), ReadRefusal>
+fn texts_of(alloc: Global, text: &[u8]) -> Result<(Name, Texts), ReadRefusal>
     ensures { Reads (λ asked. (asked.0, texts_view asked.1)) result (spec_index_of text.now) }
 {
     let value = match json_of(alloc, text) {
@@ -125,8 +127,8 @@ fn texts_of(alloc: Global, text: &str) -> Result<(Name, Texts), ReadRefusal>
     texts_of_body(alloc, &value)
 }
 
-// The text of the reduce, if there is one.
-fn reduce_of(texts: &Texts) -> Option<&str>
+/// The text of the reduce, if there is one.
+pub fn reduce_of(texts: &Texts) -> Option<&str>
     ensures { option_map (λ t. t.now) result ≡ texts.now.reduce }
 {
     match &texts.reduce {
@@ -135,20 +137,20 @@ fn reduce_of(texts: &Texts) -> Option<&str>
     }
 }
 
-// What the texts say.
-#[tactic(auto, using(crate::proofs::Answering::answering))]
-fn defined(
+/// The definition that the texts say.
+#[tactic(auto, using(crate::proofs::Requesting::requesting))]
+pub fn define_by(
     alloc: Global,
     name: Name,
     map: &str,
     reduce: Option<&str>,
-) -> Result<Option<Line>, ReadRefusal>
-    ensures { Answers (Defining name (map.now, option_map (λ t. t.now) reduce.entry)) result }
+) -> Result<Request, ReadRefusal>
+    ensures { Asks (Defining name (map.now, option_map (λ t. t.now) reduce.entry)) result }
 {
     match parse(alloc, name, map, reduce) {
         Ok(definition) => {
             let definition = share(alloc, definition)?;
-            Ok(Some(Line::Do(Request::Define { definition })))
+            Ok(Request::Define { definition })
         }
         Err(LangRefusal::At { part, at, kind }) => {
             Err(ReadRefusal::BadDefinition { part, at, kind })
@@ -157,13 +159,13 @@ fn defined(
     }
 }
 
-/// What is asked by this JSON of a definition.
-#[tactic(auto, using(crate::proofs::Answering::answering))]
-pub fn index(alloc: Global, text: &str) -> Result<Option<Line>, ReadRefusal>
-    ensures { Answers (asked_to_define (spec_index_of text.now)) result }
+/// The definition of this JSON.
+#[tactic(auto, using(crate::proofs::Requesting::requesting))]
+pub fn define_of(alloc: Global, text: &[u8]) -> Result<Request, ReadRefusal>
+    ensures { Asks (asked_to_define (spec_index_of text.now)) result }
 {
     match texts_of(alloc, text) {
-        Ok((name, texts)) => defined(alloc, name, texts.map.as_str(), reduce_of(&texts)),
+        Ok((name, texts)) => define_by(alloc, name, texts.map.as_str(), reduce_of(&texts)),
         Err(refusal) => Err(refusal),
     }
 }

@@ -1,13 +1,13 @@
 //! What a line asks.
 ghost use Rattle.std.specs.Prelude.{◌≡◌, MatchOption, None, Some, [], option_map};
-ghost use Rattle.spec_server.specs.Script.{Plain, asked_of, asked_with as spec_asked_with, auto_of as spec_auto_of, by_command as spec_by_word, delete_if_of as spec_delete_if_of, drop_of as spec_drop_of, find_of as spec_find_of, get_of as spec_get_of, line_of, max_read, pump_of as spec_pump_of, pump_read, put_if_of as spec_put_if_of, put_of as spec_put_of, request_of as spec_request_of, stale_of as spec_stale_of};
+ghost use Rattle.spec_server.specs.Script.{Plain, Querying, asked_of, asked_to_define, asked_to_query, asking_of, index_of, plain_asking, asked_with as spec_asked_with, auto_of as spec_auto_of, by_command as spec_by_word, delete_if_of as spec_delete_if_of, drop_of as spec_drop_of, find_of as spec_find_of, get_of as spec_get_of, line_of, max_read, pump_of as spec_pump_of, pump_read, put_if_of as spec_put_if_of, put_of as spec_put_of, request_of as spec_request_of, stale_of as spec_stale_of};
 ghost use Rattle.raven_script.specs.LineView.{Answers};
 ghost use Rattle.raven_script.specs.RequestView.{Reads, line_view, request_view};
 
 use crate::body::{delete_of, id_of, name_of, put_of};
 use crate::commands::bulk_of;
-use crate::definition::index;
-use crate::query::{ask, query};
+use crate::definition::define_of;
+use crate::query::{ask_of, query_of};
 use crate::request::{Line, ReadRefusal, Request};
 use crate::words::{is_collection, is_field, number_of, parts, word_and_rest};
 use doc_txn::Expect;
@@ -22,7 +22,7 @@ fn put(alloc: Global, more: &str) -> Result<Request, ReadRefusal>
     ensures { Reads request_view result (spec_put_of more.now) }
 {
     match parts(more) {
-        Ok((id, body)) => put_of(alloc, id, Expect::Any, body),
+        Ok((id, body)) => put_of(alloc, id, Expect::Any, body.as_bytes()),
         Err(refusal) => Err(refusal),
     }
 }
@@ -38,7 +38,7 @@ fn put_if(alloc: Global, more: &str) -> Result<Request, ReadRefusal>
     match parts(rest) {
         Ok((vector, body)) => {
             let expected = Expect::Vector(Text::of(alloc, vector)?);
-            put_of(alloc, id, expected, body)
+            put_of(alloc, id, expected, body.as_bytes())
         }
         Err(refusal) => Err(refusal),
     }
@@ -187,7 +187,7 @@ fn by_word(alloc: Global, word: &str, more: &str) -> Result<Request, ReadRefusal
     } else if word == "DELIF" {
         delete_if(alloc, more)
     } else if word == "BULK" {
-        bulk_of(alloc, more)
+        bulk_of(alloc, more.as_bytes())
     } else if word == "GET" {
         get(alloc, more)
     } else if word == "DROP" {
@@ -245,6 +245,39 @@ fn word_of(bytes: &[u8]) -> Option<(&str, &str)>
     match str::from_utf8(bytes) {
         Ok(text) => word_and_rest(text),
         Err(_) => None,
+    }
+}
+
+// INDEX and its JSON.
+#[tactic(auto, using(crate::proofs::Answering::answering))]
+fn index(alloc: Global, rest: &str) -> Result<Option<Line>, ReadRefusal>
+    ensures { Answers (asked_to_define (index_of rest.now)) result }
+{
+    match define_of(alloc, rest.as_bytes()) {
+        Ok(request) => Ok(Some(Line::Do(request))),
+        Err(refusal) => Err(refusal),
+    }
+}
+
+// QUERY and the text of a query.
+#[tactic(auto, using(crate::proofs::Answering::answering))]
+fn query(alloc: Global, rest: &str) -> Result<Option<Line>, ReadRefusal>
+    ensures { Answers (Querying rest.now plain_asking) result }
+{
+    match query_of(alloc, rest) {
+        Ok(request) => Ok(Some(Line::Do(request))),
+        Err(refusal) => Err(refusal),
+    }
+}
+
+// ASK and its JSON.
+#[tactic(auto, using(crate::proofs::Answering::answering))]
+fn ask(alloc: Global, rest: &str) -> Result<Option<Line>, ReadRefusal>
+    ensures { Answers (asked_to_query (asking_of rest.now)) result }
+{
+    match ask_of(alloc, rest.as_bytes()) {
+        Ok(request) => Ok(Some(Line::Do(request))),
+        Err(refusal) => Err(refusal),
     }
 }
 

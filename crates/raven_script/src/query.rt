@@ -3,11 +3,12 @@ ghost use Rattle.std.specs.Prelude.{◌≡◌, option_map};
 ghost use Rattle.spec_data.specs.Data.{entries_of};
 ghost use Rattle.raven_value.specs.View.{data_of};
 ghost use Rattle.spec_server.specs.Script.{Querying, asked_to_query, asking_in as spec_asking_in, asking_of as spec_asking_of, asking_of_body as spec_asking_of_body, asking_with as spec_asking_with, beside_in as spec_beside_in, cutoff_member as spec_cutoff_member, looks_member as spec_looks_member, parameters_member as spec_parameters_member, plain_asking, query_member as spec_query_member, size_member as spec_size_member, start_member as spec_start_member, wait_member as spec_wait_member, whole_ask};
-ghost use Rattle.raven_script.specs.LineView.{Answers, asking_view};
+ghost use Rattle.raven_script.specs.LineView.{asking_view};
+ghost use Rattle.raven_script.specs.RequestRead.{Asks};
 ghost use Rattle.raven_script.specs.RequestView.{Reads};
 
 use crate::body::{bad_member, json_of, taken};
-use crate::request::{Line, ReadRefusal, Request};
+use crate::request::{ReadRefusal, Request};
 use raven_value::{Members, Text, Value};
 use rql_parser::{RqlRefusal, parse};
 use rql_plan::QueryAsk;
@@ -192,7 +193,7 @@ fn asking_of_body(alloc: Global, value: Value) -> Result<(Text, Asking), ReadRef
 
 // The text of the query, and what is asked beside it.
 #[tactic(auto, using(crate::proofs::Readings::readings))]
-fn asking_of(alloc: Global, text: &str) -> Result<(Text, Asking), ReadRefusal>
+fn asking_of(alloc: Global, text: &[u8]) -> Result<(Text, Asking), ReadRefusal>
     ensures { Reads (λ asked. (asked.0, asking_view asked.1)) result (spec_asking_of text.now) }
 {
     match json_of(alloc, text) {
@@ -216,14 +217,14 @@ fn with_query(query: Query, asking: Asking) -> QueryAsk
 }
 
 // The query that the text says.
-#[tactic(auto, using(crate::proofs::Querying::querying))]
-fn asked(alloc: Global, text: &str, asking: Asking) -> Result<Option<Line>, ReadRefusal>
-    ensures { Answers (Querying text.now (asking_view asking)) result }
+#[tactic(auto, using(crate::proofs::Requesting::requesting))]
+fn asked(alloc: Global, text: &str, asking: Asking) -> Result<Request, ReadRefusal>
+    ensures { Asks (Querying text.now (asking_view asking)) result }
 {
     match parse(alloc, text) {
         Ok(query) => {
             let ask = with_query(query, asking);
-            Ok(Some(Line::Do(Request::Ask { ask })))
+            Ok(Request::Ask { ask })
         }
         Err(RqlRefusal::At { at, kind }) => Err(ReadRefusal::BadQuery { at, kind }),
         Err(RqlRefusal::NoMemory) => Err(ReadRefusal::NoMemory),
@@ -231,17 +232,17 @@ fn asked(alloc: Global, text: &str, asking: Asking) -> Result<Option<Line>, Read
 }
 
 /// What is asked by the text of a query alone.
-#[tactic(auto, using(crate::proofs::Querying::querying))]
-pub fn query(alloc: Global, text: &str) -> Result<Option<Line>, ReadRefusal>
-    ensures { Answers (Querying text.now plain_asking) result }
+#[tactic(auto, using(crate::proofs::Requesting::requesting))]
+pub fn query_of(alloc: Global, text: &str) -> Result<Request, ReadRefusal>
+    ensures { Asks (Querying text.now plain_asking) result }
 {
     asked(alloc, text, plain(alloc))
 }
 
 /// What is asked by this JSON of a query.
-#[tactic(auto, using(crate::proofs::Querying::querying))]
-pub fn ask(alloc: Global, text: &str) -> Result<Option<Line>, ReadRefusal>
-    ensures { Answers (asked_to_query (spec_asking_of text.now)) result }
+#[tactic(auto, using(crate::proofs::Requesting::requesting))]
+pub fn ask_of(alloc: Global, text: &[u8]) -> Result<Request, ReadRefusal>
+    ensures { Asks (asked_to_query (spec_asking_of text.now)) result }
 {
     match asking_of(alloc, text) {
         Ok((text, asking)) => asked(alloc, text.as_str(), asking),
