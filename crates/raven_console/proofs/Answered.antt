@@ -9,8 +9,8 @@ use Rattle.spec_server.specs.Script.{BadId, BadName, LineRead, ReadRefusal, aske
 use Rattle.spec_server.specs.WellFormed.{IsWellFormed}
 use Rattle.raven_lines.specs.Lines.{IsLine}
 use Rattle.raven_reading.proofs.Formed.{line-formed}
-use Rattle.raven_script.specs.LineView.{Answers}
-use Rattle.raven_script.specs.RequestView.{IsBadId, IsBadName, line_view}
+use Rattle.raven_request.specs.RequestView.{IsBadId, IsBadName}
+use Rattle.raven_script.specs.LineView.{Answers, line_view}
 use Rattle.raven_script.specs.declared.request.Line.{Line}
 use Rattle.raven_console.specs.Answering.{IsAnswered, IsPerformed, IsRefusedLine}
 use Rattle.raven_ports.specs.Asking.{Asked}
@@ -62,7 +62,7 @@ answers-done line now before after M N text asks means p = record { read = Ok (S
 
 -- what was read is what the line means
 pub line_means : (line : List ℕ) (found : Option Line) → Answers (asked_of line) (Ok found) → IsLine line (Ok (option_map line_view found))
-line_means line found h = subst (IsLine line) h.told h.comes
+line_means line found h = h
 
 -- what a line asks is well formed
 pub well_formed : (line : List ℕ) (asks : is.Line) → IsLine line (Ok (Some asks)) → IsWellFormed asks

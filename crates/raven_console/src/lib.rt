@@ -21,6 +21,7 @@ pub use machine::Machine;
 pub use opening::open_from;
 pub use options::Outside;
 pub use outcome::{Outcome, Pending, outcome_of};
-pub use raven_script::{Line, ReadRefusal, Request, line};
+pub use raven_request::{ReadRefusal, Request};
+pub use raven_script::{Line, line};
 pub use run::{Finish, answer_lines, raven};
 pub use status::Status;

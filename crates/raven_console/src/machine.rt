@@ -8,14 +8,16 @@ ghost use Rattle.raven_reply.specs.ReplyView.{reply_view};
 ghost use Rattle.raven_console.specs.Answering.{IsAnswered, IsPerformed};
 ghost use Rattle.raven_console.specs.Devices.{Keeps};
 ghost use Rattle.raven_console.specs.Prepared.{IsPrepared};
-ghost use Rattle.raven_script.specs.RequestView.{line_view, request_view};
+ghost use Rattle.raven_request.specs.RequestView.{request_view};
+ghost use Rattle.raven_script.specs.LineView.{line_view};
 
 use crate::keeping::keep;
 use crate::outcome::{Pending, outcome_of};
 use crate::refusal::reply_to_refusal;
 use raven_base::NoMemory;
 use raven_ports::Keeper;
-use raven_script::{Line, Request, line};
+use raven_request::Request;
+use raven_script::{Line, line};
 use raven_world::{Reply, World, reply_text};
 use std::alloc::Global;
 use std::marker::Model;

@@ -3,14 +3,14 @@ ghost use Rattle.std.specs.Prelude.{◌≡◌, ◌≤◌, IfOk, Some, true};
 ghost use Rattle.spec_server.specs.Machine.{Ask, Auto, Do, Find, course_of, only_reply, pump_for};
 ghost use Rattle.spec_server.specs.Opening.{is_part};
 ghost use Rattle.spec_server.specs.WellFormed.{IsWellFormed};
-ghost use Rattle.raven_script.specs.RequestView.{request_view};
+ghost use Rattle.raven_request.specs.RequestView.{request_view};
 ghost use Rattle.raven_world.specs.WorldView.{answer_view, change_view};
 ghost use Rattle.raven_reply.specs.ReplyView.{reply_view};
 ghost use Rattle.raven_console.specs.OutcomeView.{outcome_view};
 
 use doc_txn::Command;
 use raven_base::{NoMemory, Steps};
-use raven_script::Request;
+use raven_request::Request;
 use raven_value::{Name, Rows, Text};
 use raven_world::{Answered, Change, Reply, Snapshot, World, WorldFault};
 use rql_plan::QueryAsk;

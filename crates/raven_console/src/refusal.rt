@@ -8,7 +8,7 @@ ghost use Rattle.raven_script.specs.LineView.{Answers};
 ghost use Rattle.raven_value.specs.Refusal.{fault_in};
 
 use raven_base::NoMemory;
-use raven_script::ReadRefusal;
+use raven_request::ReadRefusal;
 use raven_value::IdRefusal;
 use raven_world::Reply;
 

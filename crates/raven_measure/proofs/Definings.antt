@@ -8,8 +8,8 @@ use Rattle.index_definition.specs.declared.refusal.LangRefusal.{LangRefusal}
 use Rattle.index_definition.specs.declared.refusal.LangRefusal.TheVariants.{At}
 use Rattle.index_definition.specs.declared.refusal.Part.{Part}
 use Rattle.index_lang.specs.Parse.{IsParsed, UnlessNoMemory}
-use Rattle.raven_script.proofs.Answering.{parsed-name}
-use Rattle.raven_script.specs.declared.request.Request.{Request}
+use Rattle.raven_request.proofs.Requesting.{parsed-name}
+use Rattle.raven_request.specs.declared.request.Request.{Request}
 use Rattle.spec_measure.specs.Requests.{index_name, index_texts}
 use Rattle.spec_server.specs.Machine.{Define}
 use Rattle.raven_measure.specs.Defining.{IsDefining, requests_view}

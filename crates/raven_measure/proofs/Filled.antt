@@ -9,8 +9,8 @@ use Rattle.spec_measure.specs.Orders.{order, order_id}
 use Rattle.spec_measure.specs.Requests.{Options, batches, definitions, deletions, index_name, index_texts, requests, requests_with}
 use Rattle.spec_server.specs.Machine.{Define, Delete, Put, Request}
 use Rattle.spec_store.specs.Commit.{AnyVector}
-use Rattle.raven_script.specs.RequestView.{request_view}
-use Rattle.raven_script.specs.declared.request.Request as program
+use Rattle.raven_request.specs.RequestView.{request_view}
+use Rattle.raven_request.specs.declared.request.Request as program
 use Rattle.raven_measure.specs.Defining.{IsDefining}
 use Rattle.raven_measure.specs.Doing.{Does, State}
 use Rattle.raven_measure.specs.Measures.{Fills}

@@ -3,8 +3,8 @@ use Rattle.std.specs.Prelude.{◌≡◌, List, [], ◌∷◌, Option, Some, None
 use Rattle.index_lang.specs.Says.{Says}
 use Rattle.index_tree.specs.Definitions.{Definition}
 use Rattle.index_tree.specs.Language.{LangRefusal}
-use Rattle.raven_script.specs.RequestView.{request_view}
-use Rattle.raven_script.specs.declared.request.Request.{Request}
+use Rattle.raven_request.specs.RequestView.{request_view}
+use Rattle.raven_request.specs.declared.request.Request.{Request}
 use Rattle.spec_measure.specs.Requests.{definitions, index_texts}
 use Rattle.spec_server.specs.Machine as is
 

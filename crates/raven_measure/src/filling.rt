@@ -7,7 +7,7 @@ ghost use Rattle.spec_measure.specs.Requests.{batches as spec_batches, deletions
 ghost use Rattle.spec_server.specs.Machine.{Delete, Put, machine_of};
 ghost use Rattle.measure_orders.specs.OptionsView.{options_view};
 ghost use Rattle.raven_ports.specs.Faults.{Rose};
-ghost use Rattle.raven_script.specs.RequestView.{request_view};
+ghost use Rattle.raven_request.specs.RequestView.{request_view};
 ghost use Rattle.raven_console.specs.Devices.{Keeps};
 ghost use Rattle.raven_measure.specs.Doing.{Does, state_view};
 ghost use Rattle.raven_measure.specs.Measures.{Defines, Fills};

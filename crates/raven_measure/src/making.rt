@@ -7,7 +7,7 @@ ghost use Rattle.raven_measure.specs.Doing.{Does, state_view};
 ghost use Rattle.raven_measure.specs.Taking.{IsTaken};
 ghost use Rattle.raven_ports.specs.Faults.{Rose};
 ghost use Rattle.raven_reply.specs.ReplyView.{reply_view};
-ghost use Rattle.raven_script.specs.RequestView.{request_view};
+ghost use Rattle.raven_request.specs.RequestView.{request_view};
 ghost use Rattle.spec_measure.specs.Summary.{is_moving as spec_is_moving};
 ghost use Rattle.spec_server.specs.Machine.{Do, machine_of};
 ghost use Rattle.spec_server.specs.WellFormed.{IsWellFormed};

@@ -1,10 +1,6 @@
 pub mod WordLemmas
 pub mod NumberLemmas
-pub mod Readings
 pub mod LineLemmas
 pub mod PumpLemmas
 pub mod Answering
-pub mod Requesting
 pub mod Asking
-pub mod Maps
-pub mod Querying

@@ -1,23 +1,24 @@
 //! What a line asks.
 ghost use Rattle.std.specs.Prelude.{◌≡◌, MatchOption, None, Some, [], option_map};
-ghost use Rattle.spec_server.specs.Script.{Plain, Querying, asked_of, asked_to_define, asked_to_query, asking_of, index_of, plain_asking, asked_with as spec_asked_with, auto_of as spec_auto_of, by_command as spec_by_word, delete_if_of as spec_delete_if_of, drop_of as spec_drop_of, find_of as spec_find_of, get_of as spec_get_of, line_of, max_read, pump_of as spec_pump_of, pump_read, put_if_of as spec_put_if_of, put_of as spec_put_of, request_of as spec_request_of, stale_of as spec_stale_of};
-ghost use Rattle.raven_script.specs.LineView.{Answers};
-ghost use Rattle.raven_script.specs.RequestView.{Reads, line_view, request_view};
+ghost use Rattle.spec_server.specs.Script.{Asked, Plain, asked_of, asked_with as spec_asked_with, auto_of as spec_auto_of, by_command as spec_by_word, delete_if_of as spec_delete_if_of, drop_of as spec_drop_of, find_of as spec_find_of, get_of as spec_get_of, line_of, max_read, pump_of as spec_pump_of, pump_read, put_if_of as spec_put_if_of, put_of as spec_put_of, request_of as spec_request_of, stale_of as spec_stale_of};
+ghost use Rattle.raven_request.specs.RequestRead.{Asks};
+ghost use Rattle.raven_request.specs.RequestView.{Reads, request_view};
+ghost use Rattle.raven_script.specs.LineView.{Answers, line_view};
 
-use crate::body::{delete_of, id_of, name_of, put_of};
-use crate::commands::bulk_of;
-use crate::definition::define_of;
-use crate::query::{ask_of, query_of};
-use crate::request::{Line, ReadRefusal, Request};
+use crate::request::Line;
 use crate::words::{is_collection, is_field, number_of, parts, word_and_rest};
 use doc_txn::Expect;
+use raven_request::{
+    ReadRefusal, Request, bulk_of, define_of, delete_of, id_of, name_of, put_of, query_of,
+    query_of_json,
+};
 use raven_value::Text;
 use std::alloc::Global;
 
 /// The most rows of a batch.
 const MAX_BATCH: u64 = 65_536;
 
-#[tactic(auto, using(crate::proofs::Readings::readings))]
+#[tactic(auto, using(raven_request::proofs::Readings::readings))]
 fn put(alloc: Global, more: &str) -> Result<Request, ReadRefusal>
     ensures { Reads request_view result (spec_put_of more.now) }
 {
@@ -27,7 +28,7 @@ fn put(alloc: Global, more: &str) -> Result<Request, ReadRefusal>
     }
 }
 
-#[tactic(auto, using(crate::proofs::Readings::readings))]
+#[tactic(auto, using(raven_request::proofs::Readings::readings))]
 fn put_if(alloc: Global, more: &str) -> Result<Request, ReadRefusal>
     ensures { Reads request_view result (spec_put_if_of more.now) }
 {
@@ -44,7 +45,7 @@ fn put_if(alloc: Global, more: &str) -> Result<Request, ReadRefusal>
     }
 }
 
-#[tactic(auto, using(crate::proofs::Readings::readings))]
+#[tactic(auto, using(raven_request::proofs::Readings::readings))]
 fn delete_if(alloc: Global, more: &str) -> Result<Request, ReadRefusal>
     ensures { Reads request_view result (spec_delete_if_of more.now) }
 {
@@ -57,7 +58,7 @@ fn delete_if(alloc: Global, more: &str) -> Result<Request, ReadRefusal>
     }
 }
 
-#[tactic(auto, using(crate::proofs::Readings::readings))]
+#[tactic(auto, using(raven_request::proofs::Readings::readings))]
 fn get(alloc: Global, more: &str) -> Result<Request, ReadRefusal>
     ensures { Reads request_view result (spec_get_of more.now) }
 {
@@ -67,7 +68,7 @@ fn get(alloc: Global, more: &str) -> Result<Request, ReadRefusal>
     }
 }
 
-#[tactic(auto, using(crate::proofs::Readings::readings))]
+#[tactic(auto, using(raven_request::proofs::Readings::readings))]
 fn auto(alloc: Global, more: &str) -> Result<Request, ReadRefusal>
     ensures { Reads request_view result (spec_auto_of more.now) }
 {
@@ -95,7 +96,7 @@ fn max_of(text: &str) -> Result<u32, ReadRefusal>
 }
 
 // Each index catches up by one batch.
-#[tactic(auto, using(crate::proofs::Readings::readings))]
+#[tactic(auto, using(raven_request::proofs::Readings::readings))]
 fn pump_all(more: &str) -> Result<Request, ReadRefusal>
     ensures { Reads request_view result (pump_read more.now None) }
 {
@@ -106,7 +107,7 @@ fn pump_all(more: &str) -> Result<Request, ReadRefusal>
 }
 
 // One index catches up by one batch. The number is read before the name.
-#[tactic(auto, using(crate::proofs::Readings::readings))]
+#[tactic(auto, using(raven_request::proofs::Readings::readings))]
 fn pump_one(alloc: Global, max: &str, index: &str) -> Result<Request, ReadRefusal>
     ensures { Reads request_view result (pump_read [] (Some (max.now, index.now))) }
 {
@@ -133,7 +134,7 @@ fn pump(alloc: Global, more: &str) -> Result<Request, ReadRefusal>
     }
 }
 
-#[tactic(auto, using(crate::proofs::Readings::readings))]
+#[tactic(auto, using(raven_request::proofs::Readings::readings))]
 fn find(alloc: Global, more: &str) -> Result<Request, ReadRefusal>
     ensures { Reads request_view result (spec_find_of more.now) }
 {
@@ -155,7 +156,7 @@ fn find(alloc: Global, more: &str) -> Result<Request, ReadRefusal>
     }
 }
 
-#[tactic(auto, using(crate::proofs::Readings::readings))]
+#[tactic(auto, using(raven_request::proofs::Readings::readings))]
 fn drop_index(alloc: Global, more: &str) -> Result<Request, ReadRefusal>
     ensures { Reads request_view result (spec_drop_of more.now) }
 {
@@ -165,7 +166,7 @@ fn drop_index(alloc: Global, more: &str) -> Result<Request, ReadRefusal>
     }
 }
 
-#[tactic(auto, using(crate::proofs::Readings::readings))]
+#[tactic(auto, using(raven_request::proofs::Readings::readings))]
 fn stale(alloc: Global, more: &str) -> Result<Request, ReadRefusal>
     ensures { Reads request_view result (spec_stale_of more.now) }
 {
@@ -205,7 +206,7 @@ fn by_word(alloc: Global, word: &str, more: &str) -> Result<Request, ReadRefusal
     }
 }
 
-#[tactic(auto, using(crate::proofs::Readings::readings))]
+#[tactic(auto, using(raven_request::proofs::Readings::readings))]
 fn request_of(alloc: Global, text: &str) -> Result<Request, ReadRefusal>
     ensures { Reads request_view result (spec_request_of text.now) }
 {
@@ -248,34 +249,11 @@ fn word_of(bytes: &[u8]) -> Option<(&str, &str)>
     }
 }
 
-// INDEX and its JSON.
-#[tactic(auto, using(crate::proofs::Answering::answering))]
-fn index(alloc: Global, rest: &str) -> Result<Option<Line>, ReadRefusal>
-    ensures { Answers (asked_to_define (index_of rest.now)) result }
+// A line with this request, if there is one.
+fn asking(request: Result<Request, ReadRefusal>) -> Result<Option<Line>, ReadRefusal>
+    ensures { (asked : Asked) → Asks asked request → Answers asked result }
 {
-    match define_of(alloc, rest.as_bytes()) {
-        Ok(request) => Ok(Some(Line::Do(request))),
-        Err(refusal) => Err(refusal),
-    }
-}
-
-// QUERY and the text of a query.
-#[tactic(auto, using(crate::proofs::Answering::answering))]
-fn query(alloc: Global, rest: &str) -> Result<Option<Line>, ReadRefusal>
-    ensures { Answers (Querying rest.now plain_asking) result }
-{
-    match query_of(alloc, rest) {
-        Ok(request) => Ok(Some(Line::Do(request))),
-        Err(refusal) => Err(refusal),
-    }
-}
-
-// ASK and its JSON.
-#[tactic(auto, using(crate::proofs::Answering::answering))]
-fn ask(alloc: Global, rest: &str) -> Result<Option<Line>, ReadRefusal>
-    ensures { Answers (asked_to_query (asking_of rest.now)) result }
-{
-    match ask_of(alloc, rest.as_bytes()) {
+    match request {
         Ok(request) => Ok(Some(Line::Do(request))),
         Err(refusal) => Err(refusal),
     }
@@ -292,11 +270,11 @@ fn asked_with(
     ensures { Answers (spec_asked_with bytes.now word.now rest.now) result }
 {
     if word == "INDEX" {
-        index(alloc, rest)
+        asking(define_of(alloc, rest.as_bytes()))
     } else if word == "QUERY" {
-        query(alloc, rest)
+        asking(query_of(alloc, rest))
     } else if word == "ASK" {
-        ask(alloc, rest)
+        asking(query_of_json(alloc, rest.as_bytes()))
     } else {
         plain_line(alloc, bytes)
     }

@@ -1,9 +1,9 @@
 //! The words of a line.
 ghost use Rattle.std.specs.Prelude.{◌≡◌, None, Some, MatchOption};
 ghost use Rattle.spec_server.specs.Script.{before_space, after_space, has_byte, is_collection as spec_is_collection, is_field as spec_is_field, number_of as spec_number_of, parts_read, argument_and_rest as spec_word_and_rest};
-ghost use Rattle.raven_script.specs.RequestView.{Reads};
+ghost use Rattle.raven_request.specs.RequestView.{Reads};
 
-use crate::request::ReadRefusal;
+use raven_request::ReadRefusal;
 
 /// The most digits of a number.
 const MAX_DIGITS: usize = 16;

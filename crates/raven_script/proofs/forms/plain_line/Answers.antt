@@ -1,9 +1,9 @@
 use Rattle.std.proofs.Common.{Ok, Some, sym, ap, ◌∙◌, subst}
 use Rattle.spec_server.specs.Machine.{Do}
 use Rattle.spec_server.specs.Script.{request_of, then_read}
-use Rattle.raven_script.specs.RequestView.{Refuses}
+use Rattle.raven_request.specs.RequestView.{Refuses}
 use Rattle.raven_script.proofs.LineLemmas.{line_of-text, line_of-bytes}
-use Rattle.raven_script.proofs.Readings.{refused_on}
+use Rattle.raven_request.proofs.Readings.{refused_on}
 use Rattle.raven_script.proofs.forms.plain_line.Goals as goal
 
 pub returns-in_default : goal.returns-in_default

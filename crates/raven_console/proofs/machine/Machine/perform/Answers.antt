@@ -1,7 +1,7 @@
 use Rattle.std.proofs.Common.{refl, true, false, ap, subst, ◌∙◌}
 use Rattle.spec_server.specs.Machine.{Machine, with_world}
 use Rattle.spec_server.specs.Replies.{KeeperFault, printed}
-use Rattle.raven_script.specs.RequestView.{request_view}
+use Rattle.raven_request.specs.RequestView.{request_view}
 use Rattle.raven_console.specs.Answering.{IsKept}
 use Rattle.raven_console.proofs.Answered.{if_ok}
 use Rattle.raven_console.proofs.Kept.{past, rising}

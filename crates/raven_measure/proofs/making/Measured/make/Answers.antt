@@ -1,7 +1,7 @@
 use Rattle.std.proofs.Common.{◌≡◌, ℕ, ◌+◌, [], ◌∷◌, ap, arith, subst, sym}
 use Rattle.spec_measure.specs.Summary.{one_if}
 use Rattle.spec_server.specs.Machine.{machine_of}
-use Rattle.raven_script.specs.RequestView.{request_view}
+use Rattle.raven_request.specs.RequestView.{request_view}
 use Rattle.raven_console.specs.Devices.{Keeps}
 use Rattle.raven_measure.specs.Doing.{Does, state_view}
 use Rattle.raven_measure.specs.declared.making.Measured.{Measured}

@@ -11,9 +11,9 @@ use Rattle.spec_server.specs.Script as read
 use Rattle.spec_data.specs.Data.{Data, array, items_of, list_of}
 use Rattle.spec_store.specs.Commit.{Command}
 use Rattle.spec_server.specs.Script.{then_read, command_read, commands_read, list_member}
-use Rattle.raven_script.specs.RequestView.{IsBadId, IsBadMember, IsBadName, Refuses}
-use Rattle.raven_script.specs.declared.request.ReadRefusal.{ReadRefusal}
-use Rattle.raven_script.specs.declared.request.ReadRefusal.TheVariants as refusal
+use Rattle.raven_request.specs.RequestView.{IsBadId, IsBadMember, IsBadName, Refuses}
+use Rattle.raven_request.specs.declared.request.ReadRefusal.{ReadRefusal}
+use Rattle.raven_request.specs.declared.request.ReadRefusal.TheVariants as refusal
 
 -- what reads on from a refusal is refused
 pub refused_on : {A B : Type 0} (why : ReadRefusal) (r : Result A read.ReadRefusal) (f : A → Result B read.ReadRefusal) → Refuses why r → Refuses why (then_read r f)

@@ -3,7 +3,7 @@ use Rattle.std.specs.Vec.Iter.{into_iter_items, into_iter_len}
 use Rattle.spec_server.specs.Script.{commands_read, then_read}
 use Rattle.raven_value.specs.View.{data_of}
 use Rattle.doc_txn.specs.CommandView.{command_view}
-use Rattle.raven_script.proofs.commands.commands_read.Given as goal
+use Rattle.raven_request.proofs.commands.commands_read.Given as goal
 
 abbrev pub invariant-loop-value : goal.invariant-loop-value
 invariant-loop-value l = record {

@@ -1,19 +1,17 @@
 -- The members of a query.
-use Rattle.std.proofs.Common.{◌≡◌, ◌∙◌, ℕ, List, [], ◌∷◌, Option, Some, None, Result, Ok, Err, Bool, true, false, refl, sym, ap, subst, codes}
-use Rattle.std.specs.Prelude.{option_map, if◌then◌else◌}
+use Rattle.std.proofs.Common.{◌≡◌, ◌∙◌, ℕ, List, [], ◌∷◌, Some, Result, Ok, Bool, true, false, refl, sym, ap, subst, codes}
+use Rattle.std.specs.Prelude.{if◌then◌else◌}
 use Rattle.std.specs.Str.{bytes_eq}
 use Rattle.std.proofs.lemmas.Slice.Eq.{bytes_eq-Decides}
 use Rattle.spec_data.specs.Data.{entries_of}
 use Rattle.spec_data.specs.Members.{member}
 use Rattle.spec_data.specs.Rising.{Pairs, without}
 use Rattle.spec_data.proofs.MemberLemmas.{pairs_of-entries_of}
-use Rattle.spec_server.specs.Script.{Asking, Querying, asked_by_text, asked_to_query, asking_with, beside_in, parameters_member, then_read, whole_ask}
-use Rattle.spec_server.specs.Script as read
-use Rattle.raven_script.specs.LineView.{asking_view}
-use Rattle.raven_script.specs.RequestView.{Reads, Refuses}
-use Rattle.raven_script.proofs.Readings.{bad_member, refused_on}
-use Rattle.raven_script.specs.declared.query.Asking as program
-use Rattle.raven_script.specs.declared.request.ReadRefusal.{ReadRefusal}
+use Rattle.spec_server.specs.Script.{asking_with, beside_in, parameters_member, then_read}
+use Rattle.raven_request.specs.RequestView.{Reads, asking_view}
+use Rattle.raven_request.proofs.Readings.{bad_member, refused_on}
+use Rattle.raven_request.specs.declared.query.Asking as program
+use Rattle.raven_request.specs.declared.request.ReadRefusal.{ReadRefusal}
 
 -- MEMBERS
 

@@ -2,10 +2,10 @@
 ghost use Rattle.std.specs.Prelude.{◌≡◌, option_map};
 ghost use Rattle.spec_data.specs.Data.{entries_of};
 ghost use Rattle.raven_value.specs.View.{data_of};
-ghost use Rattle.spec_server.specs.Script.{Querying, asked_to_query, asking_in as spec_asking_in, asking_of as spec_asking_of, asking_of_body as spec_asking_of_body, asking_with as spec_asking_with, beside_in as spec_beside_in, cutoff_member as spec_cutoff_member, looks_member as spec_looks_member, parameters_member as spec_parameters_member, plain_asking, query_member as spec_query_member, size_member as spec_size_member, start_member as spec_start_member, wait_member as spec_wait_member, whole_ask};
-ghost use Rattle.raven_script.specs.LineView.{asking_view};
-ghost use Rattle.raven_script.specs.RequestRead.{Asks};
-ghost use Rattle.raven_script.specs.RequestView.{Reads};
+ghost use Rattle.spec_server.specs.Machine.{Ask};
+ghost use Rattle.spec_server.specs.Script.{Querying, asked_to_query, asking_in as spec_asking_in, asking_of, asking_of_body as spec_asking_of_body, asking_with as spec_asking_with, beside_in as spec_beside_in, cutoff_member as spec_cutoff_member, looks_member as spec_looks_member, parameters_member as spec_parameters_member, plain_asking, query_member as spec_query_member, size_member as spec_size_member, start_member as spec_start_member, wait_member as spec_wait_member, whole_ask};
+ghost use Rattle.raven_request.specs.RequestRead.{Asks, AsksBy};
+ghost use Rattle.raven_request.specs.RequestView.{Reads, asking_view};
 
 use crate::body::{bad_member, json_of, taken};
 use crate::request::{ReadRefusal, Request};
@@ -20,13 +20,13 @@ const MAX_LOOKS: u32 = 64;
 
 /// What is asked beside the text of a query.
 #[derive(Drop)]
-pub struct Asking {
-    pub parameters: Members,
-    pub start: i64,
-    pub size: Option<i64>,
-    pub cutoff: Option<u64>,
-    pub wait: bool,
-    pub looks: u32,
+struct Asking {
+    parameters: Members,
+    start: i64,
+    size: Option<i64>,
+    cutoff: Option<u64>,
+    wait: bool,
+    looks: u32,
 }
 
 // What is asked if the text stands alone.
@@ -191,17 +191,6 @@ fn asking_of_body(alloc: Global, value: Value) -> Result<(Text, Asking), ReadRef
     }
 }
 
-// The text of the query, and what is asked beside it.
-#[tactic(auto, using(crate::proofs::Readings::readings))]
-fn asking_of(alloc: Global, text: &[u8]) -> Result<(Text, Asking), ReadRefusal>
-    ensures { Reads (λ asked. (asked.0, asking_view asked.1)) result (spec_asking_of text.now) }
-{
-    match json_of(alloc, text) {
-        Ok(value) => asking_of_body(alloc, value),
-        Err(refusal) => Err(refusal),
-    }
-}
-
 fn with_query(query: Query, asking: Asking) -> QueryAsk
     ensures { result ≡ whole_ask (asking_view asking) query }
 {
@@ -218,34 +207,50 @@ fn with_query(query: Query, asking: Asking) -> QueryAsk
 
 // The query that the text says.
 #[tactic(auto, using(crate::proofs::Requesting::requesting))]
-fn asked(alloc: Global, text: &str, asking: Asking) -> Result<Request, ReadRefusal>
-    ensures { Asks (Querying text.now (asking_view asking)) result }
+fn query_by(alloc: Global, text: &str, asking: Asking) -> Result<QueryAsk, ReadRefusal>
+    ensures { AsksBy Ask (Querying text.now (asking_view asking)) result }
 {
     match parse(alloc, text) {
-        Ok(query) => {
-            let ask = with_query(query, asking);
-            Ok(Request::Ask { ask })
-        }
+        Ok(query) => Ok(with_query(query, asking)),
         Err(RqlRefusal::At { at, kind }) => Err(ReadRefusal::BadQuery { at, kind }),
         Err(RqlRefusal::NoMemory) => Err(ReadRefusal::NoMemory),
     }
 }
 
-/// What is asked by the text of a query alone.
+/// The query that this object says, with its parameters and its page. Its members are read first, and then its text by the grammar. The
+/// parameters are moved out of it.
+#[tactic(auto, using(crate::proofs::Requesting::requesting))]
+pub fn ask_of(alloc: Global, value: Value) -> Result<QueryAsk, ReadRefusal>
+    ensures { AsksBy Ask (asked_to_query (spec_asking_of_body (data_of value))) result }
+{
+    match asking_of_body(alloc, value) {
+        Ok((text, asking)) => query_by(alloc, text.as_str(), asking),
+        Err(refusal) => Err(refusal),
+    }
+}
+
+/// The request to answer the query of this text alone.
 #[tactic(auto, using(crate::proofs::Requesting::requesting))]
 pub fn query_of(alloc: Global, text: &str) -> Result<Request, ReadRefusal>
     ensures { Asks (Querying text.now plain_asking) result }
 {
-    asked(alloc, text, plain(alloc))
+    match query_by(alloc, text, plain(alloc)) {
+        Ok(ask) => Ok(Request::Ask { ask }),
+        Err(refusal) => Err(refusal),
+    }
 }
 
-/// What is asked by this JSON of a query.
+/// The request to answer the query of this JSON.
 #[tactic(auto, using(crate::proofs::Requesting::requesting))]
-pub fn ask_of(alloc: Global, text: &[u8]) -> Result<Request, ReadRefusal>
-    ensures { Asks (asked_to_query (spec_asking_of text.now)) result }
+pub fn query_of_json(alloc: Global, text: &[u8]) -> Result<Request, ReadRefusal>
+    ensures { Asks (asked_to_query (asking_of text.now)) result }
 {
-    match asking_of(alloc, text) {
-        Ok((text, asking)) => asked(alloc, text.as_str(), asking),
+    let value = match json_of(alloc, text) {
+        Ok(value) => value,
+        Err(refusal) => return Err(refusal),
+    };
+    match ask_of(alloc, value) {
+        Ok(ask) => Ok(Request::Ask { ask }),
         Err(refusal) => Err(refusal),
     }
 }

@@ -1,5 +1,7 @@
--- What a line of a script asks, and the request that it is.
+-- What clients ask, and what it is read from.
 use Rattle.std.specs.Prelude.{◌≡◌, ℕ, List, Option, Some, None, map, Result, Ok, Err}
+use Rattle.std.specs.declared.alloc.Global.{Global}
+use Rattle.std.specs.declared.sync.Arc.{Arc}
 use Rattle.spec_data.specs.Faults.{Fault}
 use Rattle.spec_data.specs.Json.{not_json, number_not_whole, too_deep}
 use Rattle.raven_value.specs.Refusal.{fault_in}
@@ -9,20 +11,24 @@ use Rattle.spec_server.specs.Script as read
 use Rattle.doc_txn.specs.CommandView.{command_view, expect_view}
 use Rattle.index_definition.specs.DefinitionView.{definition_view}
 use Rattle.index_definition.specs.RefusalView.{refusal_view}
+use Rattle.index_definition.specs.declared.definition.Definition.{Definition}
 use Rattle.raven_lines.specs.SaysQuery.{query_refusal}
-use Rattle.raven_script.specs.declared.request.Request.{Request}
-use Rattle.raven_script.specs.declared.request.Request.TheVariants as r
-use Rattle.raven_script.specs.declared.request.Line.{Line}
-use Rattle.raven_script.specs.declared.request.Line.TheVariants as l
-use Rattle.raven_script.specs.declared.request.ReadRefusal.{ReadRefusal}
-use Rattle.raven_script.specs.declared.request.ReadRefusal.TheVariants as refusal
+use Rattle.raven_request.specs.declared.query.Asking.{Asking}
+use Rattle.raven_request.specs.declared.request.Request.{Request}
+use Rattle.raven_request.specs.declared.request.Request.TheVariants as r
+use Rattle.raven_request.specs.declared.request.ReadRefusal.{ReadRefusal}
+use Rattle.raven_request.specs.declared.request.ReadRefusal.TheVariants as refusal
+
+-- the request to define an index
+abbrev pub define_view : Arc Definition Global → is.Request
+define_view definition = is.Define definition.value.name (definition_view definition.value.body)
 
 abbrev pub request_view : Request → is.Request
 request_view (r.Put id expected body) = is.Put id (expect_view expected) (data_of body)
 request_view (r.Delete id expected) = is.Delete id (expect_view expected)
 request_view (r.Bulk commands) = is.Bulk (map command_view commands)
 request_view (r.Get id) = is.Get id
-request_view (r.Define definition) = is.Define definition.value.name (definition_view definition.value.body)
+request_view (r.Define definition) = define_view definition
 request_view (r.Remove name) = is.Remove name
 request_view (r.Auto collection field) = is.Auto collection field
 request_view (r.Find index field words) = is.Find index field words
@@ -32,8 +38,9 @@ request_view (r.Stale name cutoff) = is.Stale name cutoff
 request_view r.Indexes = is.Indexes
 request_view r.Stats = is.Stats
 
-abbrev pub line_view : Line → is.Line
-line_view (l.Do request) = is.Do (request_view request)
+-- what is asked beside the text of a query
+abbrev pub asking_view : Asking → read.Asking
+asking_view a = record { parameters = a.parameters; start = a.start; size = a.size; cutoff = a.cutoff; waits = a.wait; looks = a.looks }
 
 -- the text has this fault; out of memory is none
 abbrev pub IsBadId : {A : Type 0} → Option Fault → Result A read.ReadRefusal → Type 0
@@ -57,6 +64,13 @@ Refuses (refusal.BadMember name) reading = reading ≡ Err (read.BadMember name)
 Refuses (refusal.BadDefinition part at kind) reading = reading ≡ Err (read.BadDefinition (refusal_view part at kind))
 Refuses (refusal.BadQuery at kind) reading = reading ≡ Err (read.BadQuery (query_refusal at kind))
 Refuses refusal.NoMemory reading = Unit {0}
+
+-- memory ran out
+abbrev pub IsOutOfMemory : ReadRefusal → Type 0
+IsOutOfMemory (refusal.BadId why) = fault_in why ≡ None
+IsOutOfMemory (refusal.BadName why) = fault_in why ≡ None
+IsOutOfMemory refusal.NoMemory = Unit {0}
+IsOutOfMemory other = ⊥
 
 -- it names this member
 abbrev pub IsBadMember : List ℕ → ReadRefusal → Type 0

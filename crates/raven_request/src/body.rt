@@ -7,7 +7,7 @@ ghost use Rattle.spec_data.specs.Rising.{without};
 ghost use Rattle.spec_server.specs.Script.{delete_read, id_read, json_read, name_read, object_read, put_read};
 ghost use Rattle.doc_txn.specs.CommandView.{expect_view};
 ghost use Rattle.raven_value.specs.View.{data_of};
-ghost use Rattle.raven_script.specs.RequestView.{IsBadMember, Reads, request_view};
+ghost use Rattle.raven_request.specs.RequestView.{IsBadMember, Reads, request_view};
 
 use crate::request::{ReadRefusal, Request};
 use doc_txn::Expect;

@@ -6,7 +6,7 @@ ghost use Rattle.spec_data.specs.Members.{member};
 ghost use Rattle.spec_server.specs.Script.{bulk_read, command_read, commands_of as spec_commands_of, commands_read as spec_commands_read, delete_command as spec_delete_command, id_member as spec_id_member, list_member, object_read, put_command as spec_put_command, typed_command as spec_typed_command, vector_member as spec_vector_member};
 ghost use Rattle.raven_value.specs.View.{data_of};
 ghost use Rattle.doc_txn.specs.CommandView.{command_view, expect_view};
-ghost use Rattle.raven_script.specs.RequestView.{Reads, request_view};
+ghost use Rattle.raven_request.specs.RequestView.{Reads, request_view};
 
 use crate::body::{bad_member, id_of, json_of, object_of, taken};
 use crate::request::{ReadRefusal, Request};

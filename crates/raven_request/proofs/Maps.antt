@@ -4,9 +4,9 @@ use Rattle.spec_data.specs.Data.{Data, null, flag, num, text, array, object, Ite
 use Rattle.spec_server.specs.Script.{map_member}
 use Rattle.spec_server.specs.Script as read
 use Rattle.index_lang.specs.Bodies.{only_item, text_in}
-use Rattle.raven_script.specs.RequestView.{IsBadMember, Refuses}
-use Rattle.raven_script.specs.declared.request.ReadRefusal.{ReadRefusal}
-use Rattle.raven_script.proofs.Readings.{bad_member}
+use Rattle.raven_request.specs.RequestView.{IsBadMember, Refuses}
+use Rattle.raven_request.specs.declared.request.ReadRefusal.{ReadRefusal}
+use Rattle.raven_request.proofs.Readings.{bad_member}
 
 one_text : (d : Data) (other : Option Data) (t : List ℕ) → text_in (Some d) ≡ Some t → map_member (Some (array (item d no_items))) other ≡ Ok t
 one_text (text s) other t h = let own : s ≡ t = cc in ap Ok own

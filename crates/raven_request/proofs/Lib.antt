@@ -1,0 +1,5 @@
+pub mod Readings
+pub mod Maps
+pub mod Querying
+pub mod Requesting
+pub mod Refused

@@ -1,0 +1,2 @@
+pub mod RequestView
+pub mod RequestRead

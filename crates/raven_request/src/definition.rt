@@ -1,0 +1,146 @@
+//! The definition of an index, in JSON.
+ghost use Rattle.std.specs.Prelude.{◌≡◌, IfOk, Option, Some, option_map};
+ghost use Rattle.index_lang.specs.Bodies.{texts_behind};
+ghost use Rattle.raven_value.specs.View.{data_of};
+ghost use Rattle.raven_request.specs.RequestRead.{Asks, AsksBy};
+ghost use Rattle.raven_request.specs.RequestView.{Reads, define_view};
+ghost use Rattle.spec_data.specs.Data.{Data, entries_of};
+ghost use Rattle.spec_server.specs.Script.{Defining, asked_to_define, index_of, map_member as spec_map_member, name_member as spec_name_member, reduce_member as spec_reduce_member, texts_in as spec_texts_in, texts_of_body as spec_texts_of_body};
+
+use crate::body::{bad_member, json_of, name_of};
+use crate::request::{ReadRefusal, Request};
+use index_definition::{Definition, LangRefusal};
+use index_lang::{only_item, parse, text_in};
+use raven_base::NoMemory;
+use raven_value::{Members, Name, Value};
+use std::alloc::Global;
+use std::sync::Arc;
+
+/// The text of the map, and that of the reduce, if there is one.
+type Texts<'a> = (&'a str, Option<&'a str>);
+
+#[tactic(auto, using(crate::proofs::Readings::members))]
+fn name_member(alloc: Global, value: Option<&Value>) -> Result<Name, ReadRefusal>
+    ensures { Reads (λ name. name) result (spec_name_member (option_map (λ v. data_of v.now) value.entry)) }
+{
+    match value {
+        Some(Value::Text(text)) => name_of(alloc, text.as_str()),
+        _ => Err(bad_member(alloc, "Name")),
+    }
+}
+
+// The text of a list of one, whatever else there is.
+#[tactic(auto, using(crate::proofs::Maps::maps))]
+fn only_text(alloc: Global, maps: &Value) -> Result<&str, ReadRefusal>
+    ensures { (map : Option Data) → Reads (λ text. text.now) result (spec_map_member (Some (data_of maps.now)) map) }
+{
+    match text_in(only_item(Some(maps))) {
+        Some(text) => Ok(text.as_str()),
+        None => Err(bad_member(alloc, "Maps")),
+    }
+}
+
+#[tactic(auto, using(crate::proofs::Readings::members))]
+fn map_member<'a>(
+    alloc: Global,
+    maps: Option<&'a Value>,
+    map: Option<&'a Value>,
+) -> Result<&'a str, ReadRefusal>
+    ensures { Reads (λ text. text.now) result (spec_map_member (option_map (λ v. data_of v.now) maps.entry) (option_map (λ v. data_of v.now) map.entry)) }
+{
+    if let Some(maps) = maps {
+        return only_text(alloc, maps);
+    }
+    match map {
+        Some(Value::Text(text)) => Ok(text.as_str()),
+        Some(_) => Err(bad_member(alloc, "Map")),
+        None => Err(bad_member(alloc, "Maps")),
+    }
+}
+
+// The text of the reduce, if there is one.
+#[tactic(auto, using(crate::proofs::Readings::members))]
+fn reduce_member(alloc: Global, reduce: Option<&Value>) -> Result<Option<&str>, ReadRefusal>
+    ensures { Reads (λ text. option_map (λ t. t.now) text) result (spec_reduce_member (option_map (λ v. data_of v.now) reduce.entry)) }
+{
+    match reduce {
+        None | Some(Value::Null) => Ok(None),
+        Some(Value::Text(text)) => Ok(Some(text.as_str())),
+        Some(_) => Err(bad_member(alloc, "Reduce")),
+    }
+}
+
+#[tactic(auto, using(crate::proofs::Readings::readings))]
+fn texts_in(alloc: Global, members: &Members) -> Result<(Name, Texts<'_>), ReadRefusal>
+    ensures { Reads (λ asked. (asked.0, texts_behind asked.1)) result (spec_texts_in (entries_of members.now)) }
+{
+    let name = match name_member(alloc, members.get("Name")) {
+        Ok(name) => name,
+        Err(refusal) => return Err(refusal),
+    };
+    let map = match map_member(alloc, members.get("Maps"), members.get("Map")) {
+        Ok(map) => map,
+        Err(refusal) => return Err(refusal),
+    };
+    match reduce_member(alloc, members.get("Reduce")) {
+        Ok(reduce) => Ok((name, (map, reduce))),
+        Err(refusal) => Err(refusal),
+    }
+}
+
+#[tactic(auto, using(crate::proofs::Readings::members))]
+fn texts_of_body(alloc: Global, value: &Value) -> Result<(Name, Texts<'_>), ReadRefusal>
+    ensures { Reads (λ asked. (asked.0, texts_behind asked.1)) result (spec_texts_of_body (data_of value.now)) }
+{
+    match value {
+        Value::Map(members) => texts_in(alloc, members),
+        _ => Err(bad_member(alloc, "body")),
+    }
+}
+
+fn share(alloc: Global, definition: Definition) -> Result<Arc<Definition>, NoMemory>
+    ensures { IfOk result (λ shared. shared.value ≡ definition) }
+{
+    Ok(Arc::new(alloc, definition)?)
+}
+
+// The definition that the texts say.
+#[tactic(auto, using(crate::proofs::Requesting::requesting))]
+fn define_by(alloc: Global, name: Name, texts: Texts<'_>) -> Result<Arc<Definition>, ReadRefusal>
+    ensures { AsksBy define_view (Defining name (texts_behind texts.entry)) result }
+{
+    let (map, reduce) = texts;
+    match parse(alloc, name, map, reduce) {
+        Ok(definition) => Ok(share(alloc, definition)?),
+        Err(LangRefusal::At { part, at, kind }) => {
+            Err(ReadRefusal::BadDefinition { part, at, kind })
+        }
+        Err(LangRefusal::NoMemory) => Err(ReadRefusal::NoMemory),
+    }
+}
+
+/// The definition that this object says. Its members are read first, and then its texts by the grammar.
+#[tactic(auto, using(crate::proofs::Requesting::requesting))]
+pub fn definition_of(alloc: Global, value: &Value) -> Result<Arc<Definition>, ReadRefusal>
+    ensures { AsksBy define_view (asked_to_define (spec_texts_of_body (data_of value.now))) result }
+{
+    match texts_of_body(alloc, value) {
+        Ok((name, texts)) => define_by(alloc, name, texts),
+        Err(refusal) => Err(refusal),
+    }
+}
+
+/// The request to define the index of this JSON.
+#[tactic(auto, using(crate::proofs::Requesting::requesting))]
+pub fn define_of(alloc: Global, text: &[u8]) -> Result<Request, ReadRefusal>
+    ensures { Asks (asked_to_define (index_of text.now)) result }
+{
+    let value = match json_of(alloc, text) {
+        Ok(value) => value,
+        Err(refusal) => return Err(refusal),
+    };
+    match definition_of(alloc, &value) {
+        Ok(definition) => Ok(Request::Define { definition }),
+        Err(refusal) => Err(refusal),
+    }
+}
