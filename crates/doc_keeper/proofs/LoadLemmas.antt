@@ -1,5 +1,5 @@
 -- Rows are loaded one page after another.
-use Rattle.std.proofs.Common.{◌≡◌, ℕ, zero, suc, ◌<◌, ◌≤◌, ◌+◌, ◌-◌, ◌^◌, List, [], ◌∷◌, ◌++◌, Bool, true, false, cond, is_some, Option, Some, None, option_map, IfSome, Result, Err, IsTrue, ◌↔◌, filter, length, take, drop, min, refl, sym, ap, ◌∙◌, subst, arith}
+use Rattle.std.proofs.Common.{◌≡◌, ℕ, zero, suc, ◌<◌, ◌≤◌, ◌+◌, ◌-◌, ◌*◌, ◌^◌, List, [], ◌∷◌, ◌++◌, Bool, true, false, cond, is_some, Option, Some, None, option_map, IfSome, Result, Err, IsTrue, ◌↔◌, filter, length, take, drop, min, refl, sym, ap, ◌∙◌, subst, arith}
 use Rattle.std.proofs.lemmas.Bool.{ltb-true, lt-ltb, le-ltb}
 use Rattle.std.proofs.lemmas.List.{append_assoc, append-nil, length-append, length-take, take-append-drop}
 use Rattle.spec_data.specs.Kept.{KeptRow, EtagsRise, is_past, last_kept}
@@ -227,15 +227,17 @@ other_error x y a b is at h = let same : a ≡ b = cc in is ∙ ap Err same
 pub has_none : (b : Bool) (page : List KeptRow) → IsTrue b ↔ (page ≡ []) → b ≡ true → page ≡ []
 has_none b page is h = is.0 h
 
-has_rows : (b : Bool) (page : List KeptRow) → IsTrue b ↔ (page ≡ []) → b ≡ false → 1 ≤ length page
+pub has_rows : (b : Bool) (page : List KeptRow) → IsTrue b ↔ (page ≡ []) → b ≡ false → 1 ≤ length page
 has_rows b [] is h = let e : b ≡ true = is.1 refl in absurd cc
 has_rows b (k ∷ page) is h = omega arith
+
+pub grows_by : (max : ℕ) (loaded further : List Row) (page : List KeptRow) → read_on max loaded page ≡ (further, None) → length further ≡ length loaded + length page
+grows_by max loaded further page is = subst (λ p. counted p (length loaded + length page)) is (read_length max loaded page) refl
 
 pub smaller : (max : ℕ) (loaded further : List Row) (page : List KeptRow) (b : Bool) → length further ≤ max → read_on max loaded page ≡ (further, None) → IsTrue b ↔ (page ≡ []) → b ≡ false
     → max - length further < max - length loaded
 smaller max loaded further page b most is none h =
-    let a : length further ≡ length loaded + length page = subst (λ p. counted p (length loaded + length page)) is (read_length max loaded page) refl in
-    let c = has_rows b page none h in omega arith
+    let a = grows_by max loaded further page is in let c = has_rows b page none h in omega arith
 
 -- CALLS
 
@@ -243,13 +245,97 @@ called_later : (n : ℕ) (plan : Option Plan) → option_map one_later (calls_la
 called_later zero plan = refl
 called_later (suc n) plan = called_later n (option_map one_later plan)
 
-pub no_call : (plan : Option Plan) → AreCalls plan plan
-no_call plan = record { calls = 0; after_them = refl }
+-- the calls so far, of which all but the last gave as many rows as stand here; a page with rows comes only after full ones
+pub record CallsSoFar (held : Option (List KeptRow)) (loaded : ℕ) (page : List KeptRow) (before after : Option Plan) : Type 0 where
+  pub calls : ℕ
+  pub after_them : after ≡ calls_later calls before
+  pub few : IfSome held (λ all. 1024 * calls ≤ loaded + 2047)
+  pub full : IfSome held (λ all. 1 ≤ length page → 1024 * calls ≤ loaded + 1024)
 
-pub first_call : (before after : Option Plan) → after ≡ option_map one_later before → AreCalls before after
-first_call before after e = record { calls = 1; after_them = e }
+-- what is reported of what the keeper holds
+if_held : (held : Option (List KeptRow)) (P Q : List KeptRow → Type 0) → ((all : List KeptRow) → P all → Q all) → IfSome held P → IfSome held Q
+if_held None P Q f h = tt
+if_held (Some all) P Q f h = f all h
 
-pub one_more_call : (before between after : Option Plan) → AreCalls before between → after ≡ option_map one_later between → AreCalls before after
-one_more_call before between after h e = record { calls = suc h.calls; after_them = e ∙ ap (option_map one_later) h.after_them ∙ called_later h.calls before }
+if_always : (held : Option (List KeptRow)) (Q : List KeptRow → Type 0) → ((all : List KeptRow) → Q all) → IfSome held Q
+if_always None Q f = tt
+if_always (Some all) Q f = f all
 
-pub ruleset calls = (no_call, first_call, one_more_call)
+if_both : (held : Option (List KeptRow)) (P Q : List KeptRow → Type 0) → IfSome held P → IfSome held Q → IfSome held (λ all. P all × Q all)
+if_both None P Q p q = tt
+if_both (Some all) P Q p q = (p, q)
+
+-- as many rows were given as were loaded
+given_count : (max : ℕ) (held : Option (List KeptRow)) (loaded : List Row) (after : Option ℕ) (page : List KeptRow) (s : SoFar max held loaded after page) → length loaded ≡ length s.given
+given_count max held loaded after page s =
+    let all : length loaded ≡ 0 + length s.given = subst (λ p. counted p (0 + length s.given)) s.read (read_length max [] s.given) refl in omega arith
+
+split_count : (given page all : List KeptRow) (t : IsSplit given page all) → length all ≡ length given + length t.rest
+split_count given page all t = ap length t.split ∙ length-append given t.rest
+
+page_count : (given page all : List KeptRow) (t : IsSplit given page all) → length page ≡ min 1024 (length t.rest)
+page_count given page all t = ap length t.prefix ∙ length-take 1024 t.rest
+
+-- the rows so far and this page are no more than all
+within_all : (given page all : List KeptRow) → IsSplit given page all → length given + length page ≤ length all
+within_all given page all t = let a = split_count given page all t in let b = page_count given page all t in omega arith
+
+-- a page after which another has rows is full
+full_page : (given page next more all : List KeptRow) → IsSplit given page all → IsSplit next more all → length next ≡ length given + length page → 1 ≤ length more → length page ≡ 1024
+full_page given page next more all t u grown some =
+    let a = split_count given page all t in
+    let b = page_count given page all t in
+    let c = split_count next more all u in
+    let d = page_count next more all u in
+    omega arith
+
+pub first_call : (held : Option (List KeptRow)) (before after : Option Plan) → after ≡ option_map one_later before → AreCalls held before after
+first_call held before after e = record { calls = 1; after_them = e; few = if_always held _ (λ all. omega arith) }
+
+pub calls_start : (held : Option (List KeptRow)) (loaded : List Row) (page : List KeptRow) (before after : Option Plan) → loaded ≡ [] → after ≡ option_map one_later before
+    → CallsSoFar held (length loaded) page before after
+calls_start held loaded page before after none e = record {
+  calls = 1;
+  after_them = e;
+  few = if_always held _ (λ all. omega arith);
+  full = if_always held _ (λ all some. omega arith);
+}
+
+pub calls_on : (max : ℕ) (held : Option (List KeptRow)) (loaded further : List Row) (after now : Option ℕ) (page more : List KeptRow) (p q r : Option Plan) → SoFar max held loaded after page
+    → SoFar max held further now more → length further ≡ length loaded + length page → 1 ≤ length page → CallsSoFar held (length loaded) page p q → r ≡ option_map one_later q
+    → CallsSoFar held (length further) more p r
+calls_on max held loaded further after now page more p q r s t grown some c e = record {
+  calls = suc c.calls;
+  after_them = e ∙ ap (option_map one_later) c.after_them ∙ called_later c.calls p;
+  few = if_held held _ _ (λ all full. let f = full some in omega arith) c.full;
+  full = if_held held _ _
+      (λ all h next.
+      let a = given_count max held loaded after page s in
+      let b = given_count max held further now more t in
+      let whole = full_page s.given page t.given more all h.0.0 h.0.1 (omega arith) next in
+      let f = h.1 some in
+      omega arith)
+      (if_both held _ _ (if_both held _ _ s.known t.known) c.full);
+}
+
+-- they were few
+pub calls_done : (max : ℕ) (held : Option (List KeptRow)) (loaded : List Row) (after : Option ℕ) (page : List KeptRow) (p q : Option Plan) → SoFar max held loaded after page
+    → CallsSoFar held (length loaded) page p q → AreCalls held p q
+calls_done max held loaded after page p q s c = record {
+  calls = c.calls;
+  after_them = c.after_them;
+  few = if_held held _ _
+      (λ all h. let a = given_count max held loaded after page s in let b = within_all s.given page all h.0 in let f = h.1 in omega arith)
+      (if_both held _ _ s.known c.few);
+}
+
+-- and so they are with one more, after a page with rows
+pub last_call : (max : ℕ) (held : Option (List KeptRow)) (loaded : List Row) (after : Option ℕ) (page : List KeptRow) (p q r : Option Plan) → SoFar max held loaded after page
+    → 1 ≤ length page → CallsSoFar held (length loaded) page p q → r ≡ option_map one_later q → AreCalls held p r
+last_call max held loaded after page p q r s some c e = record {
+  calls = suc c.calls;
+  after_them = e ∙ ap (option_map one_later) c.after_them ∙ called_later c.calls p;
+  few = if_held held _ _
+      (λ all h. let a = given_count max held loaded after page s in let b = within_all s.given page all h.0 in let f = h.1 some in omega arith)
+      (if_both held _ _ s.known c.full);
+}

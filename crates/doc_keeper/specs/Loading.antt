@@ -1,5 +1,5 @@
 -- What is loaded from a keeper.
-use Rattle.std.specs.Prelude.{◌≡◌, ℕ, List, Option, None, IfSome, Result, Err}
+use Rattle.std.specs.Prelude.{◌≡◌, ℕ, ◌+◌, ◌-◌, ◌*◌, ◌<◌, List, length, Option, None, IfSome, Result, Err}
 use Rattle.spec_data.specs.Kept.{KeptRow, EtagsRise, kept_after}
 use Rattle.spec_data.specs.Rows.{Row}
 use Rattle.spec_store.specs.Kept.{rows_in}
@@ -36,7 +36,8 @@ IsPageFault Failed loaded = ⊥
 IsPageFault (KeptBad etag) loaded = loaded ≡ Err etag
 IsPageFault NoMemory loaded = Unit {0}
 
--- some calls later
-pub record AreCalls (before after : Option Plan) : Type 0 where
+-- Some calls later: no more than one for each page of what the keeper holds, if it reports that, and one that finds no more.
+pub record AreCalls (held : Option (List KeptRow)) (before after : Option Plan) : Type 0 where
   pub calls : ℕ
   pub after_them : after ≡ calls_later calls before
+  pub few : IfSome held (λ all. page_length * (calls - 1) < length all + page_length)

@@ -169,7 +169,6 @@ fn load_page<K: Keeper>(
 ///
 /// A stored row is bad if `row_of` refuses it; if its etag is not past those of the rows before it; if one of these has its id,
 /// without regard to case; or if there are `limits.rows` of them. Of several the first is named.
-#[tactic(auto, using(crate::proofs::LoadLemmas::calls))]
 pub fn load<K: Keeper>(
     alloc: Global,
     keeper: &mut K,
@@ -181,7 +180,7 @@ pub fn load<K: Keeper>(
     ensures most { IfOk result (λ r. length r.0 ≤ limits.now.rows) }
     ensures fault { IfErr result (IsCause limits.now.rows (K.state keeper.old).held) }
     ensures same { (K.state keeper.new).held ≡ (K.state keeper.old).held }
-    ensures called { AreCalls (K.state keeper.old).plan (K.state keeper.new).plan }
+    ensures called { AreCalls (K.state keeper.old).held (K.state keeper.old).plan (K.state keeper.new).plan }
     ensures later { (K.state keeper.old).count ≤ (K.state keeper.new).count }
     ensures cause { IsErrOf result LoadFault.Failed → Rose (K.state keeper.old).count (K.state keeper.new).count }
 {

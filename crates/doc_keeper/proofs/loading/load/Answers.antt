@@ -4,7 +4,7 @@ use Rattle.std.proofs.lemmas.Result.{IfErr-weaker, IfOk-weaker}
 use Rattle.spec_data.specs.Rows.{Row}
 use Rattle.doc_keeper.specs.Loading.{IsCause, IsPage}
 use Rattle.doc_keeper.specs.Reading.{read_on}
-use Rattle.doc_keeper.proofs.LoadLemmas.{start, go_on, caused, finish, end, few, read_few, smaller, has_none, not_some, first_call, one_more_call}
+use Rattle.doc_keeper.proofs.LoadLemmas.{start, go_on, caused, finish, end, few, read_few, smaller, grows_by, has_none, has_rows, not_some, calls_done, calls_on, calls_start, first_call, last_call}
 use Rattle.doc_keeper.proofs.ReadLemmas.{judged_same}
 use Rattle.doc_keeper.proofs.loading.load.Goals as goal
 use Rattle.doc_keeper.proofs.loading.load.Goals.{In_ok-bad}
@@ -32,7 +32,7 @@ or_bad_row-requires g c = record { few = still_few g (goal.at.or_bad_row-require
 pub loop-after-init : goal.loop-after-init
 loop-after-init g c = record {
   so_far = start c.args.limits.now.rows (g.K.Keeper.state c.args.keeper.now).held c.new-rows.result c.in-Ok.first c.new-rows.ensures c.in-Ok.ensures.page;
-  called = first_call _ _ c.load_page.ensures.called;
+  called = calls_start _ c.new-rows.result c.in-Ok.first _ _ c.new-rows.ensures c.load_page.ensures.called;
   same = c.load_page.ensures.same;
   later = c.load_page.ensures.later;
 }
@@ -40,13 +40,16 @@ loop-after-init g c = record {
 pub loop-after-preserved : goal.loop-after-preserved
 loop-after-preserved g c =
     let good : c.in_ok-bad.bad ≡ None = not_some c.in_ok-bad.bad (sym c.is_some.ensures ∙ c.if-is_some.false) in
+    let all_read = read_is g (goal.at.loop-after-preserved g c).In_ok-bad ∙ ap (λ bad. (c.add_rows.new.rows, bad)) good in
+    let so_far = go_on c.args.limits.now.rows (g.K.Keeper.state c.args.keeper.now).held c.loop-after.rows c.add_rows.new.rows c.loop-after.after c.last_etag-after.result c.loop-after.page
+    c.in-Ok-load_page.next c.loop-after.invariant.so_far all_read
+    (c.last_etag-after.ensures ∙ ap (last_kept c.loop-after.after) c.as_slice-in-loop-after.ensures)
+    (subst (λ (held : Option (List KeptRow)). IsPage held c.last_etag-after.result c.in-Ok-load_page.next) c.loop-after.invariant.same c.in-Ok-load_page.ensures.page) in
     record {
-      so_far =
-          go_on c.args.limits.now.rows (g.K.Keeper.state c.args.keeper.now).held c.loop-after.rows c.add_rows.new.rows c.loop-after.after c.last_etag-after.result c.loop-after.page c.in-Ok-load_page.next
-          c.loop-after.invariant.so_far (read_is g (goal.at.loop-after-preserved g c).In_ok-bad ∙ ap (λ bad. (c.add_rows.new.rows, bad)) good)
-          (c.last_etag-after.ensures ∙ ap (last_kept c.loop-after.after) c.as_slice-in-loop-after.ensures)
-          (subst (λ (held : Option (List KeptRow)). IsPage held c.last_etag-after.result c.in-Ok-load_page.next) c.loop-after.invariant.same c.in-Ok-load_page.ensures.page);
-      called = one_more_call _ _ _ c.loop-after.invariant.called c.load_page-in-loop-after.ensures.called;
+      so_far = so_far;
+      called = calls_on c.args.limits.now.rows _ c.loop-after.rows c.add_rows.new.rows c.loop-after.after c.last_etag-after.result c.loop-after.page c.in-Ok-load_page.next _ _ _
+          c.loop-after.invariant.so_far so_far (grows_by c.args.limits.now.rows c.loop-after.rows c.add_rows.new.rows c.loop-after.page all_read)
+          (has_rows c.is_empty.result c.loop-after.page c.is_empty.ensures c.loop-after-test.true) c.loop-after.invariant.called c.load_page-in-loop-after.ensures.called;
       same = c.load_page-in-loop-after.ensures.same ∙ c.loop-after.invariant.same;
       later = let a = c.loop-after.invariant.later in let b = c.load_page-in-loop-after.ensures.later in omega arith;
     }
@@ -79,7 +82,24 @@ returns-in-Err-load_page-clause-fault g c =
     ]
 
 pub returns-in-Err-load_page-clause-called : goal.returns-in-Err-load_page-clause-called
-returns-in-Err-load_page-clause-called g c = one_more_call _ _ _ c.loop-after.invariant.called c.load_page-in-loop-after.ensures.called
+returns-in-Err-load_page-clause-called g c =
+    last_call c.args.limits.now.rows _ c.loop-after.rows c.loop-after.after c.loop-after.page _ _ _ c.loop-after.invariant.so_far
+    (has_rows c.is_empty.result c.loop-after.page c.is_empty.ensures c.loop-after-test.true) c.loop-after.invariant.called c.load_page-in-loop-after.ensures.called
+
+pub returns-in-Err-clause-called : goal.returns-in-Err-clause-called
+returns-in-Err-clause-called g c = first_call _ _ _ c.load_page.ensures.called
+
+pub returns-in_err-bad-clause-called : goal.returns-in_err-bad-clause-called
+returns-in_err-bad-clause-called g c =
+    calls_done c.args.limits.now.rows _ c.loop-after.rows c.loop-after.after c.loop-after.page _ _ c.loop-after.invariant.so_far c.loop-after.invariant.called
+
+pub returns-then-is_some-clause-called : goal.returns-then-is_some-clause-called
+returns-then-is_some-clause-called g c =
+    calls_done c.args.limits.now.rows _ c.loop-after.rows c.loop-after.after c.loop-after.page _ _ c.loop-after.invariant.so_far c.loop-after.invariant.called
+
+pub returns-clause-called : goal.returns-clause-called
+returns-clause-called g c =
+    calls_done c.args.limits.now.rows _ c.loop-after.rows c.loop-after.after c.loop-after.page _ _ c.loop-after.invariant.so_far c.loop-after.invariant.called
 
 pub opened-requires-2 : goal.opened-requires-2
 opened-requires-2 g c =

@@ -1,13 +1,12 @@
 use Rattle.std.proofs.Common.{◌≡◌, ◌≤◌, ◌-◌, length}
-use Rattle.doc_keeper.specs.Loading.{AreCalls}
-use Rattle.doc_keeper.proofs.LoadLemmas.{SoFar}
+use Rattle.doc_keeper.proofs.LoadLemmas.{CallsSoFar, SoFar}
 use Rattle.doc_keeper.proofs.loading.load.Given as goal
 
 -- the rows so far and the next page; the keeper holds what it held
 abbrev pub invariant-loop-after : goal.invariant-loop-after
 invariant-loop-after g l = record {
   so_far : SoFar l.limits.rows (g.K.Keeper.state l.fn.keeper).held l.rows l.after l.page;
-  called : AreCalls (g.K.Keeper.state l.fn.keeper).plan (g.K.Keeper.state l.keeper).plan;
+  called : CallsSoFar (g.K.Keeper.state l.fn.keeper).held (length l.rows) l.page (g.K.Keeper.state l.fn.keeper).plan (g.K.Keeper.state l.keeper).plan;
   same : (g.K.Keeper.state l.keeper).held ≡ (g.K.Keeper.state l.fn.keeper).held;
   later : (g.K.Keeper.state l.fn.keeper).count ≤ (g.K.Keeper.state l.keeper).count;
 }
