@@ -1,0 +1,5 @@
+pub mod Asked
+pub mod Changes
+pub mod Kept
+pub mod Opened
+pub mod Pieces

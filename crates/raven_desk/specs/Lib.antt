@@ -1,0 +1,6 @@
+pub mod CourseView
+pub mod SettledView
+pub mod ReceiptView
+pub mod Desks
+pub mod Openings
+pub mod Giving

@@ -1,0 +1,243 @@
+//! What a request does to a world: its reply, and its changes, which are not made yet.
+ghost use Rattle.std.specs.Prelude.{◌≡◌, ◌≤◌, IfOk, Some, true};
+ghost use Rattle.spec_server.specs.Machine.{Ask, Auto, Do, Find, course_of as spec_course_of, only_reply, pump_for};
+ghost use Rattle.spec_server.specs.Opening.{is_part};
+ghost use Rattle.spec_server.specs.WellFormed.{IsWellFormed};
+ghost use Rattle.raven_request.specs.RequestView.{request_view};
+ghost use Rattle.raven_world.specs.WorldView.{answer_view, change_view};
+ghost use Rattle.raven_reply.specs.ReplyView.{reply_view};
+ghost use Rattle.raven_desk.specs.CourseView.{course_view};
+
+use doc_keeper::all_kept;
+use doc_txn::Command;
+use raven_base::{NoMemory, Shared, Steps};
+use raven_ports::KeptRows;
+use raven_request::Request;
+use raven_value::{Name, Rows, Text};
+use raven_world::{Answered, Change, Reply, Snapshot, World, WorldFault};
+use rql_plan::QueryAsk;
+use std::alloc::Global;
+use std::marker::{Brand, Model};
+use std::sync::ledger::{Blank, Ledger};
+use std::thread::Threads;
+
+/// A change that is not made yet: its rows, also as a keeper takes them, and the world once they are stored. It has all the memory that it
+/// takes to make it.
+pub struct Pending {
+    pub(crate) rows: Rows,
+    pub(crate) kept: KeptRows,
+    pub(crate) world: Shared<World>,
+}
+
+// Opaque drop: see raven_base.
+impl Drop for Pending {
+    fn drop(self) {
+        let Pending {
+            rows: _rows,
+            kept: _kept,
+            world: _world,
+        } = self;
+    }
+}
+
+impl Model for Pending {
+    ghost use Rattle.std.specs.Prelude.{◌≡◌};
+    ghost use Rattle.spec_data.specs.Kept.{all_kept};
+    ghost use Rattle.spec_server.specs.Machine as is;
+    ghost use Rattle.spec_desk.specs.Codes.{change_code};
+
+    ghost Value = { is.Change };
+
+    ghost coded = { change_code };
+
+    ghost view = { λ p. record { rows = p.rows; world = p.world } };
+
+    ghost invariant = { λ p. p.kept ≡ all_kept p.rows };
+}
+
+impl Pending {
+    /// The world once the rows are stored.
+    pub(crate) fn into_world(self) -> Shared<World>
+        ensures { result ≡ self.world }
+    {
+        let Pending {
+            rows: _rows,
+            kept: _kept,
+            world,
+        } = self;
+        world
+    }
+}
+
+/// The reply to a request, and the changes that it makes, each of the world that the one before it leaves. The reply is due if all are made.
+#[derive(Drop)]
+pub struct Course {
+    pub reply: Reply,
+    pub changes: Vec<Pending>,
+}
+
+fn unchanged(alloc: Global, reply: Reply) -> Course
+    ensures { course_view result ≡ only_reply (reply_view reply) }
+{
+    Course {
+        reply,
+        changes: Vec::new(alloc),
+    }
+}
+
+fn make_pending(alloc: Global, rows: Rows, world: World) -> Result<Pending, NoMemory>
+    ensures { IfOk result (λ pending. pending ≡ record { rows = rows; world = world }) }
+{
+    let kept = all_kept(alloc, &rows)?;
+    let world = Shared::of(alloc, world)?;
+    Ok(Pending { rows, kept, world })
+}
+
+fn changed(alloc: Global, change: Change) -> Result<Course, NoMemory>
+    ensures { IfOk result (λ course. course_view course ≡ change_view change) }
+{
+    let Change { world, rows, reply } = change;
+    let mut changes = Vec::new(alloc);
+    changes.push(make_pending(alloc, rows, world)?)?;
+    Ok(Course { reply, changes })
+}
+
+fn changed_or_refused(alloc: Global, answer: Result<Change, WorldFault>) -> Result<Course, NoMemory>
+    ensures { IfOk result (λ course. answer_view answer ≡ Some (course_view course)) }
+{
+    match answer {
+        Ok(change) => changed(alloc, change),
+        Err(WorldFault::Refused(reply)) => Ok(unchanged(alloc, reply)),
+        Err(WorldFault::NoMemory) => Err(NoMemory),
+    }
+}
+
+fn picked(
+    alloc: Global,
+    world: &World,
+    now: u64,
+    collection: &Text,
+    field: &Text,
+) -> Result<Course, NoMemory>
+    requires { is_part field.now ≡ true }
+    ensures { IfOk result (λ course. course_view course ≡ spec_course_of world.now now (Auto collection.now field.now)) }
+{
+    match world.snapshot().answer(alloc, collection, field)? {
+        Answered::Reply(reply) => Ok(unchanged(alloc, reply)),
+        Answered::MustMake => {
+            changed_or_refused(alloc, world.make(alloc, collection, field, now))
+        }
+    }
+}
+
+// A batch for each index, or for the one that is named. Nobody reads the counter.
+fn pumped<R: Threads, L: Ledger>(
+    rt: &R,
+    alloc: Global,
+    world: &World,
+    max: u32,
+    index: Option<Name>,
+    blank: Blank,
+) -> Result<Course, NoMemory>
+    requires name { blank.name ≡ L.name }
+    requires parts { blank.parts ≡ L.parts }
+    requires enough { 3 ≤ blank.parts }
+    ensures { IfOk result (λ course. course_view course ≡ pump_for world.now max index) }
+{
+    let mut steps = Steps::<L>::new(blank);
+    match index {
+        None => changed(alloc, world.pump(rt, alloc, max, &mut steps)?),
+        Some(name) => {
+            changed_or_refused(alloc, world.pump_one(rt, alloc, max, &name, &mut steps))
+        }
+    }
+}
+
+// What a look for a text finds. Nobody reads the counter.
+fn found<L: Ledger>(
+    alloc: Global,
+    seen: &Snapshot<'_>,
+    index: &Name,
+    field: &Text,
+    text: &Text,
+    blank: Blank,
+) -> Result<Course, NoMemory>
+    requires name { blank.name ≡ L.name }
+    requires parts { blank.parts ≡ L.parts }
+    requires enough { 3 ≤ blank.parts }
+    ensures { IfOk result (λ course. course_view course ≡ spec_course_of seen.now 0 (Find index.now field.now text.now)) }
+{
+    let mut steps = Steps::<L>::new(blank);
+    Ok(unchanged(alloc, seen.find(alloc, index, field, text, &mut steps)?))
+}
+
+// What a query finds. Nobody reads the counter.
+fn asked<L: Ledger>(
+    alloc: Global,
+    seen: &Snapshot<'_>,
+    ask: &QueryAsk,
+    blank: Blank,
+) -> Result<Course, NoMemory>
+    requires name { blank.name ≡ L.name }
+    requires parts { blank.parts ≡ L.parts }
+    requires enough { 3 ≤ blank.parts }
+    ensures { IfOk result (λ course. course_view course ≡ spec_course_of seen.now 0 (Ask ask.now)) }
+{
+    let mut steps = Steps::<L>::new(blank);
+    Ok(unchanged(alloc, seen.ask(alloc, ask, &mut steps)?))
+}
+
+/// What a query does to the world at this moment.
+pub(crate) fn course_of_query(
+    alloc: Global,
+    world: &World,
+    now: u64,
+    ask: &QueryAsk,
+) -> Result<Course, NoMemory>
+    ensures { IfOk result (λ course. course_view course ≡ spec_course_of world.now now (Ask ask.now)) }
+{
+    asked::<Brand>(alloc, &world.snapshot(), ask, Blank::new(3))
+}
+
+/// What the request does to the world at this moment. Its documents are moved into the new world.
+pub(crate) fn course_of<R: Threads>(
+    rt: &R,
+    alloc: Global,
+    world: &World,
+    now: u64,
+    request: Request,
+) -> Result<Course, NoMemory>
+    requires { IsWellFormed (Do (request_view request)) }
+    ensures { IfOk result (λ course. course_view course ≡ spec_course_of world.now now (request_view request)) }
+{
+    let seen = world.snapshot();
+    match request {
+        Request::Put { id, expected, body } => {
+            let command = Command::Put { id, expected, body };
+            changed_or_refused(alloc, world.commit_one(alloc, command, now))
+        }
+        Request::Delete { id, expected } => {
+            let command = Command::Delete { id, expected };
+            changed_or_refused(alloc, world.commit_one(alloc, command, now))
+        }
+        Request::Bulk { commands } => {
+            changed_or_refused(alloc, world.commit(alloc, commands, now))
+        }
+        Request::Get { id } => Ok(unchanged(alloc, seen.get(alloc, &id)?)),
+        Request::Auto { collection, field } => picked(alloc, world, now, &collection, &field),
+        Request::Find { index, field, text } => {
+            found::<Brand>(alloc, &seen, &index, &field, &text, Blank::new(3))
+        }
+        Request::Ask { ask } => course_of_query(alloc, world, now, &ask),
+        Request::Define { definition } => {
+            changed_or_refused(alloc, world.define(alloc, definition, now))
+        }
+        Request::Remove { name } => changed_or_refused(alloc, world.remove(alloc, &name, now)),
+        Request::Pump { max, index } => {
+            pumped::<R, Brand>(rt, alloc, world, max, index, Blank::new(3))
+        }
+        Request::Stale { name, cutoff } => Ok(unchanged(alloc, seen.stale(alloc, &name, cutoff)?)),
+        Request::Indexes => Ok(unchanged(alloc, seen.indexes(alloc)?)),
+        Request::Stats => Ok(unchanged(alloc, seen.stats())),
+    }
+}

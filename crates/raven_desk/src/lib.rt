@@ -1,0 +1,24 @@
+//! The desk: the one value on which every command answers its requests, the steps on it, and receipts of what was answered.
+#![tactic(auto)]
+
+mod course;
+mod desk;
+mod give;
+mod keeping;
+mod live;
+mod one_desk;
+mod opening;
+mod receipt;
+mod settling;
+mod shot;
+mod step;
+
+pub use course::{Course, Pending};
+pub use desk::Desk;
+pub use give::give_all;
+pub use live::Live;
+pub use one_desk::OneDesk;
+pub use opening::Unopened;
+pub use receipt::Receipt;
+pub use settling::Settled;
+pub use shot::Shot;

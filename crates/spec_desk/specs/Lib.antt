@@ -1,0 +1,5 @@
+pub mod Keepers
+pub mod Lived
+pub mod Codes
+pub mod Stepped
+pub mod Receipts

@@ -1,0 +1,109 @@
+-- What a desk gives for a request, and what it has then seen.
+use Rattle.std.specs.Prelude.{◌≡◌, ℕ, ◌+◌, ◌-◌, ◌≤◌, ◌==◌, List, [], ◌∷◌, length, All, Bool, false, if◌then◌else◌, IsTrue, Option, None, MatchBool}
+use Rattle.spec_query.specs.Query.{Ask as QueryAsk}
+use Rattle.spec_server.specs.Machine.{Request, Ask, Pump}
+use Rattle.spec_server.specs.Replies.{Answer, Reply}
+use Rattle.spec_desk.specs.Lived.{Follows, Lived, Seen, etags, seen_of}
+use Rattle.spec_desk.specs.Stepped.{IsStepAt}
+
+-- how often a query looks at most
+abbrev pub looks_in : QueryAsk → ℕ
+looks_in ask = if ask.waits then ask.looks else 1
+
+-- and any request: all others look once
+abbrev pub looks_of : Request → ℕ
+looks_of (Ask ask) = looks_in ask
+looks_of other = 1
+
+-- it is the answer of an index that is stale
+abbrev pub says_stale : Reply → Bool
+says_stale (Answer a) = a.is_stale
+says_stale other = false
+
+-- a receipt: what the last look took away and the looks before it, and the reply
+pub record Receipt : Type 0 where
+  pub shot : Seen
+  pub earlier : List Seen
+  pub reply : Reply
+
+-- LOOKS. `Link x y` says that a desk which saw x last may find y.
+
+-- One look, where x was seen last: it found a value that is linked to x, took this away, and the step there gave the reply and left y.
+pub record Look (Link : Lived → Lived → Type 0) (clock : Option ℕ) (q : Request) (x found : Lived) (shot : Seen) (reply : Reply) (y : Lived) : Type 0 where
+  pub link : Link x found
+  pub shown : shot ≡ seen_of found
+  pub step : IsStepAt clock q found reply y
+  pub later : Follows found y
+
+-- From x, these looks lead to y and took n etags: each is linked to what the step at the look before left, and its answer was stale.
+abbrev pub Waits : (Lived → Lived → Type 0) → Option ℕ → Request → Lived → List Seen → Lived → ℕ → Type 0
+Waits Link clock q x [] y n = (y ≡ x) × (n ≡ 0)
+Waits Link clock q x (s ∷ more) y n =
+    (found : Lived) × (left : Lived) × (reply : Reply) × (m : ℕ) × Look Link clock q x found s reply left × IsTrue (says_stale reply)
+    × Waits Link clock q left more y m × (n ≡ (etags left - etags found) + m)
+
+-- A receipt of a request is true: its looks lead from x to y and took n etags; the last one gives the reply; there were no more than were asked, and
+-- as many if the reply is stale.
+pub record IsTrueReceipt (Link : Lived → Lived → Type 0) (clock : Option ℕ) (q : Request) (x : Lived) (r : Receipt) (y : Lived) (n : ℕ) : Type 0 where
+  pub before : Lived
+  pub found : Lived
+  pub took : ℕ
+  pub waits : Waits Link clock q x r.earlier before took
+  pub last : Look Link clock q before found r.shot r.reply y
+  pub number : n ≡ took + (etags y - etags found)
+  pub most : length r.earlier + 1 ≤ looks_of q
+  pub waited : IsTrue (says_stale r.reply) → length r.earlier + 1 ≡ looks_of q
+
+-- AFTER A REQUEST
+
+-- Each index catches up by one batch. Here is the place of the Tidy that is to follow the batches: it comes with the replacements of indexes.
+pub record MakesBatches (clock : Option ℕ) (pump : ℕ) (x y : Lived) : Type 0 where
+  pub reply : Reply
+  pub batch : IsStepAt clock (Pump pump None) x reply y
+
+-- a desk whose batches have no rows leaves the value as it is
+abbrev pub CatchesUp : Option ℕ → ℕ → Lived → Lived → Type 0
+CatchesUp clock pump x y = MatchBool (pump == 0) (y ≡ x) (MakesBatches clock pump x y)
+
+-- DESKS, which know the values that they have seen
+
+abbrev pub AllLink : (Lived → Lived → Type 0) → List Lived → Lived → Type 0
+AllLink Link seen x = All (λ s. Link s x) seen
+
+-- it has seen the same as before, or exactly one value that follows all that it had seen
+pub data Onward (before after : List Lived) : Type 0 where
+  same : after ≡ before → Onward before after
+  on : (x : Lived) → AllLink Follows before x → after ≡ x ∷ [] → Onward before after
+
+-- A desk was asked: the receipt is true, its looks begin with one that is linked to all that the desk had seen, and the desk has then seen exactly what
+-- was left once the indexes caught up. The number of etags that the desk made rises by those of the receipt, and by those of what followed it.
+pub record IsAsked (Link : Lived → Lived → Type 0) (clock : Option ℕ) (pump : ℕ) (seen : List Lived) (made : ℕ) (q : Request) (r : Receipt) (seen' : List Lived) (made' : ℕ) : Type 0 where
+  pub first : Lived
+  pub left : Lived
+  pub end : Lived
+  pub took : ℕ
+  pub after : AllLink Link seen first
+  pub receipt : IsTrueReceipt Link clock q first r left took
+  pub caught_up : CatchesUp clock pump left end
+  pub later : Follows left end
+  pub now_seen : seen' ≡ end ∷ []
+  pub now_made : made' ≡ made + took + (etags end - etags left)
+
+-- one look of a desk
+pub record LooksOnce (Link : Lived → Lived → Type 0) (clock : Option ℕ) (q : Request) (seen : List Lived) (made : ℕ) (shot : Seen) (reply : Reply) (seen' : List Lived) (made' : ℕ) : Type 0 where
+  pub found : Lived
+  pub left : Lived
+  pub after : AllLink Link seen found
+  pub shown : shot ≡ seen_of found
+  pub step : IsStepAt clock q found reply left
+  pub later : Follows found left
+  pub now_seen : seen' ≡ left ∷ []
+  pub now_made : made' ≡ made + (etags left - etags found)
+
+-- what a desk does after a request, which left x
+pub record HasCaughtUp (clock : Option ℕ) (pump : ℕ) (x : Lived) (made : ℕ) (seen' : List Lived) (made' : ℕ) : Type 0 where
+  pub end : Lived
+  pub caught_up : CatchesUp clock pump x end
+  pub later : Follows x end
+  pub now_seen : seen' ≡ end ∷ []
+  pub now_made : made' ≡ made + (etags end - etags x)

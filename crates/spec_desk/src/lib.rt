@@ -1,0 +1,9 @@
+//! Definitions of what answers requests on one value: the value and when one is later, a step of the machine on it with what its keeper did, what
+//! a look takes away, and receipts. With the laws of these, and the lemmas of steps that code needs.
+#![tactic(auto)]
+
+mod laws;
+
+pub use laws::{
+    asking_goes_on, courses_may_be_made, settled_courses_are_steps, to_follow_is_an_order,
+};
