@@ -39,10 +39,10 @@ pub fn name_of(alloc: Global, text: &str) -> Result<Name, ReadRefusal>
 }
 
 /// The value of this JSON.
-pub fn json_of(alloc: Global, text: &[u8]) -> Result<Value, ReadRefusal>
-    ensures { Reads (λ value. data_of value) result (json_read (reading text.now)) }
+pub fn json_of(alloc: Global, json: &[u8]) -> Result<Value, ReadRefusal>
+    ensures { Reads (λ value. data_of value) result (json_read (reading json.now)) }
 {
-    match read(alloc, text) {
+    match read(alloc, json) {
         Ok(value) => Ok(value),
         Err(JsonRefusal::NotJson) => Err(ReadRefusal::NotJson),
         Err(JsonRefusal::NumberNotWhole) => Err(ReadRefusal::NumberNotWhole),

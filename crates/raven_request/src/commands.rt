@@ -152,10 +152,10 @@ pub fn commands_of(alloc: Global, value: Value) -> Result<Commands, ReadRefusal>
 
 /// A transaction of this JSON.
 #[tactic(auto, using(crate::proofs::Readings::readings))]
-pub fn bulk_of(alloc: Global, text: &[u8]) -> Result<Request, ReadRefusal>
-    ensures { Reads request_view result (bulk_read text.now) }
+pub fn bulk_of(alloc: Global, json: &[u8]) -> Result<Request, ReadRefusal>
+    ensures { Reads request_view result (bulk_read json.now) }
 {
-    let value = match json_of(alloc, text) {
+    let value = match json_of(alloc, json) {
         Ok(value) => value,
         Err(refusal) => return Err(refusal),
     };

@@ -132,10 +132,10 @@ pub fn definition_of(alloc: Global, value: &Value) -> Result<Arc<Definition>, Re
 
 /// The request to define the index of this JSON.
 #[tactic(auto, using(crate::proofs::Requesting::requesting))]
-pub fn define_of(alloc: Global, text: &[u8]) -> Result<Request, ReadRefusal>
-    ensures { Asks (asked_to_define (index_of text.now)) result }
+pub fn define_of(alloc: Global, json: &[u8]) -> Result<Request, ReadRefusal>
+    ensures { Asks (asked_to_define (index_of json.now)) result }
 {
-    let value = match json_of(alloc, text) {
+    let value = match json_of(alloc, json) {
         Ok(value) => value,
         Err(refusal) => return Err(refusal),
     };

@@ -242,10 +242,10 @@ pub fn query_of(alloc: Global, text: &str) -> Result<Request, ReadRefusal>
 
 /// The request to answer the query of this JSON.
 #[tactic(auto, using(crate::proofs::Requesting::requesting))]
-pub fn query_of_json(alloc: Global, text: &[u8]) -> Result<Request, ReadRefusal>
-    ensures { Asks (asked_to_query (asking_of text.now)) result }
+pub fn query_of_json(alloc: Global, json: &[u8]) -> Result<Request, ReadRefusal>
+    ensures { Asks (asked_to_query (asking_of json.now)) result }
 {
-    let value = match json_of(alloc, text) {
+    let value = match json_of(alloc, json) {
         Ok(value) => value,
         Err(refusal) => return Err(refusal),
     };

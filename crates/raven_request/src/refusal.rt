@@ -12,7 +12,7 @@ use raven_base::NoMemory;
 use raven_reply::Reply;
 use raven_value::IdRefusal;
 
-// The reply to a text that can be no id, or no name.
+// The reply to a text that is not a valid id, or not a valid name.
 fn reply_to_fault(refusal: IdRefusal) -> Result<Reply, NoMemory>
     ensures reply { IfOk result (λ reply. (fault : Fault) → fault_in refusal ≡ Some fault → reply_view reply ≡ fault_reply fault) }
     ensures err { OnErr result (fault_in refusal ≡ None) }

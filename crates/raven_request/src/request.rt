@@ -111,8 +111,8 @@ pub enum ReadRefusal {
     #[error("the line is not known")]
     UnknownLine,
 
-    /// The text that should be JSON is none.
-    #[error("the text is no JSON")]
+    /// What has to be JSON is not.
+    #[error("the text is not JSON")]
     NotJson,
 
     /// A number of the JSON is not a whole number of 64 bits.
@@ -123,12 +123,12 @@ pub enum ReadRefusal {
     #[error("the JSON is more than 100 deep")]
     TooDeep,
 
-    /// The text is not an id. Out of memory is never reported so.
-    #[error("the text can be no id: {0}")]
+    /// The text is not a valid id. Out of memory is never reported so.
+    #[error("the text is not a valid id: {0}")]
     BadId(IdRefusal),
 
-    /// The text is not a name. Out of memory is never reported so.
-    #[error("the text can be no name: {0}")]
+    /// The text is not a valid name. Out of memory is never reported so.
+    #[error("the text is not a valid name: {0}")]
     BadName(IdRefusal),
 
     /// This member is missing or of another kind; `body` is the whole.
