@@ -1,0 +1,14 @@
+use Rattle.std.proofs.Common.{length, ◌-◌, ◌+◌, ◌≤◌, ◌≡◌}
+use Rattle.raven_ports.specs.Reported.{preceded}
+use Rattle.spec_server.specs.Lines.{max_input}
+use Rattle.raven_run.proofs.read.read_all.Given as goal
+
+abbrev pub invariant-loop-buf : goal.invariant-loop-buf
+invariant-loop-buf g l = record {
+  taken : (g.S.Source.state l.fn.source).left ≡ preceded l.all.items (g.S.Source.state l.source).left;
+  count : length l.all.items ≤ max_input + 1;
+  later : (g.S.Source.state l.fn.source).faults ≤ (g.S.Source.state l.source).faults;
+}
+
+abbrev pub decreases-loop-buf : goal.decreases-loop-buf
+decreases-loop-buf g l = max_input + 1 - length l.all.items
