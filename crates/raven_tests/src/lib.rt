@@ -8,6 +8,8 @@ mod crew;
 #[cfg(test)]
 mod job;
 #[cfg(test)]
+mod keepers;
+#[cfg(test)]
 mod list;
 #[cfg(test)]
 mod pages;
@@ -15,6 +17,8 @@ mod pages;
 mod replies;
 #[cfg(test)]
 mod rising;
+#[cfg(test)]
+mod shapes;
 #[cfg(test)]
 mod sharing;
 #[cfg(test)]
@@ -24,6 +28,10 @@ mod stores;
 #[cfg(test)]
 mod tally;
 #[cfg(test)]
+mod trees;
+#[cfg(test)]
 mod turns;
 #[cfg(test)]
 mod values;
+#[cfg(test)]
+mod versions;
