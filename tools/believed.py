@@ -10,7 +10,7 @@ import os
 import re
 import sys
 
-TOP_CALL = "raven_measure/src/program.rt"
+TOP_CALL = "raven_console/src/program.rt"
 IMPORT = re.compile(r"\buse Rattle\.([a-z_0-9]+)\.specs\.(\w+)")
 
 

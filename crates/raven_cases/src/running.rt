@@ -2,15 +2,14 @@
 use crate::case::{Case, Run};
 use crate::printing::{out_of_memory, print_rows, print_status, print_written};
 use raven_base::Bytes;
-use raven_console::Finish;
-use raven_measure::raven;
+use raven_console::{Finish, raven};
 use raven_ports::{ByteSink, ByteSource, MemKeeper};
 use std::io::{self, Write};
 use std::sync::Arc;
 use std::thread::Threads;
 
 /// Runs a case, and prints what came of it.
-pub fn run_case<R: AllocGlobal + Threads + Sync, W: Write>(
+pub fn run_case<R: AllocGlobal + Threads, W: Write>(
     rt: &R,
     case: Case,
     out: &mut W,
@@ -29,7 +28,7 @@ pub fn run_case<R: AllocGlobal + Threads + Sync, W: Write>(
 }
 
 /// Runs once, prints what came of it, and returns the keeper.
-fn print_run<R: AllocGlobal + Threads + Sync, W: Write>(
+fn print_run<R: AllocGlobal + Threads, W: Write>(
     rt: &R,
     run: Run,
     keeper: MemKeeper,

@@ -1,11 +1,3 @@
-pub mod LineLemmas
-pub mod Pieces
-pub mod Runs
-pub mod Answered
-pub mod Asking
-pub mod Performed
-pub mod ArgumentLemmas
-pub mod Opened
-pub mod Ended
-pub mod Completes
-pub mod Kept
+pub mod PairLemmas
+pub mod NumberLemmas
+pub mod Invoking

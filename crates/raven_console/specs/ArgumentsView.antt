@@ -1,33 +1,31 @@
 -- What is read of the arguments of the program.
 use Rattle.std.specs.Borrow.{Bor}
-use Rattle.std.specs.Prelude.{ℕ, List, ◌&&◌, if◌then◌else◌, Option, Some, None, codes}
-use Rattle.std.specs.Option.{option_map}
-use Rattle.spec_server.specs.Options.{Options, Pairs, are_known, are_once, run_names, value_named}
-use Rattle.spec_server.specs.Options as is
-use Rattle.raven_console.specs.declared.options.Outside.{Outside}
+use Rattle.std.specs.Prelude.{ℕ, List, Option, None, map, option_map}
+use Rattle.spec_server.specs.Options as server
+use Rattle.raven_measure.specs.OptionsView.{options_view}
+use Rattle.raven_console.specs.Invocations as is
+use Rattle.raven_console.specs.declared.options.Invocation.{Invocation}
+use Rattle.raven_console.specs.declared.options.Invocation.TheVariants.{Measure, Run}
 use Rattle.raven_console.specs.declared.options.RunOptions.{RunOptions}
+use Rattle.raven_console.specs.declared.options.Outside.{Outside}
 
-abbrev pub bytes_of : Option (Bor (List ℕ)) → Option (List ℕ)
-bytes_of text = option_map (λ t. t.now) text
+abbrev pub text_view : Option (Bor (List ℕ)) → Option (List ℕ)
+text_view text = option_map (λ t. t.now) text
 
-abbrev pub Texts : Type 0
-Texts = Option (List ℕ) × Option (List ℕ)
+abbrev pub pair_view : Bor (List ℕ) × Bor (List ℕ) → List ℕ × List ℕ
+pair_view pair = (pair.0.now, pair.1.now)
 
-abbrev pub texts_view : Option (Bor (List ℕ)) × Option (Bor (List ℕ)) → Texts
-texts_view texts = (bytes_of texts.0, bytes_of texts.1)
+abbrev pub names_view : List (Bor (List ℕ)) → List (List ℕ)
+names_view names = map (λ n. n.now) names
 
--- the values of the names, if the pairs are valid
-abbrev pub texts_in : Option Pairs → Option Texts
-texts_in None = None
-texts_in (Some pairs) =
-    if are_known run_names pairs && are_once pairs then Some (value_named (codes "--data") pairs, value_named (codes "--id") pairs) else None
+abbrev pub run_view : RunOptions → server.Options
+run_view options = record { file = options.file; base = options.base }
 
-abbrev pub options_view : RunOptions → Options
-options_view options = record { file = options.file; base = options.base }
+abbrev pub invocation_view : Invocation → is.Invocation
+invocation_view (Run options) = is.Run (run_view options)
+invocation_view (Measure options) = is.Measure (options_view options)
 
-abbrev pub invocation_view : RunOptions → is.Invocation
-invocation_view options = is.Run (options_view options)
-
--- what the caller has to make: a run needs its file, and does not listen
+-- what the caller has to make: a run needs its file, a measurement needs nothing, and none of them listens
 abbrev pub outside_of : is.Invocation → Outside
 outside_of (is.Run options) = record { file = options.file; port = 0; workers = 0; connections = None }
+outside_of (is.Measure options) = record { file = None; port = 0; workers = 0; connections = None }

@@ -1,51 +1,67 @@
--- What the status of a run says of it.
-use Rattle.std.specs.Prelude.{◌≡◌, ℕ, ◌⊎◌, None}
-use Rattle.raven_ports.specs.Faults.{Rose}
-use Rattle.spec_server.specs.Options.{asked_in}
+-- What the status of the program says of what it did.
+use Rattle.std.specs.Prelude.{◌≡◌, ℕ, List, Option, Some, None, ◌⊎◌}
+use Rattle.spec_measure.specs.Requests as measure
+use Rattle.spec_server.specs.Options as server
+use Rattle.raven_measure.specs.Ends.{MeasuresRightly}
+use Rattle.raven_measure.specs.Measures as measurement
+use Rattle.raven_measure.specs.Measures.{ends_of}
+use Rattle.raven_measure.specs.declared.measuring.MeasureEnd.{MeasureEnd}
+use Rattle.raven_run.specs.Ends.{RunsRightly}
+use Rattle.raven_run.specs.Runs as run
+use Rattle.raven_run.specs.Runs.{Devices}
+use Rattle.raven_run.specs.declared.run_end.RunEnd.{RunEnd}
+use Rattle.raven_console.specs.Invocations.{Invocation, Measure, Run, invoked_in}
+use Rattle.raven_console.specs.Statuses.{status_of_measurement, status_of_run}
 use Rattle.raven_console.specs.declared.status.Status.{Status}
-use Rattle.raven_console.specs.declared.status.Status.TheVariants.{Done, InputTooLarge, KeptBad, KeptFault, NoMemory, NotEmpty, ReadFault, Usage, WriteFault}
-use Rattle.raven_console.specs.Input.{IsRead, TakesMore, TakesWithin}
-use Rattle.raven_console.specs.Runs.{Finished, HasNoFault, HoldsSame, IsKeptBad, IsValid, Run, Stopped, StoppedEarly}
+use Rattle.raven_console.specs.declared.status.Status.TheVariants.{KeptBad, KeptFault, NoMemory, NotEmpty, Usage}
 
--- a run ends so only after it has read the whole input, which it does before it opens the database
-abbrev pub ComesAfterReading : Status → Type 0
-ComesAfterReading Done = Unit {0}
-ComesAfterReading WriteFault = Unit {0}
-ComesAfterReading KeptFault = Unit {0}
-ComesAfterReading (KeptBad etag) = Unit {0}
-ComesAfterReading other = ⊥
+-- a call of the program: its arguments, the one moment of its clock if the clock stands still, and the devices before and after
+pub record Call : Type 0 where
+  pub arguments : List (List ℕ)
+  pub clock : Option ℕ
+  pub before : Devices
+  pub after : Devices
 
--- The run ended with this status. The input, the output and the keeper are spoken of as far as they report their contents.
-pub record EndsRightly (status : Status) (run : Run) : Type 0 where
-  -- all lines were executed and all replies were written, and the keeper holds the rows of the last store
-  pub done : status ≡ Done → Finished run
-  -- the arguments are malformed
-  pub usage : status ≡ Usage → asked_in run.arguments ≡ None
-  -- and if they are, nothing else is reported
-  pub ordered : asked_in run.arguments ≡ None → (status ≡ Usage) ⊎ (status ≡ NoMemory)
-  -- a device has failed only if its count of faults rose
-  pub read_fault : status ≡ ReadFault → Rose run.before.input.faults run.after.input.faults
-  pub write_fault : status ≡ WriteFault → Rose run.before.output.faults run.after.output.faults
-  pub kept_fault : status ≡ KeptFault → Rose run.before.keeper.count run.after.keeper.count
-  -- the first invalid row that the keeper holds has this etag
-  pub kept_bad : (etag : ℕ) → status ≡ KeptBad etag → IsKeptBad run etag
-  -- all of the input was taken, and it was no more than may be read
-  pub read : ComesAfterReading status → IsRead run.before.input.left run.after.input.left
-  -- the replies end in one of them, and no later line was executed
-  pub stopped : status ≡ WriteFault → Stopped run
-  -- nothing was written and stored, or it stopped before one of the lines, or at its reply
-  pub memory : status ≡ NoMemory → HoldsSame run ⊎ (StoppedEarly run ⊎ Stopped run)
-  -- one byte more than may be read was taken of the input
-  pub too_large : status ≡ InputTooLarge → TakesMore run.before.input.left run.after.input.left
-  -- no more than may be read was taken of the input
-  pub within : status ≡ ReadFault → TakesWithin run.before.input.left run.after.input.left
-  -- a valid input is answered to its end, if no device fails and there is memory
-  pub complete : IsValid run → HasNoFault run → (status ≡ Done) ⊎ (status ≡ NoMemory)
-  -- rows that are kept are no hindrance
-  pub empty : (last : ℕ) → status ≡ NotEmpty last → ⊥
+-- this is the status, and nothing was done
+pub record HasDoneNothing (is status : Status) (call : Call) : Type 0 where
+  pub status_is : status ≡ is
+  pub same : call.after ≡ call.before
 
--- no line was executed, because of what the keeper holds or does
-abbrev pub IsUnopened : Status → Type 0
-IsUnopened (KeptBad etag) = Unit {0}
-IsUnopened KeptFault = Unit {0}
-IsUnopened other = ⊥
+-- the command `run` ended so
+pub record RanSo (options : server.Options) (status : Status) (call : Call) : Type 0 where
+  pub end : RunEnd
+  pub status_is : status ≡ status_of_run end
+  pub rightly : RunsRightly end (record { base = options.base; clock = call.clock; before = call.before; after = call.after })
+
+-- the command `measure` ended so; it is not given the input
+pub record MeasuredSo (options : measure.Options) (status : Status) (call : Call) : Type 0 where
+  pub end : MeasureEnd
+  pub status_is : status ≡ status_of_measurement end
+  pub rightly : MeasuresRightly end (record {
+    options = options;
+    clock = call.clock;
+    before = ends_of call.before.output call.before.keeper;
+    after = ends_of call.after.output call.after.keeper;
+  })
+  pub unread : call.after.input ≡ call.before.input
+
+-- what was done, by what the arguments ask for
+abbrev pub DoesAsked : Option Invocation → Status → Call → Type 0
+DoesAsked None status call = HasDoneNothing Usage status call
+DoesAsked (Some (Run options)) status call = RanSo options status call
+DoesAsked (Some (Measure options)) status call = MeasuredSo options status call
+
+-- that was done, or memory ran out while the arguments were read
+abbrev pub EndsAsAsked : Status → Call → Type 0
+EndsAsAsked status call = DoesAsked (invoked_in call.arguments) status call ⊎ HasDoneNothing NoMemory status call
+
+-- no request was answered, because of what the keeper holds, or since it failed when a run was to open it
+abbrev pub IsUnopened : Option Invocation → Status → Type 0
+IsUnopened asked (KeptBad etag) = Unit {0}
+IsUnopened asked (NotEmpty last) = Unit {0}
+IsUnopened (Some (Run options)) KeptFault = Unit {0}
+IsUnopened asked other = ⊥
+
+abbrev pub AsksToMeasure : Option Invocation → Type 0
+AsksToMeasure (Some (Measure options)) = Unit {0}
+AsksToMeasure other = ⊥

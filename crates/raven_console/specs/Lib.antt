@@ -1,12 +1,4 @@
-pub mod LineEnds
-pub mod Input
-pub mod Devices
-pub mod Answering
-pub mod Answers
-pub mod Openings
-pub mod Runs
-pub mod Ends
-pub mod OutcomeView
+pub mod Invocations
 pub mod ArgumentsView
-pub mod Prepared
 pub mod Statuses
+pub mod Ends

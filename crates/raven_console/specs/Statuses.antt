@@ -1,5 +1,9 @@
--- The name of each status and the exit status of the program, which are part of its interface.
+-- The status of the program: its name and its number, which are part of the program's interface, and by the end of a command.
 use Rattle.std.specs.Prelude.{ℕ, List, codes}
+use Rattle.raven_measure.specs.declared.measuring.MeasureEnd.{MeasureEnd}
+use Rattle.raven_measure.specs.declared.measuring.MeasureEnd.TheVariants as measure
+use Rattle.raven_run.specs.declared.run_end.RunEnd.{RunEnd}
+use Rattle.raven_run.specs.declared.run_end.RunEnd.TheVariants as run
 use Rattle.raven_console.specs.declared.status.Status.{Status}
 use Rattle.raven_console.specs.declared.status.Status.TheVariants as is
 
@@ -26,3 +30,22 @@ name_of (is.KeptBad etag) = codes "KeptBad"
 name_of is.InputTooLarge = codes "InputTooLarge"
 name_of is.NoMemory = codes "NoMemory"
 name_of (is.NotEmpty last) = codes "NotEmpty"
+
+-- if the command was `run`
+abbrev pub status_of_run : RunEnd → Status
+status_of_run run.Done = is.Done
+status_of_run run.ReadFault = is.ReadFault
+status_of_run run.WriteFault = is.WriteFault
+status_of_run run.KeptFault = is.KeptFault
+status_of_run (run.KeptBad etag) = is.KeptBad etag
+status_of_run run.InputTooLarge = is.InputTooLarge
+status_of_run run.NoMemory = is.NoMemory
+
+-- if it was `measure`
+abbrev pub status_of_measurement : MeasureEnd → Status
+status_of_measurement measure.Done = is.Done
+status_of_measurement measure.WriteFault = is.WriteFault
+status_of_measurement measure.KeptFault = is.KeptFault
+status_of_measurement (measure.KeptBad etag) = is.KeptBad etag
+status_of_measurement (measure.NotEmpty last) = is.NotEmpty last
+status_of_measurement measure.NoMemory = is.NoMemory

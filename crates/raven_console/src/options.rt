@@ -1,6 +1,18 @@
-//! What the arguments of the program ask for.
+//! What the arguments of the program ask for: a command with its options.
+ghost use Rattle.std.specs.Prelude.{◌≡◌, ◌≤◌, IfOk, Some, length, map, option_map, string_bytes};
+ghost use Rattle.spec_measure.specs.Options.{number_in as spec_number_in, number_up_to as spec_number_up_to, options_in as spec_measure_options};
+ghost use Rattle.spec_server.specs.Options.{base_in, run_options as spec_run_options};
+ghost use Rattle.spec_server.specs.Script.{number_of as spec_number_of};
+ghost use Rattle.raven_measure.specs.OptionsView.{options_view as measure_view};
+ghost use Rattle.raven_console.specs.ArgumentsView.{invocation_view, pair_view, run_view, text_view};
+ghost use Rattle.raven_console.specs.Invocations.{invoked_in};
+
+use crate::pairs::{are_valid, pairs_in, value_named};
 use doc_txn::BaseId;
+use raven_base::NoMemory;
+use raven_measure::Options;
 use raven_value::Text;
+use std::alloc::Global;
 
 /// The options of `run`.
 #[derive(Drop)]
@@ -10,6 +22,13 @@ pub(crate) struct RunOptions {
 
     /// The base id of the database.
     pub(crate) base: BaseId,
+}
+
+/// A command with its options.
+#[derive(Drop)]
+pub(crate) enum Invocation {
+    Run(RunOptions),
+    Measure(Options),
 }
 
 /// What the arguments ask the caller to make before the program is called.
@@ -26,4 +45,109 @@ pub struct Outside {
 
     /// How many connections are accepted in all. Without a number there is no limit.
     pub connections: Option<u32>,
+}
+
+// The most digits of a number.
+const MAX_DIGITS: usize = 10;
+
+// The number that up to ten digits write.
+#[tactic(auto, using(crate::proofs::NumberLemmas::numbers))]
+fn number_of(text: &[u8]) -> Option<u64>
+    requires { length text.now ≤ 10 }
+    ensures { result ≡ spec_number_of text.now }
+{
+    if text.is_empty() {
+        return None;
+    }
+    let mut number = 0;
+    for byte in text {
+        if !byte.is_ascii_digit() {
+            return None;
+        }
+        number = number * 10 + u64::from(*byte - b'0');
+    }
+    Some(number)
+}
+
+fn number_up_to(text: &str, most: u32) -> Option<u32>
+    ensures { result ≡ spec_number_up_to most text.now }
+{
+    if text.len() > MAX_DIGITS {
+        return None;
+    }
+    let number = number_of(text.as_bytes())?;
+    if 1 <= number && number <= u64::from(most) {
+        Some(number as u32)
+    } else {
+        None
+    }
+}
+
+fn number_in(text: Option<&str>, default: u32, most: u32) -> Option<u32>
+    ensures { result ≡ spec_number_in (record { default = default; most = most }) (text_view text.entry) }
+{
+    match text {
+        Some(text) => number_up_to(text, most),
+        None => Some(default),
+    }
+}
+
+fn file_of(alloc: Global, text: Option<&str>) -> Result<Option<Text>, NoMemory>
+    ensures { IfOk result (λ file. file ≡ text_view text.entry) }
+{
+    match text {
+        Some(text) => Ok(Some(Text::of(alloc, text)?)),
+        None => Ok(None),
+    }
+}
+
+fn base_of(alloc: Global, text: Option<&str>) -> Result<Option<BaseId>, NoMemory>
+    ensures { IfOk result (λ base. base ≡ base_in (text_view text.entry)) }
+{
+    match text {
+        Some(text) => BaseId::new(alloc, text),
+        None => Ok(Some(BaseId::program(alloc)?)),
+    }
+}
+
+fn run_options(alloc: Global, pairs: &[(&str, &str)]) -> Result<Option<RunOptions>, NoMemory>
+    ensures { IfOk result (λ found. option_map run_view found ≡ spec_run_options (Some (map pair_view pairs.now))) }
+{
+    if !are_valid(&["--data", "--id"], pairs) {
+        return Ok(None);
+    }
+    let Some(base) = base_of(alloc, value_named(pairs, "--id"))? else {
+        return Ok(None);
+    };
+    let file = file_of(alloc, value_named(pairs, "--data"))?;
+    Ok(Some(RunOptions { file, base }))
+}
+
+fn measure_options(pairs: &[(&str, &str)]) -> Option<Options>
+    ensures { option_map measure_view result ≡ spec_measure_options (Some (map pair_view pairs.now)) }
+{
+    if !are_valid(&["--seed", "--docs", "--batch"], pairs) {
+        return None;
+    }
+    let seed = number_in(value_named(pairs, "--seed"), 1, 2_147_483_646)?;
+    let docs = number_in(value_named(pairs, "--docs"), 2_000, 200_000)?;
+    let batch = number_in(value_named(pairs, "--batch"), 1_024, 65_536)?;
+    Some(Options { seed, docs, batch })
+}
+
+/// What the arguments ask the program to do; none exactly if they are malformed.
+pub(crate) fn invoked(alloc: Global, arguments: &[String]) -> Result<Option<Invocation>, NoMemory>
+    ensures { IfOk result (λ found. option_map invocation_view found ≡ invoked_in (map string_bytes arguments.now)) }
+{
+    let Some((command, more)) = arguments.split_first() else {
+        return Ok(None);
+    };
+    let Some(pairs) = pairs_in(alloc, more)? else {
+        return Ok(None);
+    };
+    match command.as_str() {
+        "run" => Ok(run_options(alloc, &pairs)?.map(Invocation::Run)),
+        "measure" => Ok(measure_options(&pairs).map(Invocation::Measure)),
+        _ => Ok(None),
+    }
 }

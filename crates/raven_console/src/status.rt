@@ -13,10 +13,10 @@ pub enum Status {
     /// A call of the input failed. Nothing was written.
     ReadFault,
 
-    /// A call of the output failed. What was written is a prefix of the replies.
+    /// A call of the output failed. What was written is a prefix of what there was to write.
     WriteFault,
 
-    /// A call of the keeper failed while the database was opened. Nothing was written.
+    /// A call of the keeper failed, while the database was opened or at a request of `measure`. Nothing was written.
     KeptFault,
 
     /// The keeper holds an invalid row. Nothing was written.
@@ -28,7 +28,7 @@ pub enum Status {
     /// The input has more than 16,777,216 bytes. Nothing was written.
     InputTooLarge,
 
-    /// Memory ran out. The replies to all earlier lines are whole.
+    /// Memory ran out. The replies to all earlier lines of a run are whole.
     NoMemory,
 
     /// What is measured is a database of its own, but the keeper holds rows. Nothing was written.

@@ -3,6 +3,7 @@ use Rattle.std.proofs.Common.{◌≡◌, ℕ, ◌-◌, ◌<◌, ◌≤◌, List,
 use Rattle.std.proofs.lemmas.Grind.{common_steps}
 use Rattle.std.specs.Prelude.{◌==◌, ◌||◌}
 use Rattle.spec_data.specs.Folding.{folded, same_key}
+use Rattle.spec_data.specs.Limits.{max_etag}
 use Rattle.spec_store.specs.Store.{Store, last}
 use Rattle.spec_index.specs.World.{Slot, Version, World, batch, is_named, serving}
 use Rattle.spec_measure.specs.Summary.{event_of, is_moving}
@@ -67,3 +68,11 @@ lowers name M now max o = by (serving M.world.slots name) refl
         let left = ap (λ found. (settled M takes_all (pump_at W max name found)).machine.world) e in
         let less = closer W.store s t on (ap (λ found. is_moving (pump_at W max name found).reply) (sym e) ∙ h) in
         subst (λ V. behind name V < behind name W) (sym left) (subst (λ x. behind_at W.store x < behind name W) (sym changed) (subst (λ x. last W.store - t.version.etag < behind_at W.store x) (sym e) less))
+
+-- and it is never far behind
+behind_at-few : (S : Store) (found : Option Slot) → last S ≤ max_etag → behind_at S found ≤ max_etag
+behind_at-few S None h = omega arith
+behind_at-few S (Some s) h = omega arith
+
+pub behind-few : (name : List ℕ) (W : World) → Sound W → behind name W ≤ max_etag
+behind-few name W sound = behind_at-few W.store (serving W.slots name) sound.limits.etags

@@ -1,8 +1,9 @@
+pub mod Texts
+pub mod IdLemmas
 pub mod Doing
+pub mod Settled
 pub mod Behind
 pub mod Definings
-pub mod Taken
-pub mod Still
 pub mod Filled
 pub mod Batches
 pub mod Ended

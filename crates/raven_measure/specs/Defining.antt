@@ -8,6 +8,7 @@ use Rattle.raven_request.specs.declared.request.Request.{Request}
 use Rattle.spec_measure.specs.Requests.{definitions, index_texts}
 use Rattle.spec_server.specs.Machine as is
 
+-- one request, or none
 abbrev pub requests_view : Option Request → List is.Request
 requests_view None = []
 requests_view (Some request) = request_view request ∷ []

@@ -1,7 +1,6 @@
+pub mod OptionsView
 pub mod Doing
-pub mod Told
+pub mod Summaries
 pub mod Defining
 pub mod Measures
 pub mod Ends
-pub mod Arguments
-pub mod Taking

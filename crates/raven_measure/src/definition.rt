@@ -6,7 +6,7 @@ ghost use Rattle.spec_measure.specs.Requests.{index_name as spec_index_name};
 use index_definition::LangRefusal;
 use index_lang::parse;
 use raven_base::NoMemory;
-use raven_console::Request;
+use raven_request::Request;
 use raven_value::{IdRefusal, Name};
 use std::alloc::Global;
 use std::sync::Arc;

@@ -1,13 +1,15 @@
-//! The command `measure`; and the program, which does this command or `run`.
+//! The command `measure`: a database of drawn orders, and its summary.
 #![tactic(auto)]
 
 mod catching_up;
 mod definition;
+mod draws;
 mod filling;
 mod making;
 mod measuring;
-mod program;
+mod options;
+mod orders;
 mod summary;
 
-pub use measuring::measure;
-pub use program::{outside, raven};
+pub use measuring::{MeasureEnd, Measurement, measure};
+pub use options::Options;

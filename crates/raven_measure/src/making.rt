@@ -1,22 +1,23 @@
 //! Requests, made one after another.
-ghost use Rattle.std.specs.Prelude.{◌≡◌, ◌+◌, ◌<◌, ◌≤◌, ◌==◌, ◌^◌, [], ◌∷◌, None, IfSome, OnOk, OnErr, IsErrOf, not};
+ghost use Rattle.std.specs.Prelude.{◌≡◌, ◌+◌, ◌<◌, ◌==◌, ◌^◌, [], ◌∷◌, IfErr, OnOk, not};
 ghost use Rattle.std.specs.List.{list_any};
-ghost use Rattle.spec_data.specs.Kept.{EtagsRise, all_kept, last_kept};
-ghost use Rattle.raven_console.specs.Devices.{Keeps};
-ghost use Rattle.raven_measure.specs.Doing.{Does, state_view};
-ghost use Rattle.raven_measure.specs.Taking.{IsTaken};
-ghost use Rattle.raven_ports.specs.Faults.{Rose};
+ghost use Rattle.raven_measure.specs.Doing.{Does, Stops};
 ghost use Rattle.raven_reply.specs.ReplyView.{reply_view};
 ghost use Rattle.raven_request.specs.RequestView.{request_view};
+ghost use Rattle.spec_desk.specs.Keepers.{Keeps};
+ghost use Rattle.spec_desk.specs.Lived.{machine_in};
 ghost use Rattle.spec_measure.specs.Summary.{is_moving as spec_is_moving};
-ghost use Rattle.spec_server.specs.Machine.{Do, machine_of};
+ghost use Rattle.spec_server.specs.Machine.{Do};
 ghost use Rattle.spec_server.specs.WellFormed.{IsWellFormed};
+ghost use Rattle.spec_store.specs.Store.{last};
 
 use raven_base::NoMemory;
-use raven_console::{Outcome, Pending, Request, keep, outcome_of};
+use raven_desk::{Course, Live, Settled};
 use raven_ports::{Clock, Keeper};
-use raven_world::{Pumping, Reply, World};
+use raven_request::Request;
+use raven_world::{Pumping, Reply};
 use std::alloc::Global;
+use std::marker::Model;
 use std::thread::Threads;
 
 /// Why a measurement stops.
@@ -40,10 +41,19 @@ impl From<NoMemory> for Stop {
 }
 
 /// A database, and how many batches have moved the etag of its index.
-#[derive(Drop)]
-pub struct Measured {
-    pub world: World,
-    pub batches: u64,
+pub struct Measured<K: Keeper> {
+    live: Live<K>,
+    batches: u64,
+}
+
+impl<K: Keeper> Model for Measured<K> {
+    ghost use Rattle.raven_measure.specs.Doing.{State, state_code};
+
+    ghost Value = { State };
+
+    ghost coded = { state_code };
+
+    ghost view = { λ a. record { live = a.live; moved = a.batches } };
 }
 
 // Whether one of these batches has moved the etag of its index.
@@ -68,54 +78,67 @@ fn is_moving(reply: &Reply) -> bool
     }
 }
 
-// Puts the world of a change in place, if there is one, once the keeper has taken its rows.
-fn take<K: Keeper>(
-    alloc: Global,
-    keeper: &mut K,
-    world: &mut World,
-    change: Option<Pending>,
-) -> Result<(), Stop>
-    requires rising { IfSome change (λ p. EtagsRise None (all_kept p.rows)) }
-    requires past { IfSome change (λ p. IfSome (K.state keeper.old).held (λ all. EtagsRise (last_kept None all) (all_kept p.rows))) }
-    ensures taken { OnOk result (IsTaken (K.state keeper.old) (K.state keeper.new) change world.old world.new) }
-    ensures err { OnErr result ((world.new ≡ world.old) × ((K.state keeper.new).held ≡ (K.state keeper.old).held)) }
-    ensures later { (K.state keeper.old).count ≤ (K.state keeper.new).count }
-    ensures cause { IsErrOf result Stop.Kept → Rose (K.state keeper.old).count (K.state keeper.new).count }
-{
-    let Some(change) = change else {
-        return Ok(());
-    };
-    if !keep(alloc, keeper, &change.rows)? {
-        return Err(Stop::Kept);
+impl<K: Keeper> Measured<K> {
+    /// A database of which no batch was made.
+    pub fn of(live: Live<K>) -> Measured<K>
+        ensures { result ≡ record { live = live; moved = 0 } }
+    {
+        Measured { live, batches: 0 }
     }
-    *world = change.world;
-    Ok(())
-}
 
-impl Measured {
-    /// Makes a request at the moment that the clock gives. If the keeper fails or memory runs out, nothing changes.
-    pub fn make<R: Threads + Sync, K: Keeper, C: Clock>(
+    /// The database.
+    pub fn live(&self) -> &Live<K>
+        ensures { result.now ≡ self.now.live }
+    {
+        &self.live
+    }
+
+    /// How many batches have moved the etag of the index.
+    pub fn batches(&self) -> u64
+        ensures { result ≡ self.now.moved }
+    {
+        self.batches
+    }
+
+    /// The last etag of the database; 0 if it has no rows.
+    pub fn last(&self) -> u64
+        ensures { result ≡ last self.now.live.world.store }
+    {
+        self.live.world().snapshot().store.last()
+    }
+
+    /// The keeper of the database.
+    pub fn into_keeper(self) -> K
+        ensures keeper { K.state result ≡ self.live.keeper }
+        ensures keeps { Keeps (K.state result).held (machine_in self.live) }
+    {
+        let Measured {
+            live,
+            batches: _batches,
+        } = self;
+        live.into_keeper()
+    }
+
+    /// Makes a request at the moment that the clock gives.
+    pub fn make<R: Threads, C: Clock>(
         &mut self,
         rt: &R,
         alloc: Global,
-        keeper: &mut K,
         clock: &C,
         request: Request,
     ) -> Result<(), Stop>
         requires formed { IsWellFormed (Do (request_view request)) }
-        requires keeps { Keeps (K.state keeper.old).held (machine_of self.old.world) }
-        requires room { self.old.batches + 1 < 2 ^ 64 }
-        ensures done { OnOk result (Does (C.moment clock.now) (state_view self.old) (request_view request ∷ []) (state_view self.new)) }
-        ensures same { OnErr result (state_view self.new ≡ state_view self.old) }
-        ensures keeps { Keeps (K.state keeper.new).held (machine_of self.new.world) }
-        ensures later { (K.state keeper.old).count ≤ (K.state keeper.new).count }
-        ensures cause { IsErrOf result Stop.Kept → Rose (K.state keeper.old).count (K.state keeper.new).count }
+        requires room { self.old.moved + 1 < 2 ^ 64 }
+        ensures done { OnOk result (Does (C.moment clock.now) self.old (request_view request ∷ []) self.new) }
+        ensures stopped { IfErr result (Stops (C.moment clock.now) self.old (request_view request ∷ []) self.new) }
     {
-        let Outcome { reply, change } = outcome_of(rt, alloc, &self.world, clock.now(), request)?;
-        take(alloc, keeper, &mut self.world, change)?;
-        if is_moving(&reply) {
-            self.batches += 1;
+        let Course { reply, changes } = self.live.course(rt, alloc, clock.now(), request)?;
+        match self.live.settle(changes)? {
+            Settled::All => {
+                self.batches += u64::from(is_moving(&reply));
+                Ok(())
+            }
+            Settled::Stopped { .. } => Err(Stop::Kept),
         }
-        Ok(())
     }
 }

@@ -1,136 +1,172 @@
-//! The command `measure`.
-ghost use Rattle.std.specs.Prelude.{◌≡◌, ℕ, ◌≤◌, List, Some, IfOk, IfErr, IsErrOf, map, string_bytes};
-ghost use Rattle.spec_measure.specs.Options.{is_measure};
-ghost use Rattle.spec_measure.specs.Summary.{printed_summary, summary_of};
-ghost use Rattle.spec_store.specs.Store.{last};
-ghost use Rattle.spec_server.specs.Machine.{machine_of};
-ghost use Rattle.measure_orders.specs.OptionsView.{options_view};
-ghost use Rattle.raven_ports.specs.Faults.{Rose};
-ghost use Rattle.raven_ports.specs.States.{SourceState};
-ghost use Rattle.raven_console.specs.Devices.{Keeps};
-ghost use Rattle.raven_console.specs.Openings.{Loads};
-ghost use Rattle.raven_console.specs.Runs.{devices_of};
-ghost use Rattle.raven_reply.specs.ReplyView.{reply_view};
-ghost use Rattle.raven_measure.specs.Doing.{state_view};
-ghost use Rattle.raven_measure.specs.Ends.{IsRefused, IsUnmeasured, MeasuresRightly, status_of};
-ghost use Rattle.raven_measure.specs.Measures.{Measures, OpensEmpty};
-ghost use Rattle.raven_measure.specs.Told.{last_told as spec_last_told};
+//! The command.
+ghost use Rattle.std.specs.Prelude.{◌≡◌, IfErr, IfOk, IfSome, OnOk};
+ghost use Rattle.spec_server.specs.Machine.{Do};
+ghost use Rattle.spec_server.specs.WellFormed.{IsWellFormed};
+ghost use Rattle.spec_desk.specs.Keepers.{Keeps};
+ghost use Rattle.spec_desk.specs.Lived.{machine_in};
+ghost use Rattle.raven_desk.specs.Openings.{Loads};
+ghost use Rattle.raven_request.specs.RequestView.{request_view};
+ghost use Rattle.raven_measure.specs.Defining.{requests_view};
+ghost use Rattle.raven_measure.specs.Doing.{Measures, StopsMeasuring};
+ghost use Rattle.raven_measure.specs.Ends.{IsRefused, IsUnmeasured, MeasuresRightly, end_of_load, end_of_stop};
+ghost use Rattle.raven_measure.specs.Measures.{Begins, ends_of};
+ghost use Rattle.raven_measure.specs.OptionsView.{options_view};
 
+use crate::definition::defining;
 use crate::making::{Measured, Stop};
+use crate::options::Options;
 use crate::summary::summary_line;
 use doc_keeper::LoadFault;
 use doc_txn::BaseId;
-use measure_orders::{Options, options_in};
-use raven_base::NoMemory;
-use raven_console::{Status, give_all, open_from};
+use raven_desk::{Live, Unopened, give_all};
 use raven_ports::{Clock, Keeper, Sink, SinkFault};
-use raven_world::{Reply, World};
+use raven_request::Request;
 use std::alloc::Global;
 use std::thread::Threads;
 
-// The status of a measurement that stops.
-fn stopped(stop: Stop) -> Status
-    ensures { result ≡ status_of stop }
+/// How a measurement ended.
+#[derive(Clone, Copy)]
+pub enum MeasureEnd {
+    /// The summary was written.
+    Done,
+
+    /// A call of the output failed. What was written is a prefix of the summary.
+    WriteFault,
+
+    /// A call of the keeper failed, while the database was opened or at a request. Nothing was written.
+    KeptFault,
+
+    /// The keeper holds an invalid row. Nothing was done.
+    KeptBad {
+        /// The etag of the first such row.
+        etag: u64,
+    },
+
+    /// The keeper holds rows, but what is measured is a database of its own. Nothing was done.
+    NotEmpty {
+        /// The last etag of the database.
+        last: u64,
+    },
+
+    /// Memory ran out.
+    NoMemory,
+}
+
+/// How a measurement ended, and the keeper that it was called with.
+pub struct Measurement<K> {
+    pub end: MeasureEnd,
+    pub keeper: K,
+}
+
+impl<K: Keeper> Measured<K> {
+    // Makes all requests.
+    fn make_all<R: Threads, C: Clock>(
+        &mut self,
+        rt: &R,
+        alloc: Global,
+        clock: &C,
+        options: Options,
+        definition: Option<Request>,
+    ) -> Result<(), Stop>
+        requires formed { IfSome definition (λ request. IsWellFormed (Do (request_view request))) }
+        requires none { self.old.moved ≡ 0 }
+        ensures done { OnOk result (Measures (C.moment clock.now) (options_view options) (requests_view definition) self.old self.new) }
+        ensures stopped { IfErr result (StopsMeasuring (C.moment clock.now) (options_view options) (requests_view definition) self.old self.new) }
+    {
+        self.fill(rt, alloc, clock, options, definition)?;
+        self.catch_up(rt, alloc, clock, options)
+    }
+
+    // The measurement that ends here.
+    fn ended(self, end: MeasureEnd) -> Measurement<K>
+        ensures end { result.end ≡ end }
+        ensures keeper { K.state result.keeper ≡ self.live.keeper }
+        ensures keeps { Keeps (K.state result.keeper).held (machine_in self.live) }
+    {
+        let keeper = self.into_keeper();
+        Measurement { end, keeper }
+    }
+}
+
+fn end_of(stop: Stop) -> MeasureEnd
+    ensures { result ≡ end_of_stop stop }
 {
     match stop {
-        Stop::Kept => Status::KeptFault,
-        Stop::NoMemory => Status::NoMemory,
+        Stop::Kept => MeasureEnd::KeptFault,
+        Stop::NoMemory => MeasureEnd::NoMemory,
     }
 }
 
-// The last etag that a reply tells of.
-fn last_told(reply: &Reply) -> u64
-    ensures { result ≡ spec_last_told (reply_view reply.now) }
+fn end_by(fault: LoadFault) -> MeasureEnd
+    ensures { result ≡ end_of_load fault }
 {
-    match reply {
-        Reply::Stats { last_doc_etag, .. } => *last_doc_etag,
-        _ => 0,
+    match fault {
+        LoadFault::Failed => MeasureEnd::KeptFault,
+        LoadFault::KeptBad { etag } => MeasureEnd::KeptBad { etag },
+        LoadFault::NoMemory => MeasureEnd::NoMemory,
     }
-}
-
-fn last_of(world: &World) -> u64
-    ensures { result ≡ last world.now.store }
-{
-    last_told(&world.snapshot().stats())
 }
 
 // The database of the rows that the keeper holds, which have to be none.
-fn empty_from<K: Keeper>(alloc: Global, keeper: &mut K) -> Result<Measured, Status>
-    ensures opens { IfOk result (λ measured. OpensEmpty (K.state keeper.old).held (state_view measured)) }
-    ensures keeps { IfOk result (λ measured. Keeps (K.state keeper.new).held (machine_of measured.world)) }
-    ensures cause { IfErr result (IsUnmeasured (K.state keeper.old) (K.state keeper.new)) }
-    ensures loads { Loads (K.state keeper.old) (K.state keeper.new) }
+fn empty_from<K: Keeper>(alloc: Global, keeper: K) -> Result<Measured<K>, Measurement<K>>
+    ensures begins { IfOk result (Begins (K.state keeper)) }
+    ensures cause { IfErr result (λ ended. IsUnmeasured (K.state keeper) (K.state ended.keeper) ended.end) }
+    ensures loads { IfErr result (λ ended. Loads (K.state keeper) (K.state ended.keeper)) }
 {
     let Ok(base) = BaseId::program(alloc) else {
-        return Err(Status::NoMemory);
+        let end = MeasureEnd::NoMemory;
+        return Err(Measurement { end, keeper });
     };
-    let world = match open_from(alloc, keeper, base) {
-        Ok(machine) => machine.into_world(),
-        Err(LoadFault::Failed) => return Err(Status::KeptFault),
-        Err(LoadFault::KeptBad { etag }) => return Err(Status::KeptBad { etag }),
-        Err(LoadFault::NoMemory) => return Err(Status::NoMemory),
+    let live = match Live::open(alloc, keeper, base) {
+        Ok(live) => live,
+        Err(Unopened { keeper, fault }) => {
+            let end = end_by(fault);
+            return Err(Measurement { end, keeper });
+        }
     };
-    match last_of(&world) {
-        0 => Ok(Measured { world, batches: 0 }),
-        last => Err(Status::NotEmpty { last }),
+    let measured = Measured::of(live);
+    match measured.last() {
+        0 => Ok(measured),
+        last => Err(measured.ended(MeasureEnd::NotEmpty { last })),
     }
 }
 
-fn line_of<R: Threads + Sync, K: Keeper, C: Clock>(
+/// The command: it opens the database of the rows that the keeper holds, which have to be none, defines the index, writes the orders, makes batches
+/// until there is nothing to do, and writes the summary. The keeper is returned in each case.
+///
+/// What each end says is in `MeasuresRightly`, one named fact after another.
+pub fn measure<R: Threads, O: Sink, K: Keeper, C: Clock>(
     rt: &R,
     alloc: Global,
-    measured: &mut Measured,
-    keeper: &mut K,
-    clock: &C,
-    options: Options,
-) -> Result<String, Stop>
-    requires keeps { Keeps (K.state keeper.old).held (machine_of measured.old.world) }
-    requires none { measured.old.batches ≡ 0 }
-    ensures done { IfOk result (λ _. Measures (C.moment clock.now) (options_view options) (state_view measured.old) (state_view measured.new)) }
-    ensures line { IfOk result (λ line. string_bytes line ≡ printed_summary (summary_of measured.new.batches (machine_of measured.new.world))) }
-    ensures keeps { Keeps (K.state keeper.new).held (machine_of measured.new.world) }
-    ensures later { (K.state keeper.old).count ≤ (K.state keeper.new).count }
-    ensures cause { IsErrOf result Stop.Kept → Rose (K.state keeper.old).count (K.state keeper.new).count }
-{
-    measured.fill(rt, alloc, keeper, clock, &options)?;
-    measured.catch_up(rt, alloc, keeper, clock, &options)?;
-    Ok(summary_line(rt, alloc, measured)?)
-}
-
-/// The command `measure`, with the arguments behind it.
-pub fn measure<R: Threads + Sync, O: Sink, K: Keeper, C: Clock>(
-    rt: &R,
-    alloc: Global,
-    arguments: &[String],
+    options: &Options,
     output: &mut O,
-    keeper: &mut K,
+    keeper: K,
     clock: &C,
-) -> Status
-    ensures ends { (words : List (List ℕ)) (input : SourceState) → is_measure words ≡ Some (map string_bytes arguments.now) → MeasuresRightly result (record {
-      arguments = words;
+) -> Measurement<K>
+    ensures ends { MeasuresRightly result.end (record {
+      options = options_view options.now;
       clock = C.moment clock.now;
-      before = devices_of input (O.state output.old) (K.state keeper.old);
-      after = devices_of input (O.state output.new) (K.state keeper.new);
+      before = ends_of (O.state output.old) (K.state keeper);
+      after = ends_of (O.state output.new) (K.state result.keeper);
     }) }
-    ensures untouched { result ≡ Status.Usage → (output.new ≡ output.old) × (keeper.new ≡ keeper.old) }
-    ensures refused { IsRefused result → (output.new ≡ output.old) × ((K.state keeper.new).held ≡ (K.state keeper.old).held) }
+    ensures refused { IsRefused result.end → (output.new ≡ output.old) × ((K.state result.keeper).held ≡ (K.state keeper).held) }
 {
-    let options = match options_in(alloc, arguments) {
-        Ok(Some(options)) => options,
-        Ok(None) => return Status::Usage,
-        Err(NoMemory) => return Status::NoMemory,
-    };
     let mut measured = match empty_from(alloc, keeper) {
         Ok(measured) => measured,
-        Err(status) => return status,
+        Err(ended) => return ended,
     };
-    let line = match line_of(rt, alloc, &mut measured, keeper, clock, options) {
-        Ok(line) => line,
-        Err(stop) => return stopped(stop),
+    let Ok(definition) = defining(alloc) else {
+        return measured.ended(MeasureEnd::NoMemory);
+    };
+    if let Err(stop) = measured.make_all(rt, alloc, clock, *options, definition) {
+        return measured.ended(end_of(stop));
+    }
+    let Ok(line) = summary_line(rt, alloc, &measured) else {
+        return measured.ended(MeasureEnd::NoMemory);
     };
     match give_all(output, line.as_bytes()) {
-        Ok(()) => Status::Done,
-        Err(SinkFault::Failed) => Status::WriteFault,
-        Err(SinkFault::NoMemory) => Status::NoMemory,
+        Ok(()) => measured.ended(MeasureEnd::Done),
+        Err(SinkFault::Failed) => measured.ended(MeasureEnd::WriteFault),
+        Err(SinkFault::NoMemory) => measured.ended(MeasureEnd::NoMemory),
     }
 }

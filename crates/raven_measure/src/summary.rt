@@ -4,16 +4,17 @@ ghost use Rattle.std.specs.Int.{w64};
 ghost use Rattle.spec_measure.specs.Requests.{rows_ask as spec_rows_ask};
 ghost use Rattle.spec_measure.specs.Summary.{printed_summary, summary_by as spec_summary_by, summary_of as spec_summary_of, total_at as spec_total_at, total_of as spec_total_of};
 ghost use Rattle.spec_data.specs.Members.{member_of};
-ghost use Rattle.spec_server.specs.Machine.{count_documents, machine_of};
+ghost use Rattle.spec_server.specs.Machine.{count_documents};
+ghost use Rattle.spec_desk.specs.Lived.{machine_in};
 ghost use Rattle.raven_value.specs.View.{data_of};
 ghost use Rattle.raven_reply.specs.ReplyView.{reply_view};
-ghost use Rattle.raven_measure.specs.Doing.{summary_view};
-ghost use Rattle.raven_measure.specs.Told.{documents_told as spec_documents_told};
+ghost use Rattle.raven_measure.specs.Summaries.{summary_view};
 
 use crate::definition::INDEX;
 use crate::making::Measured;
 use raven_base::NoMemory;
-use raven_console::{Request, outcome_of};
+use raven_ports::Keeper;
+use raven_request::Request;
 use raven_value::{Members, Paths, Text, Value};
 use raven_world::{Reply, World};
 use rql_plan::QueryAsk;
@@ -77,23 +78,12 @@ fn total_of(rows: &[Value]) -> i128
     total
 }
 
-// How many documents a reply tells of.
-fn documents_told(reply: &Reply) -> u64
-    ensures { result ≡ spec_documents_told (reply_view reply.now) }
-{
-    match reply {
-        Reply::Stats {
-            count_of_documents,
-            ..
-        } => *count_of_documents,
-        _ => 0,
-    }
-}
-
+// How many documents there are but for those of the server.
 fn documents_of(world: &World) -> u64
     ensures { result ≡ count_documents world.now.store }
 {
-    documents_told(&world.snapshot().stats())
+    let counts = world.snapshot().store.counts_beside("@indexes");
+    u64::from(counts.documents)
 }
 
 // The summary after so many batches and with so many documents, by the answer to the query for all rows.
@@ -123,17 +113,18 @@ fn summary_by(batches: u64, docs: u64, answer: &Reply) -> Summary
     }
 }
 
-fn summary_of<R: Threads + Sync>(
+fn summary_of<R: Threads, K: Keeper>(
     rt: &R,
     alloc: Global,
-    measured: &Measured,
+    measured: &Measured<K>,
 ) -> Result<Summary, NoMemory>
-    ensures { IfOk result (λ summary. summary_view summary ≡ spec_summary_of measured.now.batches (machine_of measured.now.world)) }
+    ensures { IfOk result (λ summary. summary_view summary ≡ spec_summary_of measured.now.moved (machine_in measured.now.live)) }
 {
-    let Measured { world, batches } = measured;
+    let live = measured.live();
     let ask = rows_ask(alloc)?;
-    let outcome = outcome_of(rt, alloc, world, 0, Request::Ask { ask })?;
-    Ok(summary_by(*batches, documents_of(world), &outcome.reply))
+    let course = live.course(rt, alloc, 0, Request::Ask { ask })?;
+    let docs = documents_of(live.world());
+    Ok(summary_by(measured.batches(), docs, &course.reply))
 }
 
 // A summary as one line.
@@ -153,12 +144,12 @@ fn printed(alloc: Global, summary: &Summary) -> Result<String, NoMemory>
 }
 
 /// The summary of a measurement, as one line.
-pub fn summary_line<R: Threads + Sync>(
+pub fn summary_line<R: Threads, K: Keeper>(
     rt: &R,
     alloc: Global,
-    measured: &Measured,
+    measured: &Measured<K>,
 ) -> Result<String, NoMemory>
-    ensures { IfOk result (λ line. string_bytes line ≡ printed_summary (spec_summary_of measured.now.batches (machine_of measured.now.world))) }
+    ensures { IfOk result (λ line. string_bytes line ≡ printed_summary (spec_summary_of measured.now.moved (machine_in measured.now.live))) }
 {
     let summary = summary_of(rt, alloc, measured)?;
     printed(alloc, &summary)

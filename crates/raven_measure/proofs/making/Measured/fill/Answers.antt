@@ -1,23 +1,26 @@
-use Rattle.std.proofs.Common.{◌≡◌, add-one, arith}
-use Rattle.measure_orders.specs.OptionsView.{options_view}
-use Rattle.raven_measure.specs.Doing.{state_view}
-use Rattle.raven_measure.proofs.Filled.{filled_all, filled_more, three_more}
+use Rattle.std.proofs.Common.{◌<◌, arith}
+use Rattle.std.proofs.lemmas.Result.{err_from_is_err_and}
+use Rattle.raven_measure.specs.Defining.{requests_view}
+use Rattle.raven_measure.specs.OptionsView.{options_view}
+use Rattle.raven_measure.proofs.Filled.{filled_few, filled_more, filled_short}
 use Rattle.raven_measure.proofs.making.Measured.fill.Goals as goal
 
-pub loop-earlier-preserved : goal.loop-earlier-preserved
-loop-earlier-preserved g c =
-    let k = c.loop-earlier.earlier in
-    record {
-      filled = filled_more (g.C.Clock.moment c.args.clock.now) (options_view c.args.options.now) k (state_view c.args.self.now) (state_view c.loop-earlier.self) (state_view c.with_order.new.self)
-          c.loop-earlier.invariant.filled (c.in_ok-with_order.ensures.done k (add-one k) c.loop-earlier.invariant.draws);
-      draws = three_more c.args.options.now.seed k c.loop-earlier.draws c.with_order.new.draws c.loop-earlier.invariant.draws c.in_ok-with_order.ensures.draws;
-      few = let few = c.loop-earlier.invariant.few in let one = c.with_order.ensures.few in omega arith;
-      keeps = c.with_order.ensures.keeps;
-      later = let later = c.loop-earlier.invariant.later in let on = c.with_order.ensures.later in omega arith;
-    }
+pub with_order-requires-clause-room : goal.with_order-requires-clause-room
+with_order-requires-clause-room g c =
+    let few = filled_few (g.C.Clock.moment c.args.clock.now) (options_view c.args.options) c.loop-earlier.earlier c.args.definition c.args.self.now c.loop-earlier.self c.loop-earlier.invariant.filled in
+    let none = c.requires.none in
+    omega arith
 
-pub returns-clause-done : goal.returns-clause-done
-returns-clause-done g c =
-    let all : c.loop-earlier.earlier ≡ c.args.options.now.docs = omega arith in
-    filled_all (g.C.Clock.moment c.args.clock.now) (options_view c.args.options.now) c.loop-earlier.earlier (state_view c.args.self.now) (state_view c.loop-earlier.self) all
-    c.loop-earlier.invariant.filled
+pub returns-in_err-with_order-clause-stopped : goal.returns-in_err-with_order-clause-stopped
+returns-in_err-with_order-clause-stopped g c =
+    let p = err_from_is_err_and c.from_residual-in_err-with_order.result c.from_residual-in_err-with_order.ensures.1 in
+    let within : c.loop-earlier.earlier < c.args.options.docs = omega arith in
+    rw (p.1, p.2) (filled_short (g.C.Clock.moment c.args.clock.now) (options_view c.args.options) c.loop-earlier.earlier c.args.options.docs (requests_view c.args.definition) c.args.self.now
+    c.loop-earlier.self c.with_order.new.self _ within c.loop-earlier.invariant.filled c.in_err-with_order.ensures.stopped)
+
+pub loop-earlier-preserved : goal.loop-earlier-preserved
+loop-earlier-preserved g c = record {
+  filled = filled_more (g.C.Clock.moment c.args.clock.now) (options_view c.args.options) c.loop-earlier.earlier (requests_view c.args.definition) c.args.self.now c.loop-earlier.self
+      c.with_order.new.self c.loop-earlier.invariant.filled c.in_ok-with_order.ensures.done;
+  draws = c.in_ok-with_order.ensures.draws;
+}

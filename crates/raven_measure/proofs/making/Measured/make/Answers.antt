@@ -1,44 +1,59 @@
-use Rattle.std.proofs.Common.{◌≡◌, ℕ, ◌+◌, [], ◌∷◌, ap, arith, subst, sym}
-use Rattle.spec_measure.specs.Summary.{one_if}
-use Rattle.spec_server.specs.Machine.{machine_of}
+use Rattle.std.proofs.Common.{◌+◌, ◌∷◌, [], ap, ◌∙◌, subst}
+use Rattle.std.proofs.lemmas.Result.{err_from_is_err_and}
+use Rattle.raven_desk.specs.CourseView.{course_view}
+use Rattle.raven_desk.specs.SettledView.{settled_view}
+use Rattle.raven_desk.specs.declared.settling.Settled as program
 use Rattle.raven_request.specs.RequestView.{request_view}
-use Rattle.raven_console.specs.Devices.{Keeps}
-use Rattle.raven_measure.specs.Doing.{Does, state_view}
-use Rattle.raven_measure.specs.declared.making.Measured.{Measured}
-use Rattle.raven_measure.proofs.Taken.{does_taken, keeps_taken, past_in, rising_in}
+use Rattle.spec_desk.specs.Keepers.{MayGive}
+use Rattle.spec_desk.specs.Stepped.{Settles}
+use Rattle.spec_measure.specs.Summary.{one_if}
+use Rattle.raven_measure.specs.Doing.{Does, State, Stops}
+use Rattle.raven_measure.specs.declared.making.Stop.TheVariants.{Kept, NoMemory as OutOfMemory}
+use Rattle.raven_measure.proofs.Doing.{stops_at_once, stops_one}
+use Rattle.raven_measure.proofs.Settled.{as_one, does_settled, few_changes, not_taken}
 use Rattle.raven_measure.proofs.making.Measured.make.Goals as goal
-use Rattle.raven_measure.proofs.making.Measured.make.Goals.{else-is_moving, then-is_moving}
 
-pub take-requires-clause-rising : goal.take-requires-clause-rising
-take-requires-clause-rising g c = rising_in c.args.self.now.world c.now.result (request_view c.args.request) c.in_ok-reply.field-0 c.in_ok-reply.ensures
+pub returns-in_err-reply-clause-stopped : goal.returns-in_err-reply-clause-stopped
+returns-in_err-reply-clause-stopped g c =
+    let p = err_from_is_err_and c.from_residual.result c.from_residual.ensures.1 in
+    rw (p.1, p.2) (stops_at_once (g.C.Clock.moment c.args.clock.now) c.args.self.now (request_view c.args.request) [])
 
-pub take-requires-clause-past : goal.take-requires-clause-past
-take-requires-clause-past g c =
-    past_in (g.K.Keeper.state c.args.keeper.now).held c.args.self.now.world c.now.result (request_view c.args.request) c.in_ok-reply.field-0 c.requires.keeps c.in_ok-reply.ensures
-
-pub returns-clause-done : goal.returns-clause-done
-returns-clause-done g c =
+pub returns-in_err-settle-clause-stopped : goal.returns-in_err-settle-clause-stopped
+returns-in_err-settle-clause-stopped g c =
+    let p = err_from_is_err_and c.from_residual-in_err-settle.result c.from_residual-in_err-settle.ensures.1 in
     let clock = g.C.Clock.moment c.args.clock.now in
-    let n = c.args.self.now.batches in
-    let asked = request_view c.args.request in
-    let moves = c.is_moving.result in
-    let does = λ (m : ℕ) (counted : m ≡ n + one_if moves).
-    does_taken clock (g.K.Keeper.state c.args.keeper.now) (g.K.Keeper.state c.take.new.keeper) c.args.self.now.world c.take.new.world n m c.now.result asked c.in_ok-reply.field-0 moves
-    (record { below = c.now.ensures.below; still = c.now.ensures.still }) c.in_ok-reply.ensures c.in_ok-take.ensures.taken c.is_moving.ensures counted in
-    elim c.if-is_moving.branch [
-      | then-is_moving w ↦
-          subst (λ (x : Measured). Does clock (state_view c.args.self.now) (asked ∷ []) (state_view x)) (sym w.self-is) (does (n + 1) (ap (λ b. n + one_if b) (sym w.if-is_moving.true)))
-      | else-is_moving w ↦
-          subst (λ (x : Measured). Does clock (state_view c.args.self.now) (asked ∷ []) (state_view x)) (sym w.self-is) (does n (let none = ap one_if w.if-is_moving.false in omega arith))
-    ]
+    let x = c.self.inside.live in
+    let n = c.self.inside.batches in
+    let q = request_view c.args.request in
+    let same = c.in_err-settle.ensures.alone (few_changes x.world c.now.result q (course_view c.in_ok-reply.field-0) c.in_ok-reply.ensures.course) in
+    rw (p.1, p.2) (subst (λ (s : State). Stops clock s (q ∷ []) (record { live = c.settle.new.self; moved = n }) OutOfMemory) c.self.view_is
+    (stops_one clock (record { live = x; moved = n }) (record { live = c.settle.new.self; moved = n }) q OutOfMemory same.0 same.1 (λ kept. absurd cc)))
 
-pub returns-clause-keeps : goal.returns-clause-keeps
-returns-clause-keeps g c =
-    let after = (g.K.Keeper.state c.take.new.keeper).held in
-    let keeps : Keeps after (machine_of c.take.new.world) =
-    keeps_taken (g.K.Keeper.state c.args.keeper.now) (g.K.Keeper.state c.take.new.keeper) c.args.self.now.world c.take.new.world c.now.result (request_view c.args.request)
-    c.in_ok-reply.field-0 c.requires.formed c.in_ok-reply.ensures c.in_ok-take.ensures.taken c.requires.keeps in
-    elim c.if-is_moving.branch [
-      | then-is_moving w ↦ subst (λ (x : Measured). Keeps after (machine_of x.world)) (sym w.self-is) keeps
-      | else-is_moving w ↦ subst (λ (x : Measured). Keeps after (machine_of x.world)) (sym w.self-is) keeps
-    ]
+pub returns-clause-stopped : goal.returns-clause-stopped
+returns-clause-stopped g c =
+    let clock = g.C.Clock.moment c.args.clock.now in
+    let x = c.self.inside.live in
+    let y = c.settle.new.self in
+    let n = c.self.inside.batches in
+    let q = request_view c.args.request in
+    let course = course_view c.in_ok-reply.field-0 in
+    let settled = subst (λ (s : program.Settled). Settles course.changes x (settled_view s) y) c.in-Stopped.is c.in_ok-settle.ensures.settled in
+    let same = c.in_ok-settle.ensures.halted (rw c.in-Stopped.is tt) (few_changes x.world c.now.result q course c.in_ok-reply.ensures.course) in
+    let given : MayGive clock c.now.result = record { below = c.now.ensures.below; still = c.now.ensures.still } in
+    subst (λ (s : State). Stops clock s (q ∷ []) (record { live = y; moved = n }) Kept) c.self.view_is
+    (stops_one clock (record { live = x; moved = n }) (record { live = y; moved = n }) q Kept same.0 same.1
+    (λ kept. not_taken clock x y c.now.result q course c.in-Stopped.before c.in-Stopped.after given c.in_ok-reply.ensures.course settled))
+
+pub returns-in-All-clause-done : goal.returns-in-All-clause-done
+returns-in-All-clause-done g c =
+    let clock = g.C.Clock.moment c.args.clock.now in
+    let x = c.self.inside.live in
+    let y = c.settle.new.self in
+    let n = c.self.inside.batches in
+    let q = request_view c.args.request in
+    let course = course_view c.in_ok-reply.field-0 in
+    let settled = subst (λ (s : program.Settled). Settles course.changes x (settled_view s) y) c.in-All.is c.in_ok-settle.ensures.settled in
+    let given : MayGive clock c.now.result = record { below = c.now.ensures.below; still = c.now.ensures.still } in
+    subst (λ (s : State). Does clock s (q ∷ []) (record { live = y; moved = n + c.from.result })) c.self.view_is
+    (does_settled clock x y n (n + c.from.result) c.now.result q course given c.in_ok-reply.ensures.course settled c.in_ok-settle.ensures.later
+    (ap (λ m. n + m) (c.from.ensures ∙ as_one c.is_moving.result) ∙ ap (λ b. n + one_if b) c.is_moving.ensures))

@@ -1,4 +1,0 @@
-pub mod Texts
-pub mod IdLemmas
-pub mod NumberLemmas
-pub mod PairLemmas

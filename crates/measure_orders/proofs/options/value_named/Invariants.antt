@@ -1,9 +1,0 @@
-use Rattle.std.proofs.Common.{◌≡◌, drop, map}
-use Rattle.spec_server.specs.Options.{value_named}
-use Rattle.measure_orders.specs.OptionsView.{pair_view}
-use Rattle.measure_orders.proofs.options.value_named.Given as goal
-
-abbrev pub invariant-loop-pair : goal.invariant-loop-pair
-invariant-loop-pair l = record {
-  left : value_named l.name (map pair_view l.pairs) ≡ value_named l.name (map pair_view (drop l.pair-index l.pairs));
-}
