@@ -1,5 +1,5 @@
 use Rattle.std.proofs.Common.{length}
-use Rattle.raven_console.proofs.options.+are_once.Given as goal
+use Rattle.raven_console.proofs.pairs.+are_once.Given as goal
 
 abbrev pub decreases-are_once : goal.decreases-are_once
 decreases-are_once l = length l.pairs.now

@@ -1,8 +1,8 @@
 use Rattle.std.proofs.Common.{◌≡◌, length, map, string_bytes}
 use Rattle.spec_server.specs.Options.{pairs_in}
-use Rattle.raven_console.specs.OptionsView.{pair_view}
+use Rattle.raven_console.specs.ArgumentsView.{pair_view}
 use Rattle.raven_console.proofs.PairLemmas.{onto}
-use Rattle.raven_console.proofs.options.pairs_in.Given as goal
+use Rattle.raven_console.proofs.pairs.pairs_in.Given as goal
 
 abbrev pub invariant-loop-name : goal.invariant-loop-name
 invariant-loop-name l = record {

@@ -1,7 +1,7 @@
 use Rattle.std.proofs.Common.{◌≡◌, drop, map}
 use Rattle.spec_server.specs.Options.{value_named}
-use Rattle.raven_console.specs.OptionsView.{pair_view}
-use Rattle.raven_console.proofs.options.value_named.Given as goal
+use Rattle.raven_console.specs.ArgumentsView.{pair_view}
+use Rattle.raven_console.proofs.pairs.value_named.Given as goal
 
 abbrev pub invariant-loop-pair : goal.invariant-loop-pair
 invariant-loop-pair l = record {

@@ -1,8 +1,8 @@
 use Rattle.std.proofs.Common.{arith}
-use Rattle.std.proofs.lemmas.Result.{IfErr-weaker, err_from_is_err_and}
+use Rattle.std.proofs.lemmas.Result.{IfErr-weaker, err_from_is_err_and, on_ok_weaker}
 use Rattle.raven_measure.specs.Defining.{requests_view}
 use Rattle.raven_measure.specs.OptionsView.{options_view}
-use Rattle.raven_measure.proofs.Filled.{filled_few, stops_filling, stops_pumping}
+use Rattle.raven_measure.proofs.Filled.{filled_few, measured, stops_filling, stops_pumping}
 use Rattle.raven_measure.proofs.making.Measured.make_all.Goals as goal
 
 pub returns-in_err-fill-clause-stopped : goal.returns-in_err-fill-clause-stopped
@@ -22,3 +22,10 @@ returns-clause-stopped g c =
     (λ why stops. stops_pumping (g.C.Clock.moment c.args.clock.now) (options_view c.args.options) (requests_view c.args.definition) c.args.self.now c.fill.new.self c.catch_up.new.self why
     c.in_ok-fill.ensures.done stops)
     c.catch_up.ensures.stopped
+
+pub returns-clause-done : goal.returns-clause-done
+returns-clause-done g c =
+    on_ok_weaker c.catch_up.result
+    (λ catches. measured (g.C.Clock.moment c.args.clock.now) (options_view c.args.options) (requests_view c.args.definition) c.args.self.now c.fill.new.self c.catch_up.new.self
+    c.in_ok-fill.ensures.done catches)
+    c.catch_up.ensures.done
