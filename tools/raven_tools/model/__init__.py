@@ -3,9 +3,10 @@
 It keeps everything in plain dictionaries and counts anew for each question, so it is slow and easy to read.
 """
 
-from raven_tools.model.database import Database, Index
+from raven_tools.model.database import Database
 from raven_tools.model.definitions import Auto, Static
 from raven_tools.model.documents import OWN, collection_of, fault_of, stored, vector_of
+from raven_tools.model.indexes import Index
 from raven_tools.model.json import quoted, read_json, write_json
 from raven_tools.model.limits import (
     BASE,

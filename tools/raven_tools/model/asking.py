@@ -4,8 +4,9 @@ import dataclasses
 
 from raven_tools import language, queries
 from raven_tools.language.reduces import Reduce
-from raven_tools.model.database import Database, Index, Reply
+from raven_tools.model.database import Database, Reply
 from raven_tools.model.documents import fault_of
+from raven_tools.model.indexes import Index
 from raven_tools.model.json import Json
 from raven_tools.model.limits import MAX_ID
 from raven_tools.model.refused import Refused

@@ -1,12 +1,14 @@
 """The lines of a script: what each asks, and the reply to it."""
 
+import collections.abc
 import re
 
+from raven_tools.model import answers, automatic, batches, slots
 from raven_tools.model.asking import Ask, answer_to, read_query
 from raven_tools.model.database import Database, Reply
 from raven_tools.model.definitions import Static
 from raven_tools.model.documents import fault_of
-from raven_tools.model.json import read_json, write_json
+from raven_tools.model.json import Json, read_json, write_json
 from raven_tools.model.limits import MAX_BATCH, MAX_ID, MAX_LOOKS, MAX_NAME
 from raven_tools.model.refused import Refused
 from raven_tools.model.transactions import Command
@@ -29,70 +31,70 @@ def arguments(text: str, count: int) -> list[str]:
     return parts
 
 
-def number(text):
+def number(text: str) -> int | None:
     return int(text) if re.fullmatch(r"[0-9]{1,16}", text, re.ASCII) else None
 
 
-def id_of(text):
+def id_of(text: str) -> str:
     fault = fault_of(text, MAX_ID)
     if fault:
         raise fault
     return text
 
 
-def name_of(text):
+def name_of(text: str) -> str:
     fault = fault_of(text, MAX_NAME)
     if fault:
         raise fault
     return text
 
 
-def object_of(value, member):
+def object_of(value: Json, member: str) -> dict[str, Json]:
     if not isinstance(value, dict):
         raise Refused("BadMember", Name=member)
     return value
 
 
-def text_of(value, member):
+def text_of(value: Json, member: str) -> str:
     if not isinstance(value, str):
         raise Refused("BadMember", Name=member)
     return value
 
 
-def is_collection(text):
+def is_collection(text: str) -> bool:
     return not text.startswith("@") or text == "@empty"
 
 
-def is_field(text):
+def is_field(text: str) -> bool:
     return not any(mark in text for mark in " .()")
 
 
-def put_of(name, expected, text):
+def put_of(name: str, expected: str | None, text: str) -> Command:
     """A fault of the JSON is reported before one of the id, and that before a body that is no object."""
     body = read_json(text.encode())
     return Command(id_of(name), expected, object_of(body, "body"))
 
 
-def put_line(database, rest):
+def put_line(database: Database, rest: str) -> Reply:
     name, text = arguments(rest, 1)
     return database.write(put_of(name, None, text))
 
 
-def put_if_line(database, rest):
+def put_if_line(database: Database, rest: str) -> Reply:
     name, vector, text = arguments(rest, 2)
     return database.write(put_of(name, vector, text))
 
 
-def delete_line(database, rest):
+def delete_line(database: Database, rest: str) -> Reply:
     return database.write(Command(id_of(rest), None))
 
 
-def delete_if_line(database, rest):
+def delete_if_line(database: Database, rest: str) -> Reply:
     vector, name = arguments(rest, 1)
     return database.write(Command(id_of(name), vector))
 
 
-def command_of(item):
+def command_of(item: Json) -> Command:
     """A command of a transaction. Its members are tested in this order."""
     item = object_of(item, "Commands")
     if item.get("Type") not in ("PUT", "DELETE"):
@@ -105,25 +107,25 @@ def command_of(item):
     return Command(name, vector, body)
 
 
-def bulk_line(database, rest):
+def bulk_line(database: Database, rest: str) -> Reply:
     commands = object_of(read_json(rest.encode()), "body").get("Commands")
     if not isinstance(commands, list):
         raise Refused("BadMember", Name="Commands")
     return database.bulk([command_of(item) for item in commands])
 
 
-def get_line(database, rest):
-    return database.get(id_of(rest))
+def get_line(database: Database, rest: str) -> Reply:
+    return answers.get(database, id_of(rest))
 
 
-def auto_line(database, rest):
+def auto_line(database: Database, rest: str) -> Reply:
     collection, field = arguments(rest, 1)
     if not is_collection(collection) or not is_field(field):
         raise Refused("UnknownLine")
-    return database.auto(collection, field)
+    return automatic.auto(database, collection, field)
 
 
-def map_of(members):
+def map_of(members: dict[str, Json]) -> str:
     """The text of the map. `Maps`, a list of one text, counts if both are there, and is missed if none is."""
     if "Map" in members and "Maps" not in members:
         return text_of(members["Map"], "Map")
@@ -133,7 +135,7 @@ def map_of(members):
     return text_of(maps[0], "Maps")
 
 
-def index_line(database, rest):
+def index_line(database: Database, rest: str) -> Reply:
     """The members are tested in this order, and the texts are read behind them."""
     members = object_of(read_json(rest.encode()), "body")
     name = name_of(text_of(members.get("Name"), "Name"))
@@ -141,36 +143,36 @@ def index_line(database, rest):
     reduce = members.get("Reduce")
     if reduce is not None:
         text_of(reduce, "Reduce")
-    return database.define(name, Static(text, reduce))
+    return slots.define(database, name, Static(text, reduce))
 
 
-def drop_line(database, rest):
-    return database.remove(name_of(rest))
+def drop_line(database: Database, rest: str) -> Reply:
+    return slots.remove(database, name_of(rest))
 
 
-def pump_line(database, rest):
+def pump_line(database: Database, rest: str) -> Reply:
     """The number is tested before the name, which may follow it."""
     first, *name = rest.split(" ", 1)
     most = number(first)
     if most is None or not 1 <= most <= MAX_BATCH or name == [""]:
         raise Refused("UnknownLine")
-    return database.pump(most, *map(name_of, name))
+    return batches.pump(database, most, *map(name_of, name))
 
 
-def find_line(database, rest):
+def find_line(database: Database, rest: str) -> Reply:
     index, field, text = arguments(rest, 2)
-    return database.find(name_of(index), field, text)
+    return answers.find(database, name_of(index), field, text)
 
 
-def stale_line(database, rest):
-    return database.stale(name_of(rest))
+def stale_line(database: Database, rest: str) -> Reply:
+    return answers.stale(database, name_of(rest))
 
 
-def query_line(database, rest):
+def query_line(database: Database, rest: str) -> Reply:
     return answer_to(database, Ask(read_query(rest)))
 
 
-def number_of(members, name, least=None, most=None):
+def number_of(members: dict[str, Json], name: str, least: int | None = None, most: int | None = None) -> int | None:
     """A member that may be missing, in which case it is None."""
     value = members.get(name)
     if name in members and not is_number(value):
@@ -180,7 +182,7 @@ def number_of(members, name, least=None, most=None):
     return value
 
 
-def ask_line(database, rest):
+def ask_line(database: Database, rest: str) -> Reply:
     """The members are tested in this order, and the text is read behind them. A script never waits, so looks change nothing."""
     members = object_of(read_json(rest.encode()), "body")
     text = text_of(members.get("Query"), "Query")
@@ -193,7 +195,7 @@ def ask_line(database, rest):
     return answer_to(database, Ask(read_query(text), parameters, start or 0, size, cutoff))
 
 
-COMMANDS = {
+COMMANDS: dict[str, collections.abc.Callable[[Database, str], Reply]] = {
     "PUT": put_line,
     "PUTIF": put_if_line,
     "DEL": delete_line,
@@ -210,7 +212,7 @@ COMMANDS = {
     "ASK": ask_line,
 }
 # Lines without arguments.
-ALONE = {"STATS": Database.stats, "INDEXES": Database.listed}
+ALONE: dict[str, collections.abc.Callable[[Database], Reply]] = {"STATS": answers.stats, "INDEXES": answers.listed}
 
 
 def asked(database: Database, line: bytes) -> Reply:

@@ -5,7 +5,7 @@ import dataclasses
 import re
 
 from raven_tools import model
-from raven_tools.model import keeping
+from raven_tools.model import batches, keeping, slots
 from raven_tools.model.asking import Ask, answer_to, read_query
 from raven_tools.model.definitions import Static
 from raven_tools.model.transactions import Command
@@ -88,7 +88,7 @@ class Run:
 
     def pump(self) -> bool:
         """One batch. Whether it moved the etag of the index."""
-        (moved,) = self.database.pump(self.options.batch, INDEX)["Pumped"]
+        (moved,) = batches.pump(self.database, self.options.batch, INDEX)["Pumped"]
         self.batches += moved["From"] != moved["To"]
         return moved["From"] != moved["To"]
 
@@ -101,7 +101,7 @@ class Run:
                 self.pump()
 
     def summary(self) -> dict:
-        self.database.define(INDEX, Static(MAP, REDUCE))
+        slots.define(self.database, INDEX, Static(MAP, REDUCE))
         self.put_all()
         while self.pump():
             pass

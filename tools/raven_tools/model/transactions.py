@@ -61,3 +61,12 @@ def result_of(store: Store, command: Command, etag: int | None) -> dict[str, Jso
     if command.is_put():
         return {"ChangeVector": store.vector(etag), "Id": name, "Type": "PUT"}
     return {"Deleted": etag is not None, "Id": name, "Type": "DELETE"}
+
+
+def transact(store: Store, commands: list[Command], by_client: bool) -> tuple[Store, list[dict[str, Json]]]:
+    """The store after all commands, and what each of them did. They run on a copy; if one is refused, all are."""
+    after, etags = store.copy(), []
+    for at, command in enumerate(commands):
+        test(after, at, command, by_client)
+        etags.append(perform(after, command))
+    return after, [result_of(after, command, etag) for command, etag in zip(commands, etags)]
