@@ -7,7 +7,6 @@ It needs no program. It ends with 0 if every test holds, and otherwise at the fi
 """
 
 import collections
-import re
 import sys
 
 sys.dont_write_bytecode = True
@@ -15,6 +14,7 @@ from raven_tools import examples, model
 from raven_tools.making import MAKERS, case_scripts, limit_scripts, worked, worked_answers
 from raven_tools.making.lines import definition
 from raven_tools.making.random_scripts import kind_of
+from raven_tools.transcripts import holds, replies_of
 
 ADULTS = """
 > INDEX {"Map":"from u in docs.Users where u.Age >= 18 select new { u.Name, Old = u.Age > 64 ? \\"yes\\" : \\"no\\" }",\
@@ -250,22 +250,9 @@ CUTOFFS = """
 """
 
 
-def expanded(text):
-    """The signs of the scripts above: `{B}` is the base id, and `[Users]` names the collection of a document."""
-    text = text.replace("{B}", model.BASE)
-    return re.sub(r"(,|\{)\[([A-Z][a-z]*)\]", r'\1"@metadata":{"@collection":"\2"}', text)
-
-
-def halves(worked):
-    """The lines of a worked script, and its replies."""
-    lines = expanded(worked).strip().split("\n")
-    return ["".join(line[2:] + "\n" for line in lines if line.startswith(mark)).encode() for mark in "><"]
-
-
 def test_worked_scripts():
     for worked in (ADULTS, LOADED, SQUARES, TOTALS, OF_DEFINITIONS, GONE, APPEARS, GROUPS, CUTOFFS):
-        script, replies = halves(worked)
-        assert model.replies(script) == replies, model.replies(script).decode()
+        holds(worked)
 
 
 def test_examples():
@@ -273,10 +260,6 @@ def test_examples():
     assert found
     for example in found:
         assert model.replies(example.script) == example.expected, example.name
-
-
-def replies_of(*lines):
-    return [model.read_json(reply) for reply in model.replies("\n".join(lines).encode()).split(b"\n")[:-1]]
 
 
 def test_names():

@@ -1,9 +1,11 @@
 """Questions: what they ask, and the answer of a database."""
 
+import collections.abc
 import dataclasses
 
 from raven_tools import language, queries
 from raven_tools.language.reduces import Reduce
+from raven_tools.model import optimiser
 from raven_tools.model.database import Database, Reply
 from raven_tools.model.documents import fault_of
 from raven_tools.model.indexes import Index
@@ -12,6 +14,7 @@ from raven_tools.model.limits import MAX_ID
 from raven_tools.model.refused import Refused
 from raven_tools.model.store import Row
 from raven_tools.queries import answers, binding
+from raven_tools.queries.trees import Path, joined
 from raven_tools.texts import folded
 
 
@@ -43,9 +46,10 @@ def read_query(text: str) -> queries.Query:
 def answer_to(database: Database, ask: Ask) -> Reply:
     try:
         binding.check(ask.query, ask.parameters, ask.start, ask.size)
-        if binding.is_dynamic(ask.query):
-            raise Refused("UnknownLine")
         kind, name = ask.query.origin
+        if binding.is_dynamic(ask.query):
+            database.stage.must_choose()
+            return of_index(database, ask, optimiser.index_for(database, optimiser.shape_of(ask.query)))
         return of_index(database, ask, database.live(name)) if kind == "index" else of_collection(database, ask, name)
     except binding.Unbound as unbound:
         raise Refused(unbound.error, **({} if unbound.name is None else {"Name": unbound.name})) from None
@@ -68,21 +72,21 @@ def of_index(database: Database, ask: Ask, index: Index) -> Reply:
     return reply_of(database, found, index.name, index.etag, is_stale)
 
 
-def joined(fields: dict[str, Json]):
+def values_in(fields: dict[str, Json]) -> collections.abc.Callable[[Path], Json]:
     """The values of an entry or row, by paths. A field that it does not have is null."""
-    return lambda path: fields.get(".".join(path))
+    return lambda path: fields.get(joined(path))
 
 
 def of_entries(database: Database, ask: Ask, index: Index) -> Found:
     """The page is cut before the documents are looked up, and those that are gone since are passed over."""
     entries, _ = index.mapped()
-    keys = answers.found(ask.query, sorted(entries), lambda key: joined(entries[key]), ask.parameters)
+    keys = answers.found(ask.query, sorted(entries), lambda key: values_in(entries[key]), ask.parameters)
     rows = map(database.store.document, answers.page(keys, ask.start, ask.size))
     return of_documents(database, ask, len(keys), [row for row in rows if row])
 
 
 def of_documents(database: Database, ask: Ask, total: int, rows: list[Row]) -> Found:
-    def shown(row):
+    def shown(row: Row) -> dict[str, Json]:
         if not ask.query.columns:
             return row.shown(database.store.base)
         return answers.selected(ask.query, lambda path: answers.at_path(row.body, path))
@@ -94,10 +98,11 @@ def of_documents(database: Database, ask: Ask, total: int, rows: list[Row]) -> F
 def of_rows(ask: Ask, index: Index, reduce: Reduce) -> Found:
     """The rows of a reduce, in order of their keys."""
     entries, _ = index.mapped()
-    rows = answers.found(ask.query, language.rows_of(reduce, list(entries.values())), joined, ask.parameters)
+    rows = answers.found(ask.query, language.rows_of(reduce, list(entries.values())), values_in, ask.parameters)
     on_page = answers.page(rows, ask.start, ask.size)
-    columns = [answers.selected(ask.query, joined(row)) if ask.query.columns else row for row in on_page]
-    named = [joined(row)(path) for row in on_page for path in ask.query.includes]
+    shows_whole = not answers.columns_of(ask.query)
+    columns = [row if shows_whole else answers.selected(ask.query, values_in(row)) for row in on_page]
+    named = [values_in(row)(path) for row in on_page for path in ask.query.includes]
     return Found(len(rows), [{name: in_json(value) for name, value in row.items()} for row in columns], named)
 
 

@@ -2,9 +2,11 @@
 
 import typing
 
-from raven_tools.model.indexes import Index
+from raven_tools.model.indexes import REPLACEMENT, Batch, Index, Note
 from raven_tools.model.json import Json
+from raven_tools.model.limits import Limits
 from raven_tools.model.refused import Refused
+from raven_tools.model.stage import Stage
 from raven_tools.model.store import Row, Store
 from raven_tools.model.transactions import Command, transact
 from raven_tools.texts import folded
@@ -21,10 +23,16 @@ class Keeper(typing.Protocol):
 class Database:
     """What a run has in memory."""
 
-    def __init__(self, store: Store | None = None, keeper: Keeper | None = None):
+    def __init__(
+        self, store: Store | None = None, keeper: Keeper | None = None, stage: Stage = Stage(), limits: Limits = Limits()
+    ):
         self.store = store or Store({}, 0)
         self.indexes: list[Index] = []  # in order of their numbers
+        self.notes: list[Note] = []
+        self.held: dict[int, Batch] = {}  # by worker
         self.keeper = keeper
+        self.stage = stage
+        self.limits = limits
 
     # changes of the store
 
@@ -59,6 +67,12 @@ class Database:
             raise Refused("NoIndex", Name=name)
         return index
 
+    def numbered(self, number: int) -> Index | None:
+        return next((index for index in self.indexes if index.number == number), None)
+
+    def replacement_of(self, index: Index) -> Index | None:
+        return self.serving(REPLACEMENT + index.name)
+
     def read_by(self, index: Index) -> list[Row]:
         """The rows that the index reads: documents and tombstones of its collections."""
         scope = index.definition.scope()
@@ -78,18 +92,16 @@ class Database:
 
     def copied(self) -> "Database":
         """A database that the lines of this one do not change. Rows are never changed, only replaced."""
-        other = Database()
-        other.store = self.store.copy()
-        for index in self.indexes:
-            twin = Index(index.number, index.name, index.definition)
-            twin.etag, twin.table = index.etag, dict(index.table)
-            other.indexes.append(twin)
+        other = Database(self.store.copy(), None, self.stage, self.limits)
+        other.indexes = [index.copied() for index in self.indexes]
+        other.notes, other.held = list(self.notes), dict(self.held)
         return other
 
     def opened(self) -> "Database":
-        """The database after its file was opened: each index begins again at etag 0, with its name as its row spells it."""
-        other = self.copied()
-        for index in other.indexes:
-            index.name = other.store.spelling("@index/" + index.name).removeprefix("@index/")
-            index.etag, index.table = 0, {}
+        """The database after its file was opened: each index begins again at etag 0, with the number and the name of its row."""
+        other = Database(self.store.copy(), None, self.stage, self.limits)
+        for index in self.indexes:
+            row = self.store.row("@index/" + index.name)
+            other.indexes.append(Index(row.etag, row.spelling.removeprefix("@index/"), index.definition))
+        other.indexes.sort(key=lambda index: index.number)
         return other

@@ -1,9 +1,10 @@
-"""Rows as they are kept: a keeper in memory, and the database that the rows of a keeper open."""
+"""Rows as they are kept: a keeper in memory, and the rows that are read from one."""
 
 import collections.abc
 import dataclasses
 
 from raven_tools import model
+from raven_tools.model.json import Json
 
 # The rows that are loaded by one call.
 PAGE = 1_024
@@ -41,7 +42,7 @@ class Keeper:
         self.fails = frozenset(fails)
         self.calls = 0
 
-    def call(self):
+    def call(self) -> None:
         self.calls += 1
         if self.calls in self.fails:
             raise Failed
@@ -71,7 +72,7 @@ def kept(row: model.Row) -> KeptRow:
 # Reading rows
 
 
-def document_of(text: str) -> dict | None:
+def document_of(text: str) -> dict[str, Json] | None:
     """The document whose text this is, byte for byte, or None."""
     try:
         value = model.read_json(text.encode())
@@ -131,60 +132,3 @@ def load_all(keeper: Keeper) -> tuple[dict[str, model.Row], int]:
         by_id(read)
         raise
     return by_id(read), last
-
-
-# Definitions
-
-
-def auto_of(body: dict) -> model.Auto | None:
-    """An automatic definition of one field."""
-    fields = body["Fields"]
-    is_one = isinstance(fields, list) and len(fields) == 1 and isinstance(fields[0], list) and len(fields[0]) == 1
-    field = fields[0][0] if is_one else None
-    if not isinstance(field, str) or not field or any(mark in field for mark in ".()"):
-        return None
-    return model.Auto(body["Collection"], field) if isinstance(body["Collection"], str) else None
-
-
-def static_of(body: dict) -> model.Static | None:
-    """A definition by the text of a map, and by that of a reduce or null."""
-    if not isinstance(body["Map"], str) or not isinstance(body["Reduce"], str | None):
-        return None
-    try:
-        return model.Static(body["Map"], body["Reduce"])
-    except model.Refused:
-        return None
-
-
-def definition_of(body: dict) -> model.Auto | model.Static | None:
-    """The definition in the body of its row, or None."""
-    members, kind = set(body), body.get("Kind")
-    if body["@metadata"] != {}:
-        return None
-    if kind == "auto" and members == {"@metadata", "Collection", "Fields", "Kind"}:
-        return auto_of(body)
-    return static_of(body) if kind == "static" and members == {"@metadata", "Kind", "Map", "Reduce"} else None
-
-
-def index_of(row: model.Row) -> model.Index:
-    """The index of a live row of a definition. Replacements are of a later stage."""
-    name = row.spelling[len("@index/") :]
-    definition = definition_of(row.body)
-    is_named = not model.fault_of(name, model.MAX_NEW_NAME) and not model.folded(name).startswith("replacementof/")
-    if definition is None or not is_named or isinstance(definition, model.Auto) != model.folded(name).startswith("auto/"):
-        raise KeptBad(row.etag)
-    return model.Index(row.etag, name, definition)
-
-
-def opened(keeper: Keeper, base: str = model.BASE) -> model.Database:
-    """The database of the rows that the keeper has. Each index begins at etag 0."""
-    rows, last = load_all(keeper)
-    database = model.Database(model.Store(rows, last, base), keeper)
-    for key, row in rows.items():
-        if key.startswith("@index/") != (row.collection == "@indexes"):
-            raise KeptBad(row.etag)
-        if row.is_document() and row.collection == "@indexes":
-            if len(database.indexes) == model.MAX_SLOTS:
-                raise KeptBad(row.etag)
-            database.indexes.append(index_of(row))
-    return database

@@ -3,13 +3,13 @@
 import collections.abc
 import re
 
-from raven_tools.model import answers, automatic, batches, slots
+from raven_tools.model import answers, batches, optimiser, slots, tidying
 from raven_tools.model.asking import Ask, answer_to, read_query
 from raven_tools.model.database import Database, Reply
 from raven_tools.model.definitions import Static
 from raven_tools.model.documents import fault_of
 from raven_tools.model.json import Json, read_json, write_json
-from raven_tools.model.limits import MAX_BATCH, MAX_ID, MAX_LOOKS, MAX_NAME
+from raven_tools.model.limits import MAX_BATCH, MAX_ID, MAX_LOOKS, MAX_NAME, MAX_WORKER
 from raven_tools.model.refused import Refused
 from raven_tools.model.transactions import Command
 from raven_tools.scalars import is_number
@@ -31,8 +31,11 @@ def arguments(text: str, count: int) -> list[str]:
     return parts
 
 
-def number(text: str) -> int | None:
-    return int(text) if re.fullmatch(r"[0-9]{1,16}", text, re.ASCII) else None
+def number(text: str, least: int, most: int) -> int:
+    found = int(text) if re.fullmatch(r"[0-9]{1,16}", text, re.ASCII) else -1
+    if not least <= found <= most:
+        raise Refused("UnknownLine")
+    return found
 
 
 def id_of(text: str) -> str:
@@ -122,7 +125,7 @@ def auto_line(database: Database, rest: str) -> Reply:
     collection, field = arguments(rest, 1)
     if not is_collection(collection) or not is_field(field):
         raise Refused("UnknownLine")
-    return automatic.auto(database, collection, field)
+    return {"Index": optimiser.index_for(database, optimiser.Shape(collection, ((field,),))).name}
 
 
 def map_of(members: dict[str, Json]) -> str:
@@ -150,13 +153,27 @@ def drop_line(database: Database, rest: str) -> Reply:
     return slots.remove(database, name_of(rest))
 
 
+def switch_line(database: Database, rest: str) -> Reply:
+    return slots.switch(database, name_of(rest))
+
+
 def pump_line(database: Database, rest: str) -> Reply:
     """The number is tested before the name, which may follow it."""
     first, *name = rest.split(" ", 1)
-    most = number(first)
-    if most is None or not 1 <= most <= MAX_BATCH or name == [""]:
+    most = number(first, 1, MAX_BATCH)
+    if name == [""]:
         raise Refused("UnknownLine")
     return batches.pump(database, most, *map(name_of, name))
+
+
+def read_line(database: Database, rest: str) -> Reply:
+    """The numbers are tested before the name."""
+    worker, most, name = arguments(rest, 2)
+    return batches.read(database, number(worker, 0, MAX_WORKER), number(most, 1, MAX_BATCH), name_of(name))
+
+
+def publish_line(database: Database, rest: str) -> Reply:
+    return batches.publish(database, number(rest, 0, MAX_WORKER))
 
 
 def find_line(database: Database, rest: str) -> Reply:
@@ -205,14 +222,21 @@ COMMANDS: dict[str, collections.abc.Callable[[Database, str], Reply]] = {
     "AUTO": auto_line,
     "INDEX": index_line,
     "DROP": drop_line,
+    "SWITCH": switch_line,
     "PUMP": pump_line,
+    "READ": read_line,
+    "PUBLISH": publish_line,
     "FIND": find_line,
     "STALE": stale_line,
     "QUERY": query_line,
     "ASK": ask_line,
 }
 # Lines without arguments.
-ALONE: dict[str, collections.abc.Callable[[Database], Reply]] = {"STATS": answers.stats, "INDEXES": answers.listed}
+ALONE: dict[str, collections.abc.Callable[[Database], Reply]] = {
+    "STATS": answers.stats,
+    "INDEXES": answers.listed,
+    "TIDY": tidying.tidy,
+}
 
 
 def asked(database: Database, line: bytes) -> Reply:
@@ -220,10 +244,10 @@ def asked(database: Database, line: bytes) -> Reply:
         text = line.decode("utf-8")
     except UnicodeDecodeError:
         raise Refused("UnknownLine") from None
-    if text in ALONE:
+    if text in ALONE and database.stage.knows(text):
         return ALONE[text](database)
     word, rest = arguments(text, 1)
-    if word not in COMMANDS:
+    if word not in COMMANDS or not database.stage.knows(word):
         raise Refused("UnknownLine")
     return COMMANDS[word](database, rest)
 

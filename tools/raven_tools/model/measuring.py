@@ -5,7 +5,7 @@ import dataclasses
 import re
 
 from raven_tools import model
-from raven_tools.model import batches, keeping, slots
+from raven_tools.model import batches, keeping, opening, slots
 from raven_tools.model.asking import Ask, answer_to, read_query
 from raven_tools.model.definitions import Static
 from raven_tools.model.transactions import Command
@@ -124,7 +124,7 @@ def measure(
     if found is None:
         return "Usage", b""
     try:
-        database = keeping.opened(keeper)
+        database = opening.opened(keeper)
     except keeping.Failed:
         return "KeptFault", b""
     except keeping.KeptBad as bad:

@@ -5,7 +5,7 @@ import dataclasses
 import re
 
 from raven_tools import model
-from raven_tools.model import keeping, measuring
+from raven_tools.model import keeping, measuring, opening
 
 BASE = re.compile(r"[A-Za-z0-9]{22}", re.ASCII)
 
@@ -100,7 +100,7 @@ def run(given: Outside, keeper: keeping.Keeper) -> tuple[str, bytes]:
     if len(given.script) > model.MAX_SCRIPT:
         return "InputTooLarge", b""
     try:
-        database = keeping.opened(keeper, found.get("--id", model.BASE))
+        database = opening.opened(keeper, found.get("--id", model.BASE))
     except keeping.Failed:
         return "KeptFault", b""
     except keeping.KeptBad as bad:

@@ -33,7 +33,7 @@ def found(
         rows = [row for row in rows if Meeting(values_of(row), parameters).meets(query.condition)]
     for sort in reversed(query.sorts):
         form = long_form if sort.is_long else text_form
-        rows = sorted(rows, key=lambda row: form(values_of(row)(sort.field[1])), reverse=sort.is_down)
+        rows = sorted(rows, key=lambda row: form(values_of(row)(trees.path_of(sort.field))), reverse=sort.is_down)
     return rows
 
 
@@ -43,12 +43,19 @@ def page(rows: list[Row], start: int, size: int | None) -> list[Row]:
 
 def name_of(field: trees.Field) -> str:
     """The column of a field that is given no name."""
-    return "Count" if field[0] == "count" else ".".join(field[1])
+    return "Count" if field[0] == "count" else trees.joined(field[1])
+
+
+def columns_of(query: trees.Query) -> list[tuple[trees.Field, str | None]]:
+    """What a query shows of each row. One that groups and selects nothing shows its groups and their counts."""
+    if query.columns or not query.groups:
+        return query.columns
+    return [*((("path", path), None) for path in query.groups), (("count",), None)]
 
 
 def selected(query: trees.Query, values: collections.abc.Callable[[trees.Path], object]) -> dict:
     """The columns, with what is there. Of columns with one name the last counts."""
-    return {name or name_of(field): values(field[1]) for field, name in query.columns}
+    return {name or name_of(field): values(trees.path_of(field)) for field, name in columns_of(query)}
 
 
 def at_path(value: object, path: trees.Path) -> object:

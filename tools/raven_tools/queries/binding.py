@@ -95,6 +95,6 @@ def check(query: trees.Query, parameters: dict, start: int, size: int | None) ->
 def check_fields(query: trees.Query, fields: collections.abc.Container[str], has_rows: bool) -> None:
     """Of a query of an index with these fields, which has rows of its own if it has a reduce. Else any path may be selected."""
     for clause, field in named(query):
-        is_free = clause == "select" and not has_rows
-        if field[0] != "path" or not is_free and ".".join(field[1]) not in fields:
+        is_free = clause == "select" and field[0] == "path" and not has_rows
+        if not is_free and trees.joined(trees.path_of(field)) not in fields:
             raise Unbound("NoField", printing.field(field))

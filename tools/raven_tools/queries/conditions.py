@@ -6,7 +6,7 @@ from raven_tools.queries import trees
 from raven_tools.scalars import Scalar, is_number, place_of
 from raven_tools.texts import folded
 
-# The value of a field, by its path.
+# The value of a field, by the path that rows have for it.
 Values = collections.abc.Callable[[trees.Path], Scalar]
 CONSTANTS = {"true": True, "false": False, "null": None}
 
@@ -19,7 +19,7 @@ class Meeting:
         self.parameters = parameters
 
     def of_field(self, field: trees.Field) -> Scalar:
-        return self.fields(field[1])
+        return self.fields(trees.path_of(field))
 
     def scalar(self, value: trees.Value) -> Scalar:
         kind, *parts = value

@@ -1,5 +1,6 @@
 """What a query says, as a tree."""
 
+import collections.abc
 import dataclasses
 
 Path = tuple[str, ...]
@@ -36,3 +37,29 @@ def parts_of(condition: Condition) -> list[Condition]:
         while parts[0][0] == kind:
             parts[:1] = parts[0][1:]
     return parts if kind in ("or", "and", "not", "exact") else []
+
+
+def joined(path: Path) -> str:
+    return ".".join(path)
+
+
+def in_order(paths: collections.abc.Iterable[Path]) -> tuple[Path, ...]:
+    """Each path once, by the bytes of its joined form."""
+    return tuple(sorted(set(paths), key=lambda path: joined(path).encode()))
+
+
+def sum_name(path: Path) -> str:
+    """The name that rows of groups have for a sum."""
+    return f"sum({joined(path)})"
+
+
+# The name that they have for their count.
+COUNT = "count()"
+
+
+def path_of(field: Field) -> Path:
+    """The path by which rows have a field. A count and a sum have a name of one part, which is that of no member."""
+    kind, *parts = field
+    if kind == "count":
+        return (COUNT,)
+    return parts[0] if kind == "path" else (sum_name(parts[0]),)
