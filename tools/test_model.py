@@ -11,6 +11,7 @@ import sys
 
 sys.dont_write_bytecode = True
 from raven_tools import examples, model
+from raven_tools.checks.sound import agrees, scratch
 from raven_tools.making import MAKERS, case_scripts, limit_scripts, worked, worked_answers
 from raven_tools.making.lines import definition
 from raven_tools.making.random_scripts import kind_of
@@ -336,23 +337,6 @@ def test_scripts():
     expected += " FieldsDiffer NotReducible ClauseOrder BadNumber NoParameter NotGrouped BadPage NoField"
     for kind in [*expected.split(), "ReservedName", "NameTooLong", "NoIndex", "TooManyIndexes", "UnknownLine", "TooDeep", "NotJson"]:
         assert kinds[kind], kind
-
-
-def agrees(database, index):
-    """Whether the index has recorded exactly what the store has up to its etag, as far as that is still there."""
-    scope = index.definition.scope()
-    rows = {key: row for key, row in database.store.rows.items() if row.collection in scope}
-    for key, row in rows.items():
-        if row.etag <= index.etag and index.table.get(key) is not (row if row.is_document() else None):
-            return False
-    return all(key in rows and row.etag <= min(index.etag, rows[key].etag) for key, row in index.table.items())
-
-
-def scratch(database, index):
-    """What the index would find in all documents of the store."""
-    twin = model.Index(index.number, index.name, index.definition)
-    twin.table = {model.folded(row.spelling): row for row in database.read_by(index) if row.is_document()}
-    return twin.mapped()
 
 
 def test_what_holds_of_each_script():

@@ -193,12 +193,12 @@ UP_TO_A_CUTOFF = """
 """
 
 
-def test_worked_scripts():
+def test_worked_scripts() -> None:
     for worked in (ORDERED, WIDENED, GROUPED, OF_GROUPS, OF_FIELDS, OF_NO_FIELDS, UP_TO_A_CUTOFF):
         holds(worked, database())
 
 
-def test_without_the_stage():
+def test_without_the_stage() -> None:
     unknown = {"Error": "UnknownLine"}
     assert replies_of("AUTO C F", "AUTO C G", "QUERY from C where F = 1", "QUERY from C group by F", "TIDY")[1:] == [unknown] * 4
 
@@ -238,7 +238,7 @@ def bad(*rows: keeping.KeptRow, stage: model.Stage = CHOOSING) -> int | None:
     return None
 
 
-def test_opening():
+def test_opening() -> None:
     """Paths are in order of their joined bytes, each once; none of their parts is empty or has a mark of a joined one."""
     good = [auto(1, "Auto/x"), auto(1, "Auto/x", "A", "A.B", "B"), auto(1, "Auto/x", "A", "A-B", "A.B"), auto(1, "auto/x", "Z", "a", "é")]
     grouped = {"Kind": "auto-reduce", "Collection": "C", "Groups": [["A", "B"], ["C"]], "Sums": [["A"], ["B"]]}
@@ -266,7 +266,7 @@ def test_opening():
 # The choice
 
 
-def test_which_index_is_used():
+def test_which_index_is_used() -> None:
     """A fresh one before a stale one, then that of the fewest fields, then that of the least number."""
     lines = ["AUTO C A", "QUERY from C where A = 1 and B = 1", "AUTO C A", "PUT x {[C]}", "AUTO C A", "PUMP 64 Auto/C/ByAAndB", "AUTO C A"]
     lines += ["PUT x {[C]}", "AUTO C A", "PUMP 64", "AUTO C A"]
@@ -280,13 +280,13 @@ def test_which_index_is_used():
     assert names_of("AUTO C B", "QUERY from C where B = 1 order by C", found=found) == ["Auto/2", "Auto/3"]
 
 
-def test_a_cutoff_does_not_count_in_the_choice():
+def test_a_cutoff_does_not_count_in_the_choice() -> None:
     found = opened(auto(1, "Auto/1", "A"), auto(2, "Auto/2", "A", "B"), put(3))
     (reply,) = replies_of("PUMP 64 Auto/2", ask("from C where A = null", CutoffEtag=2), database=found)[1:]
     assert (reply["IndexName"], reply["TotalResults"], reply["IsStale"]) == ("Auto/2", 1, False)
 
 
-def test_what_an_index_covers():
+def test_what_an_index_covers() -> None:
     """What is ordered counts as what is asked, and what is selected does not. Collections and parts are compared by their bytes."""
     made = [
         ("from C where A = 1 select B", "Auto/C/ByA"),
@@ -310,7 +310,7 @@ def test_what_an_index_covers():
     assert found == [name for _, name in made], found
 
 
-def test_static_indexes_are_not_used():
+def test_static_indexes_are_not_used() -> None:
     lines = [definition("S", "from c in docs.C select new { c.A }"), "QUERY from C where A = 1", "DROP S"]
     assert names_of(*lines) == ["S", "Auto/C/ByA"]
 
@@ -322,7 +322,7 @@ def fields_of(found: model.Database) -> list[list[list[str]]]:
     return [index.definition.shown()["Fields"] for index in found.indexes]
 
 
-def test_sixty_four_fields():
+def test_sixty_four_fields() -> None:
     many = sorted(f"F{number}" for number in range(63))
     found = database()
     lines = ["QUERY from C where " + " and ".join(f"{name} = 1" for name in many), "AUTO C G", "AUTO C H", "AUTO C G", "AUTO C F7"]
@@ -332,7 +332,7 @@ def test_sixty_four_fields():
     assert fields_of(found) == [one, [*one, ["G"]], [["H"]], [["G"], ["H"]], [["G"]]]
 
 
-def test_the_bytes_of_the_joined_paths():
+def test_the_bytes_of_the_joined_paths() -> None:
     """65,536 bytes, in which the point between two parts counts."""
     long = "é" * 32_766
     for last, fits in (("abcd", True), ("abcde", False)):
@@ -348,7 +348,7 @@ def test_the_bytes_of_the_joined_paths():
     assert names_of(f"AUTO C {alone}", f"AUTO C {alone}") == ["Auto/1", "Auto/1"]
 
 
-def test_group_paths_do_not_count_as_bytes():
+def test_group_paths_do_not_count_as_bytes() -> None:
     group, first, second = "g" * 40_000, "x" * 15_000, "y" * 20_000
     found = database()
     names = names_of(*(f"QUERY from C group by {group} select sum({path})" for path in (first, second)), found=found)
@@ -359,7 +359,7 @@ def test_group_paths_do_not_count_as_bytes():
 # Names
 
 
-def test_free_names():
+def test_free_names() -> None:
     lines = ["AUTO Ab F", "AUTO aB F", "AUTO ab F", "DROP auto/AB/byf/2", "AUTO AB F", "AUTO aB F", "DROP Auto/Ab/ByF", "AUTO Ab F"]
     names = ["Auto/Ab/ByF", "Auto/aB/ByF/2", "Auto/ab/ByF/3", "Auto/AB/ByF/2", "Auto/aB/ByF/4", "Auto/Ab/ByF"]
     assert names_of(*lines) == names
@@ -367,7 +367,7 @@ def test_free_names():
     assert names_of(*lines) == ["Auto/C/ByCountReducedByA", "Auto/C/ByCountReducedByA/2", "Auto/D/ByAAndB", "Auto/D/ByAAndB"]
 
 
-def test_names_that_cannot_be():
+def test_names_that_cannot_be() -> None:
     """A name has at most 200 bytes, with its number behind it, and no control characters. Else the number of the index is its name."""
     fits = "x" * 191
     lines = [f"AUTO C {fits}", f"AUTO c {fits}", f"AUTO D {fits}x", f"AUTO E {'é' * 95}", f"AUTO E2 {'é' * 95}", "AUTO a\tb F"]
@@ -376,7 +376,7 @@ def test_names_that_cannot_be():
     assert names_of(f"AUTO C {fits}x", found=opened(*taken)) == ["Auto/6/3"]
 
 
-def test_names_of_groups():
+def test_names_of_groups() -> None:
     """The count is among the sums, by its bytes, also if a sum is of a field of that name."""
     lines = ["from O group by Company select sum(Count)", "from O group by Company select sum(Cents)", "from O group by B.X, A order by sum(D.E)"]
     names = ["Auto/O/ByCountAndCountReducedByCompany", "Auto/O/ByCentsAndCountAndCountReducedByCompany"]
@@ -386,7 +386,7 @@ def test_names_of_groups():
 # Columns
 
 
-def test_columns_of_groups():
+def test_columns_of_groups() -> None:
     """Of two columns of one name the last counts, also if nothing is selected."""
     lines = ['PUT x {"Count":"c","N":{"Count":4},"A":"x",[C]}', "QUERY from C group by Count", "QUERY from C group by A select sum(N.Count)"]
     asked = [
@@ -405,7 +405,7 @@ def test_columns_of_groups():
 # Refusals
 
 
-def test_refusals_make_nothing():
+def test_refusals_make_nothing() -> None:
     """What is refused whatever indexes there are is refused before one is looked for."""
     refused = [
         (ask("from C where A = $p"), {"Error": "NoParameter", "Name": "p"}),
@@ -422,7 +422,7 @@ def test_refusals_make_nothing():
 STATS = {"CountOfDocuments": 0, "CountOfIndexes": 0, "CountOfTombstones": 0, "LastDocEtag": 0}
 
 
-def test_no_place_for_one_more():
+def test_no_place_for_one_more() -> None:
     full = [f"AUTO c{number} F" for number in range(256)]
     refused, stats = {"Error": "TooManyIndexes"}, {**STATS, "CountOfIndexes": 256, "LastDocEtag": 256}
     lines = ["QUERY from Users where Name = 'a'", "STATS", "AUTO c0 G", "AUTO c7 F", "QUERY from c7 where F = $p", "STATS"]
@@ -430,14 +430,14 @@ def test_no_place_for_one_more():
     assert replies_of(*full, *lines, database=database())[256:] == replies
 
 
-def test_no_etag_for_one_more():
+def test_no_etag_for_one_more() -> None:
     spent = {"At": 0, "Error": "EtagsSpent", "Last": LAST}
     found = opened(auto(1, "Auto/1", "A"), put(LAST))
     replies = replies_of("QUERY from C where B = 1", "AUTO C B", "AUTO C A", "STATS", database=found)
     assert replies[:3] == [spent, spent, {"Index": "Auto/1"}] and replies[3]["CountOfIndexes"] == 1
 
 
-def test_a_fault_of_the_keeper():
+def test_a_fault_of_the_keeper() -> None:
     keeper = keeping.Keeper(fails=[2])
     found = opening.opened(keeper, stage=CHOOSING)
     replies = replies_of("QUERY from C where A = 1", "STATS", "QUERY from C where A = 1", database=found)
@@ -452,7 +452,7 @@ def tidied(*rows: keeping.KeptRow, lines: tuple[str, ...] = ()) -> list[str]:
     return replies_of(*lines, "TIDY", database=opened(*rows))[-1]["Retired"]
 
 
-def test_what_is_retired():
+def test_what_is_retired() -> None:
     """An index all of whose fields another one has, which has more of them and has come at least as far."""
     a, ab, abc, bc = auto(1, "Auto/a", "A"), auto(2, "Auto/ab", "A", "B"), auto(3, "Auto/abc", "A", "B", "C"), auto(4, "Auto/bc", "B", "C")
     other = auto(5, "Auto/d", "A", collection="D")
@@ -467,7 +467,7 @@ def test_what_is_retired():
     assert tidied(*behind, lines=("PUMP 1 Auto/a", "PUMP 1 Auto/ab")) == ["Auto/a"]
 
 
-def test_what_is_retired_of_groups():
+def test_what_is_retired_of_groups() -> None:
     """Sums are the fields of groups. Other groups, and an index without any, are of another kind."""
     grouped = {"Kind": "auto-reduce", "Collection": "C", "Groups": [["A"]]}
     few, more = kept(1, "Auto/1", **grouped, Sums=[]), kept(2, "Auto/2", **grouped, Sums=[["B"]])
@@ -475,7 +475,7 @@ def test_what_is_retired_of_groups():
     assert tidied(few, more, *others) == ["Auto/1"]
 
 
-def test_a_retirement_is_one_change():
+def test_a_retirement_is_one_change() -> None:
     """If the keeper fails nothing goes. Switches before it stand. An index that has gone is made again under its name."""
     keeper = keeping.Keeper(fails=[8])
     found = opening.opened(keeper, stage=BOTH)
@@ -493,7 +493,7 @@ def test_a_retirement_is_one_change():
     assert names_of("AUTO C A", "DROP Auto/C/ByAAndBAndD", "AUTO C A", found=found) == ["Auto/C/ByAAndBAndD", "Auto/C/ByA"]
 
 
-def test_a_retirement_up_to_the_last_etag():
+def test_a_retirement_up_to_the_last_etag() -> None:
     found = opened(auto(1, "Auto/1", "A"), auto(2, "Auto/2", "B"), auto(3, "Auto/3", "A", "B"), put(LAST - 1))
     replies = replies_of("TIDY", "STATS", "DROP Auto/1", "TIDY", database=found)
     spent = {"At": 1, "Error": "EtagsSpent", "Last": LAST}
@@ -501,7 +501,7 @@ def test_a_retirement_up_to_the_last_etag():
     assert replies[2:] == [{"Removed": "Auto/1"}, {**spent, "At": 0}]
 
 
-def test_what_is_held_of_a_retired_index_is_gone():
+def test_what_is_held_of_a_retired_index_is_gone() -> None:
     lines = ["AUTO C A", "PUT x {[C]}", "READ 0 64 Auto/C/ByA", "QUERY from C where A = 1 and B = 1", "TIDY", "PUBLISH 0"]
     replies = replies_of(*lines, database=database(BOTH))
     assert replies[4:] == [{"Retired": ["Auto/C/ByA"], "Switched": []}, {"Error": "Gone", "Number": 1}]

@@ -229,12 +229,12 @@ TIDIED_IN_TURN = """
 """
 
 
-def test_worked_scripts():
+def test_worked_scripts() -> None:
     for worked in (BUILT_BESIDE, HELD_ACROSS_A_WRITE, HELD_ACROSS_A_REMOVAL, HELD_ACROSS_A_SWITCH, READ_AGAIN, AS_INDEXES, TIDIED_IN_TURN):
         holds(worked, database())
 
 
-def test_lines_that_are_unknown():
+def test_lines_that_are_unknown() -> None:
     """Numbers are tested before names, and what the program does not have is unknown without a stage."""
     unknown = {"Error": "UnknownLine"}
     wrong = ["READ", "READ 0", "READ 0 64", "READ 0 64 ", "READ 16 64 U", "READ 0 0 U", "READ 0 65537 U", "READ 0  U", "READ 16 64 a\tb"]
@@ -248,7 +248,7 @@ def test_lines_that_are_unknown():
     assert replies_of(*good, database=database()) == [*replies, {"Retired": [], "Switched": []}]
 
 
-def test_refusals_of_definitions_in_order():
+def test_refusals_of_definitions_in_order() -> None:
     """A reserved name, one that is too long, no place for one more. What takes the place of another needs no place."""
     first, second, third = map_of("A"), map_of("B"), map_of("C")
     full = [definition(f"N{number}", first) for number in range(255)] + [definition("N0", second)]
@@ -276,7 +276,7 @@ def test_refusals_of_definitions_in_order():
     assert replies[256:] == [reply for _, reply in tried]
 
 
-def test_refusals_of_switches_in_order():
+def test_refusals_of_switches_in_order() -> None:
     """No index, nothing beside it, no place for a note, what is not fresh."""
     lines = ["SWITCH U", definition("U", map_of("A")), "SWITCH U", "PUT u {[U]}", definition("U", map_of("B")), "SWITCH U", "PUMP 64"]
     lines += ["SWITCH U", "TIDY", "QUERY from index 'U' where A = null select A", definition("V", map_of("A")), definition("V", map_of("B"))]
@@ -295,7 +295,7 @@ def test_refusals_of_switches_in_order():
         assert found == expected, (notes, found)
 
 
-def test_rows_and_notes():
+def test_rows_and_notes() -> None:
     """A switch puts one row and deletes one. A removal deletes that of the index before that of what is beside it."""
     found = database()
     lines = [definition("Foo", map_of("A")), "DROP Foo", definition("FOO", map_of("A")), definition("foo", map_of("B"))]
@@ -316,7 +316,7 @@ def test_rows_and_notes():
     assert etags == [(8, False), (9, False)] and found.indexes == []
 
 
-def test_the_definition_that_serves_ends_what_is_beside_it():
+def test_the_definition_that_serves_ends_what_is_beside_it() -> None:
     found = database()
     replies_of(definition("U", map_of("A")), definition("U", map_of("B")), "READ 0 64 ReplacementOf/U", "PUT u {[U]}", database=found)
     lines = ["READ 0 64 ReplacementOf/U", definition("u", map_of("A")), "PUBLISH 0", "SWITCH U", "STALE ReplacementOf/U"]
@@ -329,7 +329,7 @@ def test_the_definition_that_serves_ends_what_is_beside_it():
     ]
 
 
-def test_names_of_variables_count():
+def test_names_of_variables_count() -> None:
     """Definitions are the same by their trees, which have the names of variables, and not by their texts."""
     lines = [definition("U", "from u in docs.U select new { u.A }"), definition("U", "from  u in docs.U select new { A = (u.A), }")]
     lines += [definition("U", "from v in docs.U select new { v.A }")]
@@ -359,7 +359,7 @@ def opened(rows: list[keeping.KeptRow], stage: model.Stage = BESIDE, **more: obj
     return [(index.number, index.name) for index in found.indexes]
 
 
-def test_opening_with_rows_of_replacements():
+def test_opening_with_rows_of_replacements() -> None:
     """Either row may come first. What is beside no index is bad, and so is an automatic one, or one beside itself."""
     long = "n" * 200
     cases = [
@@ -391,7 +391,7 @@ def test_opening_with_rows_of_replacements():
     assert [(number, model.folded(name)) for number, name in folded] == [(1, "u"), (2, "replacementof/u")]
 
 
-def test_what_was_built_beside_goes_on_after_an_opening():
+def test_what_was_built_beside_goes_on_after_an_opening() -> None:
     keeper = keeping.Keeper([kept(1, "ReplacementOf/U", OTHER), kept(2, "U", STATIC)])
     found = opening.opened(keeper, stage=BESIDE)
     lines = ["PUT u {[U]}", "SWITCH U", "PUMP 1", "SWITCH U"]
@@ -416,7 +416,7 @@ def waiting(names: list[str]) -> list[str]:
     return [definition(name, map_of(field)) for field in "AB" for name in names]
 
 
-def test_tidying_in_order_of_folded_names_up_to_a_fault():
+def test_tidying_in_order_of_folded_names_up_to_a_fault() -> None:
     """What was switched before the keeper fails stands, and the rest goes on with the next line. The first call is that of the opening."""
     keeper = keeping.Keeper(fails=[9])
     found = opening.opened(keeper, stage=BESIDE)
@@ -428,7 +428,7 @@ def test_tidying_in_order_of_folded_names_up_to_a_fault():
     assert [note.name for note in found.notes] == ["A", "b", "C"]
 
 
-def test_a_failed_switch_leaves_the_old_definition():
+def test_a_failed_switch_leaves_the_old_definition() -> None:
     keeper = keeping.Keeper(fails=[5])
     found = opening.opened(keeper, stage=BESIDE)
     lines = [*waiting(["U"]), "PUT u {[U]}", "PUMP 64", "TIDY", "QUERY from index 'U' where B = 1", "SWITCH U"]
@@ -436,7 +436,7 @@ def test_a_failed_switch_leaves_the_old_definition():
     assert replies == [{"Error": "KeeperFault"}, {"Error": "NoField", "Name": "B"}, {"Etag": 4, "Switched": "U"}]
 
 
-def test_tidying_up_to_the_last_etag():
+def test_tidying_up_to_the_last_etag() -> None:
     """The second switch has an etag for its put and none for its deletion."""
     keeper = keeping.Keeper([keeping.KeptRow(LAST - 7, "x", "@empty", '{"@metadata":{}}', 0)])
     found = opening.opened(keeper, stage=BESIDE)

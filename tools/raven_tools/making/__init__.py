@@ -5,12 +5,18 @@
 - `random_scripts`, in which something is wrong now and then;
 - `map_scripts`, mostly good lines, of maps and of documents that load one another;
 - `query_scripts`, mostly good queries, over indexes that lag behind;
+- `slot_scripts` and `choice_scripts`, for the stages of the model, replacements with held batches, and queries that choose an index;
 - `crash_scripts` and `load_scripts`, writes over a file.
 
 `limit_scripts` and `case_scripts` are at each limit and of each case in `worked`.
 """
 
-from raven_tools.making import map_scripts, query_scripts, random_scripts
+import collections.abc
+import functools
+
+from raven_tools import model
+from raven_tools.making import choice_scripts, map_scripts, query_scripts, random_scripts, slot_scripts
+from raven_tools.making.maker import Maker
 
 # The kinds of random scripts, in turn.
 MAKERS = [
@@ -23,3 +29,12 @@ MAKERS = [
     map_scripts.MapMaker,
     query_scripts.QueryMaker,
 ]
+
+# Those that a stage has besides, by its switch.
+OF_STAGES = {"side_by_side": [slot_scripts.SlotMaker] * 4, "optimiser": [choice_scripts.ChoiceMaker] * 4}
+
+
+def makers_of(stage: model.Stage) -> list[collections.abc.Callable[[int], Maker]]:
+    """The kinds of random scripts at a stage, in turn, each by its seed."""
+    every = MAKERS + [maker for switch, makers in OF_STAGES.items() if getattr(stage, switch) for maker in makers]
+    return [functools.partial(maker, stage=stage) for maker in every]

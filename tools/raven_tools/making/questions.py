@@ -1,11 +1,13 @@
 """Random queries over what a database has: mostly good ones, in any of their spellings, and ones that are refused."""
 
+import collections.abc
 import random
 
 from raven_tools import language, model
 from raven_tools.making.chance import Chance
 from raven_tools.queries.printing import part
 from raven_tools.queries.tokens import GREATEST, KEY_WORDS, LEAST
+from raven_tools.queries.trees import COUNT, Path
 from raven_tools.scalars import Scalar, is_number
 
 Tokens = list[str]
@@ -88,18 +90,30 @@ class Questions(Chance):
     def spelled_path(self, path) -> Tokens:
         return [token for name in path for token in (".", self.spelled_part(name))][1:]
 
+    def spelled_field(self, name: str) -> Tokens:
+        """A field by the name that rows have for it."""
+        if name == COUNT:
+            return ["count", "(", ")"]
+        if name.startswith("sum("):
+            return ["sum", "(", *self.spelled_path(name[len("sum(") : -1].split(".")), ")"]
+        return self.spelled_path(name.split("."))
+
     def field(self) -> tuple[str, Tokens]:
         """Mostly one that the index has."""
         if self.fields and self.chance(98):
             name = self.one_of(self.fields)
-            return name, self.spelled_path([name])
+            return name, self.spelled_field(name)
         path = self.one_of(PATHS)
         calls = [["count", "(", ")"], ["sum", "(", *self.spelled_path(path), ")"]]
         return ".".join(path), self.one_of([self.spelled_path(path)] * 3 + calls)
 
+    def own_path(self):
+        """A path that the rows have, and that is no count or sum."""
+        return tuple(self.one_of([name for name in self.fields if "(" not in name]).split("."))
+
     def any_path(self):
         if self.fields and self.chance(30):
-            return (self.one_of(self.fields),)
+            return self.own_path()
         return self.one_of(PATHS)
 
     # conditions
@@ -163,7 +177,7 @@ class Questions(Chance):
 
     def included(self) -> Tokens:
         if self.has_rows and self.chance(70):
-            return self.spelled_path([self.one_of(self.fields)])
+            return self.spelled_path(self.own_path())
         return self.spelled_path(self.any_path() if self.chance(50) else self.one_of([("Ref",), ("Ref",), ("N", "B")]))
 
     def tail(self, is_of_index: bool, selected: int) -> Tokens:
@@ -213,6 +227,12 @@ class Questions(Chance):
         self.about(index)
         selected = 35 if self.has_rows else 60
         return self.text(["index", self.quoted(name)], self.tail(True, selected), broken)
+
+    def of_documents(self, name: str, groups: collections.abc.Iterable[Path], broken: int = 6) -> str:
+        """Of some documents of a collection, or of groups of them. `about` has been told what they have."""
+        paths = [token for path in groups for token in (",", *self.spelled_path(path))]
+        grouped = ["group", "by", *paths[1:]] if paths else []
+        return self.text([self.spelled_part(name)], [*grouped, *self.tail(True, 40)], broken)
 
     def of_collection(self, name: str, broken: int = 12) -> str:
         self.fields, self.rows, self.has_rows = [], [], False

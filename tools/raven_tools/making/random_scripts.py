@@ -83,8 +83,8 @@ def padded(fill: int) -> str:
 class RandomMaker(Maker):
     """Makes one script out of a seed. Its database is what the lines so far lead to."""
 
-    def __init__(self, seed: int):
-        super().__init__(random.Random(seed), model.Database())
+    def __init__(self, seed: int, stage: model.Stage = model.Stage()):
+        super().__init__(random.Random(seed), model.Database(stage=stage))
         self.maps = maps.Maps(self.random)
         self.reduces = reduces.Reduces(self.random)
         self.questions = questions.Questions(self.random)
@@ -346,7 +346,7 @@ class RandomMaker(Maker):
         if self.chance(25) or not self.database.indexes:
             return f"FIND {self.no_index()} {self.one_of(FIELDS)} {self.words()}"
         index = self.one_of(self.database.indexes)
-        field = self.one_of(index.definition.fields() if self.chance(70) else FIELDS)
+        field = self.one_of((index.definition.fields() if self.chance(70) else FIELDS) or FIELDS)
         return f"FIND {self.in_other_case(index.name)} {field} {self.words()}"
 
     def question(self):

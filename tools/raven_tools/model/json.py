@@ -51,26 +51,26 @@ class Parser:
         self.text = text
         self.at = 0
 
-    def peek(self):
+    def peek(self) -> str:
         return self.text[self.at] if self.at < len(self.text) else ""
 
-    def skip_white(self):
+    def skip_white(self) -> None:
         while self.at < len(self.text) and self.text[self.at] in WHITE:
             self.at += 1
 
-    def expect(self, token):
+    def expect(self, token: str) -> None:
         if not self.text.startswith(token, self.at):
             raise Refused("NotJson")
         self.at += len(token)
 
-    def whole(self):
+    def whole(self) -> "Json | NotWhole":
         value = self.value()
         self.skip_white()
         if self.at != len(self.text):
             raise Refused("NotJson")
         return value
 
-    def value(self):
+    def value(self) -> "Json | NotWhole":
         self.skip_white()
         first = self.peek()
         if first == "{":
@@ -90,7 +90,7 @@ class Parser:
             return None
         return self.number()
 
-    def number(self):
+    def number(self) -> int | NotWhole:
         found = NUMBER.match(self.text, self.at)
         if not found:
             raise Refused("NotJson")
@@ -104,7 +104,7 @@ class Parser:
         number = int(digits)
         return number if -(2**63) <= number < 2**63 else NotWhole()
 
-    def string(self):
+    def string(self) -> str:
         self.expect('"')
         parts = []
         while True:
@@ -121,7 +121,7 @@ class Parser:
             self.at += 1
             parts.append(self.escape())
 
-    def escape(self):
+    def escape(self) -> str:
         mark = self.peek()
         self.at += 1
         if mark in ESCAPES and mark:
@@ -139,14 +139,14 @@ class Parser:
             raise Refused("NotJson")
         return chr(0x10000 + ((unit - 0xD800) << 10) + (low - 0xDC00))
 
-    def unit(self):
+    def unit(self) -> int:
         found = HEX.match(self.text, self.at)
         if not found:
             raise Refused("NotJson")
         self.at = found.end()
         return int(found.group(), 16)
 
-    def array(self):
+    def array(self) -> list:
         self.expect("[")
         items = []
         self.skip_white()
@@ -161,7 +161,7 @@ class Parser:
                 return items
             self.expect(",")
 
-    def object(self):
+    def object(self) -> dict:
         self.expect("{")
         members = {}
         self.skip_white()
@@ -181,7 +181,7 @@ class Parser:
             self.expect(",")
 
 
-def is_whole(value):
+def is_whole(value: "Json | NotWhole") -> bool:
     if isinstance(value, NotWhole):
         return False
     if isinstance(value, list):
@@ -210,7 +210,7 @@ SPECIAL = re.compile(r'["\\\x00-\x1f]')
 
 
 def quoted(text: str) -> str:
-    def escape(found):
+    def escape(found: re.Match[str]) -> str:
         mark = found.group()
         return SHORT[mark] if mark in SHORT else f"\\u{ord(mark):04x}"
 

@@ -199,7 +199,7 @@ def number_of(members: dict[str, Json], name: str, least: int | None = None, mos
     return value
 
 
-def ask_line(database: Database, rest: str) -> Reply:
+def ask_of(rest: str) -> Ask:
     """The members are tested in this order, and the text is read behind them. A script never waits, so looks change nothing."""
     members = object_of(read_json(rest.encode()), "body")
     text = text_of(members.get("Query"), "Query")
@@ -209,7 +209,11 @@ def ask_line(database: Database, rest: str) -> Reply:
     if not isinstance(members.get("WaitForNonStaleResults", False), bool):
         raise Refused("BadMember", Name="WaitForNonStaleResults")
     number_of(members, "Looks", 1, MAX_LOOKS)
-    return answer_to(database, Ask(read_query(text), parameters, start or 0, size, cutoff))
+    return Ask(read_query(text), parameters, start or 0, size, cutoff)
+
+
+def ask_line(database: Database, rest: str) -> Reply:
+    return answer_to(database, ask_of(rest))
 
 
 COMMANDS: dict[str, collections.abc.Callable[[Database, str], Reply]] = {

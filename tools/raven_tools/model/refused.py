@@ -2,8 +2,8 @@
 
 
 class Refused(Exception):
-    """A request that is refused and changes nothing, with the reply that says why."""
+    """A request that is refused and changes nothing, with the reply that says why. The steps of a tidying before it stand."""
 
-    def __init__(self, name: str, **members):
+    def __init__(self, name: str, **members: str | int):
         super().__init__(name)
         self.reply = {"Error": name, **members}

@@ -41,7 +41,7 @@ class Meeting:
             return {"or": any, "and": all, "exact": all, "not": lambda held: not held[0]}[kind](inner)
         return kind == "true" or self.holds(kind, self.of_field(parts[0]), parts[1:], is_exact)
 
-    def holds(self, kind, value, parts, is_exact):
+    def holds(self, kind: str, value: Scalar, parts: list, is_exact: bool) -> bool:
         """A test of one field."""
         if kind == "exists":
             return value is not None

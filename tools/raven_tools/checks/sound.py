@@ -1,0 +1,226 @@
+"""What has to hold of a database after each line of any script: of what it is then, of how it came from what it was, and of the reply.
+
+It is said of stores and tables anew, and not by how the model makes them.
+"""
+
+from raven_tools import model
+from raven_tools.model.asking import Ask, in_json, of_index, read_query, values_in
+from raven_tools.model.definitions import Definition, Document, Entry, scalar_at
+from raven_tools.model.indexes import is_replacement
+from raven_tools.model.lines import ask_of
+from raven_tools.queries import answers, binding
+from raven_tools.queries.trees import COUNT, Query, in_order, joined, sum_name
+from raven_tools.scalars import is_number, place_of
+
+Table = dict[str, model.Row]
+
+
+# Tables
+
+
+def in_scope(database: model.Database, definition: Definition) -> Table:
+    scope = definition.scope()
+    return {key: row for key, row in database.store.rows.items() if row.collection in scope}
+
+
+def is_recorded(database: model.Database, definition: Definition, table: Table, etag: int) -> bool:
+    """Whether the table has exactly what the store has up to the etag, as far as that is still there."""
+    rows = in_scope(database, definition)
+    for key, row in rows.items():
+        if row.etag <= etag and table.get(key) is not (row if row.is_document() else None):
+            return False
+    return all(key in rows and 1 <= row.etag <= min(etag, rows[key].etag) for key, row in table.items())
+
+
+def agrees(database: model.Database, index: model.Index) -> bool:
+    return index.etag <= database.store.last and is_recorded(database, index.definition, index.table, index.etag)
+
+
+def is_fresh(database: model.Database, index: model.Index) -> bool:
+    return all(row.etag <= index.etag for row in in_scope(database, index.definition).values())
+
+
+def whole(database: model.Database, index: model.Index) -> model.Index:
+    """The index with all documents that it reads."""
+    twin = model.Index(index.number, index.name, index.definition)
+    twin.etag = index.etag
+    twin.table = {key: row for key, row in in_scope(database, index.definition).items() if row.is_document()}
+    return twin
+
+
+def scratch(database: model.Database, index: model.Index) -> tuple[dict[str, Entry], int]:
+    """What the index would find in all documents of the store."""
+    return whole(database, index).mapped()
+
+
+# A database by itself
+
+
+def check_names(database: model.Database) -> None:
+    """Names are distinct. A replacement is by text and has its index beside it; an index is automatic exactly if its name says so."""
+    names = [model.folded(index.name) for index in database.indexes]
+    assert len(set(names)) == len(names), names
+    for index, name in zip(database.indexes, names):
+        is_static = isinstance(index.definition, model.Static)
+        own = name.removeprefix("replacementof/")
+        assert name == own or is_static and own in names, name
+        assert not own.startswith("replacementof/") and own.startswith("auto/") != is_static, name
+
+
+def check_numbers(database: model.Database) -> None:
+    """Numbers rise, and there are not more indexes and notes than there may be. What was switched in had come as far as it had to."""
+    numbers = [0, *(index.number for index in database.indexes)]
+    assert all(left < right for left, right in zip(numbers, numbers[1:])) and numbers[-1] <= database.store.last, numbers
+    assert len(database.indexes) <= database.limits.slots and len(database.notes) <= database.limits.notes
+    etags = [note.etag for note in database.notes]
+    assert etags == sorted(set(etags)) and all(note.newest <= note.index_etag for note in database.notes), database.notes
+
+
+def check_rows(database: model.Database) -> None:
+    """Each live row of a definition is that of one index."""
+    rows = database.store.rows
+    live = {key for key, row in rows.items() if row.collection == "@indexes" and row.is_document()}
+    assert live == {"@index/" + model.folded(index.name) for index in database.indexes}, live
+    for index in database.indexes:
+        body = rows["@index/" + model.folded(index.name)].body
+        assert body == {"@metadata": {}, **index.definition.shown()}, index.name
+
+
+def check_held(database: model.Database) -> None:
+    """What a worker holds may be put in at any time."""
+    for batch in database.held.values():
+        index = database.numbered(batch.number)
+        assert not index or batch.etag <= database.store.last
+        assert not index or is_recorded(database, index.definition, batch.table, batch.etag), index.name
+
+
+def check_alone(database: model.Database) -> None:
+    check_names(database)
+    check_numbers(database)
+    check_rows(database)
+    check_held(database)
+
+
+# A line
+
+
+def check_tables(before: model.Database, after: model.Database) -> None:
+    """Each index agrees with the store, and a fresh one has what it would find anew. What did not change was looked at before."""
+    for index in after.indexes:
+        was = before.numbered(index.number)
+        if before.store.rows == after.store.rows and was and was.table == index.table and was.etag == index.etag:
+            continue
+        assert agrees(after, index), index.name
+        assert not is_fresh(after, index) or index.mapped() == scratch(after, index), index.name
+
+
+def check_store(before: model.Store, after: model.Store) -> None:
+    """Rows are only written again, under new etags, and keep their collections and spellings."""
+    assert before.last <= after.last
+    assert all(row.etag > before.last or before.rows.get(key) is row for key, row in after.rows.items())
+    for key, row in before.rows.items():
+        now = after.rows[key]
+        assert (now.collection, now.spelling) == (row.collection, row.spelling) and now.etag >= row.etag, key
+
+
+def check_definitions(before: model.Database, after: model.Database) -> None:
+    """A number keeps its definition and does not fall back. A name is served as before, by a new index, or by one that a note names."""
+    added = after.notes[len(before.notes) :]
+    assert after.notes[: len(before.notes)] == before.notes
+    noted = {(model.folded(note.name), note.new) for note in added}
+    for index in after.indexes:
+        was, served = before.numbered(index.number), before.serving(index.name)
+        assert was or index.number > before.store.last, index.name
+        assert not was or was.definition is index.definition and was.etag <= index.etag, index.name
+        is_noted = (model.folded(index.name), index.number) in noted
+        assert not was or was is served or is_noted, index.name
+        if served and not is_replacement(index.name) and served.definition is not index.definition:
+            assert is_noted, index.name
+    for note in added:
+        check_switch(before, after, note)
+
+
+def check_switch(before: model.Database, after: model.Database, note: model.Note) -> None:
+    """What took a name was built beside it, and had everything that it reads of the store as it was."""
+    old, new = before.numbered(note.old), before.numbered(note.new)
+    assert old and new and old is before.serving(note.name), note
+    assert model.folded(new.name) == "replacementof/" + model.folded(note.name), note
+    assert after.numbered(note.old) is None and new.etag == note.index_etag and before.store.last < note.etag <= after.store.last, note
+    read = in_scope(after, new.definition).values()
+    assert all(row.etag <= new.etag or row.etag >= note.etag for row in read), note
+    assert is_recorded(before, new.definition, new.table, new.etag), note
+
+
+def state(database: model.Database) -> tuple:
+    """What a refused line leaves as it was."""
+    indexes = [(index.number, index.name, index.etag) for index in database.indexes]
+    return database.store.last, database.store.rows, database.notes, indexes
+
+
+def check_line(before: model.Database, after: model.Database, line: bytes, reply: dict) -> None:
+    check_alone(after)
+    check_tables(before, after)
+    check_store(before.store, after.store)
+    check_definitions(before, after)
+    assert "Error" not in reply or line == b"TIDY" or state(before) == state(after), reply
+    assert before.held == after.held or line.startswith((b"READ ", b"PUBLISH ")), line
+
+
+# Answers
+
+
+def ask_in(line: bytes) -> Ask:
+    """What a line asks that was answered."""
+    word, _, rest = line.decode().partition(" ")
+    return Ask(read_query(rest)) if word == "QUERY" else ask_of(rest)
+
+
+def row_of(query: Query, group: list[Document]) -> Entry:
+    """The row of a group of documents, with its count and the sums that are asked for."""
+    row: Entry = {joined(path): scalar_at(group[0], path) for path in query.groups}
+    row[COUNT] = len(group)
+    for path in {field[1] for _, field in binding.named(query) if field[0] == "sum"}:
+        row[sum_name(path)] = sum(filter(is_number, (scalar_at(body, path) for body in group)))
+    return row
+
+
+def rows_of(query: Query, bodies: list[Document]) -> list[Entry]:
+    groups: dict[tuple, list[Document]] = {}
+    for body in bodies:
+        key = tuple(place_of(scalar_at(body, path)) for path in in_order(query.groups))
+        groups.setdefault(key, []).append(body)
+    return [row_of(query, groups[key]) for key in sorted(groups)]
+
+
+def directly(database: model.Database, ask: Ask) -> tuple[int, list[Document]]:
+    """How many documents or groups of them a query finds, and what it shows, without any index."""
+    query, base = ask.query, database.store.base
+    rows = [row for _, row in sorted(database.store.rows.items()) if row.is_document() and row.collection == query.origin[1]]
+    if query.groups:
+        groups = rows_of(query, [row.body for row in rows])
+        found = answers.found(query, groups, values_in, ask.parameters)
+        on_page = answers.page(found, ask.start, ask.size)
+        shown = [answers.selected(query, values_in(row)) for row in on_page]
+        return len(found), [{name: in_json(value) for name, value in row.items()} for row in shown]
+    found = answers.found(query, rows, lambda row: lambda path: scalar_at(row.body, path), ask.parameters)
+    on_page = answers.page(found, ask.start, ask.size)
+    if not query.columns:
+        return len(found), [row.shown(base) for row in on_page]
+    return len(found), [answers.selected(query, lambda path: answers.at_path(row.body, path)) for row in on_page]
+
+
+def check_answer(database: model.Database, line: bytes, reply: dict) -> bool:
+    """Whether the reply is one of an index that is fresh without a cutoff. Then it is what all documents give."""
+    if reply.get("IsStale") is not False or "IndexName" not in reply:
+        return False
+    ask = ask_in(line)
+    index = database.serving(reply["IndexName"])
+    if ask.cutoff is not None or index is None:
+        return False
+    assert is_fresh(database, index), line
+    expected = of_index(database, ask, whole(database, index))
+    assert model.write_json(reply) == model.write_json(expected), line
+    if binding.is_dynamic(ask.query):
+        total, results = directly(database, ask)
+        assert model.write_json([reply["TotalResults"], reply["Results"]]) == model.write_json([total, results]), line
+    return True

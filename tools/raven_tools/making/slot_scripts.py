@@ -1,0 +1,112 @@
+"""Random scripts of indexes that are built beside others and take their place, and of batches that workers hold meanwhile."""
+
+from raven_tools.making import lines
+from raven_tools.making.map_scripts import LagMaker
+from raven_tools.making.random_scripts import kind_of
+from raven_tools import model
+
+NAMES = ["U", "V", "w"]
+# Definitions that any of these names may have, and of which each reads other collections.
+TEXTS = [
+    ("from u in docs.Users select new { u.Name, u.Age }", None),
+    ("from u in docs.Users where u.Age > 1 select new { u.Name, Kind = u.Ref }", None),
+    ('from o in docs.Orders let u = LoadDocument(o.Ref, "Users") select new { u.Name, o.Age }', None),
+    ('from u in docs.Users let d = LoadDocument("@index/" + u.Name, "@indexes") select new { u.Name, Kind = d.Map }', None),
+    (
+        "from u in docs.Users select new { u.Name, Total = u.Age }",
+        "from r in results group r by r.Name into g select new { Name = g.Key, Total = g.Sum(x => x.Total) }",
+    ),
+]
+
+
+class SlotMaker(LagMaker):
+    """Mostly definitions under names that serve, batches, and switches."""
+
+    def words(self) -> str:
+        return self.one_of(["Ada", "ada", "Bo", *NAMES])
+
+    def name(self) -> str:
+        return self.in_other_case(self.one_of(NAMES))
+
+    def beside(self) -> str:
+        return self.in_other_case("ReplacementOf/" + self.one_of(NAMES))
+
+    def any_name(self) -> str:
+        """Mostly that of an index, and mostly of one that is built beside another or lags behind."""
+        live = self.database.indexes
+        found = self.one_of([[index for index in live if "/" in index.name], list(filter(self.database.is_stale, live)), live]) or live
+        if found and self.chance(93):
+            return self.in_other_case(self.one_of(found).name)
+        return self.one_of([self.beside, self.name])()
+
+    def define(self) -> str:
+        return lines.definition(self.name(), *self.one_of(TEXTS))
+
+    def again(self) -> str:
+        """The definition that an index has, or that which is built beside it."""
+        static = [index for index in self.database.indexes if isinstance(index.definition, model.Static)]
+        if not static:
+            return self.define()
+        index = self.one_of(static)
+        name = index.name.rpartition("/")[2]
+        return lines.definition(self.in_other_case(name), index.definition.text, index.definition.reduce_text)
+
+    def pump_one(self) -> str:
+        return f"PUMP {self.size()} {self.any_name()}"
+
+    def switch(self) -> str:
+        """Mostly of an index with another one beside it."""
+        waiting = [index for index in self.database.indexes if self.database.replacement_of(index)]
+        if waiting and self.chance(85):
+            return f"SWITCH {self.in_other_case(self.one_of(waiting).name)}"
+        return f"SWITCH {self.one_of([self.name, self.any_name])()}"
+
+    def tidy(self) -> str:
+        return "TIDY"
+
+    def read(self) -> str:
+        return f"READ {self.one_of('0012')} {self.size()} {self.any_name()}"
+
+    def publish(self) -> str:
+        """Mostly by a worker that holds something."""
+        holding = list(self.database.held)
+        return f"PUBLISH {self.one_of(holding) if holding and self.chance(90) else self.one_of('012')}"
+
+    def drop(self) -> str:
+        return f"DROP {self.any_name()}"
+
+    def auto(self) -> str:
+        return f"AUTO {self.one_of(['Users', 'Users', 'Orders'])} {self.one_of(['Name', 'Age'])}"
+
+    def all(self) -> str:
+        return "PUMP 64"
+
+    def take_over(self) -> str:
+        """A definition, and what may lead to its switch."""
+        ways = [self.all, self.pump_one, self.write, self.write, self.read, self.publish]
+        self.ahead = [self.one_of(ways) for _ in range(self.random.randint(0, 3))] + [self.all] * self.chance(60)
+        self.ahead += [self.one_of([self.switch, self.switch, self.tidy]), self.ask_one]
+        return self.define()
+
+    def hold(self) -> str:
+        """A batch that is read, and what may come before it is published."""
+        ways = [self.write, self.write, self.read, self.define, self.switch, self.pump_one, self.publish, self.tidy, self.drop]
+        self.ahead = [self.read, *(self.one_of(ways) for _ in range(self.random.randint(1, 3))), self.publish, self.ask_one]
+        return self.write()
+
+    def ask_one(self) -> str:
+        return self.look(self.any_name())
+
+    def kinds_of_lines(self) -> list:
+        kinds = [self.write] * 6 + [self.define] * 2 + [self.take_over] * 5 + [self.hold] * 5 + [self.again] * 2 + [self.pump] * 2
+        kinds += [self.pump_one] * 3 + [self.switch] * 2 + [self.tidy, self.drop, self.listed, self.stats, self.auto, self.publish]
+        return kinds + [self.ask_one] * 5 + [self.query] * 3 + [self.stale, self.bulk, self.get]
+
+    def script(self, count: int) -> bytes:
+        written: list[str] = []
+        self.ahead = [self.define, self.define, self.define, self.write, self.write, self.write]
+        while len(written) < count:
+            make = self.ahead.pop(0) if self.ahead else self.one_of(self.kinds_of_lines())
+            written.append(make())
+            self.kinds[kind_of(model.answer(self.database, written[-1].encode()))] += 1
+        return "\n".join(written).encode()
