@@ -11,6 +11,7 @@ import sys
 
 sys.dont_write_bytecode = True
 from raven_tools import model
+from raven_tools.making import worked_stages
 from raven_tools.making.lines import ask, definition
 from raven_tools.model import keeping, opening
 from raven_tools.transcripts import holds, replies_of
@@ -24,178 +25,10 @@ def database(stage: model.Stage = CHOOSING) -> model.Database:
     return model.Database(stage=stage)
 
 
-ORDERED = """
-> PUT users/1 {"Age":9,[Users]}
-> PUT users/2 {"Age":10,[Users]}
-> PUT users/3 {[Users]}
-> QUERY from Users order by Age select Age
-> PUMP 64
-> QUERY from Users order by Age select Age
-> QUERY from Users order by Age as long select Age
-< {"ChangeVector":"A:1-{B}","Id":"users/1"}
-< {"ChangeVector":"A:2-{B}","Id":"users/2"}
-< {"ChangeVector":"A:3-{B}","Id":"users/3"}
-< {"Includes":{},"IndexEtag":0,"IndexName":"Auto/Users/ByAge","IsStale":true,"Results":[],"TotalResults":0}
-< {"Pumped":[{"From":0,"Index":"Auto/Users/ByAge","To":4}]}
-< {"Includes":{},"IndexEtag":4,"IndexName":"Auto/Users/ByAge","IsStale":false,\
-"Results":[{"Age":null},{"Age":10},{"Age":9}],"TotalResults":3}
-< {"Includes":{},"IndexEtag":4,"IndexName":"Auto/Users/ByAge","IsStale":false,\
-"Results":[{"Age":null},{"Age":9},{"Age":10}],"TotalResults":3}
-"""
-
-# A question of one more field makes an index of both, which takes the place of the first one once it has come as far.
-WIDENED = """
-> PUT users/1 {"Age":36,"Name":"Ada",[Users]}
-> QUERY from Users where Name = 'ada' select Name
-> PUMP 64
-> QUERY from Users where Name = 'ada' and Age = 36 select Name
-> TIDY
-> QUERY from Users where Name = 'ada' select Name
-> PUMP 64
-> TIDY
-> QUERY from Users where Name = 'ada' select Name
-> GET @index/Auto/Users/ByName
-> GET @index/Auto/Users/ByAgeAndName
-> STATS
-< {"ChangeVector":"A:1-{B}","Id":"users/1"}
-< {"Includes":{},"IndexEtag":0,"IndexName":"Auto/Users/ByName","IsStale":true,"Results":[],"TotalResults":0}
-< {"Pumped":[{"From":0,"Index":"Auto/Users/ByName","To":2}]}
-< {"Includes":{},"IndexEtag":0,"IndexName":"Auto/Users/ByAgeAndName","IsStale":true,"Results":[],"TotalResults":0}
-< {"Retired":[],"Switched":[]}
-< {"Includes":{},"IndexEtag":2,"IndexName":"Auto/Users/ByName","IsStale":false,"Results":[{"Name":"Ada"}],"TotalResults":1}
-< {"Pumped":[{"From":2,"Index":"Auto/Users/ByName","To":2},{"From":0,"Index":"Auto/Users/ByAgeAndName","To":3}]}
-< {"Retired":["Auto/Users/ByName"],"Switched":[]}
-< {"Includes":{},"IndexEtag":3,"IndexName":"Auto/Users/ByAgeAndName","IsStale":false,"Results":[{"Name":"Ada"}],"TotalResults":1}
-< {"Error":"NoDocument","Id":"@index/Auto/Users/ByName"}
-< {"@metadata":{"@change-vector":"A:3-{B}","@collection":"@indexes","@id":"@index/Auto/Users/ByAgeAndName",\
-"@last-modified":"1970-01-01T00:00:00.0000000Z"},"Collection":"Users","Fields":[["Age"],["Name"]],"Kind":"auto"}
-< {"CountOfDocuments":1,"CountOfIndexes":1,"CountOfTombstones":0,"LastDocEtag":4}
-"""
-
-GROUPED = """
-> PUT orders/1 {"Cents":4,"Company":"c",[Orders]}
-> PUT orders/2 {"Cents":6,"Company":"c",[Orders]}
-> QUERY from Orders group by Company select Company, count(), sum(Cents)
-> PUMP 64
-> QUERY from Orders group by Company select Company, count(), sum(Cents)
-> QUERY from Orders select Cents
-> INDEXES
-< {"ChangeVector":"A:1-{B}","Id":"orders/1"}
-< {"ChangeVector":"A:2-{B}","Id":"orders/2"}
-< {"Includes":{},"IndexEtag":0,"IndexName":"Auto/Orders/ByCentsAndCountReducedByCompany","IsStale":true,"Results":[],"TotalResults":0}
-< {"Pumped":[{"From":0,"Index":"Auto/Orders/ByCentsAndCountReducedByCompany","To":3}]}
-< {"Includes":{},"IndexEtag":3,"IndexName":"Auto/Orders/ByCentsAndCountReducedByCompany","IsStale":false,\
-"Results":[{"Cents":10,"Company":"c","Count":2}],"TotalResults":1}
-< {"Includes":{},"IndexEtag":3,"IndexName":"collection/Orders","IsStale":false,"Results":[{"Cents":4},{"Cents":6}],"TotalResults":2}
-< {"Results":[{"Definition":{"Collection":"Orders","Groups":[["Company"]],"Kind":"auto-reduce","Sums":[["Cents"]]},\
-"Entries":2,"Errors":0,"Etag":3,"IsStale":false,"Name":"Auto/Orders/ByCentsAndCountReducedByCompany"}]}
-"""
-
-# What is asked of the groups of some documents, by the question and by the name of its index.
-OF_GROUPS = """
-> PUT companies/c {"Name":"Cee",[Companies]}
-> PUT o/1 {"Company":"companies/c","N":{"Cents":9223372036854775807},[Orders]}
-> PUT o/2 {"Company":"companies/c","N":{"Cents":9223372036854775807},[Orders]}
-> PUT o/3 {"Company":"d","N":{"Cents":"7"},[Orders]}
-> PUT o/4 {"Company":[1],"N":{"Cents":5},[Orders]}
-> PUT o/5 {"N":{"Cents":-5},[Orders]}
-> PUT o/6 {"Company":"D",[Orders]}
-> QUERY from Orders group by Company where sum(N.Cents) = 1
-> PUMP 64
-> QUERY from Orders group by Company
-> QUERY from Orders group by Company where count() > 1 select sum(N.Cents), count() as Many, Company as Of include Company
-> QUERY from Orders group by Company where sum(N.Cents) <= 0 order by count() as long desc, Company desc select Company
-> QUERY from index 'Auto/Orders/ByCountAndN.CentsReducedByCompany' where count() = 2 and sum(N.Cents) = 0
-> QUERY from index 'Auto/Orders/ByCountAndN.CentsReducedByCompany' where Company = 'd' order by sum(N.Cents) select count() as N
-> QUERY from index 'Auto/Orders/ByCountAndN.CentsReducedByCompany' select sum(N)
-> QUERY from index 'Auto/Orders/ByCountAndN.CentsReducedByCompany' select N.Cents
-> FIND Auto/Orders/ByCountAndN.CentsReducedByCompany Company d
-< {"ChangeVector":"A:1-{B}","Id":"companies/c"}
-< {"ChangeVector":"A:2-{B}","Id":"o/1"}
-< {"ChangeVector":"A:3-{B}","Id":"o/2"}
-< {"ChangeVector":"A:4-{B}","Id":"o/3"}
-< {"ChangeVector":"A:5-{B}","Id":"o/4"}
-< {"ChangeVector":"A:6-{B}","Id":"o/5"}
-< {"ChangeVector":"A:7-{B}","Id":"o/6"}
-< {"Includes":{},"IndexEtag":0,"IndexName":"Auto/Orders/ByCountAndN.CentsReducedByCompany","IsStale":true,"Results":[],"TotalResults":0}
-< {"Pumped":[{"From":0,"Index":"Auto/Orders/ByCountAndN.CentsReducedByCompany","To":8}]}
-< {"Includes":{},"IndexEtag":8,"IndexName":"Auto/Orders/ByCountAndN.CentsReducedByCompany","IsStale":false,\
-"Results":[{"Company":null,"Count":2},{"Company":"companies/c","Count":2},{"Company":"D","Count":1},{"Company":"d","Count":1}],\
-"TotalResults":4}
-< {"Includes":{"companies/c":{"@metadata":{"@change-vector":"A:1-{B}","@collection":"Companies","@id":"companies/c",\
-"@last-modified":"1970-01-01T00:00:00.0000000Z"},"Name":"Cee"}},"IndexEtag":8,\
-"IndexName":"Auto/Orders/ByCountAndN.CentsReducedByCompany","IsStale":false,\
-"Results":[{"Many":2,"N.Cents":0,"Of":null},{"Many":2,"N.Cents":"18446744073709551614","Of":"companies/c"}],"TotalResults":2}
-< {"Includes":{},"IndexEtag":8,"IndexName":"Auto/Orders/ByCountAndN.CentsReducedByCompany","IsStale":false,\
-"Results":[{"Company":null},{"Company":"D"},{"Company":"d"}],"TotalResults":3}
-< {"Includes":{},"IndexEtag":8,"IndexName":"Auto/Orders/ByCountAndN.CentsReducedByCompany","IsStale":false,\
-"Results":[{"Company":null,"count()":2,"sum(N.Cents)":0}],"TotalResults":1}
-< {"Includes":{},"IndexEtag":8,"IndexName":"Auto/Orders/ByCountAndN.CentsReducedByCompany","IsStale":false,\
-"Results":[{"N":1},{"N":1}],"TotalResults":2}
-< {"Error":"NoField","Name":"sum(N)"}
-< {"Error":"NoField","Name":"N.Cents"}
-< {"Ids":[],"IndexEtag":8,"IsStale":false}
-"""
-
-# A count has no field in an index without groups. There a path is a field if its joined form is one, and any may be selected.
-OF_FIELDS = """
-> PUT x {"A":{"B":1},"C":2,[C]}
-> QUERY from C where A.B = 1 select C, A
-> PUMP 64
-> QUERY from C where A.B = 1 select C, A
-> QUERY from index 'auto/c/bya.b' where A.B = 1
-> QUERY from index 'auto/c/bya.b' where A = 1
-> QUERY from index 'auto/c/bya.b' where count() = 1
-> QUERY from index 'auto/c/bya.b' select sum(A.B)
-> QUERY from C where count() = 1
-> QUERY from C group by A.B where C = 1
-< {"ChangeVector":"A:1-{B}","Id":"x"}
-< {"Includes":{},"IndexEtag":0,"IndexName":"Auto/C/ByA.B","IsStale":true,"Results":[],"TotalResults":0}
-< {"Pumped":[{"From":0,"Index":"Auto/C/ByA.B","To":2}]}
-< {"Includes":{},"IndexEtag":2,"IndexName":"Auto/C/ByA.B","IsStale":false,"Results":[{"A":{"B":1},"C":2}],"TotalResults":1}
-< {"Includes":{},"IndexEtag":2,"IndexName":"Auto/C/ByA.B","IsStale":false,"Results":[{"@metadata":{"@change-vector":"A:1-{B}",\
-"@collection":"C","@id":"x","@last-modified":"1970-01-01T00:00:00.0000000Z"},"A":{"B":1},"C":2}],"TotalResults":1}
-< {"Error":"NoField","Name":"A"}
-< {"Error":"NoField","Name":"count()"}
-< {"Error":"NoField","Name":"sum(A.B)"}
-< {"Error":"NotGrouped","Name":"count()"}
-< {"Error":"NotGrouped","Name":"C"}
-"""
-
-# A question without a field has an index without one, which has each document of the collection.
-OF_NO_FIELDS = """
-> PUT x {[C]}
-> PUT y {[D]}
-> QUERY from C where true select F
-> PUMP 64
-> QUERY from C where not true or true select F
-> FIND Auto/C/By F x
-< {"ChangeVector":"A:1-{B}","Id":"x"}
-< {"ChangeVector":"A:2-{B}","Id":"y"}
-< {"Includes":{},"IndexEtag":0,"IndexName":"Auto/C/By","IsStale":true,"Results":[],"TotalResults":0}
-< {"Pumped":[{"From":0,"Index":"Auto/C/By","To":3}]}
-< {"Includes":{},"IndexEtag":3,"IndexName":"Auto/C/By","IsStale":false,"Results":[{"F":null}],"TotalResults":1}
-< {"Ids":[],"IndexEtag":3,"IsStale":false}
-"""
-
-# The answer is that of the store with the new definition, up to the cutoff.
-UP_TO_A_CUTOFF = """
-> PUT x {[C]}
-> ASK {"CutoffEtag":0,"Query":"from C where F = 1"}
-> ASK {"CutoffEtag":1,"Query":"from C where F = 1"}
-> ASK {"Looks":3,"Query":"from C where F = 1","WaitForNonStaleResults":true}
-> STATS
-< {"ChangeVector":"A:1-{B}","Id":"x"}
-< {"Includes":{},"IndexEtag":0,"IndexName":"Auto/C/ByF","IsStale":false,"Results":[],"TotalResults":0}
-< {"Includes":{},"IndexEtag":0,"IndexName":"Auto/C/ByF","IsStale":true,"Results":[],"TotalResults":0}
-< {"Includes":{},"IndexEtag":0,"IndexName":"Auto/C/ByF","IsStale":true,"Results":[],"TotalResults":0}
-< {"CountOfDocuments":1,"CountOfIndexes":1,"CountOfTombstones":0,"LastDocEtag":2}
-"""
-
-
 def test_worked_scripts() -> None:
-    for worked in (ORDERED, WIDENED, GROUPED, OF_GROUPS, OF_FIELDS, OF_NO_FIELDS, UP_TO_A_CUTOFF):
-        holds(worked, database())
+    for transcript in worked_stages.WORKED["optimiser"].values():
+        holds(transcript, database())
+        holds(transcript, database(BOTH))
 
 
 def test_without_the_stage() -> None:
@@ -363,7 +196,8 @@ def test_free_names() -> None:
     lines = ["AUTO Ab F", "AUTO aB F", "AUTO ab F", "DROP auto/AB/byf/2", "AUTO AB F", "AUTO aB F", "DROP Auto/Ab/ByF", "AUTO Ab F"]
     names = ["Auto/Ab/ByF", "Auto/aB/ByF/2", "Auto/ab/ByF/3", "Auto/AB/ByF/2", "Auto/aB/ByF/4", "Auto/Ab/ByF"]
     assert names_of(*lines) == names
-    lines = ["QUERY from C group by A", "AUTO C CountReducedByA", "AUTO D AAndB", "DROP Auto/D/ByAAndB", "QUERY from D where B = 1 and A = 1"]
+    lines = ["QUERY from C group by A", "AUTO C CountReducedByA", "AUTO D AAndB", "DROP Auto/D/ByAAndB"]
+    lines.append("QUERY from D where B = 1 and A = 1")
     assert names_of(*lines) == ["Auto/C/ByCountReducedByA", "Auto/C/ByCountReducedByA/2", "Auto/D/ByAAndB", "Auto/D/ByAAndB"]
 
 
@@ -378,9 +212,12 @@ def test_names_that_cannot_be() -> None:
 
 def test_names_of_groups() -> None:
     """The count is among the sums, by its bytes, also if a sum is of a field of that name."""
-    lines = ["from O group by Company select sum(Count)", "from O group by Company select sum(Cents)", "from O group by B.X, A order by sum(D.E)"]
-    names = ["Auto/O/ByCountAndCountReducedByCompany", "Auto/O/ByCentsAndCountAndCountReducedByCompany"]
-    assert names_of(*("QUERY " + text for text in lines)) == [*names, "Auto/O/ByCountAndD.EReducedByAAndB.X"]
+    named = [
+        ("group by Company select sum(Count)", "Auto/O/ByCountAndCountReducedByCompany"),
+        ("group by Company select sum(Cents)", "Auto/O/ByCentsAndCountAndCountReducedByCompany"),
+        ("group by B.X, A order by sum(D.E)", "Auto/O/ByCountAndD.EReducedByAAndB.X"),
+    ]
+    assert names_of(*(f"QUERY from O {text}" for text, _ in named)) == [name for _, name in named]
 
 
 # Columns
@@ -388,7 +225,8 @@ def test_names_of_groups() -> None:
 
 def test_columns_of_groups() -> None:
     """Of two columns of one name the last counts, also if nothing is selected."""
-    lines = ['PUT x {"Count":"c","N":{"Count":4},"A":"x",[C]}', "QUERY from C group by Count", "QUERY from C group by A select sum(N.Count)"]
+    lines = ['PUT x {"Count":"c","N":{"Count":4},"A":"x",[C]}']
+    lines += ["QUERY from C group by Count", "QUERY from C group by A select sum(N.Count)"]
     asked = [
         ("group by Count", {"Count": 1}),
         ("group by Count select Count", {"Count": "c"}),

@@ -8,7 +8,7 @@
 - `slot_scripts` and `choice_scripts`, for the stages of the model, replacements with held batches, and queries that choose an index;
 - `crash_scripts` and `load_scripts`, writes over a file.
 
-`limit_scripts` and `case_scripts` are at each limit and of each case in `worked`.
+`limit_scripts` and `case_scripts` are at each limit and of each case in `worked`, and `worked_stages` has scripts for the stages.
 """
 
 import collections.abc

@@ -1,7 +1,8 @@
 """What the model has beyond the program, behind one switch each.
 
-The program answers the lines of both with UnknownLine until it has them. Each switch is read in this module alone: when the
-program has what it stands for, its default becomes true, and then its field and the functions that read it go.
+The program answers the lines of both with UnknownLine until it has them. Each switch is read in this module alone, and as a name in
+`making`, which has scripts for it. When the program has what it stands for, its default becomes true, and then its field goes, with
+the lines that read it.
 """
 
 import dataclasses

@@ -1,0 +1,406 @@
+"""Scripts with their replies, all worked out by hand, of what the model has at a stage and the program does not have yet."""
+
+from raven_tools import model
+from raven_tools.transcripts import halves
+
+# Replacements of indexes, and batches that workers hold.
+
+# An index is built beside the one of its name. It is switched in once it has everything that it reads, and not before.
+BUILT_BESIDE = """
+> INDEX {"Map":"from u in docs.Users select new { u.Name }","Name":"U"}
+> PUT users/1 {[Users]}
+> PUT users/2 {[Users]}
+> PUMP 64
+> INDEX {"Map":"from u in docs.Users select new { u.Age }","Name":"U"}
+> PUMP 1 ReplacementOf/U
+> PUT users/3 {"Age":7,[Users]}
+> SWITCH U
+> PUMP 1 ReplacementOf/U
+> PUMP 1 ReplacementOf/U
+> QUERY from index 'U' where Age = 7 select Age
+> TIDY
+> QUERY from index 'U' where Age = 7 select Age
+> STATS
+> SWITCH U
+< {"Index":"U"}
+< {"ChangeVector":"A:2-{B}","Id":"users/1"}
+< {"ChangeVector":"A:3-{B}","Id":"users/2"}
+< {"Pumped":[{"From":0,"Index":"U","To":3}]}
+< {"Index":"ReplacementOf/U"}
+< {"Pumped":[{"From":0,"Index":"ReplacementOf/U","To":2}]}
+< {"ChangeVector":"A:5-{B}","Id":"users/3"}
+< {"Error":"NotFresh","IndexEtag":2,"Newest":5}
+< {"Pumped":[{"From":2,"Index":"ReplacementOf/U","To":3}]}
+< {"Pumped":[{"From":3,"Index":"ReplacementOf/U","To":5}]}
+< {"Error":"NoField","Name":"Age"}
+< {"Retired":[],"Switched":["U"]}
+< {"Includes":{},"IndexEtag":5,"IndexName":"U","IsStale":false,"Results":[{"Age":7}],"TotalResults":1}
+< {"CountOfDocuments":3,"CountOfIndexes":1,"CountOfTombstones":0,"LastDocEtag":7}
+< {"Error":"NoReplacement"}
+"""
+
+HELD_ACROSS_A_WRITE = """
+> AUTO C F
+> PUT x {"F":"a",[C]}
+> READ 0 64 Auto/C/ByF
+> READ 1 64 Auto/C/ByF
+> PUT x {"F":"b",[C]}
+> PUBLISH 0
+> PUBLISH 1
+> PUBLISH 1
+> FIND Auto/C/ByF F a
+< {"Index":"Auto/C/ByF"}
+< {"ChangeVector":"A:2-{B}","Id":"x"}
+< {"From":0,"To":2}
+< {"From":0,"To":2}
+< {"ChangeVector":"A:3-{B}","Id":"x"}
+< {"From":0,"Index":"Auto/C/ByF","To":2}
+< {"Error":"Passed","Now":2}
+< {"Error":"NothingHeld"}
+< {"Ids":["x"],"IndexEtag":2,"IsStale":true}
+"""
+
+HELD_ACROSS_A_REMOVAL = """
+> AUTO C F
+> PUT x {"F":"a",[C]}
+> READ 0 64 Auto/C/ByF
+> DROP Auto/C/ByF
+> PUBLISH 0
+> PUBLISH 0
+> AUTO C F
+> PUBLISH 0
+< {"Index":"Auto/C/ByF"}
+< {"ChangeVector":"A:2-{B}","Id":"x"}
+< {"From":0,"To":2}
+< {"Removed":"Auto/C/ByF"}
+< {"Error":"Gone","Number":1}
+< {"Error":"NothingHeld"}
+< {"Index":"Auto/C/ByF"}
+< {"Error":"NothingHeld"}
+"""
+
+# A batch is of a number. After a switch the number of what was built beside serves the name, and the old one is gone.
+HELD_ACROSS_A_SWITCH = """
+> INDEX {"Map":"from u in docs.Users select new { u.Name }","Name":"U"}
+> PUT users/1 {"Age":7,"Name":"Ada",[Users]}
+> INDEX {"Map":"from u in docs.Users select new { u.Age }","Name":"u"}
+> READ 0 64 ReplacementOf/U
+> PUT c/1 {[C]}
+> READ 1 64 replacementof/u
+> READ 2 64 U
+> PUBLISH 0
+> SWITCH u
+> PUBLISH 1
+> PUBLISH 2
+> PUBLISH 2
+> QUERY from index 'u' where Age = 7 select Age
+> GET @index/u
+> INDEXES
+< {"Index":"U"}
+< {"ChangeVector":"A:2-{B}","Id":"users/1"}
+< {"Index":"ReplacementOf/U"}
+< {"From":0,"To":3}
+< {"ChangeVector":"A:4-{B}","Id":"c/1"}
+< {"From":0,"To":4}
+< {"From":0,"To":4}
+< {"From":0,"Index":"ReplacementOf/U","To":3}
+< {"Etag":5,"Switched":"U"}
+< {"From":3,"Index":"U","To":4}
+< {"Error":"Gone","Number":1}
+< {"Error":"NothingHeld"}
+< {"Includes":{},"IndexEtag":4,"IndexName":"U","IsStale":false,"Results":[{"Age":7}],"TotalResults":1}
+< {"@metadata":{"@change-vector":"A:5-{B}","@collection":"@indexes","@id":"@index/U",\
+"@last-modified":"1970-01-01T00:00:00.0000000Z"},"Kind":"static","Map":"from u in docs.Users select new { u.Age }","Reduce":null}
+< {"Results":[{"Definition":{"Kind":"static","Map":"from u in docs.Users select new { u.Age }","Reduce":null},\
+"Entries":1,"Errors":0,"Etag":4,"IsStale":false,"Name":"U"}]}
+"""
+
+# What is read is not in the index yet. If nothing is to do, what was held is dropped; a name of no index, or of none that can be,
+# leaves it.
+READ_AGAIN = """
+> READ 0 64 Auto/C/ByF
+> AUTO C F
+> READ 0 64 Auto/C/ByF
+> PUBLISH 0
+> PUT x {"F":"a",[C]}
+> PUT y {"F":"a",[C]}
+> READ 15 1 auto/c/byf
+> FIND Auto/C/ByF F a
+> READ 15 64 none
+> READ 15 64 a\tb
+> PUBLISH 15
+> READ 3 64 Auto/C/ByF
+> PUMP 64
+> READ 3 64 Auto/C/ByF
+> PUBLISH 3
+< {"Error":"NoIndex","Name":"Auto/C/ByF"}
+< {"Index":"Auto/C/ByF"}
+< {"From":0,"To":0}
+< {"Error":"NothingHeld"}
+< {"ChangeVector":"A:2-{B}","Id":"x"}
+< {"ChangeVector":"A:3-{B}","Id":"y"}
+< {"From":0,"To":2}
+< {"Ids":[],"IndexEtag":0,"IsStale":true}
+< {"Error":"NoIndex","Name":"none"}
+< {"At":1,"Error":"Control"}
+< {"From":0,"Index":"Auto/C/ByF","To":2}
+< {"From":2,"To":3}
+< {"Pumped":[{"From":2,"Index":"Auto/C/ByF","To":3}]}
+< {"From":3,"To":3}
+< {"Error":"NothingHeld"}
+"""
+
+# What is built beside an index is an index by its name: it is brought on, listed, asked and removed by it.
+AS_INDEXES = """
+> INDEX {"Map":"from u in docs.U select new { u.A }","Name":"Foo"}
+> INDEX {"Map":"from u in docs.U select new { u.B }","Name":"FOO"}
+> PUT u {"A":"x","B":"y"}
+> PUT v {"A":"x","B":"y",[U]}
+> PUMP 64
+> FIND replacementof/foo B Y
+> STALE ReplacementOf/Foo
+> QUERY from index 'replacementOf/foo' select B
+> STATS
+> INDEXES
+> SWITCH ReplacementOf/Foo
+> DROP ReplacementOf/foo
+> SWITCH Foo
+< {"Index":"Foo"}
+< {"Index":"ReplacementOf/Foo"}
+< {"ChangeVector":"A:3-{B}","Id":"u"}
+< {"ChangeVector":"A:4-{B}","Id":"v"}
+< {"Pumped":[{"From":0,"Index":"Foo","To":4},{"From":0,"Index":"ReplacementOf/Foo","To":4}]}
+< {"Ids":["v"],"IndexEtag":4,"IsStale":false}
+< {"IndexEtag":4,"IsStale":false,"Newest":4}
+< {"Includes":{},"IndexEtag":4,"IndexName":"ReplacementOf/Foo","IsStale":false,"Results":[{"B":"y"}],"TotalResults":1}
+< {"CountOfDocuments":2,"CountOfIndexes":2,"CountOfTombstones":0,"LastDocEtag":4}
+< {"Results":[{"Definition":{"Kind":"static","Map":"from u in docs.U select new { u.A }","Reduce":null},"Entries":1,"Errors":0,\
+"Etag":4,"IsStale":false,"Name":"Foo"},{"Definition":{"Kind":"static","Map":"from u in docs.U select new { u.B }","Reduce":null},\
+"Entries":1,"Errors":0,"Etag":4,"IsStale":false,"Name":"ReplacementOf/Foo"}]}
+< {"Error":"NoReplacement"}
+< {"Removed":"ReplacementOf/Foo"}
+< {"Error":"NoReplacement"}
+"""
+
+# Definitions may be read too. A switch writes one, so what reads them and comes later in the same tidying is no longer fresh.
+TIDIED_IN_TURN = """
+> INDEX {"Map":"from o in docs.Orders select new { o.A }","Name":"early"}
+> INDEX {"Map":"from o in docs.Orders let d = LoadDocument(o.A, \\"@indexes\\") select new { d.Map }","Name":"Late"}
+> INDEX {"Map":"from o in docs.Orders select new { o.B }","Name":"early"}
+> INDEX {"Map":"from o in docs.Orders let d = LoadDocument(o.B, \\"@indexes\\") select new { d.Map }","Name":"Late"}
+> PUMP 64
+> TIDY
+> SWITCH Late
+> PUMP 64
+> TIDY
+< {"Index":"early"}
+< {"Index":"Late"}
+< {"Index":"ReplacementOf/early"}
+< {"Index":"ReplacementOf/Late"}
+< {"Pumped":[{"From":0,"Index":"early","To":0},{"From":0,"Index":"Late","To":4},{"From":0,"Index":"ReplacementOf/early","To":0},\
+{"From":0,"Index":"ReplacementOf/Late","To":4}]}
+< {"Retired":[],"Switched":["early"]}
+< {"Error":"NotFresh","IndexEtag":4,"Newest":6}
+< {"Pumped":[{"From":4,"Index":"Late","To":6},{"From":0,"Index":"early","To":0},{"From":4,"Index":"ReplacementOf/Late","To":6}]}
+< {"Retired":[],"Switched":["Late"]}
+"""
+
+
+# Queries that choose an index, and what tidying removes.
+
+ORDERED = """
+> PUT users/1 {"Age":9,[Users]}
+> PUT users/2 {"Age":10,[Users]}
+> PUT users/3 {[Users]}
+> QUERY from Users order by Age select Age
+> PUMP 64
+> QUERY from Users order by Age select Age
+> QUERY from Users order by Age as long select Age
+< {"ChangeVector":"A:1-{B}","Id":"users/1"}
+< {"ChangeVector":"A:2-{B}","Id":"users/2"}
+< {"ChangeVector":"A:3-{B}","Id":"users/3"}
+< {"Includes":{},"IndexEtag":0,"IndexName":"Auto/Users/ByAge","IsStale":true,"Results":[],"TotalResults":0}
+< {"Pumped":[{"From":0,"Index":"Auto/Users/ByAge","To":4}]}
+< {"Includes":{},"IndexEtag":4,"IndexName":"Auto/Users/ByAge","IsStale":false,\
+"Results":[{"Age":null},{"Age":10},{"Age":9}],"TotalResults":3}
+< {"Includes":{},"IndexEtag":4,"IndexName":"Auto/Users/ByAge","IsStale":false,\
+"Results":[{"Age":null},{"Age":9},{"Age":10}],"TotalResults":3}
+"""
+
+# A question of one more field makes an index of both, which takes the place of the first one once it has come as far.
+WIDENED = """
+> PUT users/1 {"Age":36,"Name":"Ada",[Users]}
+> QUERY from Users where Name = 'ada' select Name
+> PUMP 64
+> QUERY from Users where Name = 'ada' and Age = 36 select Name
+> TIDY
+> QUERY from Users where Name = 'ada' select Name
+> PUMP 64
+> TIDY
+> QUERY from Users where Name = 'ada' select Name
+> GET @index/Auto/Users/ByName
+> GET @index/Auto/Users/ByAgeAndName
+> STATS
+< {"ChangeVector":"A:1-{B}","Id":"users/1"}
+< {"Includes":{},"IndexEtag":0,"IndexName":"Auto/Users/ByName","IsStale":true,"Results":[],"TotalResults":0}
+< {"Pumped":[{"From":0,"Index":"Auto/Users/ByName","To":2}]}
+< {"Includes":{},"IndexEtag":0,"IndexName":"Auto/Users/ByAgeAndName","IsStale":true,"Results":[],"TotalResults":0}
+< {"Retired":[],"Switched":[]}
+< {"Includes":{},"IndexEtag":2,"IndexName":"Auto/Users/ByName","IsStale":false,"Results":[{"Name":"Ada"}],"TotalResults":1}
+< {"Pumped":[{"From":2,"Index":"Auto/Users/ByName","To":2},{"From":0,"Index":"Auto/Users/ByAgeAndName","To":3}]}
+< {"Retired":["Auto/Users/ByName"],"Switched":[]}
+< {"Includes":{},"IndexEtag":3,"IndexName":"Auto/Users/ByAgeAndName","IsStale":false,"Results":[{"Name":"Ada"}],"TotalResults":1}
+< {"Error":"NoDocument","Id":"@index/Auto/Users/ByName"}
+< {"@metadata":{"@change-vector":"A:3-{B}","@collection":"@indexes","@id":"@index/Auto/Users/ByAgeAndName",\
+"@last-modified":"1970-01-01T00:00:00.0000000Z"},"Collection":"Users","Fields":[["Age"],["Name"]],"Kind":"auto"}
+< {"CountOfDocuments":1,"CountOfIndexes":1,"CountOfTombstones":0,"LastDocEtag":4}
+"""
+
+GROUPED = """
+> PUT orders/1 {"Cents":4,"Company":"c",[Orders]}
+> PUT orders/2 {"Cents":6,"Company":"c",[Orders]}
+> QUERY from Orders group by Company select Company, count(), sum(Cents)
+> PUMP 64
+> QUERY from Orders group by Company select Company, count(), sum(Cents)
+> QUERY from Orders select Cents
+> INDEXES
+< {"ChangeVector":"A:1-{B}","Id":"orders/1"}
+< {"ChangeVector":"A:2-{B}","Id":"orders/2"}
+< {"Includes":{},"IndexEtag":0,"IndexName":"Auto/Orders/ByCentsAndCountReducedByCompany","IsStale":true,"Results":[],"TotalResults":0}
+< {"Pumped":[{"From":0,"Index":"Auto/Orders/ByCentsAndCountReducedByCompany","To":3}]}
+< {"Includes":{},"IndexEtag":3,"IndexName":"Auto/Orders/ByCentsAndCountReducedByCompany","IsStale":false,\
+"Results":[{"Cents":10,"Company":"c","Count":2}],"TotalResults":1}
+< {"Includes":{},"IndexEtag":3,"IndexName":"collection/Orders","IsStale":false,"Results":[{"Cents":4},{"Cents":6}],"TotalResults":2}
+< {"Results":[{"Definition":{"Collection":"Orders","Groups":[["Company"]],"Kind":"auto-reduce","Sums":[["Cents"]]},\
+"Entries":2,"Errors":0,"Etag":3,"IsStale":false,"Name":"Auto/Orders/ByCentsAndCountReducedByCompany"}]}
+"""
+
+# What is asked of the groups of some documents, by the question and by the name of its index.
+OF_GROUPS = """
+> PUT companies/c {"Name":"Cee",[Companies]}
+> PUT o/1 {"Company":"companies/c","N":{"Cents":9223372036854775807},[Orders]}
+> PUT o/2 {"Company":"companies/c","N":{"Cents":9223372036854775807},[Orders]}
+> PUT o/3 {"Company":"d","N":{"Cents":"7"},[Orders]}
+> PUT o/4 {"Company":[1],"N":{"Cents":5},[Orders]}
+> PUT o/5 {"N":{"Cents":-5},[Orders]}
+> PUT o/6 {"Company":"D",[Orders]}
+> QUERY from Orders group by Company where sum(N.Cents) = 1
+> PUMP 64
+> QUERY from Orders group by Company
+> QUERY from Orders group by Company where count() > 1 select sum(N.Cents), count() as Many, Company as Of include Company
+> QUERY from Orders group by Company where sum(N.Cents) <= 0 order by count() as long desc, Company desc select Company
+> QUERY from index 'Auto/Orders/ByCountAndN.CentsReducedByCompany' where count() = 2 and sum(N.Cents) = 0
+> QUERY from index 'Auto/Orders/ByCountAndN.CentsReducedByCompany' where Company = 'd' order by sum(N.Cents) select count() as N
+> QUERY from index 'Auto/Orders/ByCountAndN.CentsReducedByCompany' select sum(N)
+> QUERY from index 'Auto/Orders/ByCountAndN.CentsReducedByCompany' select N.Cents
+> FIND Auto/Orders/ByCountAndN.CentsReducedByCompany Company d
+< {"ChangeVector":"A:1-{B}","Id":"companies/c"}
+< {"ChangeVector":"A:2-{B}","Id":"o/1"}
+< {"ChangeVector":"A:3-{B}","Id":"o/2"}
+< {"ChangeVector":"A:4-{B}","Id":"o/3"}
+< {"ChangeVector":"A:5-{B}","Id":"o/4"}
+< {"ChangeVector":"A:6-{B}","Id":"o/5"}
+< {"ChangeVector":"A:7-{B}","Id":"o/6"}
+< {"Includes":{},"IndexEtag":0,"IndexName":"Auto/Orders/ByCountAndN.CentsReducedByCompany","IsStale":true,"Results":[],"TotalResults":0}
+< {"Pumped":[{"From":0,"Index":"Auto/Orders/ByCountAndN.CentsReducedByCompany","To":8}]}
+< {"Includes":{},"IndexEtag":8,"IndexName":"Auto/Orders/ByCountAndN.CentsReducedByCompany","IsStale":false,\
+"Results":[{"Company":null,"Count":2},{"Company":"companies/c","Count":2},{"Company":"D","Count":1},{"Company":"d","Count":1}],\
+"TotalResults":4}
+< {"Includes":{"companies/c":{"@metadata":{"@change-vector":"A:1-{B}","@collection":"Companies","@id":"companies/c",\
+"@last-modified":"1970-01-01T00:00:00.0000000Z"},"Name":"Cee"}},"IndexEtag":8,\
+"IndexName":"Auto/Orders/ByCountAndN.CentsReducedByCompany","IsStale":false,\
+"Results":[{"Many":2,"N.Cents":0,"Of":null},{"Many":2,"N.Cents":"18446744073709551614","Of":"companies/c"}],"TotalResults":2}
+< {"Includes":{},"IndexEtag":8,"IndexName":"Auto/Orders/ByCountAndN.CentsReducedByCompany","IsStale":false,\
+"Results":[{"Company":null},{"Company":"D"},{"Company":"d"}],"TotalResults":3}
+< {"Includes":{},"IndexEtag":8,"IndexName":"Auto/Orders/ByCountAndN.CentsReducedByCompany","IsStale":false,\
+"Results":[{"Company":null,"count()":2,"sum(N.Cents)":0}],"TotalResults":1}
+< {"Includes":{},"IndexEtag":8,"IndexName":"Auto/Orders/ByCountAndN.CentsReducedByCompany","IsStale":false,\
+"Results":[{"N":1},{"N":1}],"TotalResults":2}
+< {"Error":"NoField","Name":"sum(N)"}
+< {"Error":"NoField","Name":"N.Cents"}
+< {"Ids":[],"IndexEtag":8,"IsStale":false}
+"""
+
+# A count has no field in an index without groups. There a path is a field if its joined form is one, and any may be selected.
+OF_FIELDS = """
+> PUT x {"A":{"B":1},"C":2,[C]}
+> QUERY from C where A.B = 1 select C, A
+> PUMP 64
+> QUERY from C where A.B = 1 select C, A
+> QUERY from index 'auto/c/bya.b' where A.B = 1
+> QUERY from index 'auto/c/bya.b' where A = 1
+> QUERY from index 'auto/c/bya.b' where count() = 1
+> QUERY from index 'auto/c/bya.b' select sum(A.B)
+> QUERY from C where count() = 1
+> QUERY from C group by A.B where C = 1
+< {"ChangeVector":"A:1-{B}","Id":"x"}
+< {"Includes":{},"IndexEtag":0,"IndexName":"Auto/C/ByA.B","IsStale":true,"Results":[],"TotalResults":0}
+< {"Pumped":[{"From":0,"Index":"Auto/C/ByA.B","To":2}]}
+< {"Includes":{},"IndexEtag":2,"IndexName":"Auto/C/ByA.B","IsStale":false,"Results":[{"A":{"B":1},"C":2}],"TotalResults":1}
+< {"Includes":{},"IndexEtag":2,"IndexName":"Auto/C/ByA.B","IsStale":false,"Results":[{"@metadata":{"@change-vector":"A:1-{B}",\
+"@collection":"C","@id":"x","@last-modified":"1970-01-01T00:00:00.0000000Z"},"A":{"B":1},"C":2}],"TotalResults":1}
+< {"Error":"NoField","Name":"A"}
+< {"Error":"NoField","Name":"count()"}
+< {"Error":"NoField","Name":"sum(A.B)"}
+< {"Error":"NotGrouped","Name":"count()"}
+< {"Error":"NotGrouped","Name":"C"}
+"""
+
+# A question without a field has an index without one, which has each document of the collection.
+OF_NO_FIELDS = """
+> PUT x {[C]}
+> PUT y {[D]}
+> QUERY from C where true select F
+> PUMP 64
+> QUERY from C where not true or true select F
+> FIND Auto/C/By F x
+< {"ChangeVector":"A:1-{B}","Id":"x"}
+< {"ChangeVector":"A:2-{B}","Id":"y"}
+< {"Includes":{},"IndexEtag":0,"IndexName":"Auto/C/By","IsStale":true,"Results":[],"TotalResults":0}
+< {"Pumped":[{"From":0,"Index":"Auto/C/By","To":3}]}
+< {"Includes":{},"IndexEtag":3,"IndexName":"Auto/C/By","IsStale":false,"Results":[{"F":null}],"TotalResults":1}
+< {"Ids":[],"IndexEtag":3,"IsStale":false}
+"""
+
+# The answer is that of the store with the new definition, up to the cutoff.
+UP_TO_A_CUTOFF = """
+> PUT x {[C]}
+> ASK {"CutoffEtag":0,"Query":"from C where F = 1"}
+> ASK {"CutoffEtag":1,"Query":"from C where F = 1"}
+> ASK {"Looks":3,"Query":"from C where F = 1","WaitForNonStaleResults":true}
+> STATS
+< {"ChangeVector":"A:1-{B}","Id":"x"}
+< {"Includes":{},"IndexEtag":0,"IndexName":"Auto/C/ByF","IsStale":false,"Results":[],"TotalResults":0}
+< {"Includes":{},"IndexEtag":0,"IndexName":"Auto/C/ByF","IsStale":true,"Results":[],"TotalResults":0}
+< {"Includes":{},"IndexEtag":0,"IndexName":"Auto/C/ByF","IsStale":true,"Results":[],"TotalResults":0}
+< {"CountOfDocuments":1,"CountOfIndexes":1,"CountOfTombstones":0,"LastDocEtag":2}
+"""
+
+
+# Those of each switch of a stage, with their names.
+WORKED = {
+    "side_by_side": {
+        "built beside": BUILT_BESIDE,
+        "held across a write": HELD_ACROSS_A_WRITE,
+        "held across a removal": HELD_ACROSS_A_REMOVAL,
+        "held across a switch": HELD_ACROSS_A_SWITCH,
+        "read again": READ_AGAIN,
+        "as indexes": AS_INDEXES,
+        "tidied in turn": TIDIED_IN_TURN,
+    },
+    "optimiser": {
+        "ordered": ORDERED,
+        "widened": WIDENED,
+        "grouped": GROUPED,
+        "of groups": OF_GROUPS,
+        "of fields": OF_FIELDS,
+        "of no fields": OF_NO_FIELDS,
+        "up to a cutoff": UP_TO_A_CUTOFF,
+    },
+}
+
+
+def scripts_of(stage: model.Stage) -> list[tuple[str, bytes]]:
+    """The scripts that have lines of the stage, each with a name."""
+    worked = [transcripts for switch, transcripts in WORKED.items() if getattr(stage, switch)]
+    return [(name, halves(transcript)[0]) for transcripts in worked for name, transcript in transcripts.items()]
