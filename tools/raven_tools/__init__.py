@@ -1,8 +1,8 @@
 """What the tools of this repository share.
 
-- `model` answers scripts as the program has to, and models whole runs of it;
+- `model` answers scripts and sessions over HTTP as the program has to, and models whole runs of it;
 - `language` is the language of index definitions, and `queries` that of queries, which `model` uses;
-- `making` makes scripts: random ones, ones at each limit, and cases that were worked out by hand;
+- `making` makes scripts and sessions: random ones, ones at each limit, and cases that were worked out by hand;
 - `checks` has one module for each tool that compares something.
 
 The model has more than the program. What the program lacks is behind a switch in `model.stage`, and without it the model answers as

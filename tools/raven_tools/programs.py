@@ -9,7 +9,16 @@ from raven_tools.places import CRATES
 
 Path = str | os.PathLike[str]
 # Statuses, by the names that the program reports.
-STATUSES = {0: "Done", 2: "Usage", 3: "ReadFault", 4: "WriteFault", 5: "KeptFault", 9: "InputTooLarge"}
+STATUSES = {
+    0: "Done",
+    2: "Usage",
+    3: "ReadFault",
+    4: "WriteFault",
+    5: "KeptFault",
+    9: "InputTooLarge",
+    11: "HttpRefused",
+    12: "Enough",
+}
 
 
 def is_built(program: Path) -> bool:

@@ -7,6 +7,7 @@ from raven_tools import model
 from raven_tools.model.asking import Ask, in_json, of_index, read_query, values_in
 from raven_tools.model.definitions import Definition, Document, Entry, scalar_at
 from raven_tools.model.indexes import is_replacement
+from raven_tools.model.json import read_json
 from raven_tools.model.lines import ask_of
 from raven_tools.queries import answers, binding
 from raven_tools.queries.trees import COUNT, Query, in_order, joined, sum_name
@@ -172,7 +173,7 @@ def check_line(before: model.Database, after: model.Database, line: bytes, reply
 def ask_in(line: bytes) -> Ask:
     """What a line asks that was answered."""
     word, _, rest = line.decode().partition(" ")
-    return Ask(read_query(rest)) if word == "QUERY" else ask_of(rest)
+    return Ask(read_query(rest)) if word == "QUERY" else ask_of(read_json(rest.encode()))
 
 
 def row_of(query: Query, group: list[Document]) -> Entry:

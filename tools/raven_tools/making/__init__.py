@@ -9,6 +9,9 @@
 - `crash_scripts` and `load_scripts`, writes over a file.
 
 `limit_scripts` and `case_scripts` are at each limit and of each case in `worked`, and `worked_stages` has scripts for the stages.
+
+`http_calls` makes calls over HTTP, out of the lines of scripts too, and `http_sessions` spells them as bytes. `worked_http` has bytes with
+what they are read as and what is answered.
 """
 
 import collections.abc

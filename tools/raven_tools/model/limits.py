@@ -18,6 +18,10 @@ MAX_LOOKS = 64
 # Of an automatic index that is made wider: its fields, and the bytes of their joined paths.
 MAX_FIELDS = 64
 MAX_PATHS = 65_536
+MAX_HEAD = 16_384
+MAX_REQUEST_BODY = 4_194_304
+MAX_CHUNK_LINE = 64
+MAX_REQUESTS = 1_000
 BASE = "A" * 22
 
 

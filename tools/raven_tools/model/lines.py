@@ -110,11 +110,16 @@ def command_of(item: Json) -> Command:
     return Command(name, vector, body)
 
 
-def bulk_line(database: Database, rest: str) -> Reply:
-    commands = object_of(read_json(rest.encode()), "body").get("Commands")
+def commands_of(value: Json) -> list[Command]:
+    """The commands of a transaction."""
+    commands = object_of(value, "body").get("Commands")
     if not isinstance(commands, list):
         raise Refused("BadMember", Name="Commands")
-    return database.bulk([command_of(item) for item in commands])
+    return [command_of(item) for item in commands]
+
+
+def bulk_line(database: Database, rest: str) -> Reply:
+    return database.bulk(commands_of(read_json(rest.encode())))
 
 
 def get_line(database: Database, rest: str) -> Reply:
@@ -138,15 +143,18 @@ def map_of(members: dict[str, Json]) -> str:
     return text_of(maps[0], "Maps")
 
 
-def index_line(database: Database, rest: str) -> Reply:
-    """The members are tested in this order, and the texts are read behind them."""
-    members = object_of(read_json(rest.encode()), "body")
+def definition_of(members: dict[str, Json]) -> tuple[str, Static]:
+    """The name and the definition. The members are tested in this order, and the texts are read behind them."""
     name = name_of(text_of(members.get("Name"), "Name"))
     text = map_of(members)
     reduce = members.get("Reduce")
     if reduce is not None:
         text_of(reduce, "Reduce")
-    return slots.define(database, name, Static(text, reduce))
+    return name, Static(text, reduce)
+
+
+def index_line(database: Database, rest: str) -> Reply:
+    return slots.define(database, *definition_of(object_of(read_json(rest.encode()), "body")))
 
 
 def drop_line(database: Database, rest: str) -> Reply:
@@ -199,9 +207,9 @@ def number_of(members: dict[str, Json], name: str, least: int | None = None, mos
     return value
 
 
-def ask_of(rest: str) -> Ask:
-    """The members are tested in this order, and the text is read behind them. A script never waits, so looks change nothing."""
-    members = object_of(read_json(rest.encode()), "body")
+def ask_of(value: Json) -> Ask:
+    """The members are tested in this order, and the text is read behind them. One caller never waits, so looks change nothing."""
+    members = object_of(value, "body")
     text = text_of(members.get("Query"), "Query")
     parameters = object_of(members.get("QueryParameters", {}), "QueryParameters")
     start, size = number_of(members, "Start"), number_of(members, "PageSize")
@@ -213,7 +221,7 @@ def ask_of(rest: str) -> Ask:
 
 
 def ask_line(database: Database, rest: str) -> Reply:
-    return answer_to(database, ask_of(rest))
+    return answer_to(database, ask_of(read_json(rest.encode())))
 
 
 COMMANDS: dict[str, collections.abc.Callable[[Database, str], Reply]] = {

@@ -1,49 +1,16 @@
 """A whole run of the program: what it is called with, what is read, opened and written, and how it ends."""
 
 import collections.abc
-import dataclasses
-import re
 
 from raven_tools import model
 from raven_tools.model import keeping, measuring, opening
-
-BASE = re.compile(r"[A-Za-z0-9]{22}", re.ASCII)
-
-
-class LeftOpen(Exception):
-    """The answer depends on something that the rules leave open, so no case may ask for it."""
-
-
-@dataclasses.dataclass(frozen=True)
-class Clock:
-    """Its first call gives `moment`, and each further one `step` more."""
-
-    moment: int = 0
-    step: int = 0
-
-
-@dataclasses.dataclass
-class Outside:
-    """What a run is given besides the keeper. The calls that fail are counted from 1."""
-
-    arguments: tuple[str, ...] = ("run",)
-    clock: Clock = Clock()
-    reads: frozenset[int] = frozenset()
-    writes: frozenset[int] = frozenset()
-    script: bytes = b""
+from raven_tools.model.outside import Clock, LeftOpen, Outside, base_of, pairs_of
 
 
 def options(arguments: tuple[str, ...]) -> dict[str, str] | None:
-    """The options, or None if the arguments are not the command and then pairs of a name and a value, no name twice."""
-    if not arguments or arguments[0] != "run" or len(arguments) % 2 == 0:
-        return None
-    names, values = arguments[1::2], arguments[2::2]
-    found = dict(zip(names, values))
-    if len(found) < len(names) or not found.keys() <= {"--data", "--id"}:
-        return None
-    if any(not value or value.startswith("-") for value in values):
-        return None
-    return found if BASE.fullmatch(found.get("--id", model.BASE)) else None
+    """The options of `run`, or None if the arguments are not valid."""
+    found = pairs_of(arguments, "run", {"--data", "--id"})
+    return found if found is not None and base_of(found) else None
 
 
 def is_read(script: bytes, fails: frozenset[int]) -> bool:
@@ -100,7 +67,7 @@ def run(given: Outside, keeper: keeping.Keeper) -> tuple[str, bytes]:
     if len(given.script) > model.MAX_SCRIPT:
         return "InputTooLarge", b""
     try:
-        database = opening.opened(keeper, found.get("--id", model.BASE))
+        database = opening.opened(keeper, found.get("--id", model.BASE), given.stage)
     except keeping.Failed:
         return "KeptFault", b""
     except keeping.KeptBad as bad:

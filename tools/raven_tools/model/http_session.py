@@ -1,0 +1,135 @@
+"""The command `http`: one session over the input and the output.
+
+The program does not have the command yet, so `running.run`, which models the program as it is, knows nothing of it.
+"""
+
+import collections.abc
+import dataclasses
+import re
+
+from raven_tools import model
+from raven_tools.model import http_answering, http_asking, http_reading, keeping, opening
+from raven_tools.model.database import Reply
+from raven_tools.model.http_reading import HttpRequest, Reading
+from raven_tools.model.limits import MAX_BATCH, MAX_REQUESTS
+from raven_tools.model.lines import answer, pump_line
+from raven_tools.model.outside import LeftOpen, Outside, base_of, pairs_of
+
+NAME = re.compile(r"[A-Za-z0-9_-]{1,64}", re.ASCII)
+NUMBER = re.compile(r"[0-9]{1,10}", re.ASCII)
+
+
+@dataclasses.dataclass(frozen=True)
+class Options:
+    base: str = model.BASE
+    name: str = "db"
+    pump: int = 1_024
+
+
+def options_of(arguments: tuple[str, ...]) -> Options | None:
+    """The options of the command, or None if the arguments are not valid. Where the documents are kept is the keeper's."""
+    found = pairs_of(arguments, "http", {"--data", "--id", "--db", "--pump"})
+    if found is None:
+        return None
+    name, pump = found.get("--db", Options.name), found.get("--pump", str(Options.pump))
+    base = base_of(found)
+    is_valid = base and NAME.fullmatch(name) and NUMBER.fullmatch(pump) and int(pump) <= MAX_BATCH
+    return Options(base, name, int(pump)) if is_valid else None
+
+
+# What is done for a request
+
+
+def tidy(database: model.Database) -> None:
+    """What the line TIDY does, whose reply is dropped. At a stage that does not have the line it does nothing."""
+    answer(database, b"TIDY")
+
+
+def go_on(database: model.Database, pump: int) -> None:
+    """What follows a request that reached the database: a batch of each index, and then what TIDY does."""
+    if pump:
+        pump_line(database, str(pump))
+        tidy(database)
+
+
+def replied(database: model.Database, options: Options, request: HttpRequest) -> tuple[int, Reply]:
+    """The status and the reply."""
+    try:
+        route = http_asking.route_of(request, options.name)
+        action = route.asking(request)
+    except model.Refused as refused:
+        return http_answering.refusal(refused)
+    try:
+        answered = route.status, action(database)
+    except model.Refused as refused:
+        answered = http_answering.refusal(refused)
+    go_on(database, options.pump)
+    return answered
+
+
+def responses(database: model.Database, options: Options, reading: Reading) -> collections.abc.Iterator[bytes]:
+    """The responses in order. No request is executed before the response to the one before it was taken."""
+    for number, request in enumerate(reading.requests, 1):
+        status, reply = replied(database, options, request)
+        yield http_answering.response(status, reply, request.close or number == MAX_REQUESTS)
+    last = http_answering.response_to_end(reading.end)
+    if last is not None:
+        yield last
+
+
+# Faults, and how a session ends
+
+
+def cut_off(reading: Reading, count: int) -> Reading:
+    """The session if so many bytes are read before the input fails."""
+    if reading.shown_by is not None and reading.shown_by <= count:
+        return reading
+    whole = sum(place <= count for place in reading.places)
+    return Reading(reading.requests[:whole], reading.places[:whole], "ReadFault", None)
+
+
+def with_faults(reading: Reading, length: int, fails: frozenset[int]) -> Reading:
+    """The session with what the input is said to do. How much a call gives is left open: it is one byte, all, or any number between."""
+    first = min(fails, default=length + 2)
+    if first > length + 1:
+        return reading
+    ways = [cut_off(reading, first - 1), cut_off(reading, length if first > 1 else 0)]
+    if first > 2:
+        ways.append(reading)
+    if len({(len(way.requests), way.end) for way in ways}) > 1:
+        raise LeftOpen("how much a call of the input gives")
+    return ways[0]
+
+
+def status_of(end: str) -> str:
+    if end in ("Ended", "Closed"):
+        return "Done"
+    return end if end in ("ReadFault", "Enough") else f"HttpRefused {end}"
+
+
+def session(database: model.Database, options: Options, given: Outside) -> tuple[str, bytes]:
+    """The status, and what was written. A response is one call of the output, and no request behind one that fails is executed."""
+    reading = with_faults(http_reading.session_of(given.script), len(given.script), given.reads)
+    if reading.requests and given.clock.step:
+        raise LeftOpen("how often a session asks the clock")
+    database.store.now = given.clock.moment
+    written: list[bytes] = []
+    for response in responses(database, options, reading):
+        if len(written) + 1 in given.writes:
+            return "WriteFault", b"".join(written)
+        written.append(response)
+    return status_of(reading.end), b"".join(written)
+
+
+def run(given: Outside, keeper: keeping.Keeper) -> tuple[str, bytes]:
+    """The status and what was written. The causes come in this order; the keeper is left as the session leaves it."""
+    found = options_of(given.arguments)
+    if found is None:
+        return "Usage", b""
+    try:
+        database = opening.opened(keeper, found.base, given.stage)
+    except keeping.Failed:
+        return "KeptFault", b""
+    except keeping.KeptBad as bad:
+        return f"KeptBad {bad.etag}", b""
+    return session(database, found, given)
