@@ -1,4 +1,4 @@
 use Rattle.raven_tests.proofs.trees.changed_at_each.Given as goal
 
 abbrev pub ghosts-changed : goal.ghosts-changed
-ghosts-changed g a = record { name = a.blank.name; parts = a.blank.parts }
+ghosts-changed a = record { name = a.blank.name; parts = a.blank.parts }
