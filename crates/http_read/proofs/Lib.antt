@@ -1,0 +1,11 @@
+pub mod Windows
+pub mod Numbers
+pub mod Named
+pub mod Unread
+pub mod Lines
+pub mod BodyBytes
+pub mod Methods
+pub mod Chunked
+pub mod Begins
+pub mod HeadLemmas
+pub mod OneAnswer
