@@ -1,0 +1,9 @@
+//! Tests of HTTP. Their expected values were worked out from the rules of docs/http.md.
+#![tactic(auto)]
+
+#[cfg(test)]
+mod drip;
+#[cfg(test)]
+mod parts;
+#[cfg(test)]
+mod reading;
