@@ -1,5 +1,5 @@
 -- Which automatic index answers a query, and the name of a new one.
-use Rattle.std.specs.Prelude.{ℕ, ◌+◌, suc, zero, List, [], ◌∷◌, ◌++◌, Bool, false, not, ◌&&◌, ◌||◌, nat_lt, if◌then◌else◌, Option, Some, None, is_some, length, codes, filter}
+use Rattle.std.specs.Prelude.{ℕ, ◌+◌, suc, zero, List, [], ◌∷◌, ◌++◌, Bool, false, not, ◌&&◌, ◌||◌, nat_lt, nat_le, if◌then◌else◌, Option, Some, None, is_some, length, codes, filter, map}
 use Rattle.std.specs.List.{list_any, list_all}
 use Rattle.std.specs.Str.{bytes_eq}
 use Rattle.std.specs.Fmt.{decimal}
@@ -7,11 +7,12 @@ use Rattle.std.specs.Cmp.Lexicographic.{pointwise}
 use Rattle.spec_data.specs.Faults.{is_fit}
 use Rattle.spec_data.specs.Limits.{max_index_name}
 use Rattle.spec_data.specs.Members.{Path}
+use Rattle.spec_store.specs.Commit.{Delete, AnyVector}
 use Rattle.spec_store.specs.Store.{Store}
 use Rattle.spec_store.specs.Stale.{stale}
 use Rattle.index_tree.specs.Definitions.{Definition, Static, Auto}
 use Rattle.index_tree.specs.Mapper.{joined}
-use Rattle.spec_index.specs.World.{Slot, reads, serving}
+use Rattle.spec_index.specs.World.{Slot, SlotChange, World, index_id, reads, serving}
 
 -- what a query asks of an index: the collection and the fields
 pub record Shape : Type 0 where
@@ -107,3 +108,30 @@ abbrev pub name_of : List Slot → ℕ → Shape → List ℕ
 name_of slots number shape =
     if is_fit max_index_name (first_free (plain_name shape) slots) then first_free (plain_name shape) slots
     else first_free (codes "Auto/" ++ decimal number) slots
+
+-- RETIREMENT
+
+-- of the shapes of two automatic indexes, b covers a and has more fields
+abbrev pub is_wider : Option Shape → Option Shape → Bool
+is_wider b None = false
+is_wider b (Some a) = covers b a && nat_lt (length a.fields) (fields_in b)
+
+-- b answers all that a answers, has more fields, and is no further back
+abbrev pub outdoes : Slot → Slot → Bool
+outdoes b a = is_wider (slot_shape b) (slot_shape a) && nat_le a.version.etag b.version.etag
+
+-- one of the slots outdoes this one
+abbrev pub is_retired : List Slot → Slot → Bool
+is_retired slots a = list_any (λ b. outdoes b a) slots
+
+abbrev pub retired : List Slot → List Slot
+retired slots = filter (is_retired slots) slots
+
+-- the slots without the retired ones, whose rows are deleted
+abbrev pub retirement : World → SlotChange
+retirement W = record {
+  slots = filter (λ s. not (is_retired W.slots s)) W.slots;
+  notes = W.notes;
+  commands = map (λ s. Delete (index_id s.name) AnyVector) (retired W.slots);
+  name = [];
+}

@@ -1,22 +1,26 @@
 -- The machine: the reply to a request, and the state after it.
-use Rattle.std.specs.Prelude.{◌≡◌, ℕ, ◌+◌, List, [], ◌∷◌, Bool, true, false, not, ◌&&◌, if◌then◌else◌, Option, Some, None, is_some, Result, Ok, Err, length, codes, filter, map}
+use Rattle.std.specs.Prelude.{◌≡◌, ℕ, ◌+◌, List, [], ◌∷◌, ◌++◌, Bool, true, false, not, ◌&&◌, ◌==◌, nat_lt, if◌then◌else◌, Option, Some, None, is_some, Result, Ok, Err, length, codes, filter, find, map}
+use Rattle.std.specs.Ordering.{on}
 use Rattle.std.specs.Str.{bytes_eq}
 use Rattle.spec_data.specs.Data.{Data}
-use Rattle.spec_data.specs.Folding.{folded}
+use Rattle.spec_data.specs.Faults.{replacement_of}
+use Rattle.spec_data.specs.Folding.{folded, key_cmp}
 use Rattle.spec_data.specs.Rows.{Row, doc, gone, is_document}
 use Rattle.spec_data.specs.Tables.{Table}
 use Rattle.spec_store.specs.Store.{Store, row_at, last, empty_store}
 use Rattle.spec_store.specs.Stale.{stale, newest}
 use Rattle.index_tree.specs.Definitions.{Definition}
 use Rattle.spec_query.specs.Query as query
+use Rattle.spec_query.specs.Sorting.{sorted}
 use Rattle.spec_index.specs.Reduces.{reduce_of}
 use Rattle.spec_index.specs.Mapping.{failures, scratch}
 use Rattle.index_tree.specs.Mapper.{mapper_of}
 use Rattle.spec_store.specs.Commit.{Command, Expect, Client, Server, Setting, Refusal, Written, Refused, commit, vector_of, row_spelling, etags_taken}
-use Rattle.spec_index.specs.Optimiser.{Shape, Choice, Use, Make, Merge, pick, name_of}
-use Rattle.spec_server.specs.Replies.{Reply, Index, Removed, Pumped, Pumping, Listing, Found, NoIndex, UnknownLine}
+use Rattle.spec_index.specs.Optimiser.{Shape, Choice, Use, Make, Merge, pick, name_of, retired, retirement}
+use Rattle.spec_server.specs.Replies.{Reply, Index, Removed, Pumped, Pumping, Listing, Found, NoIndex, Switched, Tidied, UnknownLine}
 use Rattle.spec_server.specs.Replies as replies
-use Rattle.spec_index.specs.World.{Version, Slot, World, reads, batch, serving, SlotChange, SlotRefusal, define, define_named, remove, is_named, is_automatic, definition_data}
+use Rattle.spec_index.specs.World.{Version, Slot, World, reads, batch, numbered, serving, SlotChange, SlotRefusal, define, define_named, remove, switch, is_named, is_automatic, definition_data}
+pub use Rattle.spec_index.specs.World.{is_stale, with_version}
 use Rattle.spec_index.specs.Find.{found_in}
 use Rattle.spec_server.specs.Asking.{answer_ask}
 pub use Rattle.spec_server.specs.Shown.{members_of, shown, shown_metadata}
@@ -47,12 +51,20 @@ pub data Request : Type 0 where
   Ask : (ask : query.Ask) → Request
   -- one batch for each index, or for the one of this name
   Pump : (max : ℕ) (index : Option (List ℕ)) → Request
+  -- the replacement of the index of this name takes the name
+  Switch : (name : List ℕ) → Request
+  -- each replacement that is not stale takes its name, and automatic indexes that are no longer needed go
+  Tidy : Request
   Stale : (name : List ℕ) (cutoff : Option ℕ) → Request
   Indexes Stats : Request
 
 -- what one line asks
 pub data Line : Type 0 where
   Do : Request → Line
+  -- the worker reads a batch of at most `max` rows for the index of this name, and holds it
+  Read : (worker max : ℕ) (index : List ℕ) → Line
+  -- the worker publishes the batch that it holds
+  Publish : (worker : ℕ) → Line
 
 -- the commands that a client's request asks to write
 abbrev pub commands_in : Request → List Command
@@ -64,6 +76,7 @@ commands_in other = []
 -- the commands that a line asks to write
 abbrev pub commands_on : Line → List Command
 commands_on (Do request) = commands_in request
+commands_on other = []
 
 -- What the keeper does in one step: for each call that stores rows, in order, whether it takes them, and its counts of faults before and after.
 -- A call past the end of the list takes its rows.
@@ -111,6 +124,10 @@ pub record Course : Type 0 where
   pub changes : List Change
   pub reply : Reply
 
+-- the change, and then this course
+abbrev pub then_course : Change → Course → Course
+then_course c course = record { changes = c ∷ course.changes; reply = course.reply }
+
 -- nothing is changed
 abbrev pub only_reply : Reply → Course
 only_reply reply = record { changes = []; reply = reply }
@@ -156,6 +173,10 @@ in_world W store slots = record { setting = W.setting; store = store; slots = sl
 abbrev pub with_slots : World → List Slot → World
 with_slots W slots = in_world W W.store slots
 
+-- the world with this store, after a change of its slots
+abbrev pub changed : World → Store → SlotChange → World
+changed W store c = record { setting = W.setting; store = store; slots = c.slots; notes = c.notes }
+
 -- the reply to a transaction whose command at this place is refused
 abbrev pub refused_at : ℕ → Refusal → Reply
 refused_at at Refusal.ReservedId = replies.ReservedId at
@@ -168,10 +189,13 @@ refused_at at (Refusal.EtagsSpent etag) = replies.EtagsSpent at etag
 abbrev pub write_refused : Refused → Reply
 write_refused refused = refused_at refused.at refused.kind
 
--- the reply if an index of this name is refused; NameServes has no reply of its own, as replacements are not supported yet
+-- the reply if a change of the indexes is refused; NameServes has no reply of its own, since it cannot occur
 abbrev pub slot_refused : List ℕ → SlotRefusal → Reply
 slot_refused name SlotRefusal.NameServes = UnknownLine
 slot_refused name SlotRefusal.NoIndex = NoIndex name
+slot_refused name SlotRefusal.NoReplacement = replies.NoReplacement
+slot_refused name SlotRefusal.NotesFull = replies.NotesFull
+slot_refused name (SlotRefusal.NotFresh index_etag newest) = replies.NotFresh index_etag newest
 slot_refused name SlotRefusal.ReservedName = replies.ReservedName
 slot_refused name SlotRefusal.TooManyIndexes = replies.TooManyIndexes
 slot_refused name (SlotRefusal.NameTooLong len) = replies.NameTooLong len
@@ -210,14 +234,14 @@ write W reply now commands = wrote W reply now commands (commit W.setting Client
 
 -- INDEXES, whose rows are written by the server
 
-abbrev pub rewrote : World → Reply → List Slot → Result Written Refused → Course
-rewrote W reply slots (Err refused) = only_reply (write_refused refused)
-rewrote W reply slots (Ok w) = one_change reply w.rows (in_world W w.store slots)
+abbrev pub rewrote : World → Reply → SlotChange → Result Written Refused → Course
+rewrote W reply c (Err refused) = only_reply (write_refused refused)
+rewrote W reply c (Ok w) = one_change reply w.rows (changed W w.store c)
 
 -- the reply has the name as the slot spells it, which may differ from the request
 abbrev pub change_of_slots : World → ℕ → (List ℕ → Reply) → List ℕ → Result SlotChange SlotRefusal → Course
 change_of_slots W now reply name (Err refusal) = only_reply (slot_refused name refusal)
-change_of_slots W now reply name (Ok c) = rewrote W (reply c.name) c.slots (commit W.setting Server now c.commands W.store)
+change_of_slots W now reply name (Ok c) = rewrote W (reply c.name) c (commit W.setting Server now c.commands W.store)
 
 -- the index that was picked, or a new one of the shape
 abbrev pub use_or_make : World → ℕ → Choice → Course
@@ -230,6 +254,38 @@ use_or_make W now Merge = only_reply UnknownLine
 -- the shape of a query for one field
 abbrev pub one_field : List ℕ → List ℕ → Shape
 one_field collection field = record { collection = collection; fields = (field ∷ []) ∷ [] }
+
+-- TIDYING
+
+abbrev pub has_replacement : World → Slot → Bool
+has_replacement W s = is_some (serving W.slots (replacement_of s.name))
+
+-- the names that have a replacement, in the order of their folded bytes
+abbrev pub replaced_names : World → List (List ℕ)
+replaced_names W = sorted (on folded key_cmp) (map (λ s. s.name) (filter (has_replacement W) W.slots))
+
+-- the reply if a retirement is made: the names that are switched, and those of the indexes that go
+abbrev pub tidied : World → List (List ℕ) → Reply
+tidied W switched = Tidied (map (λ s. s.name) (retired W.slots)) switched
+
+-- all retired indexes go in one change
+abbrev pub retire : World → ℕ → List (List ℕ) → Course
+retire W now switched = let c = retirement W in rewrote W (tidied W switched) c (commit W.setting Server now c.commands W.store)
+
+-- a switch, and what comes after it
+abbrev pub switch_and : World → SlotChange → (World → Course) → Result Written Refused → Course
+switch_and W c more (Err refused) = only_reply (write_refused refused)
+switch_and W c more (Ok w) = then_course (record { rows = w.rows; world = changed W w.store c }) (more (changed W w.store c))
+
+-- a name that may not be switched is passed over
+abbrev pub try_switch : World → ℕ → List (List ℕ) → (World → List (List ℕ) → Course) → Result SlotChange SlotRefusal → Course
+try_switch W now switched more (Err refusal) = more W switched
+try_switch W now switched more (Ok c) = switch_and W c (λ V. more V (switched ++ c.name ∷ [])) (commit W.setting Server now c.commands W.store)
+
+-- the names are tried one after another, each on the world that the switches before it leave, and then the retired indexes go
+abbrev pub tidy : ℕ → List (List ℕ) → World → List (List ℕ) → Course
+tidy now [] W switched = retire W now switched
+tidy now (name ∷ names) W switched = try_switch W now switched (λ V done. tidy now names V done) (switch W name)
 
 -- BATCHES
 
@@ -262,9 +318,6 @@ pump_for W max None = pump W max
 pump_for W max (Some name) = pump_at W max name (serving W.slots name)
 
 -- ANSWERS, which change nothing
-
-abbrev pub is_stale : Store → Slot → Bool
-is_stale S s = stale S (reads s.version) s.version.etag None
 
 -- the definition groups its entries by a reduce
 abbrev pub has_reduce : Definition → Bool
@@ -318,6 +371,66 @@ count_tombstones S = length (filter (λ r. is_client_row r && not (is_document r
 abbrev pub answer_stats : World → Reply
 answer_stats W = replies.Stats (count_documents W.store) (length W.slots) (count_tombstones W.store) (last W.store)
 
+-- WORKERS, each of which holds at most one batch
+
+-- the batch that the worker holds
+abbrev pub held_by : List Held → ℕ → Option Held
+held_by held worker = find (λ h. h.worker == worker) held
+
+-- the worker holds nothing
+abbrev pub let_go : Machine → ℕ → Machine
+let_go M worker = record { world = M.world; held = filter (λ h. not (h.worker == worker)) M.held }
+
+-- the worker holds this, and nothing that it held before
+abbrev pub with_held : Machine → Held → Machine
+with_held M h = record { world = M.world; held = (let_go M h.worker).held ++ h ∷ [] }
+
+-- if there is nothing to read, the worker holds nothing
+abbrev pub read_batch : Machine → ℕ → Slot → Option Version → Replied
+read_batch M worker s None = record { reply = replies.Held s.version.etag s.version.etag; machine = let_go M worker }
+read_batch M worker s (Some v) = record {
+  reply = replies.Held s.version.etag v.etag;
+  machine = with_held M (record { worker = worker; number = s.number; version = v });
+}
+
+-- without an index of this name the worker holds what it held
+abbrev pub read_at : Machine → ℕ → ℕ → List ℕ → Option Slot → Replied
+read_at M worker max index None = same_machine M (NoIndex index)
+read_at M worker max index (Some s) = read_batch M worker s (batch s.version M.world.store max)
+
+-- why a batch is not published: its index is gone, or has this etag, which is no less than that of the batch
+pub data PublishRefusal : Type 0 where
+  Gone : (number : ℕ) → PublishRefusal
+  Passed : (now : ℕ) → PublishRefusal
+
+-- the version takes the place of that of the index of this number
+abbrev pub published_in : World → ℕ → Version → Option Slot → Result World PublishRefusal
+published_in W n v None = Err (Gone n)
+published_in W n v (Some s) = if nat_lt s.version.etag v.etag then Ok (with_slots W (map (with_version n v) W.slots)) else Err (Passed s.version.etag)
+
+-- the world in which the version is published
+abbrev pub published : World → ℕ → Version → Result World PublishRefusal
+published W n v = published_in W n v (numbered W.slots n)
+
+abbrev pub publish_refused : PublishRefusal → Reply
+publish_refused (Gone number) = replies.Gone number
+publish_refused (Passed now) = replies.Passed now
+
+-- the reply has the name and the etag of the index as they were just before
+abbrev pub published_reply : Version → Option Slot → Reply
+published_reply v None = UnknownLine
+published_reply v (Some s) = replies.Published s.version.etag s.name v.etag
+
+abbrev pub publish_to : Machine → ℕ → Reply → Result World PublishRefusal → Replied
+publish_to M worker reply (Err refusal) = same_machine (let_go M worker) (publish_refused refusal)
+publish_to M worker reply (Ok W) = same_machine (with_world (let_go M worker) W) reply
+
+-- whatever becomes of the batch, the worker then holds nothing
+abbrev pub publish_by : Machine → ℕ → Option Held → Replied
+publish_by M worker None = same_machine M replies.NothingHeld
+publish_by M worker (Some h) =
+    publish_to M worker (published_reply h.version (numbered M.world.slots h.number)) (published M.world h.number h.version)
+
 -- THE STEP
 
 -- what a request does to a world
@@ -332,16 +445,21 @@ course_of W now (Auto collection field) = use_or_make W now (pick (one_field col
 course_of W now (Find index field ws) = only_reply (answer_find W index field ws (serving W.slots index))
 course_of W now (Ask ask) = only_reply (answer_ask W ask)
 course_of W now (Pump max index) = pump_for W max index
+course_of W now (Switch name) = change_of_slots W now (Switched (last W.store + 1)) name (switch W name)
+course_of W now Tidy = tidy now (replaced_names W) W []
 course_of W now (Stale name cutoff) = only_reply (answer_stale W name cutoff (serving W.slots name))
 course_of W now Indexes = only_reply (answer_indexes W)
 course_of W now Stats = only_reply (answer_stats W)
 
--- the changes that a line makes, if the keeper takes the rows of all
+-- the changes that a line makes, if the keeper takes the rows of all; what workers do is none, since it writes no rows
 abbrev pub changes_of : World → ℕ → Line → List Change
 changes_of W now (Do request) = (course_of W now request).changes
+changes_of W now other = []
 
 abbrev pub step : Machine → Keeping → ℕ → Line → Replied
 step M k now (Do request) = settled M k (course_of M.world now request)
+step M k now (Read worker max index) = read_at M worker max index (serving M.world.slots index)
+step M k now (Publish worker) = publish_by M worker (held_by M.held worker)
 
 -- a world of which no worker holds anything
 abbrev pub machine_of : World → Machine

@@ -1,14 +1,17 @@
 -- What stored rows open: a machine, or the first row that is not valid.
-use Rattle.std.specs.Prelude.{ℕ, ◌+◌, List, [], ◌∷◌, ◌++◌, Bool, not, ◌&&◌, ◌||◌, ◌==◌, nat_le, nat_lt, if◌then◌else◌, Option, Some, None, Result, Ok, Err, length, codes, drop, map, ◌≡◌}
+use Rattle.std.specs.Prelude.{ℕ, ◌+◌, List, [], ◌∷◌, ◌++◌, Bool, false, not, ◌&&◌, ◌||◌, ◌==◌, nat_le, nat_lt, if◌then◌else◌, Option, Some, None, Result, Ok, Err, length, codes, drop, map, ◌≡◌}
 use Rattle.std.specs.List.{list_any}
 use Rattle.std.specs.Str.{bytes_eq}
 use Rattle.spec_data.specs.Data.{Data, null, text, array, object, no_items, item, no_entries, pairs_of}
 use Rattle.spec_data.specs.Faults.{is_fit}
+use Rattle.spec_data.specs.Folding.{folded}
 use Rattle.spec_data.specs.Members.{member}
 use Rattle.spec_data.specs.Rows.{Row, is_document}
 use Rattle.spec_store.specs.Commit.{Setting, is_index_id}
 use Rattle.index_tree.specs.Definitions.{Definition, Static, Auto, Texts}
-use Rattle.spec_index.specs.World.{Slot, new_version, begins_with_auto, is_reserved_name, max_index_name}
+use Rattle.spec_store.specs.Store.{row_at}
+pub use Rattle.spec_index.specs.World.{replaced_name}
+use Rattle.spec_index.specs.World.{Slot, index_id, new_version, begins_with_auto, begins_with_replacement, is_reserved_name, max_index_name}
 use Rattle.spec_server.specs.Machine.{Machine, machine_of}
 use Rattle.spec_data.specs.Kept.{KeptRow}
 use Rattle.spec_store.specs.Kept.{rows_in}
@@ -68,9 +71,18 @@ is_auto_name name = is_fit max_index_name name && begins_with_auto name
 abbrev pub is_static_name : List ℕ → Bool
 is_static_name name = is_fit max_index_name name && not (is_reserved_name name)
 
+-- a definition by texts may also be a replacement, of an index with a valid name
 abbrev pub may_be_named : Definition → List ℕ → Bool
-may_be_named (Static map reduce map_text reduce_text) name = is_static_name name
+may_be_named (Static map reduce map_text reduce_text) name = is_static_name (replaced_name name)
 may_be_named (Auto collection fields) name = is_auto_name name
+
+abbrev pub is_live : Option Row → Bool
+is_live None = false
+is_live (Some r) = is_document r
+
+-- if the name is that of a replacement, these rows have a live one for the index that it is to replace
+abbrev pub is_beside : List Row → List ℕ → Bool
+is_beside all name = not (begins_with_replacement name) || is_live (row_at (folded (index_id (replaced_name name))) all)
 
 -- a row, and the definition that its body was read as, if it is the row of one
 pub record ReadRow : Type 0 where
@@ -89,16 +101,17 @@ is_too_many s rows slots r = nat_le s.max_rows rows || (is_defining r && nat_le 
 abbrev pub slot_of : Row → Definition → Slot
 slot_of r d = record { number = r.etag; name = name_in r; version = new_version d; row = r.etag }
 
--- the slots with that of the row; nothing if the row has no definition, or if the definition may not have the row's name
-abbrev pub with_slot : List Slot → Row → Option Definition → Option (List Slot)
-with_slot slots r None = None
-with_slot slots r (Some d) = if may_be_named d (name_in r) then Some (slots ++ slot_of r d ∷ []) else None
+-- The slots with that of the row, which is one of `all`. Nothing if the row has no definition, if the definition may not have the row's name, or
+-- if it is to replace an index that has no row.
+abbrev pub with_slot : List Row → List Slot → Row → Option Definition → Option (List Slot)
+with_slot all slots r None = None
+with_slot all slots r (Some d) = if may_be_named d (name_in r) && is_beside all (name_in r) then Some (slots ++ slot_of r d ∷ []) else None
 
-abbrev pub slots_with : List Slot → ReadRow → Option (List Slot)
-slots_with slots x = if is_defining x.row then with_slot slots x.row x.definition else Some slots
+abbrev pub slots_with : List Row → List Slot → ReadRow → Option (List Slot)
+slots_with all slots x = if is_defining x.row then with_slot all slots x.row x.definition else Some slots
 
-abbrev pub slots_after : Setting → ℕ → List Slot → ReadRow → Option (List Slot)
-slots_after s rows slots x = if is_too_many s rows slots x.row || not (is_filed x.row) then None else slots_with slots x
+abbrev pub slots_after : Setting → List Row → ℕ → List Slot → ReadRow → Option (List Slot)
+slots_after s all rows slots x = if is_too_many s rows slots x.row || not (is_filed x.row) then None else slots_with all slots x
 
 -- THE WORLD: one row after another, in order of etag; the error is the etag of the first row that is not valid
 
@@ -110,9 +123,9 @@ abbrev pub and_then : Result (List Slot) ℕ → (List Slot → Result (List Slo
 and_then (Err etag) more = Err etag
 and_then (Ok slots) more = more slots
 
-abbrev pub slots_from : Setting → ℕ → List Slot → List ReadRow → Result (List Slot) ℕ
-slots_from s count slots [] = Ok slots
-slots_from s count slots (x ∷ xs) = and_then (or_bad x.row.etag (slots_after s count slots x)) (λ more. slots_from s (count + 1) more xs)
+abbrev pub slots_from : Setting → List Row → ℕ → List Slot → List ReadRow → Result (List Slot) ℕ
+slots_from s all count slots [] = Ok slots
+slots_from s all count slots (x ∷ xs) = and_then (or_bad x.row.etag (slots_after s all count slots x)) (λ more. slots_from s all (count + 1) more xs)
 
 abbrev pub opened_with : Setting → List Row → Result (List Slot) ℕ → Result Machine ℕ
 opened_with s rows (Err etag) = Err etag
@@ -121,12 +134,12 @@ opened_with s rows (Ok slots) = Ok (machine_of (record { setting = s; store = re
 abbrev pub rows_of : List ReadRow → List Row
 rows_of xs = map (λ x. x.row) xs
 
--- the machine that these rows of a store open, or the etag of the first that is not valid
-abbrev pub opened : Setting → List ReadRow → Result Machine ℕ
-opened s xs = opened_with s (rows_of xs) (slots_from s 0 [] xs)
+-- the machine that these rows of a store open, which begin `all`, or the etag of the first that is not valid
+abbrev pub opened : Setting → List Row → List ReadRow → Result Machine ℕ
+opened s all xs = opened_with s (rows_of xs) (slots_from s all 0 [] xs)
 
 -- the stored rows open this machine, with the definitions in `read` as what was read of them
 pub record OpenedFrom (s : Setting) (held : List KeptRow) (M : Machine) : Type 0 where
   pub read : List ReadRow
   pub rows : rows_in s.max_rows held ≡ Ok (rows_of read)
-  pub opens : opened s read ≡ Ok M
+  pub opens : opened s (rows_of read) read ≡ Ok M

@@ -47,6 +47,14 @@ pub data Reply : Type 0 where
   Found : (ids : List (List ℕ)) (index_etag : ℕ) (is_stale : Bool) → Reply
   Answer : QueryAnswer → Reply
   Pumped : (pumped : List Pumping) → Reply
+  -- a name was switched: the etag of the row that was put
+  Switched : (etag : ℕ) (name : List ℕ) → Reply
+  -- the names of the indexes that went, and the names that were switched
+  Tidied : (retired switched : List (List ℕ)) → Reply
+  -- a worker holds a batch, or nothing if both etags are the same
+  Held : (from to : ℕ) → Reply
+  -- a batch was published: the etag of its index before, its name, and its etag now
+  Published : (from : ℕ) (index : List ℕ) (to : ℕ) → Reply
   Stale : (index_etag : ℕ) (is_stale : Bool) (newest : ℕ) → Reply
   Indexes : (results : List Listing) → Reply
   Stats : (documents indexes tombstones last : ℕ) → Reply
@@ -68,6 +76,13 @@ pub data Reply : Type 0 where
   ReservedName : Reply
   NameTooLong : (len : ℕ) → Reply
   TooManyIndexes : Reply
+  -- refusals of a switch
+  NoReplacement NotesFull : Reply
+  NotFresh : (index_etag newest : ℕ) → Reply
+  -- refusals of a publication
+  NothingHeld : Reply
+  Gone : (number : ℕ) → Reply
+  Passed : (now : ℕ) → Reply
   -- refusals of a transaction, each with the place of the command
   ReservedId : (at : ℕ) → Reply
   TooLarge : (at len : ℕ) → Reply
@@ -137,6 +152,10 @@ reply_data (Removed name) = members ((codes "Removed", text name) ∷ [])
 reply_data (Found ids etag is_stale) = members ((codes "Ids", texts ids) ∷ (codes "IndexEtag", number etag) ∷ (codes "IsStale", flag is_stale) ∷ [])
 reply_data (Answer answer) = answer_data answer
 reply_data (Pumped pumped) = members ((codes "Pumped", array (items_of (map pumping_data pumped))) ∷ [])
+reply_data (Switched etag name) = members ((codes "Etag", number etag) ∷ (codes "Switched", text name) ∷ [])
+reply_data (Tidied retired switched) = members ((codes "Retired", texts retired) ∷ (codes "Switched", texts switched) ∷ [])
+reply_data (Held from to) = members ((codes "From", number from) ∷ (codes "To", number to) ∷ [])
+reply_data (Published from index to) = members ((codes "From", number from) ∷ (codes "Index", text index) ∷ (codes "To", number to) ∷ [])
 reply_data (Stale etag is_stale newest) = members ((codes "IndexEtag", number etag) ∷ (codes "IsStale", flag is_stale) ∷ (codes "Newest", number newest) ∷ [])
 reply_data (Indexes results) = members ((codes "Results", array (items_of (map listing_data results))) ∷ [])
 reply_data (Stats documents indexes tombstones last) =
@@ -157,6 +176,12 @@ reply_data (Lang refusal) = members ((codes "At", number refusal.at) ∷ (codes 
 reply_data ReservedName = error (codes "ReservedName") []
 reply_data (NameTooLong len) = error (codes "NameTooLong") ((codes "Len", number len) ∷ [])
 reply_data TooManyIndexes = error (codes "TooManyIndexes") []
+reply_data NoReplacement = error (codes "NoReplacement") []
+reply_data NotesFull = error (codes "NotesFull") []
+reply_data (NotFresh index_etag newest) = error (codes "NotFresh") ((codes "IndexEtag", number index_etag) ∷ (codes "Newest", number newest) ∷ [])
+reply_data NothingHeld = error (codes "NothingHeld") []
+reply_data (Gone n) = error (codes "Gone") ((codes "Number", number n) ∷ [])
+reply_data (Passed now) = error (codes "Passed") ((codes "Now", number now) ∷ [])
 reply_data (ReservedId at) = error_at at (codes "ReservedId") []
 reply_data (TooLarge at len) = error_at at (codes "TooLarge") ((codes "Len", number len) ∷ [])
 reply_data (CollectionChanged at from) = error_at at (codes "CollectionChanged") ((codes "From", text from) ∷ [])

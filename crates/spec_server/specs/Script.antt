@@ -16,7 +16,7 @@ use Rattle.spec_query.specs.Query as query
 use Rattle.spec_query.specs.Refusals.{QueryRefusal}
 use Rattle.spec_server.specs.Replies.{Reply, printed}
 use Rattle.spec_server.specs.Replies as replies
-use Rattle.spec_server.specs.Machine.{Machine, Request, Put, Delete, Bulk, Get, Define, Remove, Auto, Find, Ask, Pump, Stale, Indexes, Stats, Line, Do, Keeping, Event, step}
+use Rattle.spec_server.specs.Machine.{Machine, Request, Put, Delete, Bulk, Get, Define, Remove, Auto, Find, Ask, Pump, Switch, Tidy, Stale, Indexes, Stats, Line, Do, Read, Publish, Keeping, Event, step}
 use Rattle.spec_server.specs.Lines.{begins_with}
 
 -- why a line is refused
@@ -218,6 +218,10 @@ find_of more =
 abbrev pub drop_of : List ℕ → Result Request ReadRefusal
 drop_of more = then_read (name_read more) (λ name. Ok (Remove name))
 
+-- SWITCH <index>
+abbrev pub switch_of : List ℕ → Result Request ReadRefusal
+switch_of more = then_read (name_read more) (λ name. Ok (Switch name))
+
 -- STALE <index>
 abbrev pub stale_of : List ℕ → Result Request ReadRefusal
 stale_of more = then_read (name_read more) (λ name. Ok (Stale name None))
@@ -234,17 +238,52 @@ by_command word more =
     if bytes_eq word (codes "AUTO") then auto_of more else (
     if bytes_eq word (codes "PUMP") then pump_of more else (
     if bytes_eq word (codes "FIND") then find_of more else (
-    if bytes_eq word (codes "STALE") then stale_of more else Err UnknownLine))))))))))
+    if bytes_eq word (codes "SWITCH") then switch_of more else (
+    if bytes_eq word (codes "STALE") then stale_of more else Err UnknownLine)))))))))))
 
--- a line is STATS or INDEXES alone, or the name of another command and its arguments
+-- a line is STATS, INDEXES or TIDY alone, or the name of another command and its arguments
 abbrev pub request_of : List ℕ → Result Request ReadRefusal
 request_of line =
-    if bytes_eq line (codes "STATS") then Ok Stats else if bytes_eq line (codes "INDEXES") then Ok Indexes else then_read (parts_read line) (λ parts. by_command parts.0 parts.1)
+    if bytes_eq line (codes "STATS") then Ok Stats else (
+    if bytes_eq line (codes "INDEXES") then Ok Indexes else (
+    if bytes_eq line (codes "TIDY") then Ok Tidy else then_read (parts_read line) (λ parts. by_command parts.0 parts.1)))
+
+-- THE LINES OF WORKERS
+
+-- the number of a worker: 0 to 15
+abbrev pub worker_read : List ℕ → Result ℕ ReadRefusal
+worker_read text = then_read (or_unknown (number_of text)) (λ worker. if nat_le worker 15 then Ok worker else Err UnknownLine)
+
+-- READ <worker> <max> <index>
+abbrev pub read_of : List ℕ → Result Line ReadRefusal
+read_of more =
+    then_read (parts_read more) (λ parts.
+    then_read (parts_read parts.1) (λ rest.
+    then_read (worker_read parts.0) (λ worker.
+    then_read (max_read rest.0) (λ max.
+    then_read (name_read rest.1) (λ index. Ok (Read worker max index))))))
+
+-- PUBLISH <worker>
+abbrev pub publish_of : List ℕ → Result Line ReadRefusal
+publish_of more = then_read (worker_read more) (λ worker. Ok (Publish worker))
+
+abbrev pub do_read : Result Request ReadRefusal → Result Line ReadRefusal
+do_read request = then_read request (λ r. Ok (Do r))
+
+-- a line of a worker, or one with a request
+abbrev pub by_worker : List ℕ → List ℕ → List ℕ → Result Line ReadRefusal
+by_worker line word more =
+    if bytes_eq word (codes "READ") then read_of more else (
+    if bytes_eq word (codes "PUBLISH") then publish_of more else do_read (request_of line))
+
+abbrev pub told_of : List ℕ → Option (List ℕ × List ℕ) → Result Line ReadRefusal
+told_of line None = do_read (request_of line)
+told_of line (Some parts) = by_worker line parts.0 parts.1
 
 -- a line without bytes asks nothing
 abbrev pub line_of : List ℕ → LineRead
 line_of [] = Ok None
-line_of (b ∷ bs) = if is_utf8 (b ∷ bs) then then_read (request_of (b ∷ bs)) (λ request. Ok (Some (Do request))) else Err UnknownLine
+line_of (b ∷ bs) = if is_utf8 (b ∷ bs) then then_read (told_of (b ∷ bs) (argument_and_rest (b ∷ bs))) (λ line. Ok (Some line)) else Err UnknownLine
 
 -- THE DEFINITION OF AN INDEX, in JSON
 

@@ -1,12 +1,14 @@
 -- What holds of every world, and between a world and a later one.
-use Rattle.std.specs.Prelude.{◌≡◌, ℕ, ◌≤◌, ◌<◌, List, [], ◌∷◌, ◌++◌, length, Some, ◌⊎◌, IsTrue, codes}
+use Rattle.std.specs.Prelude.{◌≡◌, ℕ, ◌≤◌, ◌<◌, List, [], ◌∷◌, ◌++◌, true, false, length, Some, ◌⊎◌, IsTrue, codes}
+use Rattle.spec_data.specs.Faults.{replacement_of}
 use Rattle.spec_data.specs.Folding.{folded}
 use Rattle.spec_data.specs.Limits.{max_etag}
 use Rattle.spec_data.specs.Rows.{Row, doc, is_document}
 use Rattle.spec_store.specs.Store.{row_at, Store, last, IsStore}
 use Rattle.spec_store.specs.Later.{Later}
 use Rattle.spec_index.specs.Index.{Agrees}
-use Rattle.spec_index.specs.World.{Version, Slot, Note, World, reads, index_id, row_body, is_automatic, begins_with_auto}
+pub use Rattle.spec_index.specs.World.{NumbersRise}
+use Rattle.spec_index.specs.World.{Version, Slot, Note, World, reads, index_id, row_body, is_automatic, begins_with_auto, begins_with_replacement, is_reserved_name, replaced_name}
 use Rattle.spec_store.specs.Commit.{stored_body}
 use Rattle.spec_server.specs.Machine.{Held, Machine}
 
@@ -20,14 +22,20 @@ pub record Fits (S : Store) (v : Version) : Type 0 where
   pub agrees : Agrees (reads v) v.table S v.etag
   pub within : v.etag ≤ last S
 
--- the first number is above `low`, and each other is above the one before
-abbrev pub NumbersRise : ℕ → List Slot → Type 0
-NumbersRise low [] = Unit {0}
-NumbersRise low (s ∷ slots) = (low < s.number) × NumbersRise s.number slots
-
 -- no two slots have the same folded name
 abbrev pub NamesApart : List Slot → Type 0
 NamesApart slots = (s t : Slot) → Has slots s → Has slots t → folded s.name ≡ folded t.name → s ≡ t
+
+-- the slot that s is to replace is there: s has its name behind `ReplacementOf/`, and a client gave it that name
+pub record IsBeside (slots : List Slot) (s : Slot) : Type 0 where
+  pub slot : Slot
+  pub there : Has slots slot
+  pub named : folded s.name ≡ folded (replacement_of slot.name)
+  pub given : is_reserved_name slot.name ≡ false
+
+-- each replacement stands beside the slot that it is to replace
+abbrev pub HaveTheirSlots : List Slot → Type 0
+HaveTheirSlots slots = (s : Slot) → Has slots s → begins_with_replacement s.name ≡ true → IsBeside slots s
 
 -- the store has the row of the slot's definition, under the etag that the slot states
 pub record IsListed (S : Store) (s : Slot) : Type 0 where
@@ -49,7 +57,7 @@ pub record IsWithinLimits (W : World) : Type 0 where
   pub notes : length W.notes ≤ W.setting.max_notes
   pub etags : last W.store ≤ max_etag
 
--- The invariants of a world. By its name one sees whether an index is automatic.
+-- The invariants of a world. By its name one sees whether an index is automatic, and whether it is a replacement.
 pub record Sound (W : World) : Type 0 where
   pub store : IsStore W.store
   pub fits : (s : Slot) → Has W.slots s → Fits W.store s.version
@@ -57,6 +65,7 @@ pub record Sound (W : World) : Type 0 where
   pub rising : NumbersRise 0 W.slots
   pub apart : NamesApart W.slots
   pub kinds : (s : Slot) → Has W.slots s → is_automatic s.version.definition ≡ begins_with_auto s.name
+  pub beside : HaveTheirSlots W.slots
   pub listed : AreListed W.store W.slots
   pub notes : (n : Note) → Has W.notes n → (n.newest ≤ n.index_etag) × (n.etag ≤ last W.store)
   pub limits : IsWithinLimits W
@@ -73,11 +82,12 @@ pub record IsMachine (M : Machine) : Type 0 where
   pub world : Sound M.world
   pub held : (h : Held) → Has M.held h → IsHeld M.world h
 
--- s is the earlier slot w: the same number and definition, and an etag that is no less
+-- s is the earlier slot w: the same number and definition, and an etag that is no less. Its name is the same, unless a replacement took that of its index.
 pub record Continues (w s : Slot) : Type 0 where
   pub number : w.number ≡ s.number
   pub definition : w.version.definition ≡ s.version.definition
   pub onward : w.version.etag ≤ s.version.etag
+  pub named : folded (replaced_name w.name) ≡ folded (replaced_name s.name)
 
 -- the slot continues one of W, or is new
 abbrev pub IsOldOrNew : World → Slot → Type 0
