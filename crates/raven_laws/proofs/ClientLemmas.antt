@@ -5,8 +5,8 @@ use Rattle.std.specs.Str.{bytes_eq, is_utf8}
 use Rattle.spec_data.specs.Data.{Data}
 use Rattle.spec_data.specs.Json.{JsonRefusal, reading}
 use Rattle.spec_store.specs.Commit.{Expect, AnyVector, Vector}
-use Rattle.spec_server.specs.Machine.{AreFromClients, Auto, Do, Event, Indexes, IsFromClient, Request, Stats}
-use Rattle.spec_server.specs.Script.{Circumstance, LineRead, ReadRefusal, UnknownLine, argument_and_rest, auto_of, bulk_read, by_command, commands_of, delete_if_of, delete_read, drop_of, event_of, find_of, get_of, id_read, is_collection, is_field, json_read, line_of, max_read, name_read, object_read, parts_read, pump_of, pump_read, put_if_of, put_of, put_read, request_of, stale_of, then_read}
+use Rattle.spec_server.specs.Machine.{AreFromClients, Auto, Do, Event, Indexes, IsFromClient, Line, Request, Stats, Tidy}
+use Rattle.spec_server.specs.Script.{Circumstance, LineRead, ReadRefusal, UnknownLine, argument_and_rest, auto_of, bulk_read, by_command, commands_of, delete_if_of, delete_read, do_read, drop_of, event_of, find_of, get_of, id_read, is_collection, is_field, json_read, line_of, max_read, name_read, object_read, parts_read, publish_of, pump_of, pump_read, put_if_of, put_of, put_read, read_of, request_of, stale_of, switch_of, then_read, told_of, worker_read}
 
 -- what is read is a request that a client may send, or a refusal
 abbrev Fits : Result Request ReadRefusal → Type 0
@@ -60,6 +60,9 @@ pump_read-fits more (Some parts) = then-fits (max_read parts.0) _ (λ max. then-
 find_of-fits : (more : List ℕ) → Fits (find_of more)
 find_of-fits more = then-fits (parts_read more) _ (λ parts. then-fits (parts_read parts.1) _ (λ rest. then-fits (name_read parts.0) _ (λ index. tt)))
 
+switch_of-fits : (more : List ℕ) → Fits (switch_of more)
+switch_of-fits more = then-fits (name_read more) _ (λ name. tt)
+
 stale_of-fits : (more : List ℕ) → Fits (stale_of more)
 stale_of-fits more = then-fits (name_read more) _ (λ name. tt)
 
@@ -77,12 +80,14 @@ by_command-fits word more =
     either-fits (bytes_eq word (codes "AUTO")) (auto_of more) _ (auto_of-fits more) (
     either-fits (bytes_eq word (codes "PUMP")) (pump_of more) _ (pump_read-fits more (argument_and_rest more)) (
     either-fits (bytes_eq word (codes "FIND")) (find_of more) _ (find_of-fits more) (
-    either-fits (bytes_eq word (codes "STALE")) (stale_of more) (Err UnknownLine) (stale_of-fits more) tt))))))))))
+    either-fits (bytes_eq word (codes "SWITCH")) (switch_of more) _ (switch_of-fits more) (
+    either-fits (bytes_eq word (codes "STALE")) (stale_of more) (Err UnknownLine) (stale_of-fits more) tt)))))))))))
 
 request_of-fits : (line : List ℕ) → Fits (request_of line)
 request_of-fits line =
     either-fits (bytes_eq line (codes "STATS")) (Ok Stats) _ tt (
-    either-fits (bytes_eq line (codes "INDEXES")) (Ok Indexes) _ tt (then-fits (parts_read line) _ (λ parts. by_command-fits parts.0 parts.1)))
+    either-fits (bytes_eq line (codes "INDEXES")) (Ok Indexes) _ tt (
+    either-fits (bytes_eq line (codes "TIDY")) (Ok Tidy) _ tt (then-fits (parts_read line) _ (λ parts. by_command-fits parts.0 parts.1))))
 
 -- what a line is read as is nothing, a refusal, or what a client may send
 abbrev pub IsReadFromClient : LineRead → Type 0
@@ -90,16 +95,43 @@ IsReadFromClient (Err refusal) = Unit {0}
 IsReadFromClient (Ok None) = Unit {0}
 IsReadFromClient (Ok (Some line)) = IsFromClient line
 
-asked-fits : (r : Result Request ReadRefusal) → Fits r → IsReadFromClient (then_read r (λ request. Ok (Some (Do request))))
+-- what is read of the words of a line is a refusal, or what a client may send
+abbrev Suits : Result Line ReadRefusal → Type 0
+Suits (Err refusal) = Unit {0}
+Suits (Ok line) = IsFromClient line
+
+then-suits : {A : Type 0} (r : Result A ReadRefusal) (more : A → Result Line ReadRefusal) → ((a : A) → Suits (more a)) → Suits (then_read r more)
+then-suits (Err refusal) more f = tt
+then-suits (Ok a) more f = f a
+
+do-suits : (r : Result Request ReadRefusal) → Fits r → Suits (do_read r)
+do-suits (Err refusal) f = tt
+do-suits (Ok request) f = f
+
+read_of-suits : (more : List ℕ) → Suits (read_of more)
+read_of-suits more =
+    then-suits (parts_read more) _ (λ parts. then-suits (parts_read parts.1) _ (λ rest. then-suits (worker_read parts.0) _ (λ worker. then-suits (max_read rest.0) _ (λ max. then-suits (name_read rest.1) _ (λ index. tt)))))
+
+told_of-suits : (line : List ℕ) (parts : Option (List ℕ × List ℕ)) → Suits (told_of line parts)
+told_of-suits line None = do-suits (request_of line) (request_of-fits line)
+told_of-suits line (Some parts) = elim (bytes_eq parts.0 (codes "READ")) as (λ b. Suits (cond b (read_of parts.1) (cond (bytes_eq parts.0 (codes "PUBLISH")) (publish_of parts.1) (do_read (request_of line))))) [
+  | true ↦ read_of-suits parts.1
+  | false ↦ elim (bytes_eq parts.0 (codes "PUBLISH")) as (λ b. Suits (cond b (publish_of parts.1) (do_read (request_of line)))) [
+    | true ↦ then-suits (worker_read parts.1) _ (λ worker. tt)
+    | false ↦ do-suits (request_of line) (request_of-fits line)
+  ]
+]
+
+asked-fits : (r : Result Line ReadRefusal) → Suits r → IsReadFromClient (then_read r (λ line. Ok (Some line)))
 asked-fits (Err refusal) f = tt
-asked-fits (Ok request) f = f
+asked-fits (Ok line) f = f
 
 pub line_of-client : (line : List ℕ) → IsReadFromClient (line_of line)
 line_of-client [] = tt
 line_of-client (b ∷ bs) =
-    let request = request_of (b ∷ bs) in
-    elim (is_utf8 (b ∷ bs)) as (λ t. IsReadFromClient (cond t (then_read request (λ request. Ok (Some (Do request)))) (Err UnknownLine))) [
-      | true ↦ asked-fits request (request_of-fits (b ∷ bs))
+    let told = told_of (b ∷ bs) (argument_and_rest (b ∷ bs)) in
+    elim (is_utf8 (b ∷ bs)) as (λ t. IsReadFromClient (cond t (then_read told (λ line. Ok (Some line))) (Err UnknownLine))) [
+      | true ↦ asked-fits told (told_of-suits (b ∷ bs) (argument_and_rest (b ∷ bs)))
       | false ↦ tt
     ]
 

@@ -9,7 +9,7 @@ use Rattle.spec_query.specs.Query.{Origin, OfIndex, OfCollection, is_of_index, i
 use Rattle.spec_index.specs.World.{Slot, reads, serving}
 use Rattle.spec_server.specs.Asking.{answer_from, answer_from_collection, answer_from_index, answer_if_bound, unless_refused}
 use Rattle.spec_server.specs.Replies.{Reply}
-use Rattle.spec_server.specs.Machine.{Machine, Keeping, Put, Delete, Bulk, Get, Define, Remove, Auto, Find, Ask, Pump, Stale, Indexes, Stats, step, answer_find, answer_stale, is_stale, listing, Line, Do}
+use Rattle.spec_server.specs.Machine.{Machine, Keeping, Put, Delete, Bulk, Get, Define, Remove, Auto, Find, Ask, Pump, Switch, Tidy, Stale, Indexes, Stats, Read, Publish, step, answer_find, answer_stale, is_stale, listing, Line, Do}
 use Rattle.spec_server.specs.Sound.{Has, Sound}
 use Rattle.raven_laws.specs.Flags.{Flag, FlagIsExact, FlagsAreExact, ShowsFlag, flag, flags_in, listed_flag}
 use Rattle.raven_laws.specs.Queries.{AsksIndex, FitsIndex}
@@ -108,9 +108,13 @@ shown_flag M k now (Do (Auto collection field)) f o at = absurd at
 shown_flag M k now (Do (Find index field ws)) f o at = find_flag M index field ws f (serving M.world.slots index) o refl at
 shown_flag M k now (Do (Ask ask)) f o at = ask_flag M ask f (check ask) o at
 shown_flag M k now (Do (Pump max index)) f o at = absurd at
+shown_flag M k now (Do (Switch name)) f o at = absurd at
+shown_flag M k now (Do Tidy) f o at = absurd at
 shown_flag M k now (Do (Stale name cutoff)) f o at = stale_flag M name cutoff f (serving M.world.slots name) o refl at
 shown_flag M k now (Do Indexes) f o at = listing_flag M f o at
 shown_flag M k now (Do Stats) f o at = absurd at
+shown_flag M k now (Read worker max index) f o at = absurd at
+shown_flag M k now (Publish worker) f o at = absurd at
 
 pub Sound-flags : (M : Machine) → Sound M.world → FlagsAreExact M
 Sound-flags M o = record {

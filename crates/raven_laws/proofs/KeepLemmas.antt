@@ -9,11 +9,12 @@ use Rattle.spec_store.specs.Commit.{AreNext, Client, Command, Put, Delete, Refus
 use Rattle.index_tree.specs.Definitions.{Definition}
 use Rattle.spec_index.specs.Optimiser.{Choice, Use, Make, Merge, pick, name_of}
 use Rattle.spec_server.specs.Replies as replies
-use Rattle.spec_index.specs.World.{Slot, World, serving, SlotChange, SlotRefusal, define, define_named, remove}
-use Rattle.spec_server.specs.Machine.{Machine, Request, Put as PutOne, Delete as DeleteOne, Bulk, Get, Define, Remove, Auto, Find, Ask, Pump, Stale, Indexes, Stats, Line, Do, Event, Keeping, Change, after, changes_of, course_of, is_taken, made, one_field, pump_at, pump_for, change_of_slots, rewrote, run, same_machine, single_reply, step, takes_after, use_or_make, with_world, write, wrote}
+use Rattle.spec_index.specs.World.{Slot, World, serving, SlotChange, SlotRefusal, define, define_named, remove, switch}
+use Rattle.spec_server.specs.Machine.{Machine, Request, Put as PutOne, Delete as DeleteOne, Bulk, Get, Define, Remove, Auto, Find, Ask, Pump, Switch, Tidy, Stale, Indexes, Stats, Line, Do, Read, Publish, Event, Keeping, Change, after, changes_of, course_of, is_taken, held_by, made, one_field, pump_at, pump_for, change_of_slots, replaced_names, rewrote, tidy, run, same_machine, single_reply, step, takes_after, use_or_make, with_world, write, wrote}
 use Rattle.spec_server.specs.Script.{Given, after_lines, events_of}
+use Rattle.raven_laws.proofs.MachineLemmas.{AllDo, publish-store, read-world, tidy-do}
 use Rattle.raven_laws.proofs.ScriptLemmas.{lines-run}
-use Rattle.raven_laws.specs.Keeping.{AreTheirRows, kept_after_all, rows_made, stored_after}
+use Rattle.raven_laws.specs.Keeping.{AreTheirRows, IsItsRows, kept_after_all, rows_made, stored_after}
 use Rattle.spec_store.proofs.StoreLemmas.{same_row}
 use Rattle.spec_store.proofs.CommitLemmas.{same_ok, with_rows-push, AreNext-push, last-with_rows}
 use Rattle.spec_store.proofs.KeepLemmas.{kept-with_rows}
@@ -68,15 +69,15 @@ wrote-rows W reply now commands (Ok w) is =
 write-rows : (W : World) (reply : List replies.Result → replies.Reply) (now : ℕ) (commands : List Command) → AreTheirRows W.store (write W reply now commands).changes
 write-rows W reply now commands = wrote-rows W reply now commands (commit W.setting Client now commands W.store) refl
 
-rewrote-rows : (W : World) (reply : replies.Reply) (slots : List Slot) (now : ℕ) (commands : List Command) (o : Result Written Refused)
-    → commit W.setting Server now commands W.store ≡ o → AreTheirRows W.store (rewrote W reply slots o).changes
-rewrote-rows W reply slots now commands (Err refused) is = tt
-rewrote-rows W reply slots now commands (Ok w) is =
-    let a = commit-Adds W.setting Server now commands W.store w is in (record { store = a.store; next = a.next }, tt)
+rewrote-rows : (W : World) (reply : replies.Reply) (c : SlotChange) (now : ℕ) (o : Result Written Refused)
+    → commit W.setting Server now c.commands W.store ≡ o → AreTheirRows W.store (rewrote W reply c o).changes
+rewrote-rows W reply c now (Err refused) is = tt
+rewrote-rows W reply c now (Ok w) is =
+    let a = commit-Adds W.setting Server now c.commands W.store w is in (record { store = a.store; next = a.next }, tt)
 
 reslotted-rows : (W : World) (now : ℕ) (reply : List ℕ → replies.Reply) (name : List ℕ) (r : Result SlotChange SlotRefusal) → AreTheirRows W.store (change_of_slots W now reply name r).changes
 reslotted-rows W now reply name (Err refusal) = tt
-reslotted-rows W now reply name (Ok c) = rewrote-rows W (reply c.name) c.slots now c.commands (commit W.setting Server now c.commands W.store) refl
+reslotted-rows W now reply name (Ok c) = rewrote-rows W (reply c.name) c now (commit W.setting Server now c.commands W.store) refl
 
 auto-rows : (W : World) (now : ℕ) (c : Choice) → AreTheirRows W.store (use_or_make W now c).changes
 auto-rows W now (Use s) = tt
@@ -92,6 +93,16 @@ pump_for-rows : (W : World) (max : ℕ) (index : Option (List ℕ)) → AreTheir
 pump_for-rows W max None = (record { store = refl; next = tt }, tt)
 pump_for-rows W max (Some name) = pump_at-rows W max name (serving W.slots name)
 
+-- each change of a Tidy adds its rows
+all-rows : (W : World) (changes : List Change) → AllDo (λ V c. IsItsRows V.store c) W changes → AreTheirRows W.store changes
+all-rows W [] all = tt
+all-rows W (c ∷ more) all = (all.0, all-rows c.world more all.1)
+
+tidy-rows : (W : World) (now : ℕ) → AreTheirRows W.store (tidy now (replaced_names W) W []).changes
+tidy-rows W now = all-rows W (tidy now (replaced_names W) W []).changes
+    (tidy-do now (λ V. Unit {0}) (λ V c. IsItsRows V.store c) (λ V c w i is e. let a = commit-Adds V.setting Server now c.commands V.store w e in (record { store = a.store; next = a.next }, tt))
+    (replaced_names W) W [] tt)
+
 course-rows : (W : World) (now : ℕ) (request : Request) → AreTheirRows W.store (course_of W now request).changes
 course-rows W now (PutOne id expected body) = write-rows W single_reply now (Command.Put id expected body ∷ [])
 course-rows W now (DeleteOne id expected) = write-rows W single_reply now (Command.Delete id expected ∷ [])
@@ -103,12 +114,16 @@ course-rows W now (Auto collection field) = auto-rows W now (pick (one_field col
 course-rows W now (Find index field ws) = tt
 course-rows W now (Ask ask) = tt
 course-rows W now (Pump max index) = pump_for-rows W max index
+course-rows W now (Switch name) = reslotted-rows W now (replies.Switched (last W.store + 1)) name (switch W name)
+course-rows W now Tidy = tidy-rows W now
 course-rows W now (Stale name cutoff) = tt
 course-rows W now Indexes = tt
 course-rows W now Stats = tt
 
 pub changes-rows : (W : World) (now : ℕ) (line : Line) → AreTheirRows W.store (changes_of W now line)
 changes-rows W now (Do request) = course-rows W now request
+changes-rows W now (Read worker max index) = tt
+changes-rows W now (Publish worker) = tt
 
 -- EVENTS
 
@@ -131,6 +146,8 @@ made-held k M takes (c ∷ more) reply a =
 step-held : (M : Machine) (k : Keeping) (now : ℕ) (line : Line)
     → kept_after_all (rows_made k.takes (changes_of M.world now line)) (all_kept M.world.store.rows) ≡ all_kept (step M k now line).machine.world.store.rows
 step-held M k now (Do request) = let c = course_of M.world now request in made-held k M k.takes c.changes c.reply (course-rows M.world now request)
+step-held M k now (Read worker max index) = ap (λ (W : World). all_kept W.store.rows) (sym (read-world M worker max index (serving M.world.slots index)))
+step-held M k now (Publish worker) = ap (λ (S : Store). all_kept S.rows) (sym (publish-store M worker (held_by M.held worker)))
 
 pub held-run : (M : Machine) (es : List Event) → stored_after es M (all_kept M.world.store.rows) ≡ all_kept (run es M).world.store.rows
 held-run M [] = refl

@@ -11,6 +11,7 @@ pub mod FlagLemmas
 pub mod AnswerLemmas
 pub mod EntryLemmas
 pub mod ResultLemmas
+pub mod GroupLemmas
 pub mod MatchLemmas
 pub mod NameLemmas
 pub mod PumpLemmas
@@ -20,8 +21,12 @@ pub mod WorkedRows
 pub mod WorkedQueries
 pub mod WorkedScript
 pub mod WriteLemmas
+pub mod ChangeLemmas
 pub mod DefinitionLemmas
 pub mod ServedLemmas
+pub mod SwitchLemmas
+pub mod TidyLemmas
+pub mod WorkerLemmas
 pub mod ChoiceLemmas
 pub mod WordLemmas
 pub mod KeepLemmas

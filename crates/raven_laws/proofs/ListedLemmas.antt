@@ -31,10 +31,10 @@ commit_from-applied at s w now (c ∷ cs) done new h =
 
 -- KEYS OF INDEXES
 
-index_apart : (a b : List ℕ) → folded (index_id a) ≡ folded (index_id b) → folded a ≡ folded b
+pub index_apart : (a b : List ℕ) → folded (index_id a) ≡ folded (index_id b) → folded a ≡ folded b
 index_apart a b h = cc
 
-index_joined : (a b : List ℕ) → folded a ≡ folded b → folded (index_id a) ≡ folded (index_id b)
+pub index_joined : (a b : List ℕ) → folded a ≡ folded b → folded (index_id a) ≡ folded (index_id b)
 index_joined a b h = ap (λ x. folded (codes "@index/") ++ x) h
 
 index_key : (q a : List ℕ) → q ≡ folded (index_id a) → starts_with nat_eq q (codes "@index/") ≡ true
@@ -44,7 +44,7 @@ pub in_indexes_collection : (d : Definition) → collection_of (row_body d) ≡ 
 in_indexes_collection (Static map reduce map_text reduce_text) = refl
 in_indexes_collection (Auto c fields) = refl
 
-differ : (q k : List ℕ) → (q ≡ k → ⊥) → same_key q k ≡ false
+pub differ : (q k : List ℕ) → (q ≡ k → ⊥) → same_key q k ≡ false
 differ q k never = elim (same_key q k) as (λ b. same_key q k ≡ b → b ≡ false) [ true ↦ λ e. absurd (never (same_means q k e)) | false ↦ λ e. refl ] refl
 
 -- A PUT OF A DEFINITION

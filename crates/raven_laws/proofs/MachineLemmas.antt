@@ -1,24 +1,26 @@
 -- Each step of the machine leaves a sound and later world.
-use Rattle.std.proofs.Common.{◌≡◌, ℕ, ◌+◌, ◌<◌, ◌≤◌, List, [], ◌∷◌, ◌++◌, Bool, length, Option, Some, None, Result, Ok, Err, map, refl, sym, ap, ◌∙◌, subst, arith, inl, inr, true, false, cond}
+use Rattle.std.proofs.Common.{◌≡◌, ℕ, ◌+◌, ◌<◌, ◌≤◌, List, [], ◌∷◌, ◌++◌, Bool, not, ◌==◌, nat_lt, length, Option, Some, None, Result, Ok, Err, map, refl, sym, ap, ◌∙◌, subst, arith, ◌⊎◌, inl, inr, true, false, cond}
+use Rattle.std.proofs.lemmas.Bool.{eqb-true, ltb-true}
+use Rattle.spec_data.specs.Folding.{folded, same_key}
 use Rattle.spec_data.specs.Rows.{Row}
 use Rattle.spec_store.specs.Store.{Store, last, IsStore}
 use Rattle.spec_store.specs.Later.{Later}
 use Rattle.spec_store.specs.Stale.{batch_rows}
 use Rattle.spec_index.specs.Index.{etag_of_batch}
 use Rattle.index_tree.specs.Definitions.{Definition}
-use Rattle.spec_index.specs.Optimiser.{Choice, Use, Make, Merge, pick, name_of}
+use Rattle.spec_index.specs.Optimiser.{Choice, Use, Make, Merge, pick, name_of, retirement}
 use Rattle.spec_store.specs.Commit.{Command, Put, Delete, Writer, Client, Server, Setting, Refused, Written, refusal_of, row_of, with_written, or_refused, commit_from, commit}
 use Rattle.spec_server.specs.Replies as replies
-use Rattle.spec_index.specs.World.{Slot, Version, World, reads, advanced, batch, serving, SlotChange, SlotRefusal, define, define_named, is_automatic, is_named, remove}
-use Rattle.spec_server.specs.Machine.{Machine, Request, Put as PutOne, Delete as DeleteOne, Bulk, Get, Define, Remove, Auto, Find, Ask, Pump, Stale, Indexes, Stats, Event, Held, Keeping, Line, Do, IsFromClient, AreFromClients, Change, Course, is_taken, takes_after, with_world, same_machine, made, settled, single_reply, wrote, write, rewrote, change_of_slots, use_or_make, one_field, or_as_before, after_batch, after_batch_if_named, with_slots, pump, pump_at, pump_for, course_of, changes_of, step, start, after, run}
-use Rattle.spec_server.specs.Sound.{Has, NumbersRise, NamesApart, AreListed, Sound, IsHeld, IsMachine, LaterW}
+use Rattle.spec_index.specs.World.{Slot, Note, Version, World, reads, advanced, batch, numbered, serving, SlotChange, SlotRefusal, define, define_named, is_automatic, is_named, remove, switch}
+use Rattle.spec_server.specs.Machine.{Machine, Request, Put as PutOne, Delete as DeleteOne, Bulk, Get, Define, Remove, Auto, Find, Ask, Pump, Switch, Tidy, Stale, Indexes, Stats, Event, Held, Keeping, Line, Do, Read, Publish, IsFromClient, AreFromClients, Change, Course, is_taken, takes_after, with_world, same_machine, made, settled, single_reply, wrote, write, changed, rewrote, change_of_slots, use_or_make, one_field, or_as_before, after_batch, after_batch_if_named, in_world, with_slots, pump, pump_at, pump_for, replaced_names, retire, switch_and, tidied, tidy, try_switch, PublishRefusal, Passed, held_by, let_go, with_held, read_at, read_batch, published, published_in, published_reply, publish_by, publish_to, with_version, course_of, changes_of, step, start, after, run}
+use Rattle.spec_server.specs.Sound.{Has, Fits, NumbersRise, NamesApart, HaveTheirSlots, AreListed, IsWithinLimits, Sound, IsHeld, IsMachine, LaterW}
 use Rattle.spec_store.proofs.LaterLemmas.{Later-itself, IsStore-with, last-with}
 use Rattle.spec_store.proofs.CommitLemmas.{row_of-follows, commit-Commits}
-use Rattle.raven_laws.proofs.SlotLemmas.{Brought, Fits-later, Has-map, NumbersRise-map, NamesApart-map, batch-Brought, same_slot}
+use Rattle.raven_laws.proofs.SlotLemmas.{Brought, Fits-later, Has-append, Has-filter, Has-map, find-Has, HaveTheirSlots-map, NumbersRise-map, NamesApart-map, batch-Brought, same_slot}
 use Rattle.raven_laws.proofs.ListedLemmas.{commit_from-applied, clients-AreListed, map-AreListed}
-use Rattle.raven_laws.proofs.KindLemmas.{name_of-begins}
+use Rattle.raven_laws.proofs.KindLemmas.{auto-no-replacement, name_of-begins}
 use Rattle.raven_laws.proofs.LimitLemmas.{commit_from-fits, commit_from-last, length_mapped}
-use Rattle.raven_laws.proofs.WorldLemmas.{append-none, LaterW-itself, LaterW-then, Comes, stays, StartsWithPut, Onto, Settles, define-Settles, define_named-Settles, remove-Settles}
+use Rattle.raven_laws.proofs.WorldLemmas.{append-none, LaterW-itself, LaterW-then, Comes, stays, StartsWithPut, Onto, Settles, define-Settles, define_named-Settles, remove-Settles, switch-Settles, retirement-Settles}
 
 -- from a sound world to a sound and later one
 pub record Moves (W V : World) : Type 0 where
@@ -31,20 +33,23 @@ Moves-itself W o = record { sound = o; later = LaterW-itself W }
 pub Moves-then : (W V X : World) → Moves W V → Moves V X → Moves W X
 Moves-then W V X f g = record { sound = g.sound; later = LaterW-then W V X f.later g.later }
 
--- what has to be proved of a change of the store and of the slots
-pub record Turns (W : World) (S : Store) (slots : List Slot) : Type 0 where
-  pub store : IsStore S
-  pub later : Later W.store S
-  pub comes : (s : Slot) → Has slots s → Comes W S [] s
-  pub rising : NumbersRise 0 slots
-  pub apart : NamesApart slots
-  pub listed : AreListed S slots
-  pub rows : length S.rows ≤ W.setting.max_rows
-  pub count : length slots ≤ W.setting.max_slots
-  pub etags : last S ≤ 9007199254740991
+-- what has to be proved of a change of the world
+pub record Turns (W V : World) : Type 0 where
+  pub store : IsStore V.store
+  pub later : Later W.store V.store
+  pub setting : V.setting ≡ W.setting
+  pub noted : List Note
+  pub notes : V.notes ≡ W.notes ++ noted
+  pub fair : (n : Note) → Has noted n → (n.newest ≤ n.index_etag) × (n.etag ≤ last V.store)
+  pub comes : (s : Slot) → Has V.slots s → Comes W V.store noted s
+  pub rising : NumbersRise 0 V.slots
+  pub apart : NamesApart V.slots
+  pub beside : HaveTheirSlots V.slots
+  pub listed : AreListed V.store V.slots
+  pub limits : IsWithinLimits V
 
-Turns-Moves : (W : World) (S : Store) (slots : List Slot) → Sound W → Turns W S slots → Moves W (record { setting = W.setting; store = S; slots = slots; notes = W.notes })
-Turns-Moves W S slots o t = record {
+Turns-Moves : (W V : World) → Sound W → Turns W V → Moves W V
+Turns-Moves W V o t = record {
   sound = record {
     store = t.store;
     fits = λ s h. let c = t.comes s h in c.fits;
@@ -52,24 +57,61 @@ Turns-Moves W S slots o t = record {
     rising = t.rising;
     apart = t.apart;
     kinds = λ s h. let c = t.comes s h in c.kind;
+    beside = t.beside;
     listed = t.listed;
-    notes = λ n h. let f = o.notes n h in (f.0, let a = f.1 in let b = t.later.grown in omega arith);
-    limits = record { rows = t.rows; slots = t.count; notes = o.limits.notes; etags = t.etags };
+    notes = λ n h. elim (Has-append W.notes t.noted n (subst (λ (ns : List Note). Has ns n) t.notes h)) [
+      | inl old ↦ let f = o.notes n old in (f.0, let a = f.1 in let b = t.later.grown in omega arith)
+      | inr new ↦ t.fair n new
+    ];
+    limits = t.limits;
   };
   later = record {
     store = t.later;
-    setting = refl;
-    noted = [];
-    notes = append-none W.notes;
+    setting = t.setting;
+    noted = t.noted;
+    notes = t.notes;
     numbers = λ s h. let c = t.comes s h in c.old;
     names = λ s h. let c = t.comes s h in c.named;
   };
 }
 
+-- a change of the store and of the slots, without a note
+pub record Shifts (W : World) (S : Store) (slots : List Slot) : Type 0 where
+  pub store : IsStore S
+  pub later : Later W.store S
+  pub comes : (s : Slot) → Has slots s → Comes W S [] s
+  pub rising : NumbersRise 0 slots
+  pub apart : NamesApart slots
+  pub beside : HaveTheirSlots slots
+  pub listed : AreListed S slots
+  pub rows : length S.rows ≤ W.setting.max_rows
+  pub count : length slots ≤ W.setting.max_slots
+  pub etags : last S ≤ 9007199254740991
+
+Shifts-Moves : (W : World) (S : Store) (slots : List Slot) → Sound W → Shifts W S slots → Moves W (in_world W S slots)
+Shifts-Moves W S slots o t = Turns-Moves W (in_world W S slots) o (record {
+  store = t.store;
+  later = t.later;
+  setting = refl;
+  noted = [];
+  notes = append-none W.notes;
+  fair = λ n h. absurd h;
+  comes = t.comes;
+  rising = t.rising;
+  apart = t.apart;
+  beside = t.beside;
+  listed = t.listed;
+  limits = record { rows = t.rows; slots = t.count; notes = o.limits.notes; etags = t.etags };
+})
+
+-- each of the changes does this to the world before it
+abbrev pub AllDo : (World → Change → Type 0) → World → List Change → Type 0
+AllDo P W [] = Unit {0}
+AllDo P W (c ∷ more) = P W c × AllDo P c.world more
+
 -- each of the changes leads from a sound world to a sound and later one
 abbrev pub AllMove : World → List Change → Type 0
-AllMove W [] = Unit {0}
-AllMove W (c ∷ more) = Moves W c.world × AllMove c.world more
+AllMove W changes = AllDo (λ V c. Moves V c.world) W changes
 
 abbrev pub CourseMoves : World → Course → Type 0
 CourseMoves W course = AllMove W course.changes
@@ -81,12 +123,13 @@ wrote-Moves : (now : ℕ) (W : World) (reply : List replies.Result → replies.R
 wrote-Moves now W reply commands (Err refused) o is = tt
 wrote-Moves now W reply commands (Ok w) o is =
     let c = commit-Commits W.setting Client now commands W.store w o.store is in (
-      Turns-Moves W w.store W.slots o (record {
+      Shifts-Moves W w.store W.slots o (record {
         store = c.sound;
         later = c.later;
         comes = λ s h. stays W w.store [] s o c.later h;
         rising = o.rising;
         apart = o.apart;
+        beside = o.beside;
         listed = clients-AreListed 0 W.setting now commands _ w W.slots is o.listed;
         rows = commit_from-fits 0 W.setting Client now commands _ w o.limits.rows is;
         count = o.limits.slots;
@@ -126,10 +169,9 @@ put-grows s w now (Put id expected body ∷ cs) S new o h p =
       | Some kind ↦ λ e g. absurd cc
     ] refl h
 
-rewrote-Moves : (now : ℕ) (W : World) (reply : replies.Reply) (c : SlotChange) (o : Result Written Refused) → Sound W → ((S : Store) → Onto W c S → Settles W c S)
-    → commit W.setting Server now c.commands W.store ≡ o → CourseMoves W (rewrote W reply c.slots o)
-rewrote-Moves now W reply c (Err refused) o by is = tt
-rewrote-Moves now W reply c (Ok w) o by is =
+changed-Moves : (now : ℕ) (W : World) (c : SlotChange) (w : Written) → Sound W → ((S : Store) → Onto W c S → Settles W c S)
+    → commit W.setting Server now c.commands W.store ≡ Ok w → Moves W (changed W w.store c)
+changed-Moves now W c w o by is =
     let k = commit-Commits W.setting Server now c.commands W.store w o.store is in
     let t = by w.store (record {
       store = k.sound;
@@ -137,20 +179,31 @@ rewrote-Moves now W reply c (Ok w) o by is =
       grown = put-grows W.setting Server now c.commands W.store w o.store is;
       now = now;
       written = commit_from-applied 0 W.setting Server now c.commands _ w is;
-    }) in (
-      Turns-Moves W w.store c.slots o (record {
-        store = k.sound;
-        later = k.later;
-        comes = t.slots;
-        rising = t.rising;
-        apart = t.apart;
-        listed = t.listed;
+    }) in
+    Turns-Moves W (changed W w.store c) o (record {
+      store = k.sound;
+      later = k.later;
+      setting = refl;
+      noted = t.noted;
+      notes = t.notes;
+      fair = t.fair;
+      comes = t.slots;
+      rising = t.rising;
+      apart = t.apart;
+      beside = t.beside;
+      listed = t.listed;
+      limits = record {
         rows = commit_from-fits 0 W.setting Server now c.commands _ w o.limits.rows is;
-        count = t.count;
+        slots = t.count;
+        notes = t.paper;
         etags = commit_from-last 0 W.setting Server now c.commands _ w o.limits.etags is;
-      }),
-      tt,
-    )
+      };
+    })
+
+rewrote-Moves : (now : ℕ) (W : World) (reply : replies.Reply) (c : SlotChange) (o : Result Written Refused) → Sound W → ((S : Store) → Onto W c S → Settles W c S)
+    → commit W.setting Server now c.commands W.store ≡ o → CourseMoves W (rewrote W reply c o)
+rewrote-Moves now W reply c (Err refused) o by is = tt
+rewrote-Moves now W reply c (Ok w) o by is = (changed-Moves now W c w o by is, tt)
 
 reslotted-Moves : (now : ℕ) (W : World) (reply : List ℕ → replies.Reply) (name : List ℕ) (r : Result SlotChange SlotRefusal) → Sound W
     → ((c : SlotChange) → r ≡ Ok c → Sound W → (S : Store) → Onto W c S → Settles W c S) → CourseMoves W (change_of_slots W now reply name r)
@@ -162,8 +215,54 @@ auto-Moves now W (Use s) o = tt
 auto-Moves now W (Make shape) o =
     let name = name_of W.slots (last W.store + 1) shape in
     let d = Definition.Auto shape.collection shape.fields in
-    reslotted-Moves now W replies.Index name (define W name d) o (define-Settles W name d (sym (name_of-begins W.slots (last W.store + 1) shape)))
+    let begins = name_of-begins W.slots (last W.store + 1) shape in
+    reslotted-Moves now W replies.Index name (define W name d) o (define-Settles W name d (record { kind = sym begins; plain = auto-no-replacement name begins }))
 auto-Moves now W Merge o = tt
+
+-- TIDYING
+
+-- a change that a Tidy makes: a switch, or the retirement
+abbrev pub IsTidying : World → SlotChange → Type 0
+IsTidying W c = ((name : List ℕ) × (switch W name ≡ Ok c)) ⊎ (c ≡ retirement W)
+
+abbrev pub change_to : World → SlotChange → Written → Change
+change_to W c w = record { rows = w.rows; world = changed W w.store c }
+
+-- What each change of a Tidy does: it is enough to show it of one switch and of a retirement, of every world of which I holds.
+module _ (now : ℕ) (I : World → Type 0) (P : World → Change → Type 0)
+    (by : (W : World) (c : SlotChange) (w : Written) → I W → IsTidying W c → commit W.setting Server now c.commands W.store ≡ Ok w → P W (change_to W c w) × I (changed W w.store c)) where
+  retire-do : (W : World) (done : List (List ℕ)) → I W → AllDo P W (retire W now done).changes
+  retire-do W done i = go (commit W.setting Server now (retirement W).commands W.store) refl
+    where
+      go : (o : Result Written Refused) → commit W.setting Server now (retirement W).commands W.store ≡ o → AllDo P W (rewrote W (tidied W done) (retirement W) o).changes
+      go (Err refused) e = tt
+      go (Ok w) e = ((by W (retirement W) w i (inr refl) e).0, tt)
+
+  switch-do : (W : World) (name : List ℕ) (done : List (List ℕ)) (more : World → List (List ℕ) → Course) → ((V : World) (all : List (List ℕ)) → I V → AllDo P V (more V all).changes) → I W
+      → (r : Result SlotChange SlotRefusal) → switch W name ≡ r → AllDo P W (try_switch W now done more r).changes
+  switch-do W name done more rest i (Err refusal) e = rest W done i
+  switch-do W name done more rest i (Ok c) e = go (commit W.setting Server now c.commands W.store) refl
+    where
+      go : (o : Result Written Refused) → commit W.setting Server now c.commands W.store ≡ o → AllDo P W (switch_and W c (λ V. more V (done ++ c.name ∷ [])) o).changes
+      go (Err refused) f = tt
+      go (Ok w) f = let one = by W c w i (inl (name, e)) f in (one.0, rest (changed W w.store c) (done ++ c.name ∷ []) one.1)
+
+  pub tidy-do : (names : List (List ℕ)) (W : World) (done : List (List ℕ)) → I W → AllDo P W (tidy now names W done).changes
+  tidy-do [] W done i = retire-do W done i
+  tidy-do (name ∷ names) W done i = switch-do W name done (λ V all. tidy now names V all) (λ V all j. tidy-do names V all j) i (switch W name) refl
+
+tidying-Settles : (W : World) (c : SlotChange) → IsTidying W c → Sound W → (S : Store) → Onto W c S → Settles W c S
+tidying-Settles W c (inl n) o S = switch-Settles W n.0 c n.1 o S
+tidying-Settles W c (inr e) o S = subst (λ x. Onto W x S → Settles W x S) (sym e) (retirement-Settles W o S)
+
+pub tidying-Moves : (now : ℕ) (W : World) (c : SlotChange) (w : Written) → Sound W → IsTidying W c → commit W.setting Server now c.commands W.store ≡ Ok w → Moves W (changed W w.store c)
+tidying-Moves now W c w o is e = changed-Moves now W c w o (tidying-Settles W c is o) e
+
+pub tidy_from-Moves : (now : ℕ) (names : List (List ℕ)) (W : World) (done : List (List ℕ)) → Sound W → CourseMoves W (tidy now names W done)
+tidy_from-Moves now names W done o = tidy-do now Sound (λ V c. Moves V c.world) (λ V c w s is e. let m = tidying-Moves now V c w s is e in (m, m.sound)) names W done o
+
+tidy-Moves : (now : ℕ) (W : World) → Sound W → CourseMoves W (tidy now (replaced_names W) W [])
+tidy-Moves now W o = tidy_from-Moves now (replaced_names W) W [] o
 
 -- BATCHES
 
@@ -174,7 +273,7 @@ brought-Comes W x max o h =
       | Some v ↦ λ e. let b = batch-Brought W.store x.version v max o.store (o.fits x h) e in record {
         fits = b.fits;
         within = o.numbers x h;
-        old = inl (x, h, record { number = refl; definition = b.definition; onward = b.onward });
+        old = inl (x, h, record { number = refl; definition = b.definition; onward = b.onward; named = refl });
         named = inl (x, h, refl, refl);
         kind = ap is_automatic (sym b.definition) ∙ o.kinds x h;
       }
@@ -198,12 +297,13 @@ brought-Keeps S max x = record { number = refl; name = refl; row = refl; definit
 -- each slot is advanced by a batch or stays as it is
 mapped-Moves : (W : World) (f : Slot → Slot) → Sound W → ((x : Slot) → Has W.slots x → Comes W W.store [] (f x)) → ((x : Slot) → Keeps x (f x))
     → Moves W (with_slots W (map f W.slots))
-mapped-Moves W f o comes keeps = Turns-Moves W W.store (map f W.slots) o (record {
+mapped-Moves W f o comes keeps = Shifts-Moves W W.store (map f W.slots) o (record {
   store = o.store;
   later = Later-itself W.store;
   comes = λ s h. let x = Has-map f W.slots s h in subst (Comes W W.store []) x.2 (comes x.0 x.1);
   rising = NumbersRise-map 0 f W.slots (λ x. (keeps x).number) o.rising;
   apart = NamesApart-map f W.slots (λ x. (keeps x).name) o.apart;
+  beside = HaveTheirSlots-map f W.slots (λ x. (keeps x).name) o.beside;
   listed = map-AreListed W.store f W.slots (λ x h. ((keeps x).name, (keeps x).row, (keeps x).definition)) o.listed;
   rows = o.limits.rows;
   count = let a = length_mapped f W.slots in let b = o.limits.slots in omega arith;
@@ -250,6 +350,8 @@ course-Moves W now (Auto collection field) from o = auto-Moves now W (pick (one_
 course-Moves W now (Find index field ws) from o = tt
 course-Moves W now (Ask ask) from o = tt
 course-Moves W now (Pump max index) from o = pump_for-Moves W max index o
+course-Moves W now (Switch name) from o = reslotted-Moves now W (replies.Switched (last W.store + 1)) name (switch W name) o (switch-Settles W name)
+course-Moves W now Tidy from o = tidy-Moves now W o
 course-Moves W now (Stale name cutoff) from o = tt
 course-Moves W now Indexes from o = tt
 course-Moves W now Stats from o = tt
@@ -262,6 +364,8 @@ moved-to W (x ∷ more) c all (inr h) = Moves-then W x.world c.world all.0 (move
 -- each change of a line leads from a sound world to a sound and later one
 pub changes-Move : (W : World) (now : ℕ) (line : Line) (c : Change) → Sound W → IsFromClient line → Has (changes_of W now line) c → Moves W c.world
 changes-Move W now (Do request) c o from h = let course = course_of W now request in moved-to W course.changes c (course-Moves W now request from o) h
+changes-Move W now (Read worker max index) c o from h = absurd h
+changes-Move W now (Publish worker) c o from h = absurd h
 
 -- HELD BATCHES
 
@@ -307,10 +411,158 @@ Steps-to M W i m = record {
   later = m.later;
 }
 
+-- A PUBLICATION
+
+-- the version of a held batch takes the place of that of its index
+further-Comes : (W : World) (x : Slot) (v : Version) → Sound W → Has W.slots x → Fits W.store v → x.version.definition ≡ v.definition → x.version.etag ≤ v.etag
+    → Comes W W.store [] (record { number = x.number; name = x.name; version = v; row = x.row })
+further-Comes W x v o h f d le = record {
+  fits = f;
+  within = o.numbers x h;
+  old = inl (x, h, record { number = refl; definition = d; onward = le; named = refl });
+  named = inl (x, h, refl, refl);
+  kind = ap is_automatic (sym d) ∙ o.kinds x h;
+}
+
+module _ (W : World) (h : Held) (o : Sound W) (k : IsHeld W h) where
+  abbrev put : Slot → Slot
+  put = with_version h.number h.version
+
+  put-number : (x : Slot) → (put x).number ≡ x.number
+  put-number x = elim (x.number == h.number) as (λ b. (cond b (record { number = x.number; name = x.name; version = h.version; row = x.row }) x).number ≡ x.number) [ true ↦ refl | false ↦ refl ]
+
+  put-name : (x : Slot) → (put x).name ≡ x.name
+  put-name x = elim (x.number == h.number) as (λ b. (cond b (record { number = x.number; name = x.name; version = h.version; row = x.row }) x).name ≡ x.name) [ true ↦ refl | false ↦ refl ]
+
+  put-row : (x : Slot) → (put x).row ≡ x.row
+  put-row x = elim (x.number == h.number) as (λ b. (cond b (record { number = x.number; name = x.name; version = h.version; row = x.row }) x).row ≡ x.row) [ true ↦ refl | false ↦ refl ]
+
+  put-definition : (x : Slot) → Has W.slots x → (put x).version.definition ≡ x.version.definition
+  put-definition x there = elim (x.number == h.number) as (λ b. (x.number == h.number) ≡ b → (cond b (record { number = x.number; name = x.name; version = h.version; row = x.row }) x).version.definition ≡ x.version.definition) [
+    | true ↦ λ e. sym (k.same x there (eqb-true x.number h.number e))
+    | false ↦ λ e. refl
+  ] refl
+
+  put-Comes : (s x : Slot) → Has W.slots s → s.number ≡ h.number → s.version.etag ≤ h.version.etag → Has W.slots x → Comes W W.store [] (put x)
+  put-Comes s x at n le there = elim (x.number == h.number) as (λ b. (x.number == h.number) ≡ b → Comes W W.store [] (cond b (record { number = x.number; name = x.name; version = h.version; row = x.row }) x)) [
+    | true ↦ λ e.
+        let is = eqb-true x.number h.number e in
+        let one = same_slot 0 W.slots x s o.rising there at (is ∙ sym n) in
+        further-Comes W x h.version o there k.fits (k.same x there is) (let f = ap (λ (y : Slot). y.version.etag) one in omega arith)
+    | false ↦ λ e. stays W W.store [] x o (Later-itself W.store) there
+  ] refl
+
+  put-Moves : (s : Slot) → Has W.slots s → s.number ≡ h.number → s.version.etag ≤ h.version.etag → Moves W (with_slots W (map put W.slots))
+  put-Moves s at n le = Shifts-Moves W W.store (map put W.slots) o (record {
+    store = o.store;
+    later = Later-itself W.store;
+    comes = λ y g. let x = Has-map put W.slots y g in subst (Comes W W.store []) x.2 (put-Comes s x.0 at n le x.1);
+    rising = NumbersRise-map 0 put W.slots put-number o.rising;
+    apart = NamesApart-map put W.slots put-name o.apart;
+    beside = HaveTheirSlots-map put W.slots put-name o.beside;
+    listed = map-AreListed W.store put W.slots (λ x g. (put-name x, put-row x, put-definition x g)) o.listed;
+    rows = o.limits.rows;
+    count = let a = length_mapped put W.slots in let b = o.limits.slots in omega arith;
+    etags = o.limits.etags;
+  })
+
+  pub published-Moves : (V : World) → published W h.number h.version ≡ Ok V → Moves W V
+  published-Moves V is = by (numbered W.slots h.number) refl is
+    where
+      same_world : (A B : World) → (let r : Result World PublishRefusal = Ok A in r) ≡ Ok B → A ≡ B
+      same_world A B e = cc
+
+      by : (there : Option Slot) → numbered W.slots h.number ≡ there → published_in W h.number h.version there ≡ Ok V → Moves W V
+      by None e g = absurd cc
+      by (Some s) e g =
+          let at = find-Has (λ x. x.number == h.number) W.slots s e in
+          elim (nat_lt s.version.etag h.version.etag) as (λ b. nat_lt s.version.etag h.version.etag ≡ b
+          → cond b (Ok (with_slots W (map put W.slots))) (Err (Passed s.version.etag)) ≡ Ok V → Moves W V) [
+            | true ↦ λ t f. subst (Moves W) (same_world (with_slots W (map put W.slots)) V f)
+                (put-Moves s at.0 (eqb-true s.number h.number at.1) (let lt = ltb-true s.version.etag h.version.etag t in omega arith))
+            | false ↦ λ t f. absurd cc
+          ] refl g
+
+-- WORKERS
+
+-- a worker lets its batch go
+let_go-Steps : (M : Machine) (worker : ℕ) → IsMachine M → Steps M (let_go M worker)
+let_go-Steps M worker i = record {
+  machine = record { world = i.world; held = λ h has. i.held h (Has-filter (λ x. not (x.worker == worker)) M.held h has) };
+  later = LaterW-itself M.world;
+}
+
+with_held-Steps : (M : Machine) (h : Held) → IsMachine M → IsHeld M.world h → Steps M (with_held M h)
+with_held-Steps M h i is = record {
+  machine = record {
+    world = i.world;
+    held = λ x has. elim (Has-append (let_go M h.worker).held (h ∷ []) x has) [
+      | inl old ↦ i.held x (Has-filter (λ y. not (y.worker == h.worker)) M.held x old)
+      | inr (inl e) ↦ subst (IsHeld M.world) e is
+      | inr (inr no_more) ↦ absurd no_more
+    ];
+  };
+  later = LaterW-itself M.world;
+}
+
+read_batch-Steps : (M : Machine) (worker max : ℕ) (s : Slot) (v : Option Version) → IsMachine M → Has M.world.slots s → batch s.version M.world.store max ≡ v → Steps M (read_batch M worker s v).machine
+read_batch-Steps M worker max s None i h e = let_go-Steps M worker i
+read_batch-Steps M worker max s (Some v) i h e = with_held-Steps M (record { worker = worker; number = s.number; version = v }) i (batch-IsHeld M.world worker s v max i.world h e)
+
+read-Steps : (M : Machine) (worker max : ℕ) (index : List ℕ) (there : Option Slot) → IsMachine M → serving M.world.slots index ≡ there → Steps M (read_at M worker max index there).machine
+read-Steps M worker max index None i e = Steps-itself M i
+read-Steps M worker max index (Some s) i e =
+    read_batch-Steps M worker max s (batch s.version M.world.store max) i (find-Has (λ x. same_key (folded index) (folded x.name)) M.world.slots s e).0 refl
+
+publish_to-Steps : (M : Machine) (worker : ℕ) (h : Held) (reply : replies.Reply) (o : Result World PublishRefusal) → IsMachine M → Has M.held h
+    → published M.world h.number h.version ≡ o → Steps M (publish_to M worker reply o).machine
+publish_to-Steps M worker h reply (Err refusal) i has e = let_go-Steps M worker i
+publish_to-Steps M worker h reply (Ok V) i has e =
+    let free = let_go-Steps M worker i in
+    Steps-then M (let_go M worker) (with_world (let_go M worker) V) free (Steps-to (let_go M worker) V free.machine (published-Moves M.world h i.world (i.held h has) V e))
+
+publish-Steps : (M : Machine) (worker : ℕ) (there : Option Held) → IsMachine M → held_by M.held worker ≡ there → Steps M (publish_by M worker there).machine
+publish-Steps M worker None i e = Steps-itself M i
+publish-Steps M worker (Some h) i e =
+    publish_to-Steps M worker h (published_reply h.version (numbered M.world.slots h.number)) (published M.world h.number h.version) i (find-Has (λ x. x.worker == worker) M.held h e).0 refl
+
+-- what a worker reads changes no world, and what it publishes no store
+pub read-world : (M : Machine) (worker max : ℕ) (index : List ℕ) (there : Option Slot) → (read_at M worker max index there).machine.world ≡ M.world
+read-world M worker max index None = refl
+read-world M worker max index (Some s) = by (batch s.version M.world.store max)
+  where
+    by : (v : Option Version) → (read_batch M worker s v).machine.world ≡ M.world
+    by None = refl
+    by (Some v) = refl
+
+published-store : (W : World) (n : ℕ) (v : Version) (there : Option Slot) (V : World) → published_in W n v there ≡ Ok V → V.store ≡ W.store
+published-store W n v None V h = absurd cc
+published-store W n v (Some s) V h = elim (nat_lt s.version.etag v.etag) as (λ b. cond b (Ok (with_slots W (map (with_version n v) W.slots))) (Err (Passed s.version.etag)) ≡ Ok V → V.store ≡ W.store) [
+  | true ↦ λ e. sym (ap (λ (X : World). X.store) (same_world (with_slots W (map (with_version n v) W.slots)) V e))
+  | false ↦ λ e. absurd cc
+] h
+  where
+    same_world : (A B : World) → (let r : Result World PublishRefusal = Ok A in r) ≡ Ok B → A ≡ B
+    same_world A B e = cc
+
+pub publish-store : (M : Machine) (worker : ℕ) (there : Option Held) → (publish_by M worker there).machine.world.store ≡ M.world.store
+publish-store M worker None = refl
+publish-store M worker (Some h) = by (published M.world h.number h.version) refl
+  where
+    by : (o : Result World PublishRefusal) → published M.world h.number h.version ≡ o
+        → (publish_to M worker (published_reply h.version (numbered M.world.slots h.number)) o).machine.world.store ≡ M.world.store
+    by (Err refusal) e = refl
+    by (Ok V) e = published-store M.world h.number h.version (numbered M.world.slots h.number) V e
+
 -- each of the changes leaves such a world
 abbrev pub AllLeave : (World → Type 0) → List Change → Type 0
 AllLeave P [] = Unit {0}
 AllLeave P (c ∷ more) = P c.world × AllLeave P more
+
+-- what each change does to the world before it, all of them do to the first one
+pub chain : (R : World → World → Type 0) → ((W V X : World) → R W V → R V X → R W X) → (U W : World) → R U W → (changes : List Change) → AllDo (λ V c. R V c.world) W changes → AllLeave (R U) changes
+chain R then U W r [] all = tt
+chain R then U W r (c ∷ more) all = let next = then U W c.world r all.0 in (next, chain R then U c.world next more all.1)
 
 -- whatever the keeper does, the world that is left is the one before or that of a change
 pub made-leaves : (P : World → Type 0) (k : Keeping) (M : Machine) (takes : List Bool) (changes : List Change) (reply : replies.Reply) → P M.world → AllLeave P changes
@@ -340,6 +592,8 @@ made-Steps k M takes (c ∷ more) reply i all =
 pub step-Steps : (M : Machine) (k : Keeping) (now : ℕ) (line : Line) → IsFromClient line → IsMachine M → Steps M (step M k now line).machine
 step-Steps M k now (Do request) from i =
     let course = course_of M.world now request in made-Steps k M k.takes course.changes course.reply i (course-Moves M.world now request from i.world)
+step-Steps M k now (Read worker max index) from i = read-Steps M worker max index (serving M.world.slots index) i refl
+step-Steps M k now (Publish worker) from i = publish-Steps M worker (held_by M.held worker) i refl
 
 pub run-Steps : (es : List Event) (M : Machine) → AreFromClients es → IsMachine M → Steps M (run es M)
 run-Steps [] M from i = Steps-itself M i
@@ -357,6 +611,7 @@ start-IsMachine setting = record { world = start-Sound setting; held = λ h has.
       rising = tt;
       apart = λ s t h. absurd h;
       kinds = λ s h. absurd h;
+      beside = λ s h. absurd h;
       listed = record { each = λ s h. absurd h; only = λ q r h. absurd (let e = h in cc) };
       notes = λ n h. absurd h;
       limits = record { rows = omega arith; slots = omega arith; notes = omega arith; etags = omega arith };

@@ -1,13 +1,14 @@
 -- What stored rows open is a sound world.
-use Rattle.std.proofs.Common.{◌≡◌, ℕ, zero, suc, ◌+◌, ◌<◌, ◌≤◌, List, [], ◌∷◌, ◌++◌, Bool, true, false, cond, not, ◌&&◌, ◌||◌, ◌==◌, nat_lt, nat_le, is_none, length, take, drop, codes, Option, Some, None, option_map, Result, Ok, Err, refl, sym, ap, ◌∙◌, subst, arith, inl, inr, append_assoc, append-nil}
+use Rattle.std.proofs.Common.{◌≡◌, ℕ, zero, suc, ◌+◌, ◌<◌, ◌≤◌, List, [], ◌∷◌, ◌++◌, Bool, true, false, cond, not, ◌&&◌, ◌||◌, ◌==◌, nat_eq, nat_lt, nat_le, is_none, length, take, drop, codes, Option, Some, None, option_map, Result, Ok, Err, refl, sym, ap, ◌∙◌, subst, arith, inl, inr, append_assoc, append-nil}
 use Rattle.std.proofs.lemmas.Bool.{ltb-true, leb-true, leb-false, eqb-true}
 use Rattle.std.proofs.lemmas.List.{length-append, take-append-drop}
 use Rattle.std.proofs.lemmas.Slice.Eq.{bytes_eq-Decides}
 use Rattle.std.specs.Cmp.Lexicographic.{nat_list_eq_equiv}
 use Rattle.std.specs.Option.{option_or}
+use Rattle.std.specs.List.{starts_with}
 use Rattle.std.specs.Str.{bytes_eq}
 use Rattle.spec_data.specs.Data.{Data, null, flag, num, text, array, object, Items, Entries, no_items, item, no_entries, entry, pairs_of}
-use Rattle.spec_data.specs.Faults.{is_fit, max_id}
+use Rattle.spec_data.specs.Faults.{is_fit, max_id, replacement_of}
 use Rattle.spec_data.specs.Folding.{folded, same_key}
 use Rattle.spec_data.specs.Json.{JsonRefusal, reading}
 use Rattle.spec_data.specs.Kept.{KeptRow, all_kept, body_text, kept}
@@ -19,14 +20,16 @@ use Rattle.spec_data.specs.Written.{text_of}
 use Rattle.spec_store.specs.Store.{row_at, last_of, AreRising, AreApart, IsStore}
 use Rattle.index_tree.specs.Definitions.{Definition, Auto, Texts}
 use Rattle.spec_store.specs.Commit.{Setting, is_index_id, stored_body}
-use Rattle.spec_index.specs.World.{Slot, new_version, index_id, row_body, text_or_null, is_automatic, begins_with_auto}
+use Rattle.spec_index.specs.World.{Slot, new_version, index_id, row_body, text_or_null, is_automatic, is_reserved_name, begins_with_auto, begins_with_replacement}
 use Rattle.spec_server.specs.Machine.{Machine}
-use Rattle.spec_server.specs.Opening.{OpenedFrom, is_part, auto_read, texts_read, form_of, body_form, NoForm, ReadRow, is_defining, name_in, may_be_named, is_filed, is_too_many, slot_of, with_slot, slots_with, slots_after, or_bad, and_then, slots_from, opened_with, rows_of}
+use Rattle.spec_server.specs.Opening.{OpenedFrom, is_part, auto_read, texts_read, form_of, body_form, NoForm, ReadRow, is_defining, name_in, may_be_named, is_filed, is_too_many, is_live, is_beside, slot_of, with_slot, slots_with, slots_after, or_bad, and_then, slots_from, opened_with, rows_of}
 use Rattle.spec_store.specs.Kept.{max_body, max_etag, is_stored, document_of, document_in, body_in, is_etag, row_in, can_follow, row_if_it_follows, or_bad_row, rows_after, rows_in}
-use Rattle.spec_server.specs.Sound.{Has, Fits, NumbersRise, NamesApart, AreListed, IsMachine, Sound}
+use Rattle.spec_server.specs.Sound.{Has, Fits, NumbersRise, NamesApart, HaveTheirSlots, AreListed, IsMachine, Sound}
 use Rattle.raven_laws.specs.Opened.{AgreesWithForm, AgreesWithBody, HasOwnDefinition, HaveOwnDefinitions, OpenedFaithfully}
 use Rattle.spec_store.proofs.StoreLemmas.{same_row, both_true, either_false, same_itself, same_means, found_key, row_at-append, last_of-append}
-use Rattle.raven_laws.proofs.KindLemmas.{named-kind}
+use Rattle.raven_laws.proofs.KindLemmas.{named-given, named-kind}
+use Rattle.raven_laws.proofs.ListedLemmas.{index_apart}
+use Rattle.raven_laws.proofs.WorldLemmas.{reserved-other}
 use Rattle.raven_laws.proofs.SlotLemmas.{Has-append, Has-left, Has-right, find-Has, NumbersRise-push, Fits-fresh, same_slot}
 use Rattle.raven_laws.proofs.MemberLemmas.{Rises, read_rises, they_are}
 
@@ -413,8 +416,13 @@ indexed id h =
 
 -- SLOTS, ONE AFTER ANOTHER
 
+-- a client may give the name, and these rows have a live one of its index
+pub record IsForOne (all : List Row) (name : List ℕ) : Type 0 where
+  pub given : is_reserved_name name ≡ false
+  pub live : is_live (row_at (folded (index_id name)) all) ≡ true
+
 -- the slot is that of a row of a definition
-pub record IsMade (rows : List Row) (x : Slot) : Type 0 where
+pub record IsMade (all rows : List Row) (x : Slot) : Type 0 where
   pub from : Row
   pub there : Has rows from
   pub defining : is_defining from ≡ true
@@ -422,18 +430,20 @@ pub record IsMade (rows : List Row) (x : Slot) : Type 0 where
   pub definition : Definition
   pub told : AgreesWithBody from.body definition
   pub kind : is_automatic definition ≡ begins_with_auto (name_in from)
+  pub beside : begins_with_replacement (name_in from) ≡ true → IsForOne all (drop 14 (name_in from))
   pub made : slot_of from definition ≡ x
 
 -- the slots of the rows so far
-pub record AreMade (max : ℕ) (rows : List Row) (slots : List Slot) : Type 0 where
+pub record AreMade (all : List Row) (max : ℕ) (rows : List Row) (slots : List Slot) : Type 0 where
   pub rising : NumbersRise 0 slots
   pub under : (x : Slot) → Has slots x → x.number ≤ last_of 0 rows
-  pub each : (x : Slot) → Has slots x → IsMade rows x
+  pub each : (x : Slot) → Has slots x → IsMade all rows x
+  pub filed : (r : Row) → Has rows r → is_filed r ≡ true
   pub only : (r : Row) → Has rows r → is_defining r ≡ true → (x : Slot) × Has slots x × (key r ≡ folded (index_id x.name))
   pub count : length slots ≤ max
 
-IsMade-further : (rows : List Row) (r : Row) (x : Slot) → IsMade rows x → IsMade (rows ++ r ∷ []) x
-IsMade-further rows r x m = record {
+IsMade-further : (all rows : List Row) (r : Row) (x : Slot) → IsMade all rows x → IsMade all (rows ++ r ∷ []) x
+IsMade-further all rows r x m = record {
   from = m.from;
   there = Has-left rows (r ∷ []) m.from m.there;
   defining = m.defining;
@@ -441,15 +451,25 @@ IsMade-further rows r x m = record {
   definition = m.definition;
   told = m.told;
   kind = m.kind;
+  beside = m.beside;
   made = m.made;
 }
 
+filed-further : (rows : List Row) (r : Row) → ((x : Row) → Has rows x → is_filed x ≡ true) → is_filed r ≡ true → (x : Row) → Has (rows ++ r ∷ []) x → is_filed x ≡ true
+filed-further rows r all is x h = elim (Has-append rows (r ∷ []) x h) [
+  | inl old ↦ all x old
+  | inr (inl e) ↦ subst (λ (y : Row). is_filed y ≡ true) e is
+  | inr (inr no_more) ↦ absurd no_more
+]
+
 -- a row that is no definition leaves the slots as they are
-plain-AreMade : (max : ℕ) (rows : List Row) (slots : List Slot) (r : Row) → AreMade max rows slots → last_of 0 rows < r.etag → is_defining r ≡ false → AreMade max (rows ++ r ∷ []) slots
-plain-AreMade max rows slots r a up plain = record {
+plain-AreMade : (all : List Row) (max : ℕ) (rows : List Row) (slots : List Slot) (r : Row) → AreMade all max rows slots → last_of 0 rows < r.etag → is_filed r ≡ true → is_defining r ≡ false
+    → AreMade all max (rows ++ r ∷ []) slots
+plain-AreMade all max rows slots r a up filed plain = record {
   rising = a.rising;
   under = λ x h. let u = a.under x h in let l = last_of-push 0 rows r in omega arith;
-  each = λ x h. IsMade-further rows r x (a.each x h);
+  each = λ x h. IsMade-further all rows r x (a.each x h);
+  filed = filed-further rows r a.filed filed;
   only = λ y h is. elim (Has-append rows (r ∷ []) y h) [
     | inl old ↦ a.only y old is
     | inr (inl e) ↦ absurd (let f = ap is_defining e in cc)
@@ -459,10 +479,11 @@ plain-AreMade max rows slots r a up plain = record {
 }
 
 -- the row of a definition adds its slot
-defining-AreMade : (max : ℕ) (rows : List Row) (slots : List Slot) (r : Row) (d : Definition) → AreMade max rows slots → last_of 0 rows < r.etag → length slots < max
-    → is_defining r ≡ true → is_index_id r.id ≡ true → AgreesWithBody r.body d → is_automatic d ≡ begins_with_auto (name_in r)
-    → AreMade max (rows ++ r ∷ []) (slots ++ slot_of r d ∷ [])
-defining-AreMade max rows slots r d a up room is filed means kind = record {
+defining-AreMade : (all : List Row) (max : ℕ) (rows : List Row) (slots : List Slot) (r : Row) (d : Definition) → AreMade all max rows slots → last_of 0 rows < r.etag → length slots < max
+    → is_filed r ≡ true → is_defining r ≡ true → is_index_id r.id ≡ true → AgreesWithBody r.body d → is_automatic d ≡ begins_with_auto (name_in r)
+    → (begins_with_replacement (name_in r) ≡ true → IsForOne all (drop 14 (name_in r))) → AreMade all max (rows ++ r ∷ []) (slots ++ slot_of r d ∷ [])
+defining-AreMade all max rows slots r d a up room right is filed means kind beside = record {
+  filed = filed-further rows r a.filed right;
   rising = NumbersRise-push 0 slots (slot_of r d) a.rising (omega arith) (λ x h. let u = a.under x h in omega arith);
   under = λ x h. let l = last_of-push 0 rows r in elim (Has-append slots (slot_of r d ∷ []) x h) [
     | inl old ↦ let u = a.under x old in omega arith
@@ -470,8 +491,8 @@ defining-AreMade max rows slots r d a up room is filed means kind = record {
     | inr (inr no_more) ↦ absurd no_more
   ];
   each = λ x h. elim (Has-append slots (slot_of r d ∷ []) x h) [
-    | inl old ↦ IsMade-further rows r x (a.each x old)
-    | inr (inl e) ↦ record { from = r; there = Has-right rows (r ∷ []) r (inl refl); defining = is; indexed = filed; definition = d; told = means; kind = kind; made = e }
+    | inl old ↦ IsMade-further all rows r x (a.each x old)
+    | inr (inl e) ↦ record { from = r; there = Has-right rows (r ∷ []) r (inl refl); defining = is; indexed = filed; definition = d; told = means; kind = kind; beside = beside; made = e }
     | inr (inr no_more) ↦ absurd no_more
   ];
   only = λ y h at. elim (Has-append rows (r ∷ []) y h) [
@@ -486,73 +507,83 @@ same_slots : (a b : List Slot) → Some a ≡ Some b → a ≡ b
 same_slots a b h = cc
 
 -- what holds of a row that was taken
-pub record IsTaken (s : Setting) (slots : List Slot) (x : ReadRow) (more : List Slot) : Type 0 where
+pub record IsTaken (s : Setting) (all : List Row) (slots : List Slot) (x : ReadRow) (more : List Slot) : Type 0 where
   pub room : is_defining x.row && nat_le s.max_slots (length slots) ≡ false
   pub filed : is_filed x.row ≡ true
-  pub rest : slots_with slots x ≡ Some more
+  pub rest : slots_with all slots x ≡ Some more
 
 pub not_false : (b : Bool) → not b ≡ false → b ≡ true
 not_false true h = refl
 not_false false h = absurd cc
 
-pub taken-of : (s : Setting) (n : ℕ) (slots : List Slot) (x : ReadRow) (more : List Slot) → slots_after s n slots x ≡ Some more → IsTaken s slots x more
-taken-of s n slots x more h = elim (is_too_many s n slots x.row || not (is_filed x.row)) as (λ b. is_too_many s n slots x.row || not (is_filed x.row) ≡ b → cond b None (slots_with slots x) ≡ Some more → IsTaken s slots x more) [
-  | true ↦ λ e g. absurd cc
-  | false ↦ λ e g.
-      let f = either_false (is_too_many s n slots x.row) (not (is_filed x.row)) e in
-      record {
-        room = (either_false (nat_le s.max_rows n) (is_defining x.row && nat_le s.max_slots (length slots)) f.0).1;
-        filed = not_false (is_filed x.row) f.1;
-        rest = g;
-      }
-] refl h
+pub taken-of : (s : Setting) (all : List Row) (n : ℕ) (slots : List Slot) (x : ReadRow) (more : List Slot) → slots_after s all n slots x ≡ Some more → IsTaken s all slots x more
+taken-of s all n slots x more h = elim (is_too_many s n slots x.row || not (is_filed x.row)) as (λ b. is_too_many s n slots x.row || not (is_filed x.row) ≡ b
+    → cond b None (slots_with all slots x) ≡ Some more → IsTaken s all slots x more) [
+      | true ↦ λ e g. absurd cc
+      | false ↦ λ e g.
+          let f = either_false (is_too_many s n slots x.row) (not (is_filed x.row)) e in
+          record {
+            room = (either_false (nat_le s.max_rows n) (is_defining x.row && nat_le s.max_slots (length slots)) f.0).1;
+            filed = not_false (is_filed x.row) f.1;
+            rest = g;
+          }
+    ] refl h
 
 filed-indexed : (r : Row) → is_filed r ≡ true → is_defining r ≡ true → is_index_id r.id ≡ true
 filed-indexed r filed is =
     sym (ap (λ b. cond b (is_index_id r.id) (not (is_index_id r.id))) (both_true (is_document r) (bytes_eq r.collection (codes "@indexes")) is).1) ∙ filed
 
--- the row of a definition adds a slot, and its definition may have the row's name
-pub record IsBrought (slots : List Slot) (r : Row) (o : Option Definition) (more : List Slot) : Type 0 where
+-- the row of a definition adds a slot, its definition may have the row's name, and what it is to replace has a row
+pub record IsBrought (all : List Row) (slots : List Slot) (r : Row) (o : Option Definition) (more : List Slot) : Type 0 where
   pub definition : Definition
   pub read : o ≡ Some definition
   pub may : may_be_named definition (name_in r) ≡ true
+  pub beside : is_beside all (name_in r) ≡ true
   pub brought : slots ++ slot_of r definition ∷ [] ≡ more
 
-pub with_slot-is : (slots : List Slot) (r : Row) (o : Option Definition) (more : List Slot) → with_slot slots r o ≡ Some more → IsBrought slots r o more
-with_slot-is slots r None more h = absurd cc
-with_slot-is slots r (Some d) more h = elim (may_be_named d (name_in r)) as (λ b. may_be_named d (name_in r) ≡ b → cond b (Some (slots ++ slot_of r d ∷ [])) None ≡ Some more → IsBrought slots r (Some d) more) [
-  | true ↦ λ e g. record { definition = d; read = refl; may = e; brought = same_slots _ more g }
-  | false ↦ λ e g. absurd cc
-] refl h
+pub with_slot-is : (all : List Row) (slots : List Slot) (r : Row) (o : Option Definition) (more : List Slot) → with_slot all slots r o ≡ Some more → IsBrought all slots r o more
+with_slot-is all slots r None more h = absurd cc
+with_slot-is all slots r (Some d) more h = elim (may_be_named d (name_in r) && is_beside all (name_in r)) as (λ b. may_be_named d (name_in r) && is_beside all (name_in r) ≡ b
+    → cond b (Some (slots ++ slot_of r d ∷ [])) None ≡ Some more → IsBrought all slots r (Some d) more) [
+      | true ↦ λ e g. let both = both_true (may_be_named d (name_in r)) (is_beside all (name_in r)) e in record { definition = d; read = refl; may = both.0; beside = both.1; brought = same_slots _ more g }
+      | false ↦ λ e g. absurd cc
+    ] refl h
 
-slots_after-AreMade : (s : Setting) (n : ℕ) (rows : List Row) (slots : List Slot) (x : ReadRow) (more : List Slot) → AreMade s.max_slots rows slots → last_of 0 rows < x.row.etag → HasOwnDefinition x
-    → slots_after s n slots x ≡ Some more → AreMade s.max_slots (rows ++ x.row ∷ []) more
-slots_after-AreMade s n rows slots x more a up told h =
-    let t = taken-of s n slots x more h in
-    elim (is_defining x.row) as (λ b. is_defining x.row ≡ b → cond b (with_slot slots x.row x.definition) (Some slots) ≡ Some more → AreMade s.max_slots (rows ++ x.row ∷ []) more) [
+-- a replacement is for an index that has a row
+beside-for : (all : List Row) (d : Definition) (name : List ℕ) → may_be_named d name ≡ true → is_beside all name ≡ true → begins_with_replacement name ≡ true → IsForOne all (drop 14 name)
+beside-for all d name may beside is = record {
+  given = named-given d name may is;
+  live = sym (ap (λ b. not b || is_live (row_at (folded (index_id (cond b (drop 14 name) name))) all)) is) ∙ beside;
+}
+
+slots_after-AreMade : (s : Setting) (all : List Row) (n : ℕ) (rows : List Row) (slots : List Slot) (x : ReadRow) (more : List Slot) → AreMade all s.max_slots rows slots → last_of 0 rows < x.row.etag → HasOwnDefinition x
+    → slots_after s all n slots x ≡ Some more → AreMade all s.max_slots (rows ++ x.row ∷ []) more
+slots_after-AreMade s all n rows slots x more a up told h =
+    let t = taken-of s all n slots x more h in
+    elim (is_defining x.row) as (λ b. is_defining x.row ≡ b → cond b (with_slot all slots x.row x.definition) (Some slots) ≡ Some more → AreMade all s.max_slots (rows ++ x.row ∷ []) more) [
       | true ↦ λ e g.
-          let w = with_slot-is slots x.row x.definition more g in
+          let w = with_slot-is all slots x.row x.definition more g in
           let free = sym (ap (λ b. b && nat_le s.max_slots (length slots)) e) ∙ t.room in
-          subst (AreMade s.max_slots (rows ++ x.row ∷ [])) w.brought
-          (defining-AreMade s.max_slots rows slots x.row w.definition a up (leb-false s.max_slots (length slots) free) e (filed-indexed x.row t.filed e) (told w.definition e w.read)
-          (named-kind w.definition (name_in x.row) w.may))
-      | false ↦ λ e g. subst (AreMade s.max_slots (rows ++ x.row ∷ [])) (same_slots slots more g) (plain-AreMade s.max_slots rows slots x.row a up e)
+          subst (AreMade all s.max_slots (rows ++ x.row ∷ [])) w.brought
+          (defining-AreMade all s.max_slots rows slots x.row w.definition a up (leb-false s.max_slots (length slots) free) t.filed e (filed-indexed x.row t.filed e) (told w.definition e w.read)
+          (named-kind w.definition (name_in x.row) w.may) (beside-for all w.definition (name_in x.row) w.may w.beside))
+      | false ↦ λ e g. subst (AreMade all s.max_slots (rows ++ x.row ∷ [])) (same_slots slots more g) (plain-AreMade all s.max_slots rows slots x.row a up t.filed e)
     ] refl t.rest
 
 same_opened : (a b : List Slot) → (let r : Result (List Slot) ℕ = Ok a in r) ≡ Ok b → a ≡ b
 same_opened a b h = cc
 
-slots_from-AreMade : (s : Setting) (n : ℕ) (earlier : List Row) (slots : List Slot) (xs : List ReadRow) (all : List Slot) → AreMade s.max_slots earlier slots
-    → AreRising (last_of 0 earlier) (rows_of xs) → HaveOwnDefinitions xs → slots_from s n slots xs ≡ Ok all → AreMade s.max_slots (earlier ++ rows_of xs) all
-slots_from-AreMade s n earlier slots [] all a up told h =
-    subst (λ rows. AreMade s.max_slots rows all) (sym (append-nil earlier)) (subst (AreMade s.max_slots earlier) (same_opened slots all h) a)
-slots_from-AreMade s n earlier slots (x ∷ xs) all a up told h =
-    elim (slots_after s n slots x) as (λ o. slots_after s n slots x ≡ o → and_then (or_bad x.row.etag o) (λ more. slots_from s (n + 1) more xs) ≡ Ok all
-    → AreMade s.max_slots (earlier ++ x.row ∷ rows_of xs) all) [
+slots_from-AreMade : (s : Setting) (all : List Row) (n : ℕ) (earlier : List Row) (slots : List Slot) (xs : List ReadRow) (last : List Slot) → AreMade all s.max_slots earlier slots
+    → AreRising (last_of 0 earlier) (rows_of xs) → HaveOwnDefinitions xs → slots_from s all n slots xs ≡ Ok last → AreMade all s.max_slots (earlier ++ rows_of xs) last
+slots_from-AreMade s all n earlier slots [] last a up told h =
+    subst (λ rows. AreMade all s.max_slots rows last) (sym (append-nil earlier)) (subst (AreMade all s.max_slots earlier) (same_opened slots last h) a)
+slots_from-AreMade s all n earlier slots (x ∷ xs) last a up told h =
+    elim (slots_after s all n slots x) as (λ o. slots_after s all n slots x ≡ o → and_then (or_bad x.row.etag o) (λ more. slots_from s all (n + 1) more xs) ≡ Ok last
+    → AreMade all s.max_slots (earlier ++ x.row ∷ rows_of xs) last) [
       | None ↦ λ e g. absurd cc
       | Some more ↦ λ e g.
-          subst (λ rows. AreMade s.max_slots rows all) (append_assoc earlier (x.row ∷ []) (rows_of xs))
-          (slots_from-AreMade s (n + 1) (earlier ++ x.row ∷ []) more xs all (slots_after-AreMade s n earlier slots x more a up.0 told.0 e)
+          subst (λ rows. AreMade all s.max_slots rows last) (append_assoc earlier (x.row ∷ []) (rows_of xs))
+          (slots_from-AreMade s all (n + 1) (earlier ++ x.row ∷ []) more xs last (slots_after-AreMade s all n earlier slots x more a up.0 told.0 e)
           (subst (λ low. AreRising low (rows_of xs)) (sym (last_of-push 0 earlier x.row)) up.1) told.1 g)
     ] refl h
 
@@ -569,8 +600,8 @@ Has-found (x ∷ rows) r apart (inr h) =
       | false ↦ λ e. Has-found rows r apart.1 h
     ] refl
 
-opened-apart : (max : ℕ) (rows : List Row) (slots : List Slot) → AreApart rows → AreMade max rows slots → NamesApart slots
-opened-apart max rows slots apart a s t h g e =
+opened-apart : (all : List Row) (max : ℕ) (rows : List Row) (slots : List Slot) → AreApart rows → AreMade all max rows slots → NamesApart slots
+opened-apart all max rows slots apart a s t h g e =
     let x = a.each s h in
     let y = a.each t g in
     let named : folded (index_id (drop 7 x.from.id)) ≡ folded (index_id (drop 7 y.from.id)) =
@@ -579,8 +610,8 @@ opened-apart max rows slots apart a s t h g e =
     let same : x.from ≡ y.from = same_row x.from y.from (sym (Has-found rows x.from apart x.there) ∙ ap (λ k. row_at k rows) keyed ∙ Has-found rows y.from apart y.there) in
     same_slot 0 slots s t a.rising h g (ap (λ (z : Slot). z.number) (sym x.made) ∙ ap (λ (r : Row). r.etag) same ∙ ap (λ (z : Slot). z.number) y.made)
 
-opened-listed : (max : ℕ) (rows : List Row) (slots : List Slot) → Stand max rows → (most : ℕ) → AreMade most rows slots → AreListed (record { rows = rows }) slots
-opened-listed max rows slots s most a = record {
+opened-listed : (all : List Row) (max : ℕ) (rows : List Row) (slots : List Slot) → Stand max rows → (most : ℕ) → AreMade all most rows slots → AreListed (record { rows = rows }) slots
+opened-listed all max rows slots s most a = record {
   each = λ x h.
       let m = a.each x h in
       let shut = both_true (is_document m.from) (bytes_eq m.from.collection (codes "@indexes")) m.defining in
@@ -599,11 +630,51 @@ opened-listed max rows slots s most a = record {
       (x.0, x.1, found_key q rows r h ∙ x.2);
 }
 
+live-row : (o : Option Row) → is_live o ≡ true → (r : Row) × (o ≡ Some r) × (is_document r ≡ true)
+live-row None h = absurd cc
+live-row (Some r) h = (r, refl, h)
+
+-- a row with the id of an index's is in `@indexes`
+filed-collection : (r : Row) → is_filed r ≡ true → is_index_id r.id ≡ true → bytes_eq r.collection (codes "@indexes") ≡ true
+filed-collection r filed is = elim (bytes_eq r.collection (codes "@indexes")) as (λ b. cond b (is_index_id r.id) (not (is_index_id r.id)) ≡ true → b ≡ true) [
+  | true ↦ λ e. refl
+  | false ↦ λ e. absurd (let f = ap not is in cc)
+] filed
+
+-- a name behind the prefix of replacements
+pub behind : (name : List ℕ) → begins_with_replacement name ≡ true → folded name ≡ folded (replacement_of (drop 14 name))
+behind name h =
+    let front = (bytes_eq-Decides (codes "replacementof/") (take 14 (folded name))).0 h in
+    sym (take-append-drop 14 (folded name)) ∙ ap (λ xs. xs ++ drop 14 (folded name)) (sym front) ∙ ap (λ xs. codes "replacementof/" ++ xs) (sym (folded-drop 14 name))
+
+opened-beside : (max : ℕ) (rows : List Row) (slots : List Slot) → AreMade rows max rows slots → HaveTheirSlots slots
+opened-beside max rows slots a x h begins =
+    let m = a.each x h in
+    let name = name_in m.from in
+    let named : name ≡ x.name = ap (λ (z : Slot). z.name) m.made in
+    let is = ap begins_with_replacement named ∙ begins in
+    let one = m.beside is in
+    let live = live-row (row_at (folded (index_id (drop 14 name))) rows) one.live in
+    let r = live.0 in
+    let at = find-Has (λ y. same_key (folded (index_id (drop 14 name))) (key y)) rows r live.1 in
+    let keyed : folded (index_id (drop 14 name)) ≡ key r = found_key (folded (index_id (drop 14 name))) rows r live.1 in
+    let filed : is_index_id r.id ≡ true = ap (λ q. starts_with nat_eq q (codes "@index/")) (sym keyed) in
+    let kept = filed-collection r (a.filed r at.0) filed in
+    let defining : is_defining r ≡ true = ap (λ b. b && bytes_eq r.collection (codes "@indexes")) live.2 ∙ kept in
+    let t = a.only r at.0 defining in
+    let same : folded (drop 14 name) ≡ folded t.0.name = index_apart (drop 14 name) t.0.name (keyed ∙ t.2) in
+    record {
+      slot = t.0;
+      there = t.1;
+      named = ap folded (sym named) ∙ behind name is ∙ ap (λ q. folded (codes "ReplacementOf/") ++ q) same;
+      given = reserved-other (drop 14 name) t.0.name same one.given;
+    }
+
 -- the machine that rows open
 abbrev machine_of : Setting → List Row → List Slot → Machine
 machine_of s rows slots = record { world = record { setting = s; store = record { rows = rows }; slots = slots; notes = [] }; held = [] }
 
-world-Sound : (s : Setting) (rows : List Row) (slots : List Slot) → Stand s.max_rows rows → AreMade s.max_slots rows slots → Sound (machine_of s rows slots).world
+world-Sound : (s : Setting) (rows : List Row) (slots : List Slot) → Stand s.max_rows rows → AreMade rows s.max_slots rows slots → Sound (machine_of s rows slots).world
 world-Sound s rows slots f a =
     let o : IsStore (record { rows = rows }) = record { rising = f.rising; apart = f.apart } in
     record {
@@ -611,15 +682,16 @@ world-Sound s rows slots f a =
       fits = λ x h. let m = a.each x h in subst (λ (z : Slot). Fits (record { rows = rows }) z.version) m.made (Fits-fresh (record { rows = rows }) m.definition o);
       numbers = a.under;
       rising = a.rising;
-      apart = opened-apart s.max_slots rows slots f.apart a;
+      apart = opened-apart rows s.max_slots rows slots f.apart a;
+      beside = opened-beside s.max_slots rows slots a;
       kinds = λ x h. let m = a.each x h in subst (λ (z : Slot). is_automatic z.version.definition ≡ begins_with_auto z.name) m.made m.kind;
-      listed = opened-listed s.max_rows rows slots f s.max_slots a;
+      listed = opened-listed rows s.max_rows rows slots f s.max_slots a;
       notes = λ n h. absurd h;
       limits = record { rows = f.count; slots = a.count; notes = omega arith; etags = f.etags };
     }
 
-none-AreMade : (max : ℕ) → AreMade max [] []
-none-AreMade max = record { rising = tt; under = λ x h. absurd h; each = λ x h. absurd h; only = λ r h. absurd h; count = omega arith }
+none-AreMade : (all : List Row) (max : ℕ) → AreMade all max [] []
+none-AreMade all max = record { rising = tt; under = λ x h. absurd h; filed = λ r h. absurd h; each = λ x h. absurd h; only = λ r h. absurd h; count = omega arith }
 
 same_machine_of : (a b : Machine) → (let r : Result Machine ℕ = Ok a in r) ≡ Ok b → a ≡ b
 same_machine_of a b h = cc
@@ -628,12 +700,12 @@ same_machine_of a b h = cc
 abbrev AreFresh : List Slot → Type 0
 AreFresh slots = (x : Slot) → Has slots x → x.version ≡ new_version x.version.definition
 
-one-fresh : (s : Setting) (n : ℕ) (slots : List Slot) (x : ReadRow) (more : List Slot) → AreFresh slots → slots_after s n slots x ≡ Some more → AreFresh more
-one-fresh s n slots x more f h =
-    let t = taken-of s n slots x more h in
-    elim (is_defining x.row) as (λ b. cond b (with_slot slots x.row x.definition) (Some slots) ≡ Some more → AreFresh more) [
+one-fresh : (s : Setting) (all : List Row) (n : ℕ) (slots : List Slot) (x : ReadRow) (more : List Slot) → AreFresh slots → slots_after s all n slots x ≡ Some more → AreFresh more
+one-fresh s all n slots x more f h =
+    let t = taken-of s all n slots x more h in
+    elim (is_defining x.row) as (λ b. cond b (with_slot all slots x.row x.definition) (Some slots) ≡ Some more → AreFresh more) [
       | true ↦ λ g.
-          let w = with_slot-is slots x.row x.definition more g in
+          let w = with_slot-is all slots x.row x.definition more g in
           subst AreFresh w.brought (λ y at. elim (Has-append slots (slot_of x.row w.definition ∷ []) y at) [
             | inl old ↦ f y old
             | inr (inl e) ↦ subst (λ (z : Slot). z.version ≡ new_version z.version.definition) e refl
@@ -642,12 +714,12 @@ one-fresh s n slots x more f h =
       | false ↦ λ g. subst AreFresh (same_slots slots more g) f
     ] t.rest
 
-all-fresh : (s : Setting) (n : ℕ) (slots : List Slot) (xs : List ReadRow) (all : List Slot) → AreFresh slots → slots_from s n slots xs ≡ Ok all → AreFresh all
-all-fresh s n slots [] all f h = subst AreFresh (same_opened slots all h) f
-all-fresh s n slots (x ∷ xs) all f h =
-    elim (slots_after s n slots x) as (λ o. slots_after s n slots x ≡ o → and_then (or_bad x.row.etag o) (λ more. slots_from s (n + 1) more xs) ≡ Ok all → AreFresh all) [
+all-fresh : (s : Setting) (all : List Row) (n : ℕ) (slots : List Slot) (xs : List ReadRow) (last : List Slot) → AreFresh slots → slots_from s all n slots xs ≡ Ok last → AreFresh last
+all-fresh s all n slots [] last f h = subst AreFresh (same_opened slots last h) f
+all-fresh s all n slots (x ∷ xs) last f h =
+    elim (slots_after s all n slots x) as (λ o. slots_after s all n slots x ≡ o → and_then (or_bad x.row.etag o) (λ more. slots_from s all (n + 1) more xs) ≡ Ok last → AreFresh last) [
       | None ↦ λ e g. absurd cc
-      | Some more ↦ λ e g. all-fresh s (n + 1) more xs all (one-fresh s n slots x more f e) g
+      | Some more ↦ λ e g. all-fresh s all (n + 1) more xs last (one-fresh s all n slots x more f e) g
     ] refl h
 
 -- what holds of the machine whatever was read of the rows
@@ -659,26 +731,26 @@ pub record HoldsRows (s : Setting) (held : List KeptRow) (M : Machine) : Type 0 
   pub slots : (x : Slot) → Has M.world.slots x → x.version ≡ new_version x.version.definition
 
 holds-rows : (s : Setting) (held : List KeptRow) (M : Machine) (xs : List ReadRow) → AreRowsOf s.max_rows held (rows_of xs)
-    → (r : Result (List Slot) ℕ) → slots_from s 0 [] xs ≡ r → opened_with s (rows_of xs) r ≡ Ok M → HoldsRows s held M
+    → (r : Result (List Slot) ℕ) → slots_from s (rows_of xs) 0 [] xs ≡ r → opened_with s (rows_of xs) r ≡ Ok M → HoldsRows s held M
 holds-rows s held M xs f (Err etag) k g = absurd cc
 holds-rows s held M xs f (Ok slots) k g =
     subst (HoldsRows s held) (same_machine_of (machine_of s (rows_of xs) slots) M g)
-    (record { kept = f.kept; setting = refl; notes = refl; idle = refl; slots = all-fresh s 0 [] xs slots (λ x at. absurd at) k })
+    (record { kept = f.kept; setting = refl; notes = refl; idle = refl; slots = all-fresh s (rows_of xs) 0 [] xs slots (λ x at. absurd at) k })
 
 pub opened_from-rows : (s : Setting) (held : List KeptRow) (M : Machine) → OpenedFrom s held M → HoldsRows s held M
-opened_from-rows s held M from = holds-rows s held M from.read (rows_in-AreRowsOf s.max_rows held (rows_of from.read) from.rows) (slots_from s 0 [] from.read) refl from.opens
+opened_from-rows s held M from = holds-rows s held M from.read (rows_in-AreRowsOf s.max_rows held (rows_of from.read) from.rows) (slots_from s (rows_of from.read) 0 [] from.read) refl from.opens
 
 opened-sound : (s : Setting) (held : List KeptRow) (M : Machine) (xs : List ReadRow) → AreRowsOf s.max_rows held (rows_of xs) → HaveOwnDefinitions xs
-    → (r : Result (List Slot) ℕ) → slots_from s 0 [] xs ≡ r → opened_with s (rows_of xs) r ≡ Ok M → Sound M.world
+    → (r : Result (List Slot) ℕ) → slots_from s (rows_of xs) 0 [] xs ≡ r → opened_with s (rows_of xs) r ≡ Ok M → Sound M.world
 opened-sound s held M xs f told (Err etag) k g = absurd cc
 opened-sound s held M xs f told (Ok slots) k g =
     let stand = f.stand in
-    let a = slots_from-AreMade s 0 [] [] xs slots (none-AreMade s.max_slots) stand.rising told k in
+    let a = slots_from-AreMade s (rows_of xs) 0 [] [] xs slots (none-AreMade (rows_of xs) s.max_slots) stand.rising told k in
     subst (λ (N : Machine). Sound N.world) (same_machine_of (machine_of s (rows_of xs) slots) M g) (world-Sound s (rows_of xs) slots f.stand a)
 
 pub opened_from-Sound : (s : Setting) (held : List KeptRow) (M : Machine) → OpenedFaithfully s held M → Sound M.world
 opened_from-Sound s held M o =
-    let from = o.opened in opened-sound s held M from.read (rows_in-AreRowsOf s.max_rows held (rows_of from.read) from.rows) o.told (slots_from s 0 [] from.read) refl from.opens
+    let from = o.opened in opened-sound s held M from.read (rows_in-AreRowsOf s.max_rows held (rows_of from.read) from.rows) o.told (slots_from s (rows_of from.read) 0 [] from.read) refl from.opens
 
 pub opened_from-IsMachine : (s : Setting) (held : List KeptRow) (M : Machine) → OpenedFaithfully s held M → IsMachine M
 opened_from-IsMachine s held M o =

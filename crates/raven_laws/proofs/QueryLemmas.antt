@@ -2,6 +2,7 @@
 use Rattle.std.proofs.Common.{◌≡◌, ℕ, List, Bool, true, false, cond, Some, None, refl, sym, ap, ◌∙◌}
 use Rattle.std.specs.Option.{option_map, option_or}
 use Rattle.spec_data.specs.Tables.{Table}
+use Rattle.spec_store.specs.Stale.{stale}
 use Rattle.spec_query.specs.Binding.{NoField, PlanRefusal, check, plan_of}
 use Rattle.spec_query.specs.Binding as plan
 use Rattle.spec_query.specs.Fields.{not_offered}
@@ -14,8 +15,8 @@ use Rattle.spec_server.specs.Asking.{answer_by, answer_from_collection, answer_f
 use Rattle.spec_server.specs.Machine.{Machine, is_stale}
 use Rattle.spec_server.specs.Replies.{Reply}
 use Rattle.spec_server.specs.Sound.{Sound}
-use Rattle.raven_laws.specs.Queries.{AsksIndex, FitsIndex, query_reply}
-use Rattle.raven_laws.proofs.IndexLemmas.{fresh_whole}
+use Rattle.raven_laws.specs.Queries.{AsksIndex, FitsIndex, IsAnsweredUpTo, query_reply}
+use Rattle.raven_laws.proofs.IndexLemmas.{fresh_exact, fresh_whole}
 use Rattle.raven_laws.proofs.SlotLemmas.{served}
 
 -- WHERE A QUERY IS ANSWERED FROM
@@ -66,3 +67,13 @@ fresh-query M o ask s asks is_fresh =
     let f = o.fits s (served M.world.slots asks.name s asks.serves).0 in
     index-answer M ask s asks
     ∙ ap (λ T. answer_by T M.world ask s) (fresh_whole (reads s.version) s.version.table M.world.store s.version.etag o.store f.agrees is_fresh)
+
+-- one that is not stale up to a cutoff has recorded what there is up to there
+pub cutoff-whole : (M : Machine) → Sound M.world → (ask : Ask) (s : Slot) → AsksIndex M.world ask s → stale M.world.store (reads s.version) s.version.etag ask.cutoff ≡ false → IsAnsweredUpTo M ask s
+cutoff-whole M o ask s asks is_fresh =
+    let f = o.fits s (served M.world.slots asks.name s asks.serves).0 in
+    record {
+      table = s.version.table;
+      answer = index-answer M ask s asks;
+      whole = fresh_exact (reads s.version) s.version.table M.world.store s.version.etag ask.cutoff f.agrees is_fresh;
+    }

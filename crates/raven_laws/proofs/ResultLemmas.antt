@@ -74,30 +74,30 @@ Has-sorted cmp (x ∷ xs) z (inr h) = Has-inserted cmp x (sorted cmp xs) z (inr 
 -- PLANS
 
 -- a result is a whole document, and the page has all rows
-record TakesAll (q : Plan) : Type 0 where
+pub record TakesAll (q : Plan) : Type 0 where
   pub columns : q.columns ≡ []
   pub start : q.start ≡ 0
   pub size : q.size ≡ None
 
-taken-all : (ask : Ask) → AsksForAll ask → TakesAll (plan_of ask)
+pub taken-all : (ask : Ask) → AsksForAll ask → TakesAll (plan_of ask)
 taken-all ask all = record {
   columns = λ i. columns_of (all.groups i) (all.columns i);
   start = ap nat_abs all.start;
   size = ap (option_map nat_abs) all.size;
 }
 
-abbrev ordered : Plan → List (List ℕ × Fields) → List (List ℕ × Fields)
+abbrev ordered : {K : Type 0} → Plan → List (K × Fields) → List (K × Fields)
 ordered q entries = sorted (λ a b. keys_order q.order a.1 b.1) (meeting q entries)
 
-whole-page : (q : Plan) (entries : List (List ℕ × Fields)) → TakesAll q → page q entries ≡ ordered q entries
+whole-page : {K : Type 0} (q : Plan) (entries : List (K × Fields)) → TakesAll q → page q entries ≡ ordered q entries
 whole-page q entries all = λ i. up_to (all.size i) (drop (all.start i) (ordered q entries))
 
-page-Has : (q : Plan) (entries : List (List ℕ × Fields)) (e : List ℕ × Fields) → TakesAll q → Has (page q entries) e → Has entries e × (meets q.condition false e.1 ≡ true)
+pub page-Has : {K : Type 0} (q : Plan) (entries : List (K × Fields)) (e : K × Fields) → TakesAll q → Has (page q entries) e → Has entries e × (meets q.condition false e.1 ≡ true)
 page-Has q entries e all h =
     let there = sorted-Has (λ a b. keys_order q.order a.1 b.1) (meeting q entries) e (subst (λ es. Has es e) (whole-page q entries all) h) in
     (Has-filter (λ r. meets q.condition false r.1) entries e there, passes (λ r. meets q.condition false r.1) entries e there)
 
-Has-page : (q : Plan) (entries : List (List ℕ × Fields)) (e : List ℕ × Fields) → TakesAll q → Has entries e → meets q.condition false e.1 ≡ true → Has (page q entries) e
+pub Has-page : {K : Type 0} (q : Plan) (entries : List (K × Fields)) (e : K × Fields) → TakesAll q → Has entries e → meets q.condition false e.1 ≡ true → Has (page q entries) e
 Has-page q entries e all h is =
     subst (λ es. Has es e) (sym (whole-page q entries all))
     (Has-sorted (λ a b. keys_order q.order a.1 b.1) (meeting q entries) e (into-filter (λ r. meets q.condition false r.1) entries e h is))

@@ -1,21 +1,23 @@
 -- The index that serves a name goes on to serve it.
-use Rattle.std.proofs.Common.{◌≡◌, ℕ, ◌+◌, List, [], ◌∷◌, ◌++◌, Bool, true, false, not, cond, is_some, nat_le, length, Option, Some, None, Result, Ok, Err, filter, find, map, refl, sym, ap, ◌∙◌, subst, arith, inl, inr}
+use Rattle.std.proofs.Common.{◌≡◌, ℕ, ◌+◌, List, [], ◌∷◌, ◌++◌, Bool, true, false, not, ◌==◌, cond, codes, is_some, nat_eq, nat_le, nat_lt, length, Option, Some, None, Result, Ok, Err, filter, find, map, refl, sym, ap, ◌∙◌, subst, arith, ◌⊎◌, inl, inr, ◌≤◌}
+use Rattle.std.proofs.lemmas.Bool.{eq-eqb, eqb-true, ltb-true}
+use Rattle.std.specs.List.{starts_with}
 use Rattle.std.specs.Option.{option_map}
+use Rattle.spec_data.specs.Faults.{replacement_of}
 use Rattle.spec_data.specs.Folding.{folded, same_key}
 use Rattle.index_tree.specs.Definitions.{Definition, same_definition}
 use Rattle.spec_store.specs.Store.{Store, last}
 use Rattle.spec_store.specs.Commit.{Client, Command, Refused, Server, Written, commit}
-use Rattle.spec_index.specs.Optimiser.{Choice, Make, Merge, Use, name_of, pick}
-use Rattle.spec_index.specs.World.{Slot, SlotChange, SlotRefusal, World, added, added_if_room, batch, define, define_at, define_named, is_named, name_refusal, removed, serving, unless_refused}
+use Rattle.spec_index.specs.Optimiser.{Choice, Make, Merge, Use, is_retired, name_of, pick, retired, retirement}
+use Rattle.spec_index.specs.World.{Slot, SlotChange, SlotRefusal, World, added, added_if_room, added_to, batch, begins_with_replacement, define, define_at, define_beside, define_named, dropped, is_automatic, is_named, is_stale, name_refusal, named_anew, numbered, removed, renamed, serving, switch, taken_out, takes_over, unchanged, unless_refused, without}
 use Rattle.spec_server.specs.Replies.{Reply, Result as Done}
 use Rattle.spec_server.specs.Replies as replies
-use Rattle.spec_server.specs.Machine.{Ask, Auto, Bulk, Course, Define, Delete, Do, Find, Get, Indexes, Keeping, Line, Machine, Pump, Put, Remove, Stale, Stats, after_batch, after_batch_if_named, change_of_slots, course_of, in_world, is_taken, one_field, or_as_before, pump_at, pump_for, rewrote, same_machine, settled, single_reply, use_or_make, with_slots, with_world, write, wrote}
-use Rattle.spec_server.specs.Sound.{Continues, Has, Sound}
-use Rattle.spec_store.proofs.StoreLemmas.{same_means}
-use Rattle.raven_laws.specs.Served.{ServedStays, StaysOrIsRemoved, StillServes}
-use Rattle.raven_laws.proofs.MachineLemmas.{AllLeave, brought-Keeps, settled-leaves}
-use Rattle.raven_laws.proofs.SlotLemmas.{batch-Brought, served}
-use Rattle.raven_laws.proofs.WorldLemmas.{past_test, same_change, taken_out, unchanged_slots}
+use Rattle.spec_server.specs.Machine.{Ask, Auto, Bulk, Change, Course, Define, Delete, Do, Find, Get, Held, Indexes, Keeping, Line, Machine, Passed, Publish, PublishRefusal, Pump, Put, Read, Remove, Replied, Stale, Stats, Switch, Tidy, after_batch, after_batch_if_named, change_of_slots, changed, course_of, held_by, in_world, is_taken, made, one_field, or_as_before, publish_by, publish_to, published, published_in, published_reply, pump_at, pump_for, replaced_names, retire, rewrote, same_machine, settled, single_reply, switch_and, takes_after, tidied, tidy, try_switch, use_or_make, with_slots, with_version, with_world, write, write_refused, wrote}
+use Rattle.spec_server.specs.Sound.{Continues, Has, IsHeld, IsMachine, LaterW, NamesApart, Sound}
+use Rattle.raven_laws.specs.Served.{IsSwitch, ServedStays, StaysOrGoes, StillServes}
+use Rattle.raven_laws.proofs.MachineLemmas.{AllDo, AllLeave, AllMove, CourseMoves, Moves, brought-Keeps, chain, made-leaves, read-world, settled-leaves, tidy_from-Moves, tidying-Moves}
+use Rattle.raven_laws.proofs.SlotLemmas.{Has-mapped, batch-Brought, find-Has, into-filter, left_or, replacing, served, serves}
+use Rattle.raven_laws.proofs.WorldLemmas.{LaterW-itself, LaterW-then, Replaces, client-unretired, found-Replaces, one_number, past_test, r_left, same_change, switch-Switches, take-apart, taken}
 
 -- LISTS OF SLOTS
 
@@ -30,7 +32,7 @@ serving-map f (x ∷ slots) name s keeps h =
       | false ↦ λ e. serving-map f slots name s keeps e
     ] h)
 
-serving-append : (slots more : List Slot) (name : List ℕ) (s : Slot) → serving slots name ≡ Some s → serving (slots ++ more) name ≡ Some s
+pub serving-append : (slots more : List Slot) (name : List ℕ) (s : Slot) → serving slots name ≡ Some s → serving (slots ++ more) name ≡ Some s
 serving-append [] more name s h = absurd cc
 serving-append (x ∷ slots) more name s h =
     elim (is_named name x) as (λ b. cond b (Some x) (serving slots name) ≡ Some s → cond b (Some x) (serving (slots ++ more) name) ≡ Some s) [
@@ -54,18 +56,22 @@ serving-filter p (x ∷ slots) name s h is =
 
 -- WHAT IS LEFT AS IT WAS
 
+-- a name that is no replacement's goes on to be served
 abbrev Stays : World → World → Type 0
-Stays W V = (name : List ℕ) (s : Slot) → serving W.slots name ≡ Some s → StillServes V name s
+Stays W V = (name : List ℕ) (s : Slot) → begins_with_replacement name ≡ false → serving W.slots name ≡ Some s → StillServes V name s
 
-itself : (W : World) (name : List ℕ) (s : Slot) → serving W.slots name ≡ Some s → StillServes W name s
-itself W name s h = record { slot = s; serves = h; continues = record { number = refl; definition = refl; onward = omega arith } }
+still : (V : World) (name : List ℕ) (s : Slot) → serving V.slots name ≡ Some s → StillServes V name s
+still V name s h = record { slot = s; serves = h; continues = record { number = refl; definition = refl; onward = omega arith; named = refl } }
+
+itself : (W : World) → Stays W W
+itself W name s plain h = still W name s h
 
 settled-Stays : (M : Machine) (k : Keeping) (c : Course) → AllLeave (Stays M.world) c.changes → Stays M.world (settled M k c).machine.world
 settled-Stays M k c all = settled-leaves (Stays M.world) M k c (itself M.world) all
 
 wrote-Stays : (W : World) (reply : List Done → Reply) (now : ℕ) (commands : List Command) (o : Result Written Refused) → AllLeave (Stays W) (wrote W reply now commands o).changes
 wrote-Stays W reply now commands (Err refused) = tt
-wrote-Stays W reply now commands (Ok w) = (λ name s h. itself (in_world W w.store W.slots) name s h, tt)
+wrote-Stays W reply now commands (Ok w) = (λ name s plain h. still (in_world W w.store W.slots) name s h, tt)
 
 write-Stays : (M : Machine) (k : Keeping) (reply : List Done → Reply) (now : ℕ) (commands : List Command) → Stays M.world (settled M k (write M.world reply now commands)).machine.world
 write-Stays M k reply now commands = settled-Stays M k (write M.world reply now commands) (wrote-Stays M.world reply now commands (commit M.world.setting Client now commands M.world.store))
@@ -74,11 +80,11 @@ write-Stays M k reply now commands = settled-Stays M k (write M.world reply now 
 
 -- the slots of a change have each that served a name
 abbrev HasServed : World → SlotChange → Type 0
-HasServed W c = (name : List ℕ) (s : Slot) → serving W.slots name ≡ Some s → serving c.slots name ≡ Some s
+HasServed W c = (name : List ℕ) (s : Slot) → begins_with_replacement name ≡ false → serving W.slots name ≡ Some s → serving c.slots name ≡ Some s
 
-rewrote-Stays : (W : World) (reply : Reply) (c : SlotChange) (o : Result Written Refused) → HasServed W c → AllLeave (Stays W) (rewrote W reply c.slots o).changes
+rewrote-Stays : (W : World) (reply : Reply) (c : SlotChange) (o : Result Written Refused) → HasServed W c → AllLeave (Stays W) (rewrote W reply c o).changes
 rewrote-Stays W reply c (Err refused) has = tt
-rewrote-Stays W reply c (Ok w) has = (λ name s h. itself (in_world W w.store c.slots) name s (has name s h), tt)
+rewrote-Stays W reply c (Ok w) has = (λ name s plain h. still (changed W w.store c) name s (has name s plain h), tt)
 
 reslotted-Stays : (W : World) (now : ℕ) (reply : List ℕ → Reply) (name : List ℕ) (r : Result SlotChange SlotRefusal) → ((c : SlotChange) → r ≡ Ok c → HasServed W c)
     → AllLeave (Stays W) (change_of_slots W now reply name r).changes
@@ -86,7 +92,7 @@ reslotted-Stays W now reply name (Err refusal) has = tt
 reslotted-Stays W now reply name (Ok c) has = rewrote-Stays W (reply c.name) c (commit W.setting Server now c.commands W.store) (has c refl)
 
 added-has : (W : World) (name : List ℕ) (d : Definition) → HasServed W (added W name d)
-added-has W name d = λ n s h. serving-append W.slots _ n s h
+added-has W name d = λ n s plain h. serving-append W.slots _ n s h
 
 if_room-has : (W : World) (name : List ℕ) (d : Definition) (c : SlotChange) → added_if_room W name d ≡ Ok c → HasServed W c
 if_room-has W name d c h =
@@ -99,16 +105,47 @@ define-has W name d c h =
     let free = past_test (is_some (serving W.slots name)) SlotRefusal.NameServes (Ok (added W name d)) c room.1 in
     subst (HasServed W) (same_change (added W name d) c free.1) (added-has W name d)
 
-define_at-has : (W : World) (name : List ℕ) (d : Definition) (there : Option Slot) (c : SlotChange) → define_at W name d there ≡ Ok c → HasServed W c
-define_at-has W name d None c = if_room-has W name d c
-define_at-has W name d (Some s) c = elim (same_definition d s.version.definition) as (λ b. cond b (Ok (unchanged_slots W s.name)) (Err SlotRefusal.NameServes) ≡ Ok c → HasServed W c) [
-  | true ↦ λ h. subst (HasServed W) (same_change (unchanged_slots W s.name) c h) (λ n x e. e)
-  | false ↦ λ h. absurd cc
-]
+-- without a replacement each other name is served as before
+pub without-has : (W : World) (s r : Slot) (name : List ℕ) (x : Slot) → Sound W → Replaces W s r → begins_with_replacement name ≡ false → serving W.slots name ≡ Some x
+    → serving (without r.number W.slots) name ≡ Some x
+without-has W s r name x o p plain h = serving-filter (λ y. not (y.number == r.number)) W.slots name x h (by (x.number == r.number) refl)
+  where
+    by : (b : Bool) → (x.number == r.number) ≡ b → not b ≡ true
+    by false e = refl
+    by true e =
+        let at = served W.slots name x h in
+        let same = one_number W x r o at.0 p.new (eqb-true x.number r.number e) in
+        let begins = replacing r.name s.name p.named in
+        let f = ap (λ q. starts_with nat_eq q (codes "replacementof/")) (at.1 ∙ ap (λ (z : Slot). folded z.name) same) in
+        absurd (let g = sym plain ∙ f ∙ begins in cc)
 
-define_named-has : (W : World) (name : List ℕ) (d : Definition) (c : SlotChange) → define_named W name d ≡ Ok c → HasServed W c
-define_named-has W name d c = elim (name_refusal name) as (λ r. unless_refused r (define_at W name d (serving W.slots name)) ≡ Ok c → HasServed W c) [
-  | None ↦ define_at-has W name d (serving W.slots name) c
+define_beside-has : (W : World) (d : Definition) (s : Slot) (other : Option Slot) (c : SlotChange) → Sound W → Has W.slots s → serving W.slots (replacement_of s.name) ≡ other
+    → define_beside W d s other ≡ Ok c → HasServed W c
+define_beside-has W d s None c o at none = elim (same_definition d s.version.definition) as (λ b. cond b (Ok (unchanged W s.name)) (added_if_room W (replacement_of s.name) d) ≡ Ok c → HasServed W c) [
+  | true ↦ λ h. subst (HasServed W) (same_change (unchanged W s.name) c h) (λ n x plain e. e)
+  | false ↦ λ h. if_room-has W (replacement_of s.name) d c h
+]
+define_beside-has W d s (Some r) c o at there =
+    let p = found-Replaces W s r o at there in
+    elim (same_definition d s.version.definition) as (λ b.
+    cond {A = Result SlotChange SlotRefusal} b (Ok (dropped W r s.name))
+    (cond (same_definition d r.version.definition) (Ok (unchanged W r.name)) (Ok (added_to W (without r.number W.slots) (replacement_of s.name) d))) ≡ Ok c → HasServed W c) [
+      | true ↦ λ h. subst (HasServed W) (same_change (dropped W r s.name) c h) (λ n x plain e. without-has W s r n x o p plain e)
+      | false ↦ elim (same_definition d r.version.definition) as (λ b.
+          cond {A = Result SlotChange SlotRefusal} b (Ok (unchanged W r.name)) (Ok (added_to W (without r.number W.slots) (replacement_of s.name) d)) ≡ Ok c → HasServed W c) [
+            | true ↦ λ h. subst (HasServed W) (same_change (unchanged W r.name) c h) (λ n x plain e. e)
+            | false ↦ λ h. subst (HasServed W) (same_change (added_to W (without r.number W.slots) (replacement_of s.name) d) c h)
+                (λ n x plain e. serving-append (without r.number W.slots) _ n x (without-has W s r n x o p plain e))
+          ]
+    ]
+
+define_at-has : (W : World) (name : List ℕ) (d : Definition) (there : Option Slot) (c : SlotChange) → Sound W → serving W.slots name ≡ there → define_at W name d there ≡ Ok c → HasServed W c
+define_at-has W name d None c o is = if_room-has W name d c
+define_at-has W name d (Some s) c o is = define_beside-has W d s (serving W.slots (replacement_of s.name)) c o (served W.slots name s is).0 refl
+
+define_named-has : (W : World) (name : List ℕ) (d : Definition) (c : SlotChange) → Sound W → define_named W name d ≡ Ok c → HasServed W c
+define_named-has W name d c o = elim (name_refusal name) as (λ r. unless_refused r (define_at W name d (serving W.slots name)) ≡ Ok c → HasServed W c) [
+  | None ↦ define_at-has W name d (serving W.slots name) c o refl
   | Some refusal ↦ λ h. absurd cc
 ]
 
@@ -125,12 +162,12 @@ auto-Stays W now Merge = tt
 brought-Continues : (W : World) (x : Slot) (max : ℕ) → Sound W → Has W.slots x → Continues x (after_batch W.store max x)
 brought-Continues W x max o h =
     elim (batch x.version W.store max) as (λ b. batch x.version W.store max ≡ b → Continues x (record { number = x.number; name = x.name; version = or_as_before x.version b; row = x.row })) [
-      | None ↦ λ e. record { number = refl; definition = refl; onward = omega arith }
-      | Some v ↦ λ e. let b = batch-Brought W.store x.version v max o.store (o.fits x h) e in record { number = refl; definition = b.definition; onward = b.onward }
+      | None ↦ λ e. record { number = refl; definition = refl; onward = omega arith; named = refl }
+      | Some v ↦ λ e. let b = batch-Brought W.store x.version v max o.store (o.fits x h) e in record { number = refl; definition = b.definition; onward = b.onward; named = refl }
     ] refl
 
 pump-Stays : (W : World) (max : ℕ) → Sound W → Stays W (with_slots W (map (after_batch W.store max) W.slots))
-pump-Stays W max o name s h = record {
+pump-Stays W max o name s plain h = record {
   slot = after_batch W.store max s;
   serves = serving-map (after_batch W.store max) W.slots name s (λ x. (brought-Keeps W.store max x).name) h;
   continues = brought-Continues W s max o (served W.slots name s h).0;
@@ -142,13 +179,13 @@ if_named-name S max name x = elim (is_named name x) as (λ b. (cond b (after_bat
 if_named-Continues : (W : World) (x : Slot) (max : ℕ) (name : List ℕ) → Sound W → Has W.slots x → Continues x (after_batch_if_named W.store max name x)
 if_named-Continues W x max name o h = elim (is_named name x) as (λ b. Continues x (cond b (after_batch W.store max x) x)) [
   | true ↦ brought-Continues W x max o h
-  | false ↦ record { number = refl; definition = refl; onward = omega arith }
+  | false ↦ record { number = refl; definition = refl; onward = omega arith; named = refl }
 ]
 
 pump_at-Stays : (W : World) (max : ℕ) (name : List ℕ) (there : Option Slot) → Sound W → AllLeave (Stays W) (pump_at W max name there).changes
 pump_at-Stays W max name None o = tt
 pump_at-Stays W max name (Some t) o = (
-  λ n s h. record {
+  λ n s plain h. record {
     slot = after_batch_if_named W.store max name s;
     serves = serving-map (after_batch_if_named W.store max name) W.slots n s (if_named-name W.store max name) h;
     continues = if_named-Continues W s max name o (served W.slots n s h).0;
@@ -163,52 +200,327 @@ pump_for-Stays W max (Some name) o = pump_at-Stays W max name (serving W.slots n
 -- REMOVALS
 
 -- of two slots that serve names of one folded form, each is the other
-same_slot : (slots : List Slot) (a b : List ℕ) (s t : Slot) → folded a ≡ folded b → serving slots a ≡ Some s → serving slots b ≡ Some t → s ≡ t
-same_slot slots a b s t e h g =
+same_server : (slots : List Slot) (a b : List ℕ) (s t : Slot) → folded a ≡ folded b → serving slots a ≡ Some s → serving slots b ≡ Some t → s ≡ t
+same_server slots a b s t e h g =
     let found : (let o : Option Slot = Some s in o) ≡ Some t = sym h ∙ ap (λ q. find (λ x. same_key q (folded x.name)) slots) e ∙ g in cc
 
-taken-removal : (M : Machine) (given : List ℕ) (x : Slot) (S : Store) (name : List ℕ) (s : Slot) → serving M.world.slots given ≡ Some x → serving M.world.slots name ≡ Some s
-    → StaysOrIsRemoved (Do (Remove given)) (record { reply = Reply.Removed x.name; machine = with_world M (in_world M.world S (taken_out M.world given x).slots) }) name s
-taken-removal M given x S name s there h =
-    let f = served M.world.slots name s h in
-    let V = in_world M.world S (taken_out M.world given x).slots in
-    elim (is_named given s) as (λ b. is_named given s ≡ b → StaysOrIsRemoved (Do (Remove given)) (record { reply = Reply.Removed x.name; machine = with_world M V }) name s) [
+-- a slot that is left without another serves its name as before
+left-serves : (n : ℕ) (slots : List Slot) (name : List ℕ) (s : Slot) → serving slots name ≡ Some s → (s.number ≡ n → ⊥) → serving (without n slots) name ≡ Some s
+left-serves n slots name s h other = serving-filter (λ y. not (y.number == n)) slots name s h
+    (elim (s.number == n) as (λ b. (s.number == n) ≡ b → not b ≡ true) [ true ↦ λ e. absurd (other (eqb-true s.number n e)) | false ↦ λ e. refl ] refl)
+
+taken-stays : (W : World) (x : Slot) (other : Option Slot) (name : List ℕ) (s : Slot) → Sound W → Has W.slots x → serving W.slots (replacement_of x.name) ≡ other
+    → begins_with_replacement name ≡ false → serving W.slots name ≡ Some s → (s.number ≡ x.number → ⊥) → serving (taken_out W x other).slots name ≡ Some s
+taken-stays W x None name s o at none plain h apart = left-serves x.number W.slots name s h apart
+taken-stays W x (Some r) name s o at there plain h apart =
+    let p = found-Replaces W x r o at there in
+    left-serves r.number (without x.number W.slots) name s (left-serves x.number W.slots name s h apart) (λ e.
+    let k = served W.slots name s h in
+    let same = one_number W s r o k.0 p.new e in
+    let begins = replacing r.name x.name p.named in
+    let f = ap (λ q. starts_with nat_eq q (codes "replacementof/")) (k.1 ∙ ap (λ (z : Slot). folded z.name) same) in
+    let g = sym plain ∙ f ∙ begins in cc)
+
+abbrev removal_of : World → Slot → SlotChange
+removal_of W x = taken_out W x (serving W.slots (replacement_of x.name))
+
+abbrev gone_by : Machine → Slot → Written → Replied
+gone_by M x w = let c = removal_of M.world x in record { reply = Reply.Removed c.name; machine = with_world M (changed M.world w.store c) }
+
+remove-answered : (M : Machine) (k : Keeping) (now : ℕ) (given : List ℕ) (there : Option Slot) → Sound M.world → serving M.world.slots given ≡ there → (name : List ℕ) (s : Slot) → begins_with_replacement name ≡ false
+    → serving M.world.slots name ≡ Some s → StaysOrGoes M.world (Do (Remove given)) (settled M k (change_of_slots M.world now Reply.Removed given (removed M.world there))) name s
+remove-answered M k now given None o e name s plain h = inl (still M.world name s h)
+remove-answered M k now given (Some x) o e name s plain h = by (commit M.world.setting Server now (removal_of M.world x).commands M.world.store)
+  where
+    named : (other : Option Slot) → (taken_out M.world x other).name ≡ x.name
+    named None = refl
+    named (Some r) = refl
+
+    taken : (w : Written) → StaysOrGoes M.world (Do (Remove given)) (gone_by M x w) name s
+    taken w =
+        let at = served M.world.slots given x e in
+        let it = served M.world.slots name s h in
+        elim (s.number == x.number) as (λ b. (s.number == x.number) ≡ b → StaysOrGoes M.world (Do (Remove given)) (gone_by M x w) name s) [
+          | true ↦ λ t.
+              let same = one_number M.world s x o it.0 at.0 (eqb-true s.number x.number t) in
+              inr (inl (record {
+                given = given;
+                asked = refl;
+                same = at.1 ∙ ap (λ (z : Slot). folded z.name) (sym same) ∙ sym it.1;
+                removed = ap Reply.Removed (named (serving M.world.slots (replacement_of x.name)) ∙ ap (λ (z : Slot). z.name) (sym same));
+              }))
+          | false ↦ λ t. inl (still (changed M.world w.store (removal_of M.world x)) name s
+              (taken-stays M.world x (serving M.world.slots (replacement_of x.name)) name s o at.0 refl plain h (λ n. let f = eq-eqb s.number x.number n in cc)))
+        ] refl
+
+    by : (r : Result Written Refused) → StaysOrGoes M.world (Do (Remove given)) (settled M k (rewrote M.world (Reply.Removed (removal_of M.world x).name) (removal_of M.world x) r)) name s
+    by (Err refused) = inl (still M.world name s h)
+    by (Ok w) = elim (is_taken k.takes w.rows) as (λ b. StaysOrGoes M.world (Do (Remove given)) (cond b (gone_by M x w) (same_machine M (Reply.KeeperFault k.before k.after))) name s) [
+      | true ↦ taken w
+      | false ↦ inl (still M.world name s h)
+    ]
+
+-- SWITCHES
+
+-- after a change that switches a name, that name is switched, and each other is served as before
+pub record SwitchesOne (W : World) (V : World) : Type 0 where
+  pub step : (name : List ℕ) (s : Slot) → begins_with_replacement name ≡ false → serving W.slots name ≡ Some s → (serving V.slots name ≡ Some s) ⊎ IsSwitch W V name s
+
+map-serves : (f : Slot → Slot) (slots : List Slot) (s t : Slot) → NamesApart (map f slots) → Has slots s → f s ≡ t → serving (map f slots) t.name ≡ Some t
+map-serves f slots s t apart h e = serves (map f slots) t apart (subst (Has (map f slots)) e (Has-mapped f slots s h))
+
+-- serving a name of the same folded form is the same
+serving-other : (slots : List Slot) (a b : List ℕ) → folded a ≡ folded b → serving slots a ≡ serving slots b
+serving-other slots a b e = ap (λ q. find (λ x. same_key q (folded x.name)) slots) e
+
+abbrev rest_of : World → Slot → List Slot
+rest_of W old = without old.number W.slots
+
+abbrev take_by : World → Slot → Slot → Slot → Slot
+take_by W old new = renamed new.number old.name (last W.store + 1)
+
+pub takes_over-one : (W : World) (w_old w_new : Slot) (S : Store) → Sound W → (p : Replaces W w_old w_new) → serving W.slots (replacement_of w_old.name) ≡ Some w_new → is_stale W.store w_new ≡ false
+    → SwitchesOne W (changed W S (takes_over W w_old w_new))
+takes_over-one W old new S o p built fresh = record {
+  step = λ name s plain h.
+      let it = served W.slots name s h in
+      elim (s.number == old.number) as (λ b. (s.number == old.number) ≡ b → (serving (map (take_by W old new) (rest_of W old)) name ≡ Some s) ⊎ IsSwitch W (changed W S (takes_over W old new)) name s) [
+        | true ↦ λ e.
+            let same : old ≡ s = sym (one_number W s old o it.0 p.old (eqb-true s.number old.number e)) in
+            inr (subst (IsSwitch W (changed W S (takes_over W old new)) name) same (record {
+              new = new;
+              built = built;
+              fresh = fresh;
+              serves = serving-other (map (take_by W old new) (rest_of W old)) name old.name (it.1 ∙ ap (λ (z : Slot). folded z.name) (sym same)) ∙ taker-serves;
+              noted = refl;
+            }))
+        | false ↦ λ e.
+            let kept : Has (rest_of W old) s = into-without s it.0 (λ n. let f = eq-eqb s.number old.number n in cc) in
+            let fixed : take_by W old new s ≡ s = elim (taken W old new o p s it.0) [
+              | inl a ↦ absurd (let f = ap (λ q. starts_with nat_eq q (codes "replacementof/")) (it.1 ∙ ap (λ (z : Slot). folded z.name) a.0) in let g = sym plain ∙ f ∙ replacing new.name old.name p.named in cc)
+              | inr a ↦ a.1
+            ] in
+            inl (serving-other (map (take_by W old new) (rest_of W old)) name s.name it.1 ∙ map-serves (take_by W old new) (rest_of W old) s s (take-apart W old new o p) kept fixed)
+      ] refl;
+}
+  where
+    into-without : (x : Slot) → Has W.slots x → (x.number ≡ old.number → ⊥) → Has (rest_of W old) x
+    into-without x h other = elim (left_or old.number W.slots x h) [ inl a ↦ a | inr e ↦ absurd (other e) ]
+
+    taker-serves : serving (map (take_by W old new) (rest_of W old)) old.name ≡ Some (named_anew old.name (last W.store + 1) new)
+    taker-serves = map-serves (take_by W old new) (rest_of W old) new (named_anew old.name (last W.store + 1) new) (take-apart W old new o p) (r_left W old new o p) (elim (taken W old new o p new p.new) [
+      | inl a ↦ a.1
+      | inr a ↦ absurd (a.0 refl)
+    ])
+
+switch-one : (W : World) (name : List ℕ) (c : SlotChange) (S : Store) → Sound W → switch W name ≡ Ok c → SwitchesOne W (changed W S c)
+switch-one W name c S o h =
+    let w = switch-Switches W name c h in
+    let p = found-Replaces W w.old w.new o (served W.slots name w.old w.serves).0 w.built in
+    subst (λ (x : SlotChange). SwitchesOne W (changed W S x)) w.change (takes_over-one W w.old w.new S o p w.built w.fresh)
+
+-- the retirement takes automatic indexes away, and leaves all others
+retirement-one : (W : World) (S : Store) (name : List ℕ) (s : Slot) → serving W.slots name ≡ Some s → (serving (retirement W).slots name ≡ Some s) ⊎ (is_retired W.slots s ≡ true)
+retirement-one W S name s h = elim (is_retired W.slots s) as (λ b. is_retired W.slots s ≡ b → (serving (retirement W).slots name ≡ Some s) ⊎ (b ≡ true)) [
+  | true ↦ λ e. inr refl
+  | false ↦ λ e. inl (serving-filter (λ x. not (is_retired W.slots x)) W.slots name s h (ap not e))
+] refl
+
+-- only an automatic index is retired
+retired-automatic : (slots : List Slot) (s : Slot) → is_retired slots s ≡ true → is_automatic s.version.definition ≡ true
+retired-automatic slots s h = elim (is_automatic s.version.definition) as (λ b. is_automatic s.version.definition ≡ b → b ≡ true) [
+  | true ↦ λ e. refl
+  | false ↦ λ e. absurd (let f = client-unretired slots s e in cc)
+] refl
+
+-- IN A TIDY
+
+abbrev Along : World → Line → Replied → Type 0
+Along W line replied = (name : List ℕ) (s : Slot) → begins_with_replacement name ≡ false → serving W.slots name ≡ Some s → StaysOrGoes W line replied name s
+
+unmade : (M : Machine) (reply : Reply) → Along M.world (Do Tidy) (same_machine M reply)
+unmade M reply name s plain h = inl (still M.world name s h)
+
+retire-along : (M : Machine) (k : Keeping) (takes : List Bool) (now : ℕ) (done : List (List ℕ)) → let c = retire M.world now done in Along M.world (Do Tidy) (made k M takes c.changes c.reply)
+retire-along M k takes now done = by (commit M.world.setting Server now (retirement M.world).commands M.world.store)
+  where
+    by : (o : Result Written Refused) → let c = rewrote M.world (tidied M.world done) (retirement M.world) o in Along M.world (Do Tidy) (made k M takes c.changes c.reply)
+    by (Err refused) = unmade M (write_refused refused)
+    by (Ok w) = elim (is_taken takes w.rows) as (λ b. Along M.world (Do Tidy) (cond b (record { reply = tidied M.world done; machine = with_world M (changed M.world w.store (retirement M.world)) })
+        (same_machine M (Reply.KeeperFault k.before k.after)))) [
+          | true ↦ λ name s plain h. elim (retirement-one M.world w.store name s h) [
+            | inl there ↦ inl (still (changed M.world w.store (retirement M.world)) name s there)
+            | inr gone ↦ inr (inr (inl (record {
+              asked = refl;
+              automatic = retired-automatic M.world.slots s gone;
+              retired = map (λ x. x.name) (retired M.world.slots);
+              switched = done;
+              told = refl;
+              among = Has-mapped (λ (x : Slot). x.name) (retired M.world.slots) s (into-filter (is_retired M.world.slots) M.world.slots s (served M.world.slots name s h).0 gone);
+            })))
+          ]
+          | false ↦ unmade M (Reply.KeeperFault k.before k.after)
+        ]
+
+-- after one switch what comes later goes on
+switched-along : (M : Machine) (V : World) (replied : Replied) → Moves M.world V → SwitchesOne M.world V → LaterW V replied.machine.world → Along V (Do Tidy) replied → Along M.world (Do Tidy) replied
+switched-along M V replied m one later rest name s plain h = elim (one.step name s plain h) [
+  | inr was ↦ inr (inr (inr (record {
+    before = M.world;
+    after = V;
+    earlier = LaterW-itself M.world;
+    old = s;
+    served = h;
+    continues = record { number = refl; definition = refl; onward = omega arith; named = refl };
+    switch = was;
+    later = later;
+  })))
+  | inl there ↦ elim (rest name s plain there) [
+    | inl stays ↦ inl stays
+    | inr (inl gone) ↦ inr (inl gone)
+    | inr (inr (inl gone)) ↦ inr (inr (inl gone))
+    | inr (inr (inr was)) ↦ inr (inr (inr (record {
+      before = was.before;
+      after = was.after;
+      earlier = LaterW-then M.world V was.before m.later was.earlier;
+      old = was.old;
+      served = was.served;
+      continues = was.continues;
+      switch = was.switch;
+      later = was.later;
+    })))
+  ]
+]
+
+-- each course that begins in a sound world ends in a later one
+pub made-later : (k : Keeping) (M : Machine) (takes : List Bool) (c : Course) → CourseMoves M.world c → LaterW M.world (made k M takes c.changes c.reply).machine.world
+made-later k M takes c all = made-leaves (LaterW M.world) k M takes c.changes c.reply (LaterW-itself M.world)
+    (chain LaterW LaterW-then M.world M.world (LaterW-itself M.world) c.changes (all-later M.world c.changes all))
+  where
+    all-later : (W : World) (changes : List Change) → AllMove W changes → AllDo (λ V x. LaterW V x.world) W changes
+    all-later W [] a = tt
+    all-later W (x ∷ more) a = ((a.0).later, all-later x.world more a.1)
+
+-- what comes after a switch in a Tidy, in each state
+abbrev Rest : Keeping → ℕ → List (List ℕ) → Type 0
+Rest k now names = (N : Machine) (left : List Bool) (all : List (List ℕ)) → Sound N.world → let c = tidy now names N.world all in Along N.world (Do Tidy) (made k N left c.changes c.reply)
+
+tidy-go : (k : Keeping) (now : ℕ) (name : List ℕ) (names : List (List ℕ)) (M : Machine) (takes : List Bool) (done : List (List ℕ)) → Sound M.world → Rest k now names
+    → (c : SlotChange) → switch M.world name ≡ Ok c → (r : Result Written Refused) → commit M.world.setting Server now c.commands M.world.store ≡ r
+    → let x = switch_and M.world c (λ V. tidy now names V (done ++ c.name ∷ [])) r in Along M.world (Do Tidy) (made k M takes x.changes x.reply)
+tidy-go k now name names M takes done o rest c e (Err refused) f = unmade M (write_refused refused)
+tidy-go k now name names M takes done o rest c e (Ok w) f =
+    let V = changed M.world w.store c in
+    let N = with_world M V in
+    let all = done ++ c.name ∷ [] in
+    let left = takes_after w.rows takes in
+    let m = tidying-Moves now M.world c w o (inl (name, e)) f in
+    let x = tidy now names V all in
+    elim (is_taken takes w.rows) as (λ b. Along M.world (Do Tidy) (cond b (made k N left x.changes x.reply) (same_machine M (Reply.KeeperFault k.before k.after)))) [
+      | true ↦ switched-along M V (made k N left x.changes x.reply) m (switch-one M.world name c w.store o e) (made-later k N left x (tidy_from-Moves now names V all m.sound)) (rest N left all m.sound)
+      | false ↦ unmade M (Reply.KeeperFault k.before k.after)
+    ]
+
+tidy-try : (k : Keeping) (now : ℕ) (name : List ℕ) (names : List (List ℕ)) (M : Machine) (takes : List Bool) (done : List (List ℕ)) → Sound M.world → Rest k now names
+    → (r : Result SlotChange SlotRefusal) → switch M.world name ≡ r
+    → let x = try_switch M.world now done (λ V all. tidy now names V all) r in Along M.world (Do Tidy) (made k M takes x.changes x.reply)
+tidy-try k now name names M takes done o rest (Err refusal) e = rest M takes done o
+tidy-try k now name names M takes done o rest (Ok c) e = tidy-go k now name names M takes done o rest c e (commit M.world.setting Server now c.commands M.world.store) refl
+
+tidy-along : (k : Keeping) (now : ℕ) (names : List (List ℕ)) → Rest k now names
+tidy-along k now [] M takes done o = retire-along M k takes now done
+tidy-along k now (name ∷ names) M takes done o = tidy-try k now name names M takes done o (λ N left all p. tidy-along k now names N left all p) (switch M.world name) refl
+
+-- one switch by name
+switch-along : (M : Machine) (k : Keeping) (now : ℕ) (given : List ℕ) (r : Result SlotChange SlotRefusal) → Sound M.world → switch M.world given ≡ r → (name : List ℕ) (s : Slot) → begins_with_replacement name ≡ false
+    → serving M.world.slots name ≡ Some s → StaysOrGoes M.world (Do (Switch given)) (settled M k (change_of_slots M.world now (Reply.Switched (last M.world.store + 1)) given r)) name s
+switch-along M k now given (Err refusal) o e name s plain h = inl (still M.world name s h)
+switch-along M k now given (Ok c) o e name s plain h = by (commit M.world.setting Server now c.commands M.world.store) refl
+  where
+    by : (r : Result Written Refused) → commit M.world.setting Server now c.commands M.world.store ≡ r
+        → StaysOrGoes M.world (Do (Switch given)) (settled M k (rewrote M.world (Reply.Switched (last M.world.store + 1) c.name) c r)) name s
+    by (Err refused) f = inl (still M.world name s h)
+    by (Ok w) f = elim (is_taken k.takes w.rows) as (λ b. StaysOrGoes M.world (Do (Switch given)) (cond b (record {
+      reply = Reply.Switched (last M.world.store + 1) c.name;
+      machine = with_world M (changed M.world w.store c);
+    }) (same_machine M (Reply.KeeperFault k.before k.after))) name s) [
+      | true ↦ elim ((switch-one M.world given c w.store o e).step name s plain h) [
+        | inl there ↦ inl (still (changed M.world w.store c) name s there)
+        | inr was ↦ inr (inr (inr (record {
+          before = M.world;
+          after = changed M.world w.store c;
+          earlier = LaterW-itself M.world;
+          old = s;
+          served = h;
+          continues = record { number = refl; definition = refl; onward = omega arith; named = refl };
+          switch = was;
+          later = LaterW-itself (changed M.world w.store c);
+        })))
+      ]
+      | false ↦ inl (still M.world name s h)
+    ]
+
+-- WORKERS
+
+with_version-Continues : (W : World) (h : Held) (s x : Slot) → Sound W → IsHeld W h → Has W.slots s → s.number ≡ h.number → s.version.etag ≤ h.version.etag → Has W.slots x → Continues x (with_version h.number h.version x)
+with_version-Continues W h s x o k at n le there =
+    elim (x.number == h.number) as (λ b. (x.number == h.number) ≡ b → Continues x (cond b (record { number = x.number; name = x.name; version = h.version; row = x.row }) x)) [
       | true ↦ λ e.
-          let same : folded given ≡ folded name = same_means (folded given) (folded s.name) e ∙ sym f.1 in
-          inr (record { given = given; asked = refl; same = same; removed = ap (λ (z : Slot). Reply.Removed z.name) (same_slot M.world.slots given name x s same there h) })
-      | false ↦ λ e. inl (itself V name s (serving-filter (λ t. not (is_named given t)) M.world.slots name s h (ap not e)))
+          let is = eqb-true x.number h.number e in
+          let one = one_number W x s o there at (is ∙ sym n) in
+          record { number = refl; definition = k.same x there is; onward = let f = ap (λ (y : Slot). y.version.etag) one in omega arith; named = refl }
+      | false ↦ λ e. record { number = refl; definition = refl; onward = omega arith; named = refl }
     ] refl
 
-remove-answered : (M : Machine) (k : Keeping) (now : ℕ) (given : List ℕ) (there : Option Slot) → serving M.world.slots given ≡ there → (name : List ℕ) (s : Slot) → serving M.world.slots name ≡ Some s
-    → StaysOrIsRemoved (Do (Remove given)) (settled M k (change_of_slots M.world now Reply.Removed given (removed M.world given there))) name s
-remove-answered M k now given None e name s h = inl (itself M.world name s h)
-remove-answered M k now given (Some x) e name s h = by (commit M.world.setting Server now (taken_out M.world given x).commands M.world.store)
+published-Stays : (W : World) (h : Held) (there : Option Slot) (V : World) → Sound W → IsHeld W h → numbered W.slots h.number ≡ there → published_in W h.number h.version there ≡ Ok V → Stays W V
+published-Stays W h None V o k e f = absurd cc
+published-Stays W h (Some t) V o k e f =
+    let at = find-Has (λ x. x.number == h.number) W.slots t e in
+    let put = with_version h.number h.version in
+    elim (nat_lt t.version.etag h.version.etag) as (λ b. nat_lt t.version.etag h.version.etag ≡ b → cond b (Ok (with_slots W (map put W.slots))) (Err (Passed t.version.etag)) ≡ Ok V → Stays W V) [
+      | true ↦ λ lt g. subst (Stays W) (same_world (with_slots W (map put W.slots)) V g) (λ name s plain is. record {
+        slot = put s;
+        serves = serving-map put W.slots name s put-names is;
+        continues = with_version-Continues W h t s o k at.0 (eqb-true t.number h.number at.1) (let less = ltb-true t.version.etag h.version.etag lt in omega arith) (served W.slots name s is).0;
+      })
+      | false ↦ λ lt g. absurd cc
+    ] refl f
   where
-    by : (o : Result Written Refused) → StaysOrIsRemoved (Do (Remove given)) (settled M k (rewrote M.world (Reply.Removed x.name) (taken_out M.world given x).slots o)) name s
-    by (Err refused) = inl (itself M.world name s h)
-    by (Ok w) = elim (is_taken k.takes w.rows) as (λ b. StaysOrIsRemoved (Do (Remove given)) (cond b (record {
-      reply = Reply.Removed x.name;
-      machine = with_world M (in_world M.world w.store (taken_out M.world given x).slots);
-    }) (same_machine M (Reply.KeeperFault k.before k.after))) name s) [
-      | true ↦ taken-removal M given x w.store name s e h
-      | false ↦ inl (itself M.world name s h)
-    ]
+    put-names : (x : Slot) → (with_version h.number h.version x).name ≡ x.name
+    put-names x = elim (x.number == h.number) as (λ b. (cond b (record { number = x.number; name = x.name; version = h.version; row = x.row }) x).name ≡ x.name) [ true ↦ refl | false ↦ refl ]
+
+    same_world : (A B : World) → (let r : Result World PublishRefusal = Ok A in r) ≡ Ok B → A ≡ B
+    same_world A B g = cc
+
+publish-Stays : (M : Machine) (worker : ℕ) (there : Option Held) → IsMachine M → held_by M.held worker ≡ there → Stays M.world (publish_by M worker there).machine.world
+publish-Stays M worker None i e = itself M.world
+publish-Stays M worker (Some h) i e = by (published M.world h.number h.version) refl
+  where
+    by : (o : Result World PublishRefusal) → published M.world h.number h.version ≡ o
+        → Stays M.world (publish_to M worker (published_reply h.version (numbered M.world.slots h.number)) o).machine.world
+    by (Err refusal) f = itself M.world
+    by (Ok V) f = published-Stays M.world h (numbered M.world.slots h.number) V i.world (i.held h (find-Has (λ x. x.worker == worker) M.held h e).0) refl f
 
 -- ONE STEP
 
-pub step-served : (M : Machine) (k : Keeping) (now : ℕ) (line : Line) → Sound M.world → ServedStays M k now line
-step-served M k now (Do (Put id expected body)) o name s h = inl (write-Stays M k single_reply now (Command.Put id expected body ∷ []) name s h)
-step-served M k now (Do (Delete id expected)) o name s h = inl (write-Stays M k single_reply now (Command.Delete id expected ∷ []) name s h)
-step-served M k now (Do (Bulk commands)) o name s h = inl (write-Stays M k replies.Bulk now commands name s h)
-step-served M k now (Do (Get id)) o name s h = inl (itself M.world name s h)
-step-served M k now (Do (Define given d)) o name s h =
-    inl (settled-Stays M k (course_of M.world now (Define given d)) (reslotted-Stays M.world now replies.Index given (define_named M.world given d) (define_named-has M.world given d)) name s h)
-step-served M k now (Do (Remove given)) o name s h = remove-answered M k now given (serving M.world.slots given) refl name s h
-step-served M k now (Do (Auto collection field)) o name s h =
-    inl (settled-Stays M k (course_of M.world now (Auto collection field)) (auto-Stays M.world now (pick (one_field collection field) M.world.store M.world.slots)) name s h)
-step-served M k now (Do (Find index field ws)) o name s h = inl (itself M.world name s h)
-step-served M k now (Do (Ask ask)) o name s h = inl (itself M.world name s h)
-step-served M k now (Do (Pump max index)) o name s h = inl (settled-Stays M k (pump_for M.world max index) (pump_for-Stays M.world max index o) name s h)
-step-served M k now (Do (Stale index cutoff)) o name s h = inl (itself M.world name s h)
-step-served M k now (Do Indexes) o name s h = inl (itself M.world name s h)
-step-served M k now (Do Stats) o name s h = inl (itself M.world name s h)
+pub step-served : (M : Machine) (k : Keeping) (now : ℕ) (line : Line) → IsMachine M → ServedStays M k now line
+step-served M k now (Do (Put id expected body)) i name s plain h = inl (write-Stays M k single_reply now (Command.Put id expected body ∷ []) name s plain h)
+step-served M k now (Do (Delete id expected)) i name s plain h = inl (write-Stays M k single_reply now (Command.Delete id expected ∷ []) name s plain h)
+step-served M k now (Do (Bulk commands)) i name s plain h = inl (write-Stays M k replies.Bulk now commands name s plain h)
+step-served M k now (Do (Get id)) i name s plain h = inl (still M.world name s h)
+step-served M k now (Do (Define given d)) i name s plain h =
+    inl (settled-Stays M k (course_of M.world now (Define given d)) (reslotted-Stays M.world now replies.Index given (define_named M.world given d) (λ c e. define_named-has M.world given d c i.world e)) name s plain h)
+step-served M k now (Do (Remove given)) i name s plain h = remove-answered M k now given (serving M.world.slots given) i.world refl name s plain h
+step-served M k now (Do (Auto collection field)) i name s plain h =
+    inl (settled-Stays M k (course_of M.world now (Auto collection field)) (auto-Stays M.world now (pick (one_field collection field) M.world.store M.world.slots)) name s plain h)
+step-served M k now (Do (Find index field ws)) i name s plain h = inl (still M.world name s h)
+step-served M k now (Do (Ask ask)) i name s plain h = inl (still M.world name s h)
+step-served M k now (Do (Pump max index)) i name s plain h = inl (settled-Stays M k (pump_for M.world max index) (pump_for-Stays M.world max index i.world) name s plain h)
+step-served M k now (Do (Switch given)) i name s plain h = switch-along M k now given (switch M.world given) i.world refl name s plain h
+step-served M k now (Do Tidy) i name s plain h = tidy-along k now (replaced_names M.world) M k.takes [] i.world name s plain h
+step-served M k now (Do (Stale index cutoff)) i name s plain h = inl (still M.world name s h)
+step-served M k now (Do Indexes) i name s plain h = inl (still M.world name s h)
+step-served M k now (Do Stats) i name s plain h = inl (still M.world name s h)
+step-served M k now (Read worker max index) i name s plain h =
+    inl (subst (λ (W : World). StillServes W name s) (sym (read-world M worker max index (serving M.world.slots index))) (still M.world name s h))
+step-served M k now (Publish worker) i name s plain h = inl (publish-Stays M worker (held_by M.held worker) i refl name s plain h)

@@ -1,17 +1,20 @@
 -- Lists of slots, and versions that a batch advances.
-use Rattle.std.proofs.Common.{◌≡◌, ℕ, ◌<◌, ◌≤◌, List, [], ◌∷◌, ◌++◌, Bool, true, false, cond, Some, None, filter, find, map, refl, sym, ap, ◌∙◌, subst, arith, ◌⊎◌, inl, inr}
+use Rattle.std.proofs.Common.{◌≡◌, ℕ, zero, suc, ◌<◌, ◌≤◌, List, [], ◌∷◌, ◌++◌, Bool, true, false, not, ◌&&◌, ◌||◌, ◌==◌, nat_eq, nat_lt, cond, codes, length, drop, Some, None, filter, find, map, refl, sym, ap, ◌∙◌, subst, arith, ◌⊎◌, inl, inr}
+use Rattle.std.proofs.lemmas.Bool.{eq-eqb, eqb-true, ltb-false}
+use Rattle.std.specs.List.{list_any, starts_with}
 use Rattle.std.specs.FinMap.{get, get-empty}
+use Rattle.spec_data.specs.Faults.{replacement_of}
 use Rattle.spec_data.specs.Folding.{folded, key_cmp, same_key}
 use Rattle.spec_data.specs.Rows.{Row}
-use Rattle.spec_store.specs.Store.{Store, IsStore}
+use Rattle.spec_store.specs.Store.{Store, IsStore, last_of}
 use Rattle.spec_store.specs.Later.{Later}
 use Rattle.spec_index.specs.Index.{Agrees, etag_of_batch}
-use Rattle.spec_store.specs.Stale.{batch_rows}
-use Rattle.spec_data.specs.Tables.{note_rows}
+use Rattle.spec_store.specs.Stale.{batch_rows, newest, stale, up_to}
+use Rattle.spec_data.specs.Tables.{Scope, in_scope, note_rows}
 use Rattle.index_tree.specs.Definitions.{Definition}
-use Rattle.spec_index.specs.World.{Version, Slot, reads, new_version, advanced, batch, serving}
-use Rattle.spec_server.specs.Sound.{Has, Fits, NumbersRise, NamesApart}
-use Rattle.spec_store.proofs.StoreLemmas.{found_etag, same_itself, same_means}
+use Rattle.spec_index.specs.World.{Version, Slot, reads, new_version, advanced, batch, begins_with_auto, begins_with_replacement, is_reserved_name, replaced_name, serving, without}
+use Rattle.spec_server.specs.Sound.{Has, Fits, NumbersRise, NamesApart, HaveTheirSlots}
+use Rattle.spec_store.proofs.StoreLemmas.{either_false, found_etag, same_itself, same_means}
 use Rattle.raven_laws.proofs.IndexLemmas.{Taken, Agrees-later, Agrees-batch, Taken-batch}
 
 -- MEMBERSHIP
@@ -97,7 +100,7 @@ same_slot low (x ∷ slots) s t up (inl a) (inr b) e = absurd (let f = above x.n
 same_slot low (x ∷ slots) s t up (inr a) (inl b) e = absurd (let f = above x.number slots s up.1 a in let n = ap (λ (y : Slot). y.number) b in omega arith)
 same_slot low (x ∷ slots) s t up (inr a) (inr b) e = same_slot x.number slots s t up.1 a b e
 
-NumbersRise-lower : (low high : ℕ) (slots : List Slot) → low ≤ high → NumbersRise high slots → NumbersRise low slots
+pub NumbersRise-lower : (low high : ℕ) (slots : List Slot) → low ≤ high → NumbersRise high slots → NumbersRise low slots
 NumbersRise-lower low high [] le up = tt
 NumbersRise-lower low high (s ∷ slots) le up = (let a = up.0 in omega arith, up.1)
 
@@ -155,7 +158,91 @@ serves slots s apart h = elim (serving slots s.name) as (λ o. serving slots s.n
   | Some t ↦ λ e. let f = served slots s.name t e in ap Some (apart t s f.0 h (sym f.1))
 ] refl
 
+-- SLOTS EXCEPT ONE
+
+-- what is left without a number has another
+pub left : (n : ℕ) (slots : List Slot) (s : Slot) → Has (without n slots) s → s.number ≡ n → ⊥
+left n slots s h e = let p = passes (λ x. not (x.number == n)) slots s h in let t = eq-eqb s.number n e in cc
+
+-- a slot is left without a number, or has it
+pub left_or : (n : ℕ) (slots : List Slot) (s : Slot) → Has slots s → Has (without n slots) s ⊎ (s.number ≡ n)
+left_or n slots s h = elim (s.number == n) as (λ b. (s.number == n) ≡ b → Has (without n slots) s ⊎ (s.number ≡ n)) [
+  | true ↦ λ e. inr (eqb-true s.number n e)
+  | false ↦ λ e. inl (into-filter (λ x. not (x.number == n)) slots s h (ap not e))
+] refl
+
+pub Has-without : (n : ℕ) (slots : List Slot) (s : Slot) → Has (without n slots) s → Has slots s
+Has-without n slots s h = Has-filter (λ x. not (x.number == n)) slots s h
+
+pub NamesApart-sub : (slots more : List Slot) → ((s : Slot) → Has slots s → Has more s) → NamesApart more → NamesApart slots
+NamesApart-sub slots more sub apart s t h g e = apart s t (sub s h) (sub t g) e
+
+-- THE NAMES OF REPLACEMENTS
+
+-- the name behind the prefix is the same
+pub replaced_apart : (a b : List ℕ) → folded (replacement_of a) ≡ folded (replacement_of b) → folded a ≡ folded b
+replaced_apart a b h = cc
+
+pub longer : (a : List ℕ) → folded (replacement_of a) ≡ folded a → ⊥
+longer a h = let e = ap length h in omega arith
+
+pub replacing : (name a : List ℕ) → folded name ≡ folded (replacement_of a) → begins_with_replacement name ≡ true
+replacing name a h = ap (λ q. starts_with nat_eq q (codes "replacementof/")) h
+
+pub replacing-no-auto : (name a : List ℕ) → folded name ≡ folded (replacement_of a) → begins_with_auto name ≡ false
+replacing-no-auto name a h = ap (λ q. starts_with nat_eq q (codes "auto/")) h
+
+folded-drop : (n : ℕ) (words : List ℕ) → folded (drop n words) ≡ drop n (folded words)
+folded-drop zero words = refl
+folded-drop (suc n) [] = refl
+folded-drop (suc n) (b ∷ bs) = folded-drop n bs
+
+-- the name behind the prefix depends on the folded name alone
+replaced-other : (a b : List ℕ) → folded a ≡ folded b → folded (replaced_name a) ≡ folded (replaced_name b)
+replaced-other a b same =
+    ap (λ t. folded (cond t (drop 14 a) a)) (ap (λ q. starts_with nat_eq q (codes "replacementof/")) same)
+    ∙ elim (begins_with_replacement b) as (λ t. folded (cond t (drop 14 a) a) ≡ folded (cond t (drop 14 b) b)) [
+      | true ↦ folded-drop 14 a ∙ ap (drop 14) same ∙ sym (folded-drop 14 b)
+      | false ↦ same
+    ]
+
+-- the replacement of an index has the name of that index behind the prefix
+pub taking : (name a : List ℕ) → folded name ≡ folded (replacement_of a) → begins_with_replacement a ≡ false → folded (replaced_name name) ≡ folded (replaced_name a)
+taking name a h plain = replaced-other name (replacement_of a) h ∙ ap folded (sym (ap (λ t. cond t (drop 14 a) a) plain))
+
+-- slots that keep their names
+pub HaveTheirSlots-map : (f : Slot → Slot) (slots : List Slot) → ((s : Slot) → (f s).name ≡ s.name) → HaveTheirSlots slots → HaveTheirSlots (map f slots)
+HaveTheirSlots-map f slots keeps all s h is =
+    let x = Has-map f slots s h in
+    let called : s.name ≡ x.0.name = ap (λ (y : Slot). y.name) (sym x.2) ∙ keeps x.0 in
+    let b = all x.0 x.1 (ap begins_with_replacement (sym called) ∙ is) in
+    record {
+      slot = f b.slot;
+      there = Has-mapped f slots b.slot b.there;
+      named = ap folded called ∙ b.named ∙ ap (λ n. folded (replacement_of n)) (sym (keeps b.slot));
+      given = ap is_reserved_name (keeps b.slot) ∙ b.given;
+    }
+
 -- VERSIONS
+
+-- an index that is not stale has seen the newest row that it reads
+pub newest_fresh : (S : Store) (scope : Scope) (e : ℕ) → stale S scope e None ≡ false → newest S scope None ≤ e
+newest_fresh S scope e h = along 0 S.rows (omega arith) h
+  where
+    and_true : (b : Bool) → b && true ≡ false → b ≡ false
+    and_true true h = h
+    and_true false h = refl
+
+    along : (low : ℕ) (rows : List Row) → low ≤ e → list_any (λ r. in_scope scope r && nat_lt e r.etag && up_to None r.etag) rows ≡ false
+        → last_of low (filter (λ r. in_scope scope r && up_to None r.etag) rows) ≤ e
+    along low [] le h = le
+    along low (r ∷ rows) le h =
+        elim (in_scope scope r) as (λ b. (b && nat_lt e r.etag && true) || list_any (λ x. in_scope scope x && nat_lt e x.etag && up_to None x.etag) rows ≡ false
+        → last_of low (cond (b && true) (r ∷ filter (λ x. in_scope scope x && up_to None x.etag) rows) (filter (λ x. in_scope scope x && up_to None x.etag) rows)) ≤ e) [
+          | true ↦ λ g. let f = either_false (nat_lt e r.etag && true) (list_any (λ x. in_scope scope x && nat_lt e x.etag && up_to None x.etag) rows) g in
+              along r.etag rows (ltb-false e r.etag (and_true (nat_lt e r.etag) f.0)) f.1
+          | false ↦ λ g. along low rows le g
+        ] h
 
 pub Fits-later : (S N : Store) (v : Version) → Fits S v → Later S N → Fits N v
 Fits-later S N v f l = record { agrees = Agrees-later (reads v) v.table S N v.etag f.agrees l f.within; within = let a = f.within in let b = l.grown in omega arith }

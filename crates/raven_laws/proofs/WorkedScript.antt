@@ -18,7 +18,7 @@ use Rattle.spec_store.specs.Commit.{AnyVector, Vector}
 use Rattle.spec_server.specs.Replies.{Found, printed}
 use Rattle.spec_server.specs.Machine.{Machine, Request, Do, Delete, Get, Remove, Auto, Find, Pump, Stale, Indexes, Stats, start, takes_all}
 use Rattle.spec_server.specs.Lines.{lines}
-use Rattle.spec_server.specs.Script.{ReadRefusal, UnknownLine, BadJson, BadId, BadName, BadMember, Given, then_read, put_read, json_read, request_of, line_of, LineRead, Asked, Plain, Defining, Querying, texts_of_body, index_of, plain_asking, asking_of, asking_of_body, asked_to_define, asked_to_query, asked_with, asked_of, written_for, left_by, reply_to, after_line, replies_to}
+use Rattle.spec_server.specs.Script.{ReadRefusal, UnknownLine, BadJson, BadId, BadName, BadMember, Given, argument_and_rest, do_read, told_of, then_read, put_read, json_read, request_of, line_of, LineRead, Asked, Plain, Defining, Querying, texts_of_body, index_of, plain_asking, asking_of, asking_of_body, asked_to_define, asked_to_query, asked_with, asked_of, written_for, left_by, reply_to, after_line, replies_to}
 use Rattle.spec_store.specs.Limits.{program}
 use Rattle.spec_store.proofs.StoreLemmas.{both_true}
 use Rattle.spec_store.proofs.KeyedLemmas.{values-table_of}
@@ -46,9 +46,17 @@ below_128 (b ∷ bs) h (suc i) = below_128 bs (both_true (nat_lt b 128) (list_al
 ascii : (bs : List ℕ) → list_all (λ b. nat_lt b 128) bs ≡ true → is_utf8 bs ≡ true
 ascii bs h = is_utf8-from_IsUtf8 bs (IsUtf8-from_ascii bs (below_128 bs h))
 
-told_by : (line : List ℕ) (request : Result Request ReadRefusal) → list_all (λ b. nat_lt b 128) line ≡ true → nat_lt 0 (length line) ≡ true → request_of line ≡ request → line_of line ≡ line_told request
+told_by : (line : List ℕ) (request : Result Request ReadRefusal) → list_all (λ b. nat_lt b 128) line ≡ true → nat_lt 0 (length line) ≡ true
+    → told_of line (argument_and_rest line) ≡ do_read request → line_of line ≡ line_told request
 told_by [] request h some e = absurd cc
-told_by (b ∷ bs) request h some e = ap (λ u. if u then line_told (request_of (b ∷ bs)) else Err UnknownLine) (ascii (b ∷ bs) h) ∙ ap line_told e
+told_by (b ∷ bs) request h some e =
+    ap (λ u. if u then then_read (told_of (b ∷ bs) (argument_and_rest (b ∷ bs))) (λ line. Ok (Some line)) else Err UnknownLine) (ascii (b ∷ bs) h)
+    ∙ ap (λ r. then_read r (λ line. Ok (Some line))) e
+    ∙ done request
+  where
+    done : (r : Result Request ReadRefusal) → then_read (do_read r) (λ line. Ok (Some line)) ≡ line_told r
+    done (Err refusal) = refl
+    done (Ok request) = refl
 
 auto_line : request_of (codes "AUTO Users Name") ≡ Ok (Auto (codes "Users") (codes "Name"))
 auto_line = refl
@@ -296,7 +304,7 @@ first_script = codes "PUT users/1 {\"Name\":\"Ada\",\"@metadata\":{\"@collection
 first_asked : map line_of (lines first_script)
     ≡ Ok (Some (Do (put (codes "Users") (codes "users/1") (codes "Name") (codes "Ada")))) ∷ Ok (Some (Do (Auto (codes "Users") (codes "Name")))) ∷ Ok None
     ∷ Ok (Some (Do (Pump 64 None))) ∷ Ok (Some (Do (Find (codes "Auto/Users/ByName") (codes "Name") (codes "ada")))) ∷ []
-first_asked = λ i. told_by (codes "PUT users/1 " ++ ada_text) _ refl refl put_line i ∷ told_by (codes "AUTO Users Name") _ refl refl auto_line i ∷ Ok None ∷ told_by (codes "PUMP 64") _ refl refl pump_line i ∷ told_by (codes "FIND Auto/Users/ByName Name ada") _ refl refl find_line i ∷ []
+first_asked = λ i. told_by (codes "PUT users/1 " ++ ada_text) (Ok (put (codes "Users") (codes "users/1") (codes "Name") (codes "Ada"))) refl refl (ap do_read put_line) i ∷ told_by (codes "AUTO Users Name") (Ok (Auto (codes "Users") (codes "Name"))) refl refl (ap do_read auto_line) i ∷ Ok None ∷ told_by (codes "PUMP 64") (Ok (Pump 64 None)) refl refl (ap do_read pump_line) i ∷ told_by (codes "FIND Auto/Users/ByName Name ada") (Ok (Find (codes "Auto/Users/ByName") (codes "Name") (codes "ada"))) refl refl (ap do_read find_line) i ∷ []
 
 abbrev put_ada : List ℕ
 put_ada = codes "PUT users/1 " ++ ada_text

@@ -1,24 +1,25 @@
 -- What writes leave, and that no row is invented.
-use Rattle.std.proofs.Common.{◌≡◌, ℕ, ◌+◌, List, [], ◌∷◌, ◌++◌, Bool, true, false, cond, length, nat_le, nat_eq, codes, is_some, Option, Some, None, Result, Ok, Err, refl, sym, ap, ◌∙◌, subst, ◌⊎◌, inl, inr}
+use Rattle.std.proofs.Common.{◌≡◌, ℕ, ◌+◌, List, [], ◌∷◌, ◌++◌, Bool, true, false, cond, length, map, nat_le, nat_eq, codes, is_some, Option, Some, None, Result, Ok, Err, refl, sym, ap, ◌∙◌, subst, ◌⊎◌, inl, inr}
 use Rattle.std.specs.List.{starts_with}
 use Rattle.std.specs.Option.{option_map}
 use Rattle.spec_data.specs.Data.{Data}
+use Rattle.spec_data.specs.Faults.{replacement_of}
 use Rattle.spec_data.specs.Folding.{folded, same_key}
 use Rattle.spec_data.specs.Rows.{Row, key}
 use Rattle.spec_store.specs.Store.{Store, row_at, last, put}
 use Rattle.index_tree.specs.Definitions.{Definition, same_definition}
-use Rattle.spec_store.specs.Commit.{Command, Expect, Client, Server, Setting, Refused, Written, after_command, after_commands, commit, document_at, id_of, is_index_id, row_spelling, refusal_of, row_of, tombstone, or_refused, vector_of, with_option, with_written, etags_taken}
+use Rattle.spec_store.specs.Commit.{Command, AnyVector, Expect, Client, Server, Setting, Refused, Written, after_command, after_commands, commit, document_at, id_of, is_index_id, row_spelling, refusal_of, row_of, tombstone, or_refused, vector_of, with_option, with_written, etags_taken}
 use Rattle.spec_server.specs.Replies.{Reply, Result as Done}
 use Rattle.spec_server.specs.Replies as replies
-use Rattle.spec_index.specs.World.{Slot, World, SlotChange, SlotRefusal, added, added_if_room, define, define_at, define_named, name_refusal, remove, removed, serving, unless_refused}
-use Rattle.spec_index.specs.Optimiser.{Choice, Use, Make, Merge, name_of, pick}
-use Rattle.spec_server.specs.Machine.{Machine, Course, Event, Keeping, Replied, Line, Do, Put, Delete, Bulk, Get, Define, Remove, Auto, Find, Ask, Pump, Stale, Indexes, Stats, after, commands_on, course_of, in_world, is_first_taken, is_taken, one_change, one_field, pump_at, change_of_slots, rewrote, run, same_machine, settled, single_reply, start, step, use_or_make, with_world, write, wrote, results_of}
+use Rattle.spec_index.specs.World.{Slot, World, SlotChange, SlotRefusal, added, added_if_room, added_to, define, define_at, define_beside, define_named, dropped, index_id, name_refusal, remove, removed, serving, switch, taken_out, unchanged, unless_refused, without}
+use Rattle.spec_index.specs.Optimiser.{Choice, Use, Make, Merge, name_of, pick, retired, retirement}
+use Rattle.spec_server.specs.Machine.{Machine, Course, Event, Keeping, Replied, Line, Do, Put, Delete, Bulk, Get, Define, Remove, Auto, Find, Ask, Pump, Switch, Tidy, Stale, Indexes, Stats, Read, Publish, after, changed, commands_on, course_of, in_world, is_first_taken, is_taken, held_by, one_change, one_field, pump_at, change_of_slots, replaced_names, rewrote, tidy, run, same_machine, settled, single_reply, start, step, use_or_make, with_world, write, wrote, results_of}
 use Rattle.raven_laws.specs.Writes.{row_given, AreWritten, BulkIsAnswered, DeleteIsAnswered, IsCommanded, IsDeleted, IsNotThere, IsPut, IsRefused, IsKeeperFault, IsWritten, OnlyReads, PutIsAnswered}
 use Rattle.spec_store.proofs.StoreLemmas.{found_key, row_at-put, same_itself, same_row}
 use Rattle.spec_store.proofs.CommitLemmas.{document_found, put_key}
 use Rattle.raven_laws.proofs.ListedLemmas.{commit_from-applied}
-use Rattle.raven_laws.proofs.MachineLemmas.{AllLeave, settled-leaves}
-use Rattle.raven_laws.proofs.WorldLemmas.{same_change, past_test, unchanged_slots, taken_out}
+use Rattle.raven_laws.proofs.MachineLemmas.{AllLeave, IsTidying, chain, publish-store, read-world, settled-leaves, tidy-do}
+use Rattle.raven_laws.proofs.WorldLemmas.{same_change, past_test, switch-Switches}
 
 -- A FURTHER ROW
 
@@ -179,9 +180,13 @@ reads-change-nothing M k now (Do (Auto collection field)) h = absurd h
 reads-change-nothing M k now (Do (Find index field ws)) h = refl
 reads-change-nothing M k now (Do (Ask ask)) h = refl
 reads-change-nothing M k now (Do (Pump max index)) h = absurd h
+reads-change-nothing M k now (Do (Switch name)) h = absurd h
+reads-change-nothing M k now (Do Tidy) h = absurd h
 reads-change-nothing M k now (Do (Stale name cutoff)) h = refl
 reads-change-nothing M k now (Do Indexes) h = refl
 reads-change-nothing M k now (Do Stats) h = refl
+reads-change-nothing M k now (Read worker max index) h = absurd h
+reads-change-nothing M k now (Publish worker) h = absurd h
 
 pub batches-change-no-row : (M : Machine) (k : Keeping) (now max : ℕ) (index : Option (List ℕ)) → (step M k now (Do (Pump max index))).machine.world.store ≡ M.world.store
 batches-change-no-row M k now max None = refl
@@ -248,23 +253,23 @@ commanded-indexed now cs S x h g =
     ap (λ q. starts_with nat_eq q (codes "@index/")) (written_key now (after_commands now g.earlier S) g.command x g.given)
     ∙ among-indexed g.earlier g.command g.later (subst AreIndexed g.among h)
 
-rewrote-Stays : (now : ℕ) (W : World) (reply : Reply) (slots : List Slot) (cs : List Command) (o : Result Written Refused) → AreIndexed cs
-    → commit W.setting Server now cs W.store ≡ o → AllLeave (Stays W) (rewrote W reply slots o).changes
-rewrote-Stays now W reply slots cs (Err refused) h e = tt
-rewrote-Stays now W reply slots cs (Ok w) h e = (stays, tt)
-  where
-    stays : Stays W (in_world W w.store slots)
-    stays q x at not_index =
-        let all = commit_from-applied 0 W.setting Server now cs (record { store = W.store; rows = [] }) w e in
-        elim (after-commanded now cs W.store q x (subst (λ (S : Store). row_at q S.rows ≡ Some x) all at)) as (λ _. row_at q W.store.rows ≡ Some x) [
-          | inl there ↦ there
-          | inr given ↦ absurd (let t = commanded-indexed now cs W.store x h given in cc)
-        ]
+indexed-Stays : (now : ℕ) (W : World) (c : SlotChange) (w : Written) → AreIndexed c.commands → commit W.setting Server now c.commands W.store ≡ Ok w → Stays W (changed W w.store c)
+indexed-Stays now W c w h e q x at not_index =
+    let all = commit_from-applied 0 W.setting Server now c.commands (record { store = W.store; rows = [] }) w e in
+    elim (after-commanded now c.commands W.store q x (subst (λ (S : Store). row_at q S.rows ≡ Some x) all at)) as (λ _. row_at q W.store.rows ≡ Some x) [
+      | inl there ↦ there
+      | inr given ↦ absurd (let t = commanded-indexed now c.commands W.store x h given in cc)
+    ]
+
+rewrote-Stays : (now : ℕ) (W : World) (reply : Reply) (c : SlotChange) (o : Result Written Refused) → AreIndexed c.commands
+    → commit W.setting Server now c.commands W.store ≡ o → AllLeave (Stays W) (rewrote W reply c o).changes
+rewrote-Stays now W reply c (Err refused) h e = tt
+rewrote-Stays now W reply c (Ok w) h e = (indexed-Stays now W c w h e, tt)
 
 reslotted-Stays : (now : ℕ) (W : World) (reply : List ℕ → Reply) (name : List ℕ) (r : Result SlotChange SlotRefusal) → ((c : SlotChange) → r ≡ Ok c → AreIndexed c.commands)
     → AllLeave (Stays W) (change_of_slots W now reply name r).changes
 reslotted-Stays now W reply name (Err refusal) h = tt
-reslotted-Stays now W reply name (Ok c) h = rewrote-Stays now W (reply c.name) c.slots c.commands (commit W.setting Server now c.commands W.store) (h c refl) refl
+reslotted-Stays now W reply name (Ok c) h = rewrote-Stays now W (reply c.name) c (commit W.setting Server now c.commands W.store) (h c refl) refl
 
 -- the commands of each change of the indexes are of that kind
 added-indexed : (W : World) (name : List ℕ) (d : Definition) (c : SlotChange) → added_if_room W name d ≡ Ok c → AreIndexed c.commands
@@ -278,12 +283,25 @@ define-indexed W name d c h =
     let free = past_test (is_some (serving W.slots name)) SlotRefusal.NameServes (Ok (added W name d)) c room.1 in
     subst (λ (x : SlotChange). AreIndexed x.commands) (same_change (added W name d) c free.1) (refl, tt)
 
+define_beside-indexed : (W : World) (d : Definition) (s : Slot) (other : Option Slot) (c : SlotChange) → define_beside W d s other ≡ Ok c → AreIndexed c.commands
+define_beside-indexed W d s None c = elim (same_definition d s.version.definition) as (λ b. cond b (Ok (unchanged W s.name)) (added_if_room W (replacement_of s.name) d) ≡ Ok c → AreIndexed c.commands) [
+  | true ↦ λ h. subst (λ (x : SlotChange). AreIndexed x.commands) (same_change (unchanged W s.name) c h) tt
+  | false ↦ λ h. added-indexed W (replacement_of s.name) d c h
+]
+define_beside-indexed W d s (Some r) c = elim (same_definition d s.version.definition) as (λ b.
+    cond {A = Result SlotChange SlotRefusal} b (Ok (dropped W r s.name))
+    (cond (same_definition d r.version.definition) (Ok (unchanged W r.name)) (Ok (added_to W (without r.number W.slots) (replacement_of s.name) d))) ≡ Ok c → AreIndexed c.commands) [
+      | true ↦ λ h. subst (λ (x : SlotChange). AreIndexed x.commands) (same_change (dropped W r s.name) c h) (refl, tt)
+      | false ↦ elim (same_definition d r.version.definition) as (λ b.
+          cond {A = Result SlotChange SlotRefusal} b (Ok (unchanged W r.name)) (Ok (added_to W (without r.number W.slots) (replacement_of s.name) d)) ≡ Ok c → AreIndexed c.commands) [
+            | true ↦ λ h. subst (λ (x : SlotChange). AreIndexed x.commands) (same_change (unchanged W r.name) c h) tt
+            | false ↦ λ h. subst (λ (x : SlotChange). AreIndexed x.commands) (same_change (added_to W (without r.number W.slots) (replacement_of s.name) d) c h) (refl, tt)
+          ]
+    ]
+
 define_at-indexed : (W : World) (name : List ℕ) (d : Definition) (there : Option Slot) (c : SlotChange) → define_at W name d there ≡ Ok c → AreIndexed c.commands
 define_at-indexed W name d None c = added-indexed W name d c
-define_at-indexed W name d (Some s) c = elim (same_definition d s.version.definition) as (λ b. cond b (Ok (unchanged_slots W s.name)) (Err SlotRefusal.NameServes) ≡ Ok c → AreIndexed c.commands) [
-  | true ↦ λ h. subst (λ (x : SlotChange). AreIndexed x.commands) (same_change (unchanged_slots W s.name) c h) tt
-  | false ↦ λ h. absurd cc
-]
+define_at-indexed W name d (Some s) c = define_beside-indexed W d s (serving W.slots (replacement_of s.name)) c
 
 define_named-indexed : (W : World) (name : List ℕ) (d : Definition) (c : SlotChange) → define_named W name d ≡ Ok c → AreIndexed c.commands
 define_named-indexed W name d c = elim (name_refusal name) as (λ r. unless_refused r (define_at W name d (serving W.slots name)) ≡ Ok c → AreIndexed c.commands) [
@@ -291,11 +309,35 @@ define_named-indexed W name d c = elim (name_refusal name) as (λ r. unless_refu
   | Some refusal ↦ λ h. absurd cc
 ]
 
+taken_out-indexed : (W : World) (s : Slot) (other : Option Slot) → AreIndexed (taken_out W s other).commands
+taken_out-indexed W s None = (refl, tt)
+taken_out-indexed W s (Some r) = (refl, (refl, tt))
+
 remove-indexed : (W : World) (name : List ℕ) (c : SlotChange) → remove W name ≡ Ok c → AreIndexed c.commands
-remove-indexed W name c = elim (serving W.slots name) as (λ o. removed W name o ≡ Ok c → AreIndexed c.commands) [
+remove-indexed W name c = elim (serving W.slots name) as (λ o. removed W o ≡ Ok c → AreIndexed c.commands) [
   | None ↦ λ h. absurd cc
-  | Some s ↦ λ h. subst (λ (x : SlotChange). AreIndexed x.commands) (same_change (taken_out W name s) c h) (refl, tt)
+  | Some s ↦ λ h.
+      let other = serving W.slots (replacement_of s.name) in
+      subst (λ (x : SlotChange). AreIndexed x.commands) (same_change (taken_out W s other) c h) (taken_out-indexed W s other)
 ]
+
+switch-indexed : (W : World) (name : List ℕ) (c : SlotChange) → switch W name ≡ Ok c → AreIndexed c.commands
+switch-indexed W name c h = let w = switch-Switches W name c h in subst (λ (x : SlotChange). AreIndexed x.commands) w.change (refl, (refl, tt))
+
+retirement-indexed : (W : World) → AreIndexed (retirement W).commands
+retirement-indexed W = by (retired W.slots)
+  where
+    by : (slots : List Slot) → AreIndexed (map (λ s. Command.Delete (index_id s.name) AnyVector) slots)
+    by [] = tt
+    by (s ∷ slots) = (refl, by slots)
+
+tidying-indexed : (W : World) (c : SlotChange) → IsTidying W c → AreIndexed c.commands
+tidying-indexed W c (inl n) = switch-indexed W n.0 c n.1
+tidying-indexed W c (inr e) = subst (λ (x : SlotChange). AreIndexed x.commands) (sym e) (retirement-indexed W)
+
+tidy-Stays : (now : ℕ) (W : World) → AllLeave (Stays W) (tidy now (replaced_names W) W []).changes
+tidy-Stays now W = chain Stays (λ A B C f g q x at not_index. f q x (g q x at not_index) not_index) W W (λ q x at not_index. at) (tidy now (replaced_names W) W []).changes
+    (tidy-do now (λ V. Unit {0}) (λ V c. Stays V c.world) (λ V c w i is e. (indexed-Stays now V c w (tidying-indexed V c is) e, tt)) (replaced_names W) W [] tt)
 
 auto-Stays : (now : ℕ) (W : World) (c : Choice) → AllLeave (Stays W) (use_or_make W now c).changes
 auto-Stays now W (Use s) = tt
@@ -359,9 +401,14 @@ step-given M k now (Do (Auto collection field)) more q x h not_index =
 step-given M k now (Do (Find index field ws)) more q x h not_index = inl h
 step-given M k now (Do (Ask ask)) more q x h not_index = inl h
 step-given M k now (Do (Pump max index)) more q x h not_index = inl (subst (λ (S : Store). row_at q S.rows ≡ Some x) (batches-change-no-row M k now max index) h)
+step-given M k now (Do (Switch name)) more q x h not_index =
+    inl (settled-Stays M k (course_of M.world now (Switch name)) (reslotted-Stays now M.world (Reply.Switched (last M.world.store + 1)) name (switch M.world name) (switch-indexed M.world name)) q x h not_index)
+step-given M k now (Do Tidy) more q x h not_index = inl (settled-Stays M k (course_of M.world now Tidy) (tidy-Stays now M.world) q x h not_index)
 step-given M k now (Do (Stale name cutoff)) more q x h not_index = inl h
 step-given M k now (Do Indexes) more q x h not_index = inl h
 step-given M k now (Do Stats) more q x h not_index = inl h
+step-given M k now (Read worker max index) more q x h not_index = inl (subst (λ (W : World). row_at q W.store.rows ≡ Some x) (read-world M worker max index (serving M.world.slots index)) h)
+step-given M k now (Publish worker) more q x h not_index = inl (subst (λ (S : Store). row_at q S.rows ≡ Some x) (publish-store M worker (held_by M.held worker)) h)
 
 given-later : (M : Machine) (e : Event) (es : List Event) (x : Row) → IsWritten (after M e) es x → IsWritten M (e ∷ es) x
 given-later M e es x g = record {

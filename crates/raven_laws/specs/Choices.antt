@@ -45,7 +45,7 @@ abbrev pub IsMakeAnswer : Machine → Keeping → ℕ → List ℕ → Definitio
 IsMakeAnswer M k now name d replied =
     IsFull M replied
     ⊎ (IsRowRefused M now (Put (index_id name) AnyVector (row_body d) ∷ []) replied
-    ⊎ (IsKeeperFault M k replied ⊎ IsNewIndex M k name d replied))
+    ⊎ (IsKeeperFault M k replied ⊎ IsNewIndex M k now name d replied))
 
 -- the reply names the index that is used, and nothing changes; or a new one is made; to merge is not built yet
 abbrev pub FollowsChoice : Machine → Keeping → ℕ → Replied → Choice → Type 0

@@ -6,5 +6,6 @@ pub mod Definitions
 pub mod Keeping
 pub mod Opened
 pub mod Served
+pub mod Workers
 pub mod Choices
 pub mod Words

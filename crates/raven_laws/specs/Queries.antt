@@ -1,19 +1,27 @@
 -- What the laws say of queries and of their answers.
-use Rattle.std.specs.Prelude.{◌≡◌, ℕ, pos, List, [], false, Some, None, IsTrue}
+use Rattle.std.specs.Prelude.{◌≡◌, ℕ, pos, List, [], true, false, Option, Some, None, IsTrue, map}
+use Rattle.std.specs.FinMap.{get}
 use Rattle.spec_data.specs.Data.{Data}
-use Rattle.spec_data.specs.Rows.{Row, doc, key}
-use Rattle.spec_store.specs.Store.{row_at}
+use Rattle.spec_data.specs.Rows.{Row, doc, is_document, key}
+use Rattle.spec_data.specs.Tables.{Scope, Table}
+use Rattle.spec_store.specs.Stale.{up_to}
+use Rattle.spec_store.specs.Store.{Store, row_at}
 use Rattle.index_tree.specs.Definitions.{Definition}
 use Rattle.index_tree.specs.Meaning.{Fields, Entry}
 use Rattle.index_tree.specs.Mapper.{mapper_of, scope_of, is_mapped}
+use Rattle.index_tree.specs.declared.reduce_query.ReduceQuery.{ReduceQuery}
 use Rattle.spec_query.specs.Binding.{refusal_of}
 use Rattle.spec_query.specs.Condition.{meets}
 use Rattle.spec_query.specs.Offering.{offered_of}
 use Rattle.spec_query.specs.Parameters.{bound_where}
 use Rattle.spec_query.specs.Query as query
 use Rattle.spec_query.specs.Query.{OfIndex}
-use Rattle.spec_index.specs.Index.{documents}
-use Rattle.spec_index.specs.World.{Slot, World, serving}
+use Rattle.spec_query.specs.Results.{row_data}
+use Rattle.spec_index.specs.Index.{documents, record_of}
+use Rattle.spec_index.specs.Mapping.{scratch}
+use Rattle.spec_index.specs.Rows.{key_of, row_of}
+use Rattle.spec_index.specs.World.{Slot, World, reads, serving}
+use Rattle.spec_server.specs.Asking.{answer_by}
 use Rattle.spec_server.specs.Replies.{Reply, Answer}
 use Rattle.spec_server.specs.Machine.{Machine, Do, Ask, step, takes_all}
 use Rattle.spec_server.specs.Shown.{shown}
@@ -59,8 +67,46 @@ pub record IsFound (W : World) (definition : Definition) (ask : query.Ask) (d : 
   pub gives : ((mapper_of definition).meaning row (documents (scope_of (mapper_of definition)) W.store)).outcome ≡ Entry fields
   pub passes : IsTrue (meets (bound_where ask.parameters ask.query.cond) false fields)
 
+-- THE ROWS OF A REDUCE
+
+-- the map of the definition gives a document of the store this entry
+pub record IsEntry (W : World) (definition : Definition) (fields : Fields) : Type 0 where
+  pub row : Row
+  pub found : row_at (key row) W.store.rows ≡ Some row
+  pub document : IsTrue (is_document row)
+  pub mapped : IsTrue (is_mapped (mapper_of definition) row)
+  pub gives : ((mapper_of definition).meaning row (documents (scope_of (mapper_of definition)) W.store)).outcome ≡ Entry fields
+
+-- the entries of all documents of the store, one for each that is given one
+abbrev pub entries_in : World → Definition → List Fields
+entries_in W definition = map (λ e. e.1) (scratch (mapper_of definition) (documents (scope_of (mapper_of definition)) W.store))
+
+-- The row of a key that an entry of the store's documents has: made of all entries with this key. It meets the condition of the query.
+pub record IsRowOfKey (W : World) (definition : Definition) (reduce : ReduceQuery) (ask : query.Ask) (d : Data) : Type 0 where
+  pub entry : Fields
+  pub given : IsEntry W definition entry
+  pub row : Fields
+  pub of_key : row_of reduce (entries_in W definition) (key_of reduce.key entry) ≡ row
+  pub passes : IsTrue (meets (bound_where ask.parameters ask.query.cond) false row)
+  pub shows : row_data row ≡ d
+
+-- WHOLE COLLECTIONS
+
 -- a document of the store in this collection
 pub record IsInCollection (W : World) (collection : List ℕ) (d : Data) : Type 0 where
   pub row : Row
   pub document : IsShown W row d
   pub inside : row.collection ≡ collection
+
+-- UP TO A CUTOFF
+
+-- For each row of the store up to the cutoff the table has exactly what an index records of it: the document, if the index reads it, and nothing of any
+-- other row.
+abbrev pub IsWholeUpTo : Option ℕ → Scope → Store → Table → Type 0
+IsWholeUpTo cutoff scope S T = (q : List ℕ) (r : Row) → row_at q S.rows ≡ Some r → up_to cutoff r.etag ≡ true → get T q ≡ record_of scope r
+
+-- the query is answered from what the index has recorded, and that is whole up to the cutoff of the query
+pub record IsAnsweredUpTo (M : Machine) (ask : query.Ask) (s : Slot) : Type 0 where
+  pub table : Table
+  pub answer : query_reply M ask ≡ answer_by table M.world ask s
+  pub whole : IsWholeUpTo ask.cutoff (reads s.version) M.world.store table

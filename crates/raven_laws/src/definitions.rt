@@ -5,7 +5,8 @@ ghost use Rattle.index_tree.specs.Definitions.{same_definition, Definition};
 ghost use Rattle.spec_server.specs.Machine.{Do, Keeping, Machine, Pump, step};
 ghost use Rattle.spec_server.specs.Sound.{Sound};
 ghost use Rattle.raven_laws.specs.Choices.{AutoIsAnswered};
-ghost use Rattle.raven_laws.specs.Definitions.{BatchIsAnswered, DefineIsAnswered, OtherSlotsStay, RemoveIsAnswered, SaysTheSame};
+ghost use Rattle.raven_laws.specs.Definitions.{BatchIsAnswered, DefineIsAnswered, OtherSlotsStay, RemoveIsAnswered, SaysTheSame, SwitchIsAnswered};
+ghost use Rattle.raven_laws.specs.Served.{TidyIsAnswered};
 
 /// Two definitions are found to be the same exactly if their maps and reduces are equal, or their collections and fields are. Their
 /// texts do not matter.
@@ -13,17 +14,35 @@ pub fn same_definition_is_exact()
     ensures { (d e : Definition) → (same_definition d e ≡ true) ↔ SaysTheSame d e }
 {}
 
-/// A Define is refused and changes nothing: for its name, because the name serves another definition, for one index too many, or for its row.
-/// Or the keeper failed and nothing changes; or the name serves that definition already and nothing changes; or there is a new index of that
-/// definition after the others, and all other slots and rows stay as they were.
+/// In a sound state a Define is refused and changes nothing: for its name, for one index too many, or for its row. Or the keeper failed and
+/// nothing changes; or the name serves that definition already, or a replacement of that definition is being built, and nothing changes. Or
+/// there is a new index of that definition after the others; or a replacement of that definition is built beside the index that serves the
+/// name, in place of an earlier one; or the name serves that definition and the replacement that was being built goes. All other slots and
+/// rows stay as they were.
 pub fn definitions_are_answered()
-    ensures { (M : Machine) (k : Keeping) (now : ℕ) (name : List ℕ) (d : Definition) → DefineIsAnswered M k now name d }
+    ensures { (M : Machine) (k : Keeping) (now : ℕ) (name : List ℕ) (d : Definition) → Sound M.world → DefineIsAnswered M k now name d }
 {}
 
-/// A Remove is refused and changes nothing, if no index serves the name, or for its row. Or the keeper failed and nothing changes; or the
-/// index is gone, the row of its definition is deleted, and all other slots and rows stay as they were.
+/// A Remove is refused and changes nothing, if no index serves the name, or for its rows. Or the keeper failed and nothing changes; or the
+/// index is gone, and with it the replacement that was being built for it, the rows of their definitions are deleted, and all other slots and
+/// rows stay as they were.
 pub fn removals_are_answered()
     ensures { (M : Machine) (k : Keeping) (now : ℕ) (name : List ℕ) → Sound M.world → RemoveIsAnswered M k now name }
+{}
+
+/// In a sound state a Switch is refused and changes nothing: no index serves the name, no replacement is being built, there are as many notes
+/// as there may be, the replacement is stale on this very store, or its rows are refused. Or the keeper failed and nothing changes; or the
+/// replacement serves the name with its number and all that it has recorded, the note of that is the last, and all other slots and rows stay
+/// as they were.
+pub fn switches_are_answered()
+    ensures { (M : Machine) (k : Keeping) (now : ℕ) (name : List ℕ) → Sound M.world → SwitchIsAnswered M k now name }
+{}
+
+/// In a sound state the reply to a TIDY, if the keeper and the store take its rows, tells what was done. It names all that was switched and
+/// nothing else, in the order of the notes of the switches, which is that of the folded names. Each replacement was not stale on the very
+/// store at which it took the name. None of the indexes that it tells as retired is served any more.
+pub fn tidies_are_answered()
+    ensures { (M : Machine) (k : Keeping) (now : ℕ) → Sound M.world → TidyIsAnswered M k now }
 {}
 
 /// In a sound state with room for less than 2^32 indexes, an Auto uses the best index, and changes nothing. Or it makes a new one: that is

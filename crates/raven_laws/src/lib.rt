@@ -9,11 +9,12 @@ mod opening;
 mod runs;
 mod scripts;
 mod stores;
+mod workers;
 mod writes;
 
 pub use definitions::{
     autos_are_answered, batches_for_one_leave_the_others, definitions_are_answered,
-    removals_are_answered, same_definition_is_exact,
+    removals_are_answered, same_definition_is_exact, switches_are_answered, tidies_are_answered,
 };
 pub use indexes::{
     agreement_survives, batch_agrees, documents_are_all, fresh_is_whole, orders_are_total,
@@ -34,6 +35,7 @@ pub use scripts::{
     arguments_are_split_at_spaces, every_script_is_sound, numbers_are_decimal, scripts_are_runs,
 };
 pub use stores::{commit_grows, later_orders};
+pub use workers::{publications_are_answered, publications_go_on, reads_are_answered};
 pub use writes::{
     deletes_are_answered, only_writes_write, puts_are_answered, rows_were_written,
     transactions_are_whole,

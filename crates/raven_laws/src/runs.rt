@@ -53,6 +53,9 @@ pub fn fresh_answers_are_from_scratch()
 
 /// A FIND of an index that is not stale has exactly the ids of the documents that the store has, that the index maps, and whose field is the
 /// text. A query that asks for all has exactly the documents that the index maps and that meet its condition, or those of a whole collection.
+/// If the index has a reduce, the query has exactly the rows that meet its condition among those of the keys that entries of the store's
+/// documents have, each made of all entries with its key. A query with a cutoff, of an index that is not stale up to there, is answered from
+/// exactly the documents up to the cutoff, and from what the index has recorded of newer rows.
 pub fn fresh_answers_are_exact()
     ensures { (setting : Setting) (events : List Event) → AreFromClients events → FreshIsExact (run events (start setting)) }
 {}
@@ -71,9 +74,11 @@ pub fn ids_are_spelled_as_stored()
     ensures answers { (setting : Setting) (events : List Event) → AreFromClients events → IdsAreSpelledAsStored (run events (start setting)) }
 {}
 
-/// The index that serves a name goes on to serve it, with its number and its definition, in every step but its own removal.
+/// The index that serves a name, other than that of a replacement, goes on to serve it, with its number and its definition, in every step
+/// but three: the line removes it; a TIDY retires it, which says so, and only if it is automatic; or the name is switched to the replacement
+/// that is built for it. Then the replacement is not stale on the very store at which it takes the name, and the note of the switch shows it.
 pub fn served_names_stay()
-    ensures { (M : Machine) (k : Keeping) (now : ℕ) (line : Line) → Sound M.world → ServedStays M k now line }
+    ensures { (M : Machine) (k : Keeping) (now : ℕ) (line : Line) → IsMachine M → ServedStays M k now line }
 {}
 
 /// The name that is chosen for a new index is free, so no new index is refused for its name.

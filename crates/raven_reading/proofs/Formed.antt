@@ -5,7 +5,7 @@ use Rattle.spec_data.specs.Data.{Data, object, depth}
 use Rattle.spec_store.specs.Commit.{Command}
 use Rattle.index_tree.specs.Definitions.{Definition}
 use Rattle.spec_index.specs.World.{is_automatic}
-use Rattle.spec_server.specs.Machine.{Line, Do, Put, Delete, Bulk, Get, Define, Remove, Auto, Find, Ask, Pump, Stale, Indexes, Stats}
+use Rattle.spec_server.specs.Machine.{Line, Do, Put, Delete, Bulk, Get, Define, Remove, Auto, Find, Ask, Pump, Switch, Tidy, Stale, Indexes, Stats, Read, Publish}
 use Rattle.spec_server.specs.WellFormed.{IsWellFormed, is_body, put_bodies}
 use Rattle.raven_lines.specs.Lines.{IsLine}
 use Rattle.raven_reading.specs.Requests.{AreCommands, IsByText, IsRequestBody, IsValidLine}
@@ -36,9 +36,13 @@ valid-formed (Do (Auto collection field)) valid = let is = valid.indexing in is.
 valid-formed (Do (Find index field ws)) valid = tt
 valid-formed (Do (Ask ask)) valid = tt
 valid-formed (Do (Pump max index)) valid = tt
+valid-formed (Do (Switch name)) valid = tt
+valid-formed (Do Tidy) valid = tt
 valid-formed (Do (Stale name cutoff)) valid = tt
 valid-formed (Do Indexes) valid = tt
 valid-formed (Do Stats) valid = tt
+valid-formed (Read worker max index) valid = tt
+valid-formed (Publish worker) valid = tt
 
 pub line-formed : (line : List ℕ) (asks : Line) → IsLine line (Ok (Some asks)) → IsWellFormed asks
 line-formed line asks is = valid-formed asks (line-asked line (Ok (Some asks)) is)

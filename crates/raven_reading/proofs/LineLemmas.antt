@@ -15,9 +15,9 @@ use Rattle.index_tree.specs.Language.{LangRefusal}
 use Rattle.index_tree.specs.Definitions.{Definition, Texts}
 use Rattle.spec_query.specs.Query.{Query}
 use Rattle.spec_query.specs.Refusals.{QueryRefusal}
-use Rattle.spec_server.specs.Machine.{Do, Request, Put, Delete, Bulk, Get, Remove, Auto, Find, Pump, Stale, Indexes, Stats}
+use Rattle.spec_server.specs.Machine.{Do, Request, Put, Delete, Bulk, Get, Remove, Auto, Find, Pump, Switch, Tidy, Stale, Indexes, Stats, Line}
 use Rattle.spec_server.specs.Opening.{is_part}
-use Rattle.spec_server.specs.Script.{Asking, LineRead, ReadRefusal, asked_by_text, defined_by, index_of, map_member, name_member, reduce_member, texts_in, texts_of_body, unless_name_fault, UnknownLine, BadMember, then_read, before_space, after_space, both_parts, argument_and_rest, has_byte, unless_fault, id_read, json_read, object_read, put_read, delete_read, id_member, vector_member, put_command, delete_command, typed_command, command_read, commands_read, list_member, commands_of, bulk_read, or_unknown, parts_read, put_of, put_if_of, delete_if_of, get_of, is_collection, is_field, auto_of, drop_of, max_read, pump_of, pump_read, name_read, find_of, stale_of, by_command, request_of, line_of}
+use Rattle.spec_server.specs.Script.{Asking, LineRead, ReadRefusal, asked_by_text, defined_by, index_of, map_member, name_member, reduce_member, texts_in, texts_of_body, unless_name_fault, UnknownLine, BadMember, then_read, before_space, after_space, both_parts, argument_and_rest, has_byte, unless_fault, id_read, json_read, object_read, put_read, delete_read, id_member, vector_member, put_command, delete_command, typed_command, command_read, commands_read, list_member, commands_of, bulk_read, or_unknown, parts_read, put_of, put_if_of, delete_if_of, get_of, is_collection, is_field, auto_of, drop_of, max_read, pump_of, pump_read, name_read, find_of, switch_of, stale_of, by_command, do_read, publish_of, read_of, request_of, told_of, worker_read, line_of}
 use Rattle.spec_store.proofs.StoreLemmas.{both_true, either_false}
 use Rattle.raven_reading.specs.Requests.{IsRequestBody, IsCommand, AreCommands, IsValidLine, IsValidRequest}
 use Rattle.raven_lines.specs.Lines.{IsLine}
@@ -312,6 +312,9 @@ find-asked words request h =
     let n = then-ok (name_read p.0.0) (λ index. Ok (Find index q.0.0 q.0.1)) request q.2 in
     asked (Find n.0 q.0.0 q.0.1) request n.2 (record { commands = tt; indexing = tt })
 
+switch-asked : (words : List ℕ) (request : Request) → switch_of words ≡ Ok request → IsValidRequest request
+switch-asked words request h = let n = then-ok (name_read words) (λ name. Ok (Switch name)) request h in asked (Switch n.0) request n.2 (record { commands = tt; indexing = tt })
+
 stale-asked : (words : List ℕ) (request : Request) → stale_of words ≡ Ok request → IsValidRequest request
 stale-asked words request h = let n = then-ok (name_read words) (λ name. Ok (Stale name None)) request h in asked (Stale n.0 None) request n.2 (record { commands = tt; indexing = tt })
 
@@ -331,13 +334,15 @@ word-asked word more request u h =
     either (bytes_eq word (codes "AUTO")) (auto_of more) _ request h (λ e. auto-asked more request u e) (λ h.
     either (bytes_eq word (codes "PUMP")) (pump_of more) _ request h (λ e. pump-asked more request e) (λ h.
     either (bytes_eq word (codes "FIND")) (find_of more) _ request h (λ e. find-asked more request e) (λ h.
-    either (bytes_eq word (codes "STALE")) (stale_of more) (Err UnknownLine) request h (λ e. stale-asked more request e) (λ h. absurd cc)))))))))))
+    either (bytes_eq word (codes "SWITCH")) (switch_of more) _ request h (λ e. switch-asked more request e) (λ h.
+    either (bytes_eq word (codes "STALE")) (stale_of more) (Err UnknownLine) request h (λ e. stale-asked more request e) (λ h. absurd cc))))))))))))
 
 request-asked : (line : List ℕ) (request : Request) → IsUtf8 line → request_of line ≡ Ok request → IsValidRequest request
 request-asked line request u h =
     either (bytes_eq line (codes "STATS")) (Ok Stats) _ request h (λ e. asked Stats request e (record { commands = tt; indexing = tt })) (λ h.
-    either (bytes_eq line (codes "INDEXES")) (Ok Indexes) (then_read (parts_read line) (λ parts. by_command parts.0 parts.1)) request h (λ e. asked Indexes request e (record { commands = tt; indexing = tt }))
-    (λ e. let p = then-ok (parts_read line) (λ parts. by_command parts.0 parts.1) request e in let w = parts-utf8 line p.0 u p.1 in word-asked p.0.0 p.0.1 request w.second p.2))
+    either (bytes_eq line (codes "INDEXES")) (Ok Indexes) _ request h (λ e. asked Indexes request e (record { commands = tt; indexing = tt })) (λ h.
+    either (bytes_eq line (codes "TIDY")) (Ok Tidy) (then_read (parts_read line) (λ parts. by_command parts.0 parts.1)) request h (λ e. asked Tidy request e (record { commands = tt; indexing = tt }))
+    (λ e. let p = then-ok (parts_read line) (λ parts. by_command parts.0 parts.1) request e in let w = parts-utf8 line p.0 u p.1 in word-asked p.0.0 p.0.1 request w.second p.2)))
 
 -- LINES WITHOUT A DEFINITION
 
@@ -347,16 +352,41 @@ CanBeKept (Err refusal) = Unit {0}
 CanBeKept (Ok None) = Unit {0}
 CanBeKept (Ok (Some line)) = IsValidLine line
 
-done : (r : Result Request ReadRefusal) → ((request : Request) → r ≡ Ok request → IsValidRequest request) → CanBeKept (then_read r (λ request. Ok (Some (Do request))))
+-- what the words of a line ask to write, if anything, can be stored
+abbrev IsValidIfRead : Result Line ReadRefusal → Type 0
+IsValidIfRead (Err refusal) = Unit {0}
+IsValidIfRead (Ok line) = IsValidLine line
+
+then-valid : {A : Type 0} (r : Result A ReadRefusal) (more : A → Result Line ReadRefusal) → ((a : A) → IsValidIfRead (more a)) → IsValidIfRead (then_read r more)
+then-valid (Err refusal) more f = tt
+then-valid (Ok a) more f = f a
+
+do-valid : (r : Result Request ReadRefusal) → ((request : Request) → r ≡ Ok request → IsValidRequest request) → IsValidIfRead (do_read r)
+do-valid (Err refusal) f = tt
+do-valid (Ok request) f = f request refl
+
+told-valid : (line : List ℕ) (parts : Option (List ℕ × List ℕ)) → IsUtf8 line → IsValidIfRead (told_of line parts)
+told-valid line None u = do-valid (request_of line) (λ request h. request-asked line request u h)
+told-valid line (Some parts) u = elim (bytes_eq parts.0 (codes "READ")) as (λ b. IsValidIfRead (cond b (read_of parts.1) (cond (bytes_eq parts.0 (codes "PUBLISH")) (publish_of parts.1) (do_read (request_of line))))) [
+  | true ↦ then-valid (parts_read parts.1) _ (λ more. then-valid (parts_read more.1) _ (λ rest. then-valid (worker_read more.0) _ (λ worker. then-valid (max_read rest.0) _ (λ max. then-valid (name_read rest.1) _ (λ index. tt)))))
+  | false ↦ elim (bytes_eq parts.0 (codes "PUBLISH")) as (λ b. IsValidIfRead (cond b (publish_of parts.1) (do_read (request_of line)))) [
+    | true ↦ then-valid (worker_read parts.1) _ (λ worker. tt)
+    | false ↦ do-valid (request_of line) (λ request h. request-asked line request u h)
+  ]
+]
+
+done : (r : Result Line ReadRefusal) → IsValidIfRead r → CanBeKept (then_read r (λ line. Ok (Some line)))
 done (Err refusal) f = tt
-done (Ok request) f = f request refl
+done (Ok line) f = f
 
 plain-asked : (line : List ℕ) → CanBeKept (line_of line)
 plain-asked [] = tt
-plain-asked (b ∷ bs) = elim (is_utf8 (b ∷ bs)) as (λ t. is_utf8 (b ∷ bs) ≡ t → CanBeKept (cond t (then_read (request_of (b ∷ bs)) (λ request. Ok (Some (Do request)))) (Err UnknownLine))) [
-  | true ↦ λ e. done (request_of (b ∷ bs)) (λ request h. request-asked (b ∷ bs) request (IsUtf8-from_is_utf8 (b ∷ bs) e) h)
-  | false ↦ λ e. tt
-] refl
+plain-asked (b ∷ bs) =
+    let told = told_of (b ∷ bs) (argument_and_rest (b ∷ bs)) in
+    elim (is_utf8 (b ∷ bs)) as (λ t. is_utf8 (b ∷ bs) ≡ t → CanBeKept (cond t (then_read told (λ line. Ok (Some line))) (Err UnknownLine))) [
+      | true ↦ λ e. done told (told-valid (b ∷ bs) (argument_and_rest (b ∷ bs)) (IsUtf8-from_is_utf8 (b ∷ bs) e))
+      | false ↦ λ e. tt
+    ] refl
 
 -- LINES WITH ONE, AND QUERIES
 

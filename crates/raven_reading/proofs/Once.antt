@@ -154,12 +154,12 @@ fronts (a ∷ xs) (b ∷ ys) more other h x y =
     ]
 
 -- a row that is not valid is reported, whatever follows it
-bad_stays : (s : Setting) (count : ℕ) (slots : List Slot) (xs zs : List ReadRow) (etag : ℕ) → slots_from s count slots xs ≡ Err etag → slots_from s count slots (xs ++ zs) ≡ Err etag
-bad_stays s count slots [] zs etag h = absurd cc
-bad_stays s count slots (x ∷ xs) zs etag h = by (or_bad x.row.etag (slots_after s count slots x)) (λ more g. bad_stays s (count + 1) more xs zs etag g) h
+bad_stays : (s : Setting) (all : List Row) (count : ℕ) (slots : List Slot) (xs zs : List ReadRow) (etag : ℕ) → slots_from s all count slots xs ≡ Err etag → slots_from s all count slots (xs ++ zs) ≡ Err etag
+bad_stays s all count slots [] zs etag h = absurd cc
+bad_stays s all count slots (x ∷ xs) zs etag h = by (or_bad x.row.etag (slots_after s all count slots x)) (λ more g. bad_stays s all (count + 1) more xs zs etag g) h
   where
-    by : (one : Result (List Slot) ℕ) → ((more : List Slot) → slots_from s (count + 1) more xs ≡ Err etag → slots_from s (count + 1) more (xs ++ zs) ≡ Err etag)
-        → and_then one (λ more. slots_from s (count + 1) more xs) ≡ Err etag → and_then one (λ more. slots_from s (count + 1) more (xs ++ zs)) ≡ Err etag
+    by : (one : Result (List Slot) ℕ) → ((more : List Slot) → slots_from s all (count + 1) more xs ≡ Err etag → slots_from s all (count + 1) more (xs ++ zs) ≡ Err etag)
+        → and_then one (λ more. slots_from s all (count + 1) more xs) ≡ Err etag → and_then one (λ more. slots_from s all (count + 1) more (xs ++ zs)) ≡ Err etag
     by (Err told) rest g = g
     by (Ok more) rest g = rest more g
 
@@ -167,21 +167,21 @@ bad_slots : (s : Setting) (rows : List Row) (told : Result (List Slot) ℕ) (eta
 bad_slots s rows (Err e) etag h = cc
 bad_slots s rows (Ok slots) etag h = absurd cc
 
-opened_bad : (s : Setting) (xs zs ys : List ReadRow) (etag : ℕ) → opened s xs ≡ Err etag → xs ++ zs ≡ ys → opened s ys ≡ Err etag
-opened_bad s xs zs ys etag h is =
-    ap (opened s) (sym is) ∙ ap (opened_with s (rows_of (xs ++ zs))) (bad_stays s 0 [] xs zs etag (bad_slots s (rows_of xs) (slots_from s 0 [] xs) etag h))
+opened_bad : (s : Setting) (all : List Row) (xs zs ys : List ReadRow) (etag : ℕ) → opened s all xs ≡ Err etag → xs ++ zs ≡ ys → opened s all ys ≡ Err etag
+opened_bad s all xs zs ys etag h is =
+    ap (opened s all) (sym is) ∙ ap (opened_with s (rows_of (xs ++ zs))) (bad_stays s all 0 [] xs zs etag (bad_slots s (rows_of xs) (slots_from s all 0 [] xs) etag h))
 
 pub opens_once : (s : Setting) (rows : List Row) (a b : Result Machine ℕ) → Opens s rows a → Opens s rows b → a ≡ b
-opens_once s rows (Ok M) (Ok N) x y = sym x.opened ∙ ap (opened s) (rows_once x.read y.read (x.rows ∙ sym y.rows) x.right y.right) ∙ y.opened
+opens_once s rows (Ok M) (Ok N) x y = sym x.opened ∙ ap (opened s rows) (rows_once x.read y.read (x.rows ∙ sym y.rows) x.right y.right) ∙ y.opened
 opens_once s rows (Ok M) (Err etag) x y =
     let front = prefix_once y.read x.read y.unread (y.rows ∙ sym x.rows) y.right x.right in
-    absurd (let told : Ok M ≡ Err etag = sym x.opened ∙ opened_bad s y.read front.0 x.read etag y.bad front.1 in cc)
+    absurd (let told : Ok M ≡ Err etag = sym x.opened ∙ opened_bad s rows y.read front.0 x.read etag y.bad front.1 in cc)
 opens_once s rows (Err etag) (Ok N) x y =
     let front = prefix_once x.read y.read x.unread (x.rows ∙ sym y.rows) x.right y.right in
-    absurd (let told : Ok N ≡ Err etag = sym y.opened ∙ opened_bad s x.read front.0 y.read etag x.bad front.1 in cc)
+    absurd (let told : Ok N ≡ Err etag = sym y.opened ∙ opened_bad s rows x.read front.0 y.read etag x.bad front.1 in cc)
 opens_once s rows (Err e) (Err f) x y = elim (fronts x.read y.read x.unread y.unread (x.rows ∙ sym y.rows) x.right y.right) [
-  | inl w ↦ sym (opened_bad s x.read w.0 y.read e x.bad w.1) ∙ y.bad
-  | inr w ↦ sym x.bad ∙ opened_bad s y.read w.0 x.read f y.bad w.1
+  | inl w ↦ sym (opened_bad s rows x.read w.0 y.read e x.bad w.1) ∙ y.bad
+  | inr w ↦ sym x.bad ∙ opened_bad s rows y.read w.0 x.read f y.bad w.1
 ]
 
 opened_once : (s : Setting) (told : Result (List Row) ℕ) (a b : Result Machine ℕ) → IsOpenedBy s told a → IsOpenedBy s told b → a ≡ b
@@ -193,7 +193,7 @@ held_once s held a b x y = opened_once s (rows_in s.max_rows held) a b x y
 
 opened_some : (s : Setting) (held : List KeptRow) (M : Machine) (told : Result (List Row) ℕ) → rows_in s.max_rows held ≡ told → IsOpenedBy s told (Ok M) → OpenedFrom s held M
 opened_some s held M (Err etag) is x = absurd cc
-opened_some s held M (Ok rows) is x = record { read = x.read; rows = is ∙ ap Ok (sym x.rows); opens = x.opened }
+opened_some s held M (Ok rows) is x = record { read = x.read; rows = is ∙ ap Ok (sym x.rows); opens = ap (λ all. opened s all x.read) x.rows ∙ x.opened }
 
 pub held_some : (s : Setting) (held : List KeptRow) (M : Machine) → IsOpened s held (Ok M) → OpenedFrom s held M
 held_some s held M x = opened_some s held M (rows_in s.max_rows held) refl x

@@ -7,7 +7,7 @@ use Rattle.spec_store.specs.Kept.{rows_in}
 use Rattle.index_tree.specs.Language as is
 use Rattle.spec_server.specs.Machine.{Machine}
 use Rattle.index_tree.specs.Definitions.{Definition, Texts}
-use Rattle.spec_server.specs.Opening.{BodyForm, NoForm, AutoForm, StaticForm, ReadRow, body_form, is_defining}
+use Rattle.spec_server.specs.Opening.{BodyForm, NoForm, AutoForm, StaticForm, ReadRow, body_form, is_defining, opened}
 use Rattle.index_grammar.specs.View.{query_of}
 use Rattle.index_definition.specs.DefinitionView.{definition_view}
 use Rattle.index_lang.specs.Parse.{AreRead, IsReduceReadIf, causes, definition, first_cause, is_long, judged_if, lengths, reduce_of, unless}
@@ -83,7 +83,7 @@ rows-told (x ∷ xs) h = (row-told x h.0, rows-told xs h.1)
 
 told-by : (s : Setting) (held : List KeptRow) (M : Machine) (r : Result (List _) ℕ) → rows_in s.max_rows held ≡ r → IsOpenedBy s r (Ok M) → OpenedFaithfully s held M
 told-by s held M (Err etag) e x = absurd cc
-told-by s held M (Ok rows) e x = record { opened = record { read = x.read; rows = e ∙ ap Ok (sym x.rows); opens = x.opened }; told = rows-told x.read x.right }
+told-by s held M (Ok rows) e x = record { opened = record { read = x.read; rows = e ∙ ap Ok (sym x.rows); opens = ap (λ all. opened s all x.read) x.rows ∙ x.opened }; told = rows-told x.read x.right }
 
 pub opened-told : (s : Setting) (held : List KeptRow) (M : Machine) → IsOpened s held (Ok M) → OpenedFaithfully s held M
 opened-told s held M x = told-by s held M (rows_in s.max_rows held) refl x

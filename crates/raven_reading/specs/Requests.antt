@@ -45,5 +45,7 @@ pub record IsValidRequest (request : Request) : Type 0 where
   pub commands : AreCommands (commands_in request)
   pub indexing : IsIndexing request
 
+-- what workers do writes nothing
 abbrev pub IsValidLine : Line → Type 0
 IsValidLine (Do request) = IsValidRequest request
+IsValidLine other = Unit {0}

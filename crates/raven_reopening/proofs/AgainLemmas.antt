@@ -1,24 +1,26 @@
 -- A world whose rows open again leaves such a world, whatever is asked.
-use Rattle.std.proofs.Common.{◌≡◌, ℕ, ◌+◌, ◌<◌, List, [], ◌∷◌, true, false, not, cond, nat_lt, nat_le, is_some, length, filter, Option, Some, None, Result, Ok, Err, refl, ap, arith}
-use Rattle.std.proofs.lemmas.Bool.{ltb-false}
+use Rattle.std.proofs.Common.{◌≡◌, ℕ, ◌+◌, ◌<◌, List, [], ◌∷◌, true, false, not, ◌==◌, cond, nat_lt, nat_le, is_some, length, filter, map, Option, Some, None, Result, Ok, Err, refl, sym, ap, ◌∙◌, subst, arith, inl, inr}
+use Rattle.std.proofs.lemmas.Bool.{eqb-true, ltb-false}
 use Rattle.std.specs.List.{list_any}
+use Rattle.spec_data.specs.Faults.{replacement_of}
 use Rattle.spec_data.specs.Moments.{moments_end}
 use Rattle.spec_store.specs.Store.{last}
 use Rattle.index_tree.specs.Definitions.{Definition, Auto, same_definition}
-use Rattle.spec_server.specs.Opening.{is_auto_name}
+use Rattle.spec_server.specs.Opening.{is_auto_name, is_static_name}
 use Rattle.spec_store.specs.Commit.{Command, AnyVector, Client, Server, Refused, Written, commit}
-use Rattle.spec_index.specs.Optimiser.{Shape, Make, Merge, best, chosen, covers, is_of, name_of, slot_shape}
+use Rattle.spec_index.specs.Optimiser.{Shape, Make, Merge, best, chosen, covers, is_of, is_retired, name_of, retired, retirement, slot_shape}
 use Rattle.spec_server.specs.Replies as replies
-use Rattle.spec_index.specs.World.{Slot, World, is_automatic, index_id, row_body, serving, SlotRefusal, added, define_at, is_named, is_reserved_name, removed, unless_refused}
-use Rattle.spec_server.specs.Machine.{Machine, Request, Put as PutOne, Delete as DeleteOne, Bulk, Get, Define, Remove, Auto as AutoOne, Find, Ask, Pump, Stale, Indexes, Stats, Line, Do, IsFromClient, AreFromClients, Event, Keeping, Course, after, course_of, commands_in, pump_at, pump_for, change_of_slots, one_field, rewrote, run, settled, single_reply, step, use_or_make, write, wrote}
-use Rattle.spec_server.specs.Sound.{IsMachine, Sound}
-use Rattle.raven_laws.proofs.MachineLemmas.{AllLeave, settled-leaves, step-Steps}
-use Rattle.raven_laws.proofs.WorldLemmas.{taken_out}
+use Rattle.spec_index.specs.World.{Slot, SlotChange, World, is_automatic, index_id, numbered, row_body, serving, SlotRefusal, added, added_if_room, added_to, define, define_at, define_beside, dropped, is_reserved_name, remove, removed, switch, taken_out, unchanged, unless_refused, without}
+use Rattle.spec_server.specs.Machine.{Machine, Request, Put as PutOne, Delete as DeleteOne, Bulk, Get, Define, Remove, Auto as AutoOne, Find, Ask, Pump, Switch, Tidy, Stale, Indexes, Stats, Line, Do, Read, Publish, IsFromClient, AreFromClients, Change, Event, Held, Keeping, Course, Passed, PublishRefusal, after, changed, course_of, commands_in, held_by, pump_at, pump_for, change_of_slots, one_field, publish_by, publish_to, published, published_in, published_reply, replaced_names, rewrote, run, settled, single_reply, step, tidy, use_or_make, with_slots, with_version, write, wrote}
+use Rattle.spec_server.specs.Sound.{Has, IsHeld, IsMachine, Sound}
+use Rattle.raven_laws.proofs.MachineLemmas.{AllDo, AllLeave, IsTidying, Keeps, read-world, settled-leaves, step-Steps, tidy-do, tidying-Moves}
+use Rattle.raven_laws.proofs.SlotLemmas.{Has-map, Has-without, find-Has, replacing-no-auto, served}
+use Rattle.raven_laws.proofs.WorldLemmas.{found-Replaces, one_number, past_test, reserved-other, same_change, switch-Switches}
 use Rattle.raven_reading.specs.Requests.{IsByText, AreCommands, IsIndexing, IsValidLine}
 use Rattle.raven_reopening.specs.Form.{AreEvents}
-use Rattle.raven_reopening.proofs.FitLemmas.{few_slots, name_of-auto, named-fit}
-use Rattle.raven_reopening.proofs.LastLemmas.{AllLast, Stays, clients-Stay, removal-Stays, server-Stays}
-use Rattle.raven_reopening.proofs.RightLemmas.{AllRight, IsNew, added-right, auto-new, filter-right, pumped-right, pumped_at-right, static-new}
+use Rattle.raven_reopening.proofs.FitLemmas.{few_slots, given-static, name_of-auto, named-fit, static-fit}
+use Rattle.raven_reopening.proofs.LastLemmas.{AllLast, AreServed, Stays, clients-Stay, deletes, puts, servers-Stay}
+use Rattle.raven_reopening.proofs.RightLemmas.{AllRight, IsNew, IsRight, added-right, auto-new, filter-right, kept-right, pumped-right, pumped_at-right, renamed-right, replacement-new, static-new}
 
 -- its rows can be read again, and those of its indexes are read as their definitions
 pub record Again (W : World) : Type 0 where
@@ -39,19 +41,39 @@ wrote-Again W reply now commands (Ok w) is fits soon o a =
 write-Again : (W : World) (reply : List replies.Result → replies.Reply) (now : ℕ) (commands : List Command) → AreCommands commands → now < moments_end → Sound W → Again W → AllLeave Again (write W reply now commands).changes
 write-Again W reply now commands = wrote-Again W reply now commands (commit W.setting Client now commands W.store) refl
 
+-- CHANGES OF THE INDEXES
+
+-- a change that leaves right slots, and writes definitions that can be stored under their names
+pub record IsFitChange (c : SlotChange) : Type 0 where
+  pub commands : AreServed c.commands
+  pub slots : AllRight c.slots
+
+changed-Again : (W : World) (now : ℕ) (c : SlotChange) (w : Written) → commit W.setting Server now c.commands W.store ≡ Ok w → IsFitChange c → now < moments_end → Sound W → Again W → Again (changed W w.store c)
+changed-Again W now c w is fit soon o a = record {
+  slots = fit.slots;
+  all = (servers-Stay 0 W.setting now c.commands (record { store = W.store; rows = [] }) w is fit.commands soon (stays W o a)).all;
+}
+
+rewrote-Again : (W : World) (now : ℕ) (reply : replies.Reply) (c : SlotChange) (o : Result Written Refused) → commit W.setting Server now c.commands W.store ≡ o
+    → IsFitChange c → now < moments_end → Sound W → Again W → AllLeave Again (rewrote W reply c o).changes
+rewrote-Again W now reply c (Err refused) is fit soon o a = tt
+rewrote-Again W now reply c (Ok w) is fit soon o a = (changed-Again W now c w is fit soon o a, tt)
+
+reslotted-Again : (W : World) (now : ℕ) (reply : List ℕ → replies.Reply) (name : List ℕ) (r : Result SlotChange SlotRefusal) → ((c : SlotChange) → r ≡ Ok c → IsFitChange c)
+    → now < moments_end → Sound W → Again W → AllLeave Again (change_of_slots W now reply name r).changes
+reslotted-Again W now reply name (Err refusal) fit soon o a = tt
+reslotted-Again W now reply name (Ok c) fit soon o a = rewrote-Again W now (reply c.name) c (commit W.setting Server now c.commands W.store) refl (fit c refl) soon o a
+
 -- NEW INDEXES
 
-rewrote-Again : (W : World) (now : ℕ) (reply : replies.Reply) (slots : List Slot) (name : List ℕ) (d : Definition) (o : Result Written Refused)
-    → commit W.setting Server now (Command.Put (index_id name) AnyVector (row_body d) ∷ []) W.store ≡ o
-    → IsNew name d → AllRight slots → now < moments_end → Sound W → Again W → AllLeave Again (rewrote W reply slots o).changes
-rewrote-Again W now reply slots name d (Err refused) is new right soon o a = tt
-rewrote-Again W now reply slots name d (Ok w) is new right soon o a =
-    (record { all = (server-Stays W.setting now W.store name d w is new.body (named-fit d name new.named) soon (stays W o a)).all; slots = right }, tt)
+unchanged-fit : (W : World) (name : List ℕ) → Again W → IsFitChange (unchanged W name)
+unchanged-fit W name a = record { commands = tt; slots = a.slots }
 
-added-Again : (W : World) (now : ℕ) (name : List ℕ) (d : Definition) → IsNew name d → now < moments_end → Sound W → Again W → AllLeave Again (change_of_slots W now replies.Index name (Ok (added W name d))).changes
-added-Again W now name d new soon o a =
-    let c = added W name d in
-    rewrote-Again W now (replies.Index name) c.slots name d (commit W.setting Server now c.commands W.store) refl new (added-right W name d new a.slots) soon o a
+added-fit : (W : World) (slots : List Slot) (name : List ℕ) (d : Definition) → IsNew name d → AllRight slots → IsFitChange (added_to W slots name d)
+added-fit W slots name d new right = record { commands = (puts name d new.body (named-fit d name new.named), tt); slots = added-right W slots name d new right }
+
+without-right : (W : World) (n : ℕ) → Again W → AllRight (without n W.slots)
+without-right W n a = filter-right (λ x. not (x.number == n)) W.slots a.slots
 
 -- the name of a new index is valid
 new-name : (W : World) (shape : Shape) → Sound W → is_auto_name (name_of W.slots (last W.store + 1) shape) ≡ true
@@ -64,14 +86,14 @@ made-Again : (W : World) (now : ℕ) (c f : List ℕ) → IsIndexing (AutoOne c 
 made-Again W now c f fits soon o a =
     let name = name_of W.slots (last W.store + 1) (one_field c f) in
     let d = Auto c ((f ∷ []) ∷ []) in
-    elim (nat_le W.setting.max_slots (length W.slots)) as (λ b.
-    AllLeave Again (change_of_slots W now replies.Index name (cond b (Err SlotRefusal.TooManyIndexes) (cond (is_some (serving W.slots name)) (Err SlotRefusal.NameServes) (Ok (added W name d))))).changes) [
-      | true ↦ tt
-      | false ↦ elim (is_some (serving W.slots name)) as (λ b. AllLeave Again (change_of_slots W now replies.Index name (cond b (Err SlotRefusal.NameServes) (Ok (added W name d)))).changes) [
-        | true ↦ tt
-        | false ↦ added-Again W now name d (auto-new name c f fits (new-name W (one_field c f) o)) soon o a
-      ]
-    ]
+    let new = auto-new name c f fits (new-name W (one_field c f) o) in
+    reslotted-Again W now replies.Index name (define W name d) (λ x e. by name d x new e) soon o a
+  where
+    by : (name : List ℕ) (d : Definition) (x : SlotChange) → IsNew name d → define W name d ≡ Ok x → IsFitChange x
+    by name d x new e =
+        let room = past_test (nat_le W.setting.max_slots (length W.slots)) SlotRefusal.TooManyIndexes (cond (is_some (serving W.slots name)) (Err SlotRefusal.NameServes) (Ok (added W name d))) x e in
+        let free = past_test (is_some (serving W.slots name)) SlotRefusal.NameServes (Ok (added W name d)) x room.1 in
+        subst IsFitChange (same_change (added W name d) x free.1) (added-fit W W.slots name d new a.slots)
 
 auto-Again : (W : World) (now : ℕ) (c f : List ℕ) (found : Option Slot) → IsIndexing (AutoOne c f) → now < moments_end → Sound W → Again W → AllLeave Again (use_or_make W now (chosen (one_field c f) W.slots found)).changes
 auto-Again W now c f (Some s) fits soon o a = tt
@@ -80,19 +102,44 @@ auto-Again W now c f None fits soon o a = elim (list_any (is_of c) W.slots) as (
   | false ↦ made-Again W now c f fits soon o a
 ]
 
--- if the name serves the same definition, nothing changes
-defined_at-Again : (W : World) (now : ℕ) (name : List ℕ) (d : Definition) (there : Option Slot) → IsNew name d → now < moments_end → Sound W → Again W
-    → AllLeave Again (change_of_slots W now replies.Index name (define_at W name d there)).changes
-defined_at-Again W now name d None new soon o a = elim (nat_le W.setting.max_slots (length W.slots)) as (λ b.
-    AllLeave Again (change_of_slots W now replies.Index name (cond b (Err SlotRefusal.TooManyIndexes) (Ok (added W name d)))).changes) [
-      | true ↦ tt
-      | false ↦ added-Again W now name d new soon o a
+-- a valid line defines an index by a text, and so no automatic one
+by_text-static : (name : List ℕ) (d : Definition) → IsByText name d → is_automatic d ≡ false
+by_text-static name d x = ap is_automatic x.by_texts.by_texts
+
+-- if there is room
+room-fit : (W : World) (name : List ℕ) (d : Definition) (c : SlotChange) → IsNew name d → Again W → added_if_room W name d ≡ Ok c → IsFitChange c
+room-fit W name d c new a e =
+    let room = past_test (nat_le W.setting.max_slots (length W.slots)) SlotRefusal.TooManyIndexes (Ok (added W name d)) c e in
+    subst IsFitChange (same_change (added W name d) c room.1) (added-fit W W.slots name d new a.slots)
+
+dropped-fit : (W : World) (r : Slot) (name : List ℕ) → Again W → IsFitChange (dropped W r name)
+dropped-fit W r name a = record { commands = (deletes (index_id r.name), tt); slots = without-right W r.number a }
+
+define_beside-fit : (W : World) (name : List ℕ) (d : Definition) (s : Slot) (other : Option Slot) (c : SlotChange) → IsNew name d → is_automatic d ≡ false → is_static_name s.name ≡ true → Again W
+    → define_beside W d s other ≡ Ok c → IsFitChange c
+define_beside-fit W name d s None c new is named a = elim (same_definition d s.version.definition) as (λ b. cond b (Ok (unchanged W s.name)) (added_if_room W (replacement_of s.name) d) ≡ Ok c → IsFitChange c) [
+  | true ↦ λ e. subst IsFitChange (same_change (unchanged W s.name) c e) (unchanged-fit W s.name a)
+  | false ↦ λ e. room-fit W (replacement_of s.name) d c (replacement-new name s.name d new is named) a e
+]
+define_beside-fit W name d s (Some r) c new is named a =
+    elim (same_definition d s.version.definition) as (λ b. cond {A = Result SlotChange SlotRefusal} b (Ok (dropped W r s.name))
+    (cond (same_definition d r.version.definition) (Ok (unchanged W r.name)) (Ok (added_to W (without r.number W.slots) (replacement_of s.name) d))) ≡ Ok c → IsFitChange c) [
+      | true ↦ λ e. subst IsFitChange (same_change (dropped W r s.name) c e) (dropped-fit W r s.name a)
+      | false ↦ elim (same_definition d r.version.definition) as (λ b.
+          cond {A = Result SlotChange SlotRefusal} b (Ok (unchanged W r.name)) (Ok (added_to W (without r.number W.slots) (replacement_of s.name) d)) ≡ Ok c → IsFitChange c) [
+            | true ↦ λ e. subst IsFitChange (same_change (unchanged W r.name) c e) (unchanged-fit W r.name a)
+            | false ↦ λ e. subst IsFitChange (same_change (added_to W (without r.number W.slots) (replacement_of s.name) d) c e)
+                (added-fit W (without r.number W.slots) (replacement_of s.name) d (replacement-new name s.name d new is named) (without-right W r.number a))
+          ]
     ]
-defined_at-Again W now name d (Some s) new soon o a = elim (same_definition d s.version.definition) as (λ b.
-    AllLeave Again (change_of_slots W now replies.Index name (cond b (Ok (record { slots = W.slots; commands = []; name = s.name })) (Err SlotRefusal.NameServes))).changes) [
-      | true ↦ (record { all = a.all; slots = a.slots }, tt)
-      | false ↦ tt
-    ]
+
+define_at-fit : (W : World) (name : List ℕ) (d : Definition) (there : Option Slot) (c : SlotChange) → IsNew name d → is_automatic d ≡ false → is_reserved_name name ≡ false → Again W
+    → serving W.slots name ≡ there → define_at W name d there ≡ Ok c → IsFitChange c
+define_at-fit W name d None c new is free a serves e = room-fit W name d c new a e
+define_at-fit W name d (Some s) c new is free a serves e =
+    let at = served W.slots name s serves in
+    let right = a.slots s at.0 in
+    define_beside-fit W name d s (serving W.slots (replacement_of s.name)) c new is (given-static s.version.definition s.name right.named (reserved-other name s.name at.1 free)) a e
 
 defined-Again : (W : World) (now : ℕ) (name : List ℕ) (d : Definition) → IsByText name d → now < moments_end → Sound W → Again W → AllLeave Again (course_of W now (Define name d)).changes
 defined-Again W now name d x soon o a =
@@ -103,23 +150,69 @@ defined-Again W now name d x soon o a =
       | false ↦ λ e. elim (nat_lt 200 (length name)) as (λ b. nat_lt 200 (length name) ≡ b
           → AllLeave Again (change_of_slots W now replies.Index name (unless_refused (cond b (Some (SlotRefusal.NameTooLong (length name))) None) (define_at W name d there))).changes) [
             | true ↦ λ f. tt
-            | false ↦ λ f. defined_at-Again W now name d there (static-new name d x e (ltb-false 200 (length name) f)) soon o a
+            | false ↦ λ f. reslotted-Again W now replies.Index name (define_at W name d there)
+                (λ c g. define_at-fit W name d there c (static-new name d x e (ltb-false 200 (length name) f)) (by_text-static name d x) e a refl g) soon o a
           ] refl
     ] refl
 
 -- INDEXES THAT ARE REMOVED, whose rows are deleted
 
-removal-Again : (W : World) (now : ℕ) (reply : replies.Reply) (slots : List Slot) (id : List ℕ) (o : Result Written Refused) → commit W.setting Server now (Command.Delete id AnyVector ∷ []) W.store ≡ o
-    → AllRight slots → now < moments_end → Sound W → Again W → AllLeave Again (rewrote W reply slots o).changes
-removal-Again W now reply slots id (Err refused) is right soon o a = tt
-removal-Again W now reply slots id (Ok w) is right soon o a = (record { all = (removal-Stays W.setting now W.store id w is soon (stays W o a)).all; slots = right }, tt)
+taken_out-fit : (W : World) (s : Slot) (other : Option Slot) → Again W → IsFitChange (taken_out W s other)
+taken_out-fit W s None a = record { commands = (deletes (index_id s.name), tt); slots = without-right W s.number a }
+taken_out-fit W s (Some r) a = record {
+  commands = (deletes (index_id s.name), (deletes (index_id r.name), tt));
+  slots = filter-right (λ x. not (x.number == r.number)) (without s.number W.slots) (without-right W s.number a);
+}
 
-removed-Again : (W : World) (now : ℕ) (name : List ℕ) (there : Option Slot) → now < moments_end → Sound W → Again W → AllLeave Again (change_of_slots W now replies.Removed name (removed W name there)).changes
-removed-Again W now name None soon o a = tt
-removed-Again W now name (Some s) soon o a =
-    let c = taken_out W name s in
-    removal-Again W now (replies.Removed s.name) c.slots (index_id s.name) (commit W.setting Server now c.commands W.store) refl
-    (filter-right (λ t. not (is_named name t)) W.slots a.slots) soon o a
+remove-fit : (W : World) (there : Option Slot) (c : SlotChange) → Again W → removed W there ≡ Ok c → IsFitChange c
+remove-fit W None c a e = absurd cc
+remove-fit W (Some s) c a e =
+    let other = serving W.slots (replacement_of s.name) in subst IsFitChange (same_change (taken_out W s other) c e) (taken_out-fit W s other a)
+
+-- SWITCHES, AND A TIDY
+
+switch-fit : (W : World) (name : List ℕ) (c : SlotChange) → Sound W → Again W → switch W name ≡ Ok c → IsFitChange c
+switch-fit W name c o a e =
+    let w = switch-Switches W name c e in
+    let s = w.old in
+    let r = w.new in
+    let p = found-Replaces W s r o (served W.slots name s w.serves).0 w.built in
+    let its = a.slots s p.old in
+    let own = a.slots r p.new in
+    let static : is_automatic r.version.definition ≡ false = o.kinds r p.new ∙ replacing-no-auto r.name s.name p.named in
+    subst IsFitChange w.change (record {
+      commands = (puts s.name r.version.definition (own.body static) (static-fit s.name (given-static s.version.definition s.name its.named p.given)), (deletes (index_id r.name), tt));
+      slots = renamed-right (without s.number W.slots) s r (last W.store + 1) (without-right W s.number a) its p.given (λ x h auto.
+          elim (x.number == r.number) as (λ b. (x.number == r.number) ≡ b → b ≡ false) [
+            | true ↦ λ g. absurd (let same = one_number W x r o (Has-without s.number W.slots x h) p.new (eqb-true x.number r.number g) in let f = ap (λ (y : Slot). is_automatic y.version.definition) same in cc)
+            | false ↦ λ g. refl
+          ] refl);
+    })
+
+retirement-fit : (W : World) → Again W → IsFitChange (retirement W)
+retirement-fit W a = record { commands = by (retired W.slots); slots = filter-right (λ x. not (is_retired W.slots x)) W.slots a.slots }
+  where
+    by : (slots : List Slot) → AreServed (map (λ s. Command.Delete (index_id s.name) AnyVector) slots)
+    by [] = tt
+    by (s ∷ slots) = (deletes (index_id s.name), by slots)
+
+tidying-fit : (W : World) (c : SlotChange) → Sound W → Again W → IsTidying W c → IsFitChange c
+tidying-fit W c o a (inl n) = switch-fit W n.0 c o a n.1
+tidying-fit W c o a (inr e) = subst IsFitChange (sym e) (retirement-fit W a)
+
+-- a world that opens again
+record Opens (W : World) : Type 0 where
+  pub sound : Sound W
+  pub again : Again W
+
+all-leave : (W : World) (changes : List Change) → AllDo (λ V c. Again c.world) W changes → AllLeave Again changes
+all-leave W [] all = tt
+all-leave W (c ∷ more) all = (all.0, all-leave c.world more all.1)
+
+tidy-Again : (W : World) (now : ℕ) → now < moments_end → Sound W → Again W → AllLeave Again (tidy now (replaced_names W) W []).changes
+tidy-Again W now soon o a = all-leave W (tidy now (replaced_names W) W []).changes (tidy-do now Opens (λ V c. Again c.world) (λ V c w i is e.
+    let kept = changed-Again V now c w e (tidying-fit V c i.sound i.again is) soon i.sound i.again in
+    (kept, record { sound = (tidying-Moves now V c w i.sound is e).sound; again = kept })) (replaced_names W) W [] (record { sound = o; again = a }))
 
 -- BATCHES
 
@@ -139,11 +232,13 @@ course-Again W now (DeleteOne id expected) fits index soon o a = write-Again W s
 course-Again W now (Bulk commands) fits index soon o a = write-Again W replies.Bulk now commands fits soon o a
 course-Again W now (Get id) fits index soon o a = tt
 course-Again W now (Define name d) fits index soon o a = defined-Again W now name d index soon o a
-course-Again W now (Remove name) fits index soon o a = removed-Again W now name (serving W.slots name) soon o a
+course-Again W now (Remove name) fits index soon o a = reslotted-Again W now replies.Removed name (remove W name) (λ c e. remove-fit W (serving W.slots name) c a e) soon o a
 course-Again W now (AutoOne c f) fits index soon o a = auto-Again W now c f (best W.store (filter (λ s. covers (slot_shape s) (one_field c f)) W.slots)) index soon o a
 course-Again W now (Find index field ws) fits indexing soon o a = tt
 course-Again W now (Ask ask) fits indexing soon o a = tt
 course-Again W now (Pump max index) fits indexing soon o a = pump_for-Again W max index a
+course-Again W now (Switch name) fits index soon o a = reslotted-Again W now (replies.Switched (last W.store + 1)) name (switch W name) (λ c e. switch-fit W name c o a e) soon o a
+course-Again W now Tidy fits index soon o a = tidy-Again W now soon o a
 course-Again W now (Stale name cutoff) fits index soon o a = tt
 course-Again W now Indexes fits index soon o a = tt
 course-Again W now Stats fits index soon o a = tt
@@ -151,12 +246,41 @@ course-Again W now Stats fits index soon o a = tt
 settled-Again : (M : Machine) (k : Keeping) (c : Course) → Again M.world → AllLeave Again c.changes → Again (settled M k c).machine.world
 settled-Again M k c a all = settled-leaves Again M k c a all
 
-step-Again : (M : Machine) (k : Keeping) (now : ℕ) (line : Line) → IsValidLine line → now < moments_end → Sound M.world → Again M.world → Again (step M k now line).machine.world
-step-Again M k now (Do request) valid soon o a = settled-Again M k (course_of M.world now request) a (course-Again M.world now request valid.commands valid.indexing soon o a)
+-- a batch that is published keeps the definition of its index
+published-Again : (W : World) (h : Held) (there : Option Slot) (V : World) → IsHeld W h → published_in W h.number h.version there ≡ Ok V → Again W → Again V
+published-Again W h None V k e a = absurd cc
+published-Again W h (Some s) V k e a = elim (nat_lt s.version.etag h.version.etag) as (λ b. cond b (Ok (with_slots W (map put W.slots))) (Err (Passed s.version.etag)) ≡ Ok V → Again V) [
+  | true ↦ λ g. subst Again (same_world (with_slots W (map put W.slots)) V g) (record { all = a.all; slots = put-right })
+  | false ↦ λ g. absurd cc
+] e
+  where
+    put : Slot → Slot
+    put = with_version h.number h.version
 
--- a valid line defines an index by a text, and so no automatic one
-by_text-static : (name : List ℕ) (d : Definition) → IsByText name d → is_automatic d ≡ false
-by_text-static name d x = ap is_automatic x.by_texts.by_texts
+    same_world : (A B : World) → (let r : Result World PublishRefusal = Ok A in r) ≡ Ok B → A ≡ B
+    same_world A B g = cc
+
+    put-keeps : (x : Slot) → Has W.slots x → Keeps x (with_version h.number h.version x)
+    put-keeps x there = elim (x.number == h.number) as (λ b. (x.number == h.number) ≡ b → Keeps x (cond b (record { number = x.number; name = x.name; version = h.version; row = x.row }) x)) [
+      | true ↦ λ t. record { number = refl; name = refl; row = refl; definition = sym (k.same x there (eqb-true x.number h.number t)) }
+      | false ↦ λ t. record { number = refl; name = refl; row = refl; definition = refl }
+    ] refl
+
+    put-right : AllRight (map (with_version h.number h.version) W.slots)
+    put-right y at = let x = Has-map (with_version h.number h.version) W.slots y at in subst IsRight x.2 (kept-right x.0 (with_version h.number h.version x.0) (put-keeps x.0 x.1) (a.slots x.0 x.1))
+
+publish-Again : (M : Machine) (worker : ℕ) (there : Option Held) → IsMachine M → held_by M.held worker ≡ there → Again M.world → Again (publish_by M worker there).machine.world
+publish-Again M worker None i e a = a
+publish-Again M worker (Some h) i e a = by (published M.world h.number h.version) refl
+  where
+    by : (o : Result World PublishRefusal) → published M.world h.number h.version ≡ o → Again (publish_to M worker (published_reply h.version (numbered M.world.slots h.number)) o).machine.world
+    by (Err refusal) f = a
+    by (Ok V) f = published-Again M.world h (numbered M.world.slots h.number) V (i.held h (find-Has (λ x. x.worker == worker) M.held h e).0) f a
+
+step-Again : (M : Machine) (k : Keeping) (now : ℕ) (line : Line) → IsValidLine line → now < moments_end → IsMachine M → Again M.world → Again (step M k now line).machine.world
+step-Again M k now (Do request) valid soon i a = settled-Again M k (course_of M.world now request) a (course-Again M.world now request valid.commands valid.indexing soon i.world a)
+step-Again M k now (Read worker max index) valid soon i a = subst Again (sym (read-world M worker max index (serving M.world.slots index))) a
+step-Again M k now (Publish worker) valid soon i a = publish-Again M worker (held_by M.held worker) i refl a
 
 valid-client : (line : Line) → IsValidLine line → IsFromClient line
 valid-client (Do (PutOne id expected body)) valid = tt
@@ -169,9 +293,13 @@ valid-client (Do (AutoOne c f)) valid = tt
 valid-client (Do (Find index field ws)) valid = tt
 valid-client (Do (Ask ask)) valid = tt
 valid-client (Do (Pump max index)) valid = tt
+valid-client (Do (Switch name)) valid = tt
+valid-client (Do Tidy) valid = tt
 valid-client (Do (Stale name cutoff)) valid = tt
 valid-client (Do Indexes) valid = tt
 valid-client (Do Stats) valid = tt
+valid-client (Read worker max index) valid = tt
+valid-client (Publish worker) valid = tt
 
 pub events-clients : (es : List Event) → AreEvents es → AreFromClients es
 events-clients [] fits = tt
@@ -181,4 +309,4 @@ pub run-Again : (es : List Event) (M : Machine) → AreEvents es → IsMachine M
 run-Again [] M fits i a = a
 run-Again (e ∷ es) M fits i a =
     run-Again es (after M e) fits.1 (step-Steps M e.keeping e.now e.line (valid-client e.line fits.0.valid) i).machine
-    (step-Again M e.keeping e.now e.line fits.0.valid fits.0.moment i.world a)
+    (step-Again M e.keeping e.now e.line fits.0.valid fits.0.moment i a)

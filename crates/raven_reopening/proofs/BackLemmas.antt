@@ -1,9 +1,9 @@
 -- The stored rows of a machine open it again.
-use Rattle.std.proofs.Common.{◌≡◌, ℕ, ◌+◌, ◌<◌, ◌≤◌, List, [], ◌∷◌, ◌++◌, Bool, true, false, not, cond, ◌&&◌, ◌||◌, nat_le, length, codes, filter, Option, Some, None, option_map, Ok, refl, sym, ap, ◌∙◌, subst, arith, inl, inr, append_assoc, append-nil}
+use Rattle.std.proofs.Common.{◌≡◌, ℕ, ◌+◌, ◌<◌, ◌≤◌, List, [], ◌∷◌, ◌++◌, Bool, true, false, not, cond, ◌&&◌, ◌||◌, nat_eq, nat_le, length, codes, drop, filter, Option, Some, None, option_map, Ok, refl, sym, ap, ◌∙◌, subst, arith, inl, inr, append_assoc, append-nil}
 use Rattle.std.proofs.lemmas.Bool.Decides.{nat_tests}
 use Rattle.std.proofs.lemmas.List.{length-append}
 use Rattle.std.proofs.lemmas.Slice.Eq.{bytes_eq-Decides}
-use Rattle.std.specs.List.{cons_option, filter_map}
+use Rattle.std.specs.List.{cons_option, filter_map, starts_with}
 use Rattle.std.specs.Str.{bytes_eq}
 use Rattle.spec_data.specs.Folding.{folded, same_key}
 use Rattle.spec_data.specs.Kept.{KeptRow, all_kept}
@@ -11,15 +11,16 @@ use Rattle.spec_data.specs.Rows.{Row, Body, doc, gone, key, is_document}
 use Rattle.spec_store.specs.Commit.{Setting, stored_body}
 use Rattle.spec_server.specs.Machine.{Event, Machine, run}
 use Rattle.index_tree.specs.Definitions.{Definition}
-use Rattle.spec_server.specs.Opening.{ReadRow, is_defining, name_in, may_be_named, is_filed, is_too_many, slot_of, with_slot, slots_with, slots_after, or_bad, and_then, slots_from, opened_with, rows_of}
+use Rattle.spec_server.specs.Opening.{ReadRow, is_defining, name_in, may_be_named, is_beside, is_filed, is_live, is_too_many, slot_of, with_slot, slots_with, slots_after, or_bad, and_then, slots_from, opened_with, rows_of}
 use Rattle.spec_server.specs.Sound.{Has, Sound}
 use Rattle.spec_store.specs.Store.{row_at}
-use Rattle.spec_index.specs.World.{Slot, new_version, index_id, row_body}
+use Rattle.spec_index.specs.World.{Slot, begins_with_replacement, new_version, index_id, row_body}
 use Rattle.spec_store.proofs.StoreLemmas.{both_true, found_key, same_row}
 use Rattle.raven_laws.proofs.EntryLemmas.{into-filter_map}
 use Rattle.raven_laws.proofs.AnswerLemmas.{Has-filter_map}
 use Rattle.raven_laws.proofs.OpenedRuns.{go-IsMachine, go-LaterW}
-use Rattle.raven_laws.proofs.OpenLemmas.{Has-found, opened_from-rows, opened_from-IsMachine}
+use Rattle.raven_laws.proofs.ListedLemmas.{index_joined}
+use Rattle.raven_laws.proofs.OpenLemmas.{Has-found, folded-drop, opened_from-rows, opened_from-IsMachine}
 use Rattle.raven_laws.proofs.SlotLemmas.{Has-map, Has-mapped, find-Has}
 use Rattle.index_lang.specs.Openings.{AreReadRows, IsInBody, IsOpened, IsOpenedBy, IsReadIf, IsReadRow}
 use Rattle.raven_reading.proofs.Once.{body_once}
@@ -36,16 +37,20 @@ use Rattle.raven_reopening.proofs.OpenedLemmas.{machine_of, opened-Again}
 -- WHAT IS READ OF THE ROWS
 
 -- a definition was read of the row, and may have the row's name
-record IsMeant (x : ReadRow) : Type 0 where
+record IsMeant (rows : List Row) (x : ReadRow) : Type 0 where
   pub definition : Definition
   pub read : x.definition ≡ Some definition
   pub named : may_be_named definition (name_in x.row) ≡ true
+  pub beside : is_beside rows (name_in x.row) ≡ true
 
--- a row that opens again as it is read
-record Lasting (x : ReadRow) : Type 0 where
+-- one of these rows that opens again as it is read
+record Lasting (rows : List Row) (x : ReadRow) : Type 0 where
   pub filed : is_filed x.row ≡ true
   pub right : IsReadRow x
-  pub means : is_defining x.row ≡ true → IsMeant x
+  pub means : is_defining x.row ≡ true → IsMeant rows x
+
+abbrev is_live_body : Body → Bool
+is_live_body b = elim b as (λ x. Bool) [ doc v ↦ true | gone ↦ false ]
 
 -- a live row of a definition is that of an index
 record IsIndexed (M : Machine) (r : Row) : Type 0 where
@@ -64,14 +69,26 @@ indexed-row M r o at e =
     let same : i.row ≡ r = same_row i.row r (sym i.found ∙ ap (λ k. row_at k M.world.store.rows) (sym x.2) ∙ found) in
     record { slot = x.0; there = x.1; named = name-under r x.0.name x.2; etag = ap (λ (y : Row). y.etag) (sym same) ∙ i.etag; body = ap (λ (y : Row). y.body) (sym same) ∙ i.body }
 
+-- a replacement has the row of its index beside it
+indexed-beside : (M : Machine) (name : List ℕ) (s : Slot) → Sound M.world → Has M.world.slots s → folded name ≡ folded s.name → is_beside M.world.store.rows name ≡ true
+indexed-beside M name s o h named = elim (begins_with_replacement name) as (λ b. begins_with_replacement name ≡ b
+    → not b || is_live (row_at (folded (index_id (cond b (drop 14 name) name))) M.world.store.rows) ≡ true) [
+      | false ↦ λ e. refl
+      | true ↦ λ e.
+          let b = o.beside s h (ap (λ q. starts_with nat_eq q (codes "replacementof/")) (sym named) ∙ e) in
+          let i = o.listed.each b.slot b.there in
+          let rest : folded (drop 14 name) ≡ folded b.slot.name = folded-drop 14 name ∙ ap (drop 14) (named ∙ b.named) in
+          ap (λ q. is_live (row_at q M.world.store.rows)) (index_joined (drop 14 name) b.slot.name rest) ∙ ap is_live i.found ∙ ap is_live_body i.body
+    ] refl
+
 -- a row with what is read of it
-record IsOneRead (r : Row) : Type 0 where
+record IsOneRead (rows : List Row) (r : Row) : Type 0 where
   pub read : ReadRow
   pub row : read.row ≡ r
-  pub lasting : Lasting read
+  pub lasting : Lasting rows read
 
-one-read : (M : Machine) (r : Row) → Sound M.world → Again M.world → Has M.world.store.rows r → IsOneRead r
-one-read M r o a at = elim (is_defining r) as (λ b. is_defining r ≡ b → IsOneRead r) [
+one-read : (M : Machine) (r : Row) → Sound M.world → Again M.world → Has M.world.store.rows r → IsOneRead M.world.store.rows r
+one-read M r o a at = elim (is_defining r) as (λ b. is_defining r ≡ b → IsOneRead M.world.store.rows r) [
   | true ↦ λ e.
       let i = indexed-row M r o at e in
       let d = i.slot.version.definition in
@@ -82,7 +99,7 @@ one-read M r o a at = elim (is_defining r) as (λ b. is_defining r ≡ b → IsO
         lasting = record {
           filed = (a.all r at).filed;
           right = subst (λ b. IsReadIf b r (Some d)) (sym e) (subst (λ b. IsInBody b (Some d)) (sym i.body) right.read);
-          means = λ _. record { definition = d; read = refl; named = named-other d (name_in r) i.slot.name i.named right.named };
+          means = λ _. record { definition = d; read = refl; named = named-other d (name_in r) i.slot.name i.named right.named; beside = indexed-beside M (name_in r) i.slot o i.there i.named };
         };
       }
   | false ↦ λ e. record {
@@ -92,30 +109,30 @@ one-read M r o a at = elim (is_defining r) as (λ b. is_defining r ≡ b → IsO
   }
 ] refl
 
-abbrev AreLasting : List ReadRow → Type 0
-AreLasting [] = Unit {0}
-AreLasting (x ∷ xs) = Lasting x × AreLasting xs
+abbrev AreLasting : List Row → List ReadRow → Type 0
+AreLasting rows [] = Unit {0}
+AreLasting rows (x ∷ xs) = Lasting rows x × AreLasting rows xs
 
-record AreAllRead (all : List Row) : Type 0 where
+record AreAllRead (rows : List Row) (all : List Row) : Type 0 where
   pub read : List ReadRow
-  pub rows : rows_of read ≡ all
-  pub lasting : AreLasting read
+  pub they : rows_of read ≡ all
+  pub lasting : AreLasting rows read
 
-all-read : (M : Machine) (rows : List Row) → Sound M.world → Again M.world → ((r : Row) → Has rows r → Has M.world.store.rows r) → AreAllRead rows
-all-read M [] o a among = record { read = []; rows = refl; lasting = tt }
+all-read : (M : Machine) (rows : List Row) → Sound M.world → Again M.world → ((r : Row) → Has rows r → Has M.world.store.rows r) → AreAllRead M.world.store.rows rows
+all-read M [] o a among = record { read = []; they = refl; lasting = tt }
 all-read M (r ∷ rows) o a among =
     let one = one-read M r o a (among r (inl refl)) in
     let more = all-read M rows o a (λ x at. among x (inr at)) in
-    record { read = one.read ∷ more.read; rows = λ i. one.row i ∷ more.rows i; lasting = (one.lasting, more.lasting) }
+    record { read = one.read ∷ more.read; they = λ i. one.row i ∷ more.they i; lasting = (one.lasting, more.lasting) }
 
-all-right : (xs : List ReadRow) → AreLasting xs → AreReadRows xs
-all-right [] l = tt
-all-right (x ∷ xs) l = (let one = l.0 in one.right, all-right xs l.1)
+all-right : (rows : List Row) (xs : List ReadRow) → AreLasting rows xs → AreReadRows xs
+all-right rows [] l = tt
+all-right rows (x ∷ xs) l = (let one = l.0 in one.right, all-right rows xs l.1)
 
-one-lasting : (xs : List ReadRow) (x : ReadRow) → AreLasting xs → Has xs x → Lasting x
-one-lasting [] x l h = absurd h
-one-lasting (y ∷ xs) x l (inl e) = subst Lasting e l.0
-one-lasting (y ∷ xs) x l (inr h) = one-lasting xs x l.1 h
+one-lasting : (rows : List Row) (xs : List ReadRow) (x : ReadRow) → AreLasting rows xs → Has xs x → Lasting rows x
+one-lasting rows [] x l h = absurd h
+one-lasting rows (y ∷ xs) x l (inl e) = subst (Lasting rows) e l.0
+one-lasting rows (y ∷ xs) x l (inr h) = one-lasting rows xs x l.1 h
 
 -- THE SLOTS OF THE ROWS
 
@@ -139,27 +156,28 @@ not_too_many s n slots r rows room few =
     fewer : length slots + length (r ∷ filter is_defining rows) ≤ s.max_slots → nat_le s.max_slots (length slots) ≡ false
     fewer le = let lt : length slots < s.max_slots = omega arith in grind (arith, nat_tests, lt)
 
-slot-of : (slots : List Slot) (x : ReadRow) → Lasting x → slots_with slots x ≡ Some (slots ++ cons_option (slot_in x) [])
-slot-of slots x l = elim (is_defining x.row) as (λ b. is_defining x.row ≡ b
-    → cond b (with_slot slots x.row x.definition) (Some slots) ≡ Some (slots ++ cons_option (cond b (option_map (slot_of x.row) x.definition) None) [])) [
+slot-of : (all : List Row) (slots : List Slot) (x : ReadRow) → Lasting all x → slots_with all slots x ≡ Some (slots ++ cons_option (slot_in x) [])
+slot-of all slots x l = elim (is_defining x.row) as (λ b. is_defining x.row ≡ b
+    → cond b (with_slot all slots x.row x.definition) (Some slots) ≡ Some (slots ++ cons_option (cond b (option_map (slot_of x.row) x.definition) None) [])) [
       | true ↦ λ e.
           let m = l.means e in
-          ap (with_slot slots x.row) m.read
-          ∙ ap (λ b. cond b (Some (slots ++ slot_of x.row m.definition ∷ [])) None) m.named
+          ap (with_slot all slots x.row) m.read
+          ∙ ap (λ b. cond (b && is_beside all (name_in x.row)) (Some (slots ++ slot_of x.row m.definition ∷ [])) None) m.named
+          ∙ ap (λ b. cond b (Some (slots ++ slot_of x.row m.definition ∷ [])) None) m.beside
           ∙ ap (λ o. Some (slots ++ cons_option (option_map (slot_of x.row) o) [])) (sym m.read)
       | false ↦ λ e. ap Some (sym (append-nil slots))
     ] refl
 
-next-slots : (s : Setting) (n : ℕ) (slots : List Slot) (x : ReadRow) (rows : List Row) → Lasting x → n + length (x.row ∷ rows) ≤ s.max_rows → length slots + definitions (x.row ∷ rows) ≤ s.max_slots
-    → slots_after s n slots x ≡ Some (slots ++ cons_option (slot_in x) [])
-next-slots s n slots x rows l room few =
-    ap (λ b. cond (b || not (is_filed x.row)) None (slots_with slots x)) (not_too_many s n slots x.row rows room few)
-    ∙ ap (λ b. cond (not b) None (slots_with slots x)) l.filed
-    ∙ slot-of slots x l
+next-slots : (s : Setting) (all : List Row) (n : ℕ) (slots : List Slot) (x : ReadRow) (rows : List Row) → Lasting all x → n + length (x.row ∷ rows) ≤ s.max_rows → length slots + definitions (x.row ∷ rows) ≤ s.max_slots
+    → slots_after s all n slots x ≡ Some (slots ++ cons_option (slot_in x) [])
+next-slots s all n slots x rows l room few =
+    ap (λ b. cond (b || not (is_filed x.row)) None (slots_with all slots x)) (not_too_many s n slots x.row rows room few)
+    ∙ ap (λ b. cond (not b) None (slots_with all slots x)) l.filed
+    ∙ slot-of all slots x l
 
 -- as many slots as rows of definitions
-slot-count : (x : ReadRow) → Lasting x → length (cons_option (slot_in x) []) ≡ length (cond (is_defining x.row) (x.row ∷ []) [])
-slot-count x l = elim (is_defining x.row) as (λ b. is_defining x.row ≡ b → length (cons_option (cond b (option_map (slot_of x.row) x.definition) None) []) ≡ length (cond b (x.row ∷ []) [])) [
+slot-count : (all : List Row) (x : ReadRow) → Lasting all x → length (cons_option (slot_in x) []) ≡ length (cond (is_defining x.row) (x.row ∷ []) [])
+slot-count all x l = elim (is_defining x.row) as (λ b. is_defining x.row ≡ b → length (cons_option (cond b (option_map (slot_of x.row) x.definition) None) []) ≡ length (cond b (x.row ∷ []) [])) [
   | true ↦ λ e. let m = l.means e in ap (λ o. length (cons_option (option_map (slot_of x.row) o) [])) m.read
   | false ↦ λ e. refl
 ] refl
@@ -168,36 +186,36 @@ one_then : (o : Option Slot) (slots : List Slot) → cons_option o [] ++ slots �
 one_then None slots = refl
 one_then (Some s) slots = refl
 
-slots-again : (s : Setting) (n : ℕ) (slots : List Slot) (xs : List ReadRow) → AreLasting xs → n + length (rows_of xs) ≤ s.max_rows → length slots + definitions (rows_of xs) ≤ s.max_slots
-    → slots_from s n slots xs ≡ Ok (slots ++ slots_in xs)
-slots-again s n slots [] all room few = ap Ok (sym (append-nil slots))
-slots-again s n slots (x ∷ xs) all room few =
-    let l = all.0 in
+slots-again : (s : Setting) (all : List Row) (n : ℕ) (slots : List Slot) (xs : List ReadRow) → AreLasting all xs → n + length (rows_of xs) ≤ s.max_rows → length slots + definitions (rows_of xs) ≤ s.max_slots
+    → slots_from s all n slots xs ≡ Ok (slots ++ slots_in xs)
+slots-again s all n slots [] these room few = ap Ok (sym (append-nil slots))
+slots-again s all n slots (x ∷ xs) these room few =
+    let l = these.0 in
     let more = slots ++ cons_option (slot_in x) [] in
     let long = length-append slots (cons_option (slot_in x) []) in
-    let count = slot-count x l in
+    let count = slot-count all x l in
     let split = one_more x.row (rows_of xs) in
-    ap (λ o. and_then (or_bad x.row.etag o) (λ y. slots_from s (n + 1) y xs)) (next-slots s n slots x (rows_of xs) l room few)
-    ∙ slots-again s (n + 1) more xs all.1 (omega arith) (omega arith)
+    ap (λ o. and_then (or_bad x.row.etag o) (λ y. slots_from s all (n + 1) y xs)) (next-slots s all n slots x (rows_of xs) l room few)
+    ∙ slots-again s all (n + 1) more xs these.1 (omega arith) (omega arith)
     ∙ ap Ok (append_assoc slots (cons_option (slot_in x) []) (slots_in xs) ∙ ap (λ ys. slots ++ ys) (one_then (slot_in x) (slots_in xs)))
 
 all-back : (rows : List Row) → AllLast rows → AreBack rows
 all-back [] all = tt
 all-back (r ∷ rows) all = ((all r (inl refl)).back, all-back rows (λ x at. all x (inr at)))
 
-opens-again : (s : Setting) (M : Machine) (all : AreAllRead M.world.store.rows) → M.world.setting ≡ s → Sound M.world → Again M.world
+opens-again : (s : Setting) (M : Machine) (all : AreAllRead M.world.store.rows M.world.store.rows) → M.world.setting ≡ s → Sound M.world → Again M.world
     → IsOpened s (all_kept M.world.store.rows) (Ok (machine_of s M.world.store.rows (slots_in all.read)))
 opens-again s M all same o a =
     let rows = M.world.store.rows in
     let room : length rows ≤ s.max_rows = subst (λ (x : Setting). length rows ≤ x.max_rows) same o.limits.rows in
     let few : definitions rows ≤ s.max_slots = let b = few-definitions M o in let c = subst (λ (x : Setting). length M.world.slots ≤ x.max_slots) same o.limits.slots in omega arith in
-    let read_room : length (rows_of all.read) ≤ s.max_rows = subst (λ xs. length xs ≤ s.max_rows) (sym all.rows) room in
-    let read_few : definitions (rows_of all.read) ≤ s.max_slots = subst (λ xs. definitions xs ≤ s.max_slots) (sym all.rows) few in
+    let read_room : length (rows_of all.read) ≤ s.max_rows = subst (λ xs. length xs ≤ s.max_rows) (sym all.they) room in
+    let read_few : definitions (rows_of all.read) ≤ s.max_slots = subst (λ xs. definitions xs ≤ s.max_slots) (sym all.they) few in
     subst (λ r. IsOpenedBy s r (Ok (machine_of s rows (slots_in all.read)))) (sym (rows_in-kept M.world.store s.max_rows o.store (all-back rows a.all) room)) (record {
       read = all.read;
-      rows = all.rows;
-      right = all-right all.read all.lasting;
-      opened = ap (opened_with s (rows_of all.read)) (slots-again s 0 [] all.read all.lasting (omega arith) (omega arith)) ∙ ap (λ xs. Ok (machine_of s xs (slots_in all.read))) all.rows;
+      rows = all.they;
+      right = all-right rows all.read all.lasting;
+      opened = ap (opened_with s (rows_of all.read)) (slots-again s rows 0 [] all.read all.lasting (omega arith) (omega arith)) ∙ ap (λ xs. Ok (machine_of s xs (slots_in all.read))) all.they;
     })
 
 -- THE INDEXES ARE THERE AGAIN
@@ -213,25 +231,22 @@ own-definition M x s d a h body right is read =
     let its : IsInBody x.row.body (Some s.version.definition) = subst (λ b. IsInBody b (Some s.version.definition)) (sym body) (a.slots s h).read in
     same_definition d s.version.definition (body_once x.row.body (Some d) (Some s.version.definition) mine its)
 
-abbrev is_live : Body → Bool
-is_live b = elim b as (λ x. Bool) [ doc v ↦ true | gone ↦ false ]
-
-there-again : (M : Machine) (s : Slot) (all : AreAllRead M.world.store.rows) → Sound M.world → Again M.world → Has M.world.slots s → IsThereAgain (slots_in all.read) s
+there-again : (M : Machine) (s : Slot) (all : AreAllRead M.world.store.rows M.world.store.rows) → Sound M.world → Again M.world → Has M.world.slots s → IsThereAgain (slots_in all.read) s
 there-again M s all o a h =
     let i = o.listed.each s h in
     let r = i.row in
     let rows = M.world.store.rows in
     let at = (find-Has (λ x. same_key (folded (index_id s.name)) (key x)) rows r i.found).0 in
-    let x = Has-map (λ (y : ReadRow). y.row) all.read r (subst (λ xs. Has xs r) (sym all.rows) at) in
+    let x = Has-map (λ (y : ReadRow). y.row) all.read r (subst (λ xs. Has xs r) (sym all.they) at) in
     by x.0 x.1 x.2
   where
     by : (x : ReadRow) → Has all.read x → x.row ≡ (o.listed.each s h).row → IsThereAgain (slots_in all.read) s
     by x at same =
         let i = o.listed.each s h in
-        let live : is_document x.row ≡ true = ap is_document same ∙ ap is_live i.body in
+        let live : is_document x.row ≡ true = ap is_document same ∙ ap is_live_body i.body in
         let kept : x.row.collection ≡ codes "@indexes" = ap (λ (y : Row). y.collection) same ∙ i.collection in
         let defining : is_defining x.row ≡ true = ap (λ b. b && bytes_eq x.row.collection (codes "@indexes")) live ∙ (bytes_eq-Decides x.row.collection (codes "@indexes")).1 kept in
-        let l = one-lasting all.read x all.lasting at in
+        let l = one-lasting M.world.store.rows all.read x all.lasting at in
         let m = l.means defining in
         let own = own-definition M x s m.definition a h (ap (λ (y : Row). y.body) same ∙ i.body) l.right defining m.read in
         let slot : slot_in x ≡ Some (slot_of x.row m.definition) = ap (λ b. cond b (option_map (slot_of x.row) x.definition) None) defining ∙ ap (option_map (slot_of x.row)) m.read in
@@ -246,16 +261,16 @@ there-again M s all o a h =
 same_slot : (a b : Slot) → Some a ≡ Some b → a ≡ b
 same_slot a b h = cc
 
-came-from : (M : Machine) (s : Slot) (all : AreAllRead M.world.store.rows) → Sound M.world → Again M.world → Has (slots_in all.read) s → WasThere M.world.slots s
+came-from : (M : Machine) (s : Slot) (all : AreAllRead M.world.store.rows M.world.store.rows) → Sound M.world → Again M.world → Has (slots_in all.read) s → WasThere M.world.slots s
 came-from M s all o a h = let x = Has-filter_map slot_in all.read s h in by x.0 x.1 x.2
   where
     by : (x : ReadRow) → Has all.read x → slot_in x ≡ Some s → WasThere M.world.slots s
     by x at e = elim (is_defining x.row) as (λ b. is_defining x.row ≡ b → cond b (option_map (slot_of x.row) x.definition) None ≡ Some s → WasThere M.world.slots s) [
       | false ↦ λ d g. absurd cc
       | true ↦ λ d g.
-          let there = subst (λ xs. Has xs x.row) all.rows (Has-mapped (λ (y : ReadRow). y.row) all.read x at) in
+          let there = subst (λ xs. Has xs x.row) all.they (Has-mapped (λ (y : ReadRow). y.row) all.read x at) in
           let i = indexed-row M x.row o there d in
-          let l = one-lasting all.read x all.lasting at in
+          let l = one-lasting M.world.store.rows all.read x all.lasting at in
           let m = l.means d in
           let own = own-definition M x i.slot m.definition a i.there i.body l.right d m.read in
           let made : slot_of x.row m.definition ≡ s = same_slot (slot_of x.row m.definition) s (sym (ap (option_map (slot_of x.row)) m.read) ∙ g) in

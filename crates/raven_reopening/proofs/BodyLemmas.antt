@@ -204,6 +204,12 @@ static-body query reduce words reduce_words u v = record {
   an_object = refl;
 }
 
+-- the same from the soundness of what is stored
+pub static-stored : (query : MapQuery) (reduce : Option ReduceQuery) (words : List ℕ) (reduce_words : Option (List ℕ)) → IsSound (stored_body (row_body (Static query reduce words reduce_words)))
+    → IsRequestBody (row_body (Static query reduce words reduce_words))
+static-stored query reduce words None h = static-body query reduce words None h.1.1.1.1.1.1.0 tt
+static-stored query reduce words (Some other) h = static-body query reduce words (Some other) h.1.1.1.1.1.1.0 h.1.1.1.1.1.1.1.1.0
+
 -- WHAT IS READ OF A DEFINITION'S BODY
 
 pub auto-back : (c f : List ℕ) → is_part f ≡ true → body_form (stored_body (row_body (Auto c ((f ∷ []) ∷ [])))) ≡ AutoForm (Auto c ((f ∷ []) ∷ []))

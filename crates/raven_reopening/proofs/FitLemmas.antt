@@ -1,5 +1,5 @@
 -- The names of automatic indexes, and the ids of their rows, are valid.
-use Rattle.std.proofs.Common.{◌≡◌, ℕ, zero, suc, ◌+◌, ◌^◌, ◌<◌, ◌≤◌, List, [], ◌∷◌, ◌++◌, Bool, true, false, not, cond, ◌&&◌, ◌||◌, ◌==◌, nat_lt, nat_eq, is_none, is_some, length, codes, Option, Some, None, option_map, refl, sym, ap, ◌∙◌, subst, arith, ◌⊎◌, inl, inr}
+use Rattle.std.proofs.Common.{◌≡◌, ℕ, zero, suc, ◌+◌, ◌^◌, ◌<◌, ◌≤◌, List, [], ◌∷◌, ◌++◌, Bool, true, false, not, cond, ◌&&◌, ◌||◌, ◌==◌, nat_lt, nat_eq, is_none, is_some, length, codes, drop, Option, Some, None, option_map, refl, sym, ap, ◌∙◌, subst, arith, ◌⊎◌, inl, inr}
 use Rattle.std.proofs.lemmas.Bool.{ltb-false, eq-eqb, cases_eq, ne_eqb}
 use Rattle.std.proofs.lemmas.Bool.Decides.{nat_tests}
 use Rattle.std.proofs.lemmas.Fmt.{decimal_is_IsNumeral, length-decimal-le}
@@ -8,13 +8,15 @@ use Rattle.std.specs.Char.{to_ascii_lowercase, digit_value}
 use Rattle.std.specs.Fmt.{decimal}
 use Rattle.std.specs.List.{position_from, starts_with}
 use Rattle.std.specs.Str.Parse.{AllDigits}
-use Rattle.spec_data.specs.Faults.{empty, too_long, control, is_control, is_fit}
+use Rattle.spec_data.specs.Faults.{empty, too_long, control, is_control, is_fit, replacement_of}
 use Rattle.spec_data.specs.Folding.{folded}
 use Rattle.index_tree.specs.Definitions.{Definition, Static, Auto}
-use Rattle.spec_server.specs.Opening.{is_auto_name, is_static_name, may_be_named}
+use Rattle.spec_server.specs.Opening.{is_auto_name, is_static_name, may_be_named, replaced_name}
 use Rattle.spec_index.specs.Optimiser.{Shape, plain_name, free_name, first_free, name_of}
 use Rattle.spec_server.specs.Sound.{Has, NumbersRise}
-use Rattle.spec_index.specs.World.{Slot, begins_with_auto, index_id, is_reserved_name, serving}
+use Rattle.spec_index.specs.World.{Slot, begins_with_auto, begins_with_replacement, index_id, is_automatic, is_reserved_name, serving}
+use Rattle.spec_store.proofs.StoreLemmas.{both_true, either_false}
+use Rattle.raven_laws.proofs.OpenLemmas.{behind, folded-drop}
 use Rattle.raven_laws.proofs.KindLemmas.{name_of-begins}
 
 -- TEXTS THAT CAN BE IDS AND NAMES
@@ -116,9 +118,18 @@ static_name-other a b same h = elim (is_fit 200 b) as (λ t. is_fit 200 b ≡ t 
   | false ↦ λ e g. absurd cc
 ] refl h
 
+-- the rest of another spelling of a replacement's name is another spelling of its rest
+rest-other : (a b : List ℕ) → folded a ≡ folded b → folded (drop 14 a) ≡ folded (drop 14 b)
+rest-other a b same = folded-drop 14 a ∙ ap (drop 14) same ∙ sym (folded-drop 14 b)
+
+replaced-other : (a b : List ℕ) → folded a ≡ folded b → folded (replaced_name a) ≡ folded (replaced_name b)
+replaced-other a b same =
+    ap (λ t. folded (cond t (drop 14 a) a)) (ap (λ q. starts_with nat_eq q (codes "replacementof/")) same)
+    ∙ elim (begins_with_replacement b) as (λ t. folded (cond t (drop 14 a) a) ≡ folded (cond t (drop 14 b) b)) [ true ↦ rest-other a b same | false ↦ same ]
+
 -- the same for each name that the index of a definition may have
 pub named-other : (d : Definition) (a b : List ℕ) → folded a ≡ folded b → may_be_named d b ≡ true → may_be_named d a ≡ true
-named-other (Static map reduce map_text reduce_text) a b same h = static_name-other a b same h
+named-other (Static map reduce map_text reduce_text) a b same h = static_name-other (replaced_name a) (replaced_name b) (replaced-other a b same) h
 named-other (Auto collection fields) a b same h = auto_name-other a b same h
 
 -- a name that a client may give
@@ -133,9 +144,9 @@ plain-append [] b h g = g
 plain-append (x ∷ a) b h g = (h.0, plain-append a b h.1 g)
 
 -- the id of an index's row is a valid id
-pub index_id-fit : (name : List ℕ) → is_fit 200 name ≡ true → is_fit 512 (index_id name) ≡ true
+pub index_id-fit : (name : List ℕ) → is_fit 214 name ≡ true → is_fit 512 (index_id name) ≡ true
 index_id-fit name h =
-    let t = fit-text 200 name h in
+    let t = fit-text 214 name h in
     text-fit 512 (index_id name) (record {
       some = omega arith;
       few = let f = t.few in omega arith;
@@ -216,9 +227,49 @@ first-true : (a b : Bool) → a && b ≡ true → a ≡ true
 first-true true b h = refl
 first-true false b h = absurd cc
 
-pub named-fit : (d : Definition) (name : List ℕ) → may_be_named d name ≡ true → is_fit 200 name ≡ true
-named-fit (Static map reduce map_text reduce_text) name h = first-true (is_fit 200 name) (not (is_reserved_name name)) h
-named-fit (Auto collection fields) name h = first-true (is_fit 200 name) (begins_with_auto name) h
+longer-text : (low high : ℕ) (words : List ℕ) → low ≤ high → IsText low words → IsText high words
+longer-text low high words le t = record { some = t.some; few = let f = t.few in omega arith; plain = t.plain }
+
+-- a name behind the prefix of replacements is one of at most 214 bytes
+replacement-text : (name : List ℕ) → begins_with_replacement name ≡ true → IsText 200 (drop 14 name) → IsText 214 name
+replacement-text name is t = text-other 214 name (replacement_of (drop 14 name)) (behind name is) (record {
+  some = omega arith;
+  few = let f = t.few in omega arith;
+  plain = (refl, (refl, (refl, (refl, (refl, (refl, (refl, (refl, (refl, (refl, (refl, (refl, (refl, (refl, t.plain))))))))))))));
+})
+
+static-text : (name : List ℕ) → is_static_name name ≡ true → IsText 200 name
+static-text name h = fit-text 200 name (first-true (is_fit 200 name) (not (is_reserved_name name)) h)
+
+pub static-fit : (name : List ℕ) → is_static_name name ≡ true → is_fit 214 name ≡ true
+static-fit name h = text-fit 214 name (longer-text 200 214 name (omega arith) (static-text name h))
+
+pub named-fit : (d : Definition) (name : List ℕ) → may_be_named d name ≡ true → is_fit 214 name ≡ true
+named-fit (Static map reduce map_text reduce_text) name h =
+    elim (begins_with_replacement name) as (λ b. begins_with_replacement name ≡ b → is_static_name (cond b (drop 14 name) name) ≡ true → is_fit 214 name ≡ true) [
+      | true ↦ λ e g. text-fit 214 name (replacement-text name e (static-text (drop 14 name) g))
+      | false ↦ λ e g. text-fit 214 name (longer-text 200 214 name (omega arith) (static-text name g))
+    ] refl h
+named-fit (Auto collection fields) name h = text-fit 214 name (longer-text 200 214 name (omega arith) (fit-text 200 name (first-true (is_fit 200 name) (begins_with_auto name) h)))
+
+-- an index whose name a client gave has a valid name
+pub given-static : (d : Definition) (name : List ℕ) → may_be_named d name ≡ true → is_reserved_name name ≡ false → is_static_name name ≡ true
+given-static (Static map reduce map_text reduce_text) name h free =
+    let f = either_false (begins_with_auto name) (begins_with_replacement name) free in ap (λ b. is_static_name (cond b (drop 14 name) name)) (sym f.1) ∙ h
+given-static (Auto collection fields) name h free = absurd (
+    let f = either_false (begins_with_auto name) (begins_with_replacement name) free in
+    let g = both_true (is_fit 200 name) (begins_with_auto name) h in
+    let e = sym g.1 ∙ f.0 in cc)
+
+-- and a definition by texts may have it, also behind the prefix of replacements
+pub static-named : (d : Definition) (name : List ℕ) → is_automatic d ≡ false → is_reserved_name name ≡ false → is_static_name name ≡ true → may_be_named d name ≡ true
+static-named (Static map reduce map_text reduce_text) name is free h =
+    let f = either_false (begins_with_auto name) (begins_with_replacement name) free in ap (λ b. is_static_name (cond b (drop 14 name) name)) f.1 ∙ h
+static-named (Auto collection fields) name is free h = absurd cc
+
+pub replacement-named : (d : Definition) (name : List ℕ) → is_automatic d ≡ false → is_static_name name ≡ true → may_be_named d (replacement_of name) ≡ true
+replacement-named (Static map reduce map_text reduce_text) name is h = h
+replacement-named (Auto collection fields) name is h = absurd cc
 
 -- HOW MANY SLOTS THERE CAN BE
 

@@ -1,5 +1,5 @@
 -- Rows that open again stay so, whatever is written.
-use Rattle.std.proofs.Common.{◌≡◌, ℕ, ◌+◌, ◌<◌, ◌≤◌, List, [], ◌∷◌, Bool, true, false, not, cond, ◌&&◌, nat_lt, nat_le, nat_eq, length, drop, codes, filter, Option, Some, None, option_map, Result, Ok, refl, ap, ◌∙◌, subst, arith, inl, inr}
+use Rattle.std.proofs.Common.{◌≡◌, ℕ, ◌+◌, ◌<◌, ◌≤◌, List, [], ◌∷◌, Bool, true, false, not, cond, ◌&&◌, nat_lt, nat_le, nat_eq, length, drop, codes, filter, Option, Some, None, option_map, Result, Ok, refl, ap, ◌∙◌, subst, arith, inl, inr, IsTrue}
 use Rattle.std.proofs.lemmas.Bool.{le-leb, lt-ltb, ltb-false, leb-true}
 use Rattle.std.specs.List.{starts_with}
 use Rattle.std.specs.Str.{bytes_eq}
@@ -22,7 +22,7 @@ use Rattle.spec_store.proofs.LaterLemmas.{last-with}
 use Rattle.spec_store.proofs.CommitLemmas.{put_key, document_found}
 use Rattle.raven_laws.proofs.KeepLemmas.{next_etag}
 use Rattle.raven_laws.proofs.LimitLemmas.{all_none, takes, unspent}
-use Rattle.raven_laws.proofs.ListedLemmas.{unreserved}
+use Rattle.raven_laws.proofs.ListedLemmas.{in_indexes_collection, unreserved}
 use Rattle.raven_laws.proofs.OpenLemmas.{folded-drop}
 use Rattle.raven_laws.proofs.SlotLemmas.{Has-append, Has-filter, find-Has}
 use Rattle.raven_reading.specs.Requests.{IsRequestBody, IsCommand, AreCommands}
@@ -159,46 +159,44 @@ pub name-under : (r : Row) (name : List ℕ) → folded r.id ≡ folded (index_i
 name-under r name h = folded-drop 7 r.id ∙ ap (drop 7) h
 
 server-row : (s : Setting) (now : ℕ) (S : Store) (name : List ℕ) (d : Definition) (r : Row) → refusal_of s Server S (Put (index_id name) AnyVector (row_body d)) ≡ None
-    → row_of now S (Put (index_id name) AnyVector (row_body d)) ≡ Some r → IsRequestBody (row_body d) → is_fit 200 name ≡ true → now < moments_end → AllLast S.rows → last S ≤ 9007199254740991 → Lasts r
+    → row_of now S (Put (index_id name) AnyVector (row_body d)) ≡ Some r → IsRequestBody (row_body d) → is_fit 214 name ≡ true → now < moments_end → AllLast S.rows → last S ≤ 9007199254740991 → Lasts r
 server-row s now S name d r h is body fit soon all le =
     let etag = new_etag s Server now S (Put (index_id name) AnyVector (row_body d)) r h is le in
-    let new : Row = record { etag = last S + 1; id = row_spelling (index_id name) (row_at (folded (index_id name)) S.rows); collection = codes "@indexes"; body = doc (stored_body (row_body d)); changed = now } in
+    let new : Row = record { etag = last S + 1; id = row_spelling (index_id name) (row_at (folded (index_id name)) S.rows); collection = collection_of (row_body d); body = doc (stored_body (row_body d)); changed = now } in
     let same : new ≡ r = same_row new r is in
+    let kept = in_indexes_collection d in
     subst Lasts same (record {
       back = record {
         etag = ap (λ (x : Row). is_etag x.etag) same ∙ etag;
         id = spelled-fit (index_id name) S.rows all (index_id-fit name fit);
-        collection = omega arith;
+        collection = named-some (value_at (codes "@metadata" ∷ codes "@collection" ∷ []) (row_body d));
         changed = soon;
         body = stored-back (row_body d) body (not_large s Server S (index_id name) AnyVector (row_body d) h);
       };
-      filed = spelled-index (index_id name) S.rows;
+      filed = ap (λ c. cond (bytes_eq c (codes "@indexes")) (is_index_id new.id) (not (is_index_id new.id))) kept ∙ spelled-index (index_id name) S.rows;
     })
 
--- the transaction that writes a definition
-pub server-Stays : (s : Setting) (now : ℕ) (S : Store) (name : List ℕ) (d : Definition) (new : Written) → commit s Server now (Put (index_id name) AnyVector (row_body d) ∷ []) S ≡ Ok new
-    → IsRequestBody (row_body d) → is_fit 200 name ≡ true → now < moments_end → Stays S → Stays new.store
-server-Stays s now S name d new h body fit soon k =
-    let put_one = Put (index_id name) AnyVector (row_body d) in
-    let r : Row = record { etag = last S + 1; id = row_spelling (index_id name) (row_at (folded (index_id name)) S.rows); collection = codes "@indexes"; body = doc (stored_body (row_body d)); changed = now } in
-    let done : Written = record { store = with_row S r; rows = r ∷ [] } in
-    elim (refusal_of s Server S put_one) as (λ o. refusal_of s Server S put_one ≡ o → or_refused o 0 (Ok done) ≡ Ok new → Stays new.store) [
-      | None ↦ λ e g.
-          let l = server-row s now S name d r e refl body fit soon k.all k.etags in
-          subst (λ (x : Written). Stays x.store) (same_written done new g) (Stays-with S r k l)
-      | Some kind ↦ λ e g. absurd cc
-    ] refl h
+-- the Put of a definition that can be stored under its name, or a Delete
+pub data IsServed : Command → Type 0 where
+  puts : (name : List ℕ) (d : Definition) → IsRequestBody (row_body d) → IsTrue (is_fit 214 name) → IsServed (Put (index_id name) AnyVector (row_body d))
+  deletes : (id : List ℕ) → IsServed (Delete id AnyVector)
 
--- and the one that deletes it
-pub removal-Stays : (s : Setting) (now : ℕ) (S : Store) (id : List ℕ) (new : Written) → commit s Server now (Delete id AnyVector ∷ []) S ≡ Ok new → now < moments_end → Stays S → Stays new.store
-removal-Stays s now S id new h soon k =
-    let c = Delete id AnyVector in
-    let none : Written = record { store = S; rows = [] } in
-    elim (refusal_of s Server S c) as (λ o. refusal_of s Server S c ≡ o → or_refused o 0 (Ok (with_written (row_of now S c) none)) ≡ Ok new → Stays new.store) [
-      | None ↦ λ e g. elim (row_of now S c) as (λ o. row_of now S c ≡ o → (let x : Result Written Refused = Ok (with_written o none) in x) ≡ Ok new → Stays new.store) [
-        | None ↦ λ f j. subst (λ (x : Written). Stays x.store) (same_written none new j) k
-        | Some r ↦ λ f j. subst (λ (x : Written). Stays x.store) (same_written (with_written (Some r) none) new j)
-            (Stays-with S r k (deleted-row s Server now S id AnyVector r e f soon k.all k.etags))
+abbrev pub AreServed : List Command → Type 0
+AreServed [] = Unit {0}
+AreServed (c ∷ cs) = IsServed c × AreServed cs
+
+served-row : (s : Setting) (now : ℕ) (S : Store) (c : Command) (r : Row) → IsServed c → refusal_of s Server S c ≡ None → row_of now S c ≡ Some r → now < moments_end → Stays S → Lasts r
+served-row s now S _ r (puts name d body fit) h is soon k = server-row s now S name d r h is body fit soon k.all k.etags
+served-row s now S _ r (deletes id) h is soon k = deleted-row s Server now S id AnyVector r h is soon k.all k.etags
+
+-- the transactions of the server
+pub servers-Stay : (at : ℕ) (s : Setting) (now : ℕ) (cs : List Command) (done new : Written) → commit_from at s Server now cs done ≡ Ok new → AreServed cs → now < moments_end → Stays done.store → Stays new.store
+servers-Stay at s now [] done new h fits soon k = subst (λ (x : Written). Stays x.store) (same_written done new h) k
+servers-Stay at s now (c ∷ cs) done new h fits soon k =
+    elim (refusal_of s Server done.store c) as (λ o. refusal_of s Server done.store c ≡ o → or_refused o at (commit_from (at + 1) s Server now cs (with_written (row_of now done.store c) done)) ≡ Ok new → Stays new.store) [
+      | None ↦ λ e g. elim (row_of now done.store c) as (λ o. row_of now done.store c ≡ o → commit_from (at + 1) s Server now cs (with_written o done) ≡ Ok new → Stays new.store) [
+        | None ↦ λ f j. servers-Stay (at + 1) s now cs done new j fits.1 soon k
+        | Some r ↦ λ f j. servers-Stay (at + 1) s now cs (with_written (Some r) done) new j fits.1 soon (Stays-with done.store r k (served-row s now done.store c r fits.0 e f soon k))
       ] refl g
       | Some kind ↦ λ e g. absurd cc
     ] refl h

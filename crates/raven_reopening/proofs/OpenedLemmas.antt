@@ -10,19 +10,23 @@ use Rattle.spec_data.specs.Kept.{KeptRow}
 use Rattle.spec_data.specs.Moments.{moments_end}
 use Rattle.spec_data.specs.Rows.{Row, Body, doc, gone}
 use Rattle.spec_data.specs.Written.{text_of}
-use Rattle.spec_store.specs.Commit.{Setting}
+use Rattle.spec_store.specs.Commit.{Setting, stored_body}
+use Rattle.index_tree.specs.Definitions.{Definition, Static, Auto}
 use Rattle.spec_store.specs.Kept.{max_body, is_stored, document_of, body_in, is_etag, row_in, row_if_it_follows, or_bad_row, rows_after, rows_in}
 use Rattle.spec_server.specs.Machine.{Machine}
-use Rattle.spec_server.specs.Opening.{ReadRow, is_defining, is_filed, may_be_named, slot_of, with_slot, slots_after, or_bad, and_then, slots_from, opened_with, rows_of}
+use Rattle.spec_server.specs.Opening.{ReadRow, is_defining, is_filed, may_be_named, slot_of, with_slot, slots_after, or_bad, and_then, slots_from, opened, opened_with, rows_of}
 use Rattle.spec_server.specs.Sound.{Has}
-use Rattle.spec_index.specs.World.{Slot}
+use Rattle.spec_index.specs.World.{Slot, is_automatic, row_body}
 use Rattle.spec_store.proofs.StoreLemmas.{both_true, same_row}
 use Rattle.raven_laws.proofs.OpenLemmas.{BodyRises, may_behind, rows_in-AreRowsOf, taken-of, toldin-is, with_slot-is}
 use Rattle.raven_laws.proofs.SlotLemmas.{Has-append}
 use Rattle.index_lang.specs.Openings.{AreReadRows, IsInBody, IsOpened, IsOpenedBy, IsReadIf, IsReadRow}
 use Rattle.raven_reopening.proofs.ReadLemmas.{IsReadBack, IsBodyBack, IsBack}
 use Rattle.raven_reopening.proofs.RightLemmas.{IsRight}
+use Rattle.raven_reading.proofs.SoundLemmas.{reading-fine}
 use Rattle.raven_reading.proofs.TextLemmas.{body-told}
+use Rattle.raven_reading.specs.Requests.{IsRequestBody}
+use Rattle.raven_reopening.proofs.BodyLemmas.{static-stored}
 use Rattle.raven_reopening.proofs.AgainLemmas.{Again}
 
 -- ROWS
@@ -105,11 +109,12 @@ rows-read max earlier (k ∷ ks) rows all h =
 record IsReadFrom (rows : List Row) (y : Slot) : Type 0 where
   pub from : Row
   pub there : Has rows from
+  pub defining : is_defining from ≡ true
   pub read : IsInBody from.body (Some y.version.definition)
   pub named : may_be_named y.version.definition y.name ≡ true
 
 further : (r : Row) (rows : List Row) (y : Slot) → IsReadFrom rows y → IsReadFrom (r ∷ rows) y
-further r rows y f = record { from = f.from; there = inr f.there; read = f.read; named = f.named }
+further r rows y f = record { from = f.from; there = inr f.there; defining = f.defining; read = f.read; named = f.named }
 
 -- what was taken so far, and the rest
 record AreShown (slots : List Slot) (rows : List Row) (all : List Slot) : Type 0 where
@@ -119,15 +124,15 @@ record AreShown (slots : List Slot) (rows : List Row) (all : List Slot) : Type 0
 same_slots : (a b : List Slot) → Some a ≡ Some b → a ≡ b
 same_slots a b h = cc
 
-one-shown : (s : Setting) (n : ℕ) (slots : List Slot) (x : ReadRow) (more : List Slot) → IsReadRow x → slots_after s n slots x ≡ Some more → AreShown slots (x.row ∷ []) more
-one-shown s n slots x more right h =
-    let t = taken-of s n slots x more h in
+one-shown : (s : Setting) (rows : List Row) (n : ℕ) (slots : List Slot) (x : ReadRow) (more : List Slot) → IsReadRow x → slots_after s rows n slots x ≡ Some more → AreShown slots (x.row ∷ []) more
+one-shown s rows n slots x more right h =
+    let t = taken-of s rows n slots x more h in
     let filed : (r : Row) → Has (x.row ∷ []) r → is_filed r ≡ true = λ r at. elim at [ inl same ↦ subst (λ y. is_filed y ≡ true) same t.filed | inr no_more ↦ absurd no_more ] in
-    elim (is_defining x.row) as (λ b. is_defining x.row ≡ b → cond b (with_slot slots x.row x.definition) (Some slots) ≡ Some more → AreShown slots (x.row ∷ []) more) [
+    elim (is_defining x.row) as (λ b. is_defining x.row ≡ b → cond b (with_slot rows slots x.row x.definition) (Some slots) ≡ Some more → AreShown slots (x.row ∷ []) more) [
       | true ↦ λ e g.
-          let w = with_slot-is slots x.row x.definition more g in
+          let w = with_slot-is rows slots x.row x.definition more g in
           let read = subst (IsInBody x.row.body) w.read (subst (λ b. IsReadIf b x.row x.definition) e right) in
-          let new : IsReadFrom (x.row ∷ []) (slot_of x.row w.definition) = record { from = x.row; there = inl refl; read = read; named = w.may } in
+          let new : IsReadFrom (x.row ∷ []) (slot_of x.row w.definition) = record { from = x.row; there = inl refl; defining = e; read = read; named = w.may } in
           record {
             filed = filed;
             each = λ y at. elim (Has-append slots (slot_of x.row w.definition ∷ []) y (subst (λ xs. Has xs y) (sym w.brought) at)) [
@@ -142,20 +147,20 @@ one-shown s n slots x more right h =
 same_all : (a b : List Slot) → (let r : Result (List Slot) ℕ = Ok a in r) ≡ Ok b → a ≡ b
 same_all a b h = cc
 
-all-shown : (s : Setting) (n : ℕ) (slots : List Slot) (xs : List ReadRow) (all : List Slot) → AreReadRows xs → slots_from s n slots xs ≡ Ok all → AreShown slots (rows_of xs) all
-all-shown s n slots [] all right h = record { filed = λ r at. absurd at; each = λ y at. inl (subst (λ ys. Has ys y) (sym (same_all slots all h)) at) }
-all-shown s n slots (x ∷ xs) all right h =
-    elim (slots_after s n slots x) as (λ o. slots_after s n slots x ≡ o → and_then (or_bad x.row.etag o) (λ more. slots_from s (n + 1) more xs) ≡ Ok all → AreShown slots (x.row ∷ rows_of xs) all) [
+all-shown : (s : Setting) (rows : List Row) (n : ℕ) (slots : List Slot) (xs : List ReadRow) (all : List Slot) → AreReadRows xs → slots_from s rows n slots xs ≡ Ok all → AreShown slots (rows_of xs) all
+all-shown s rows n slots [] all right h = record { filed = λ r at. absurd at; each = λ y at. inl (subst (λ ys. Has ys y) (sym (same_all slots all h)) at) }
+all-shown s rows n slots (x ∷ xs) all right h =
+    elim (slots_after s rows n slots x) as (λ o. slots_after s rows n slots x ≡ o → and_then (or_bad x.row.etag o) (λ more. slots_from s rows (n + 1) more xs) ≡ Ok all → AreShown slots (x.row ∷ rows_of xs) all) [
       | None ↦ λ e g. absurd cc
       | Some more ↦ λ e g.
-          let one = one-shown s n slots x more right.0 e in
-          let rest = all-shown s (n + 1) more xs all right.1 g in
+          let one = one-shown s rows n slots x more right.0 e in
+          let rest = all-shown s rows (n + 1) more xs all right.1 g in
           record {
             filed = λ r at. elim at [ inl same ↦ one.filed r (inl same) | inr old ↦ rest.filed r old ];
             each = λ y at. elim (rest.each y at) [
               | inl before ↦ elim (one.each y before) [
                 | inl old ↦ inl old
-                | inr new ↦ inr (record { from = new.from; there = first new.from new.there; read = new.read; named = new.named })
+                | inr new ↦ inr (record { from = new.from; there = first new.from new.there; defining = new.defining; read = new.read; named = new.named })
               ]
               | inr later ↦ inr (further x.row (rows_of xs) y later)
             ];
@@ -166,11 +171,22 @@ all-shown s n slots (x ∷ xs) all right h =
     first r (inl same) = inl same
     first r (inr no_more) = absurd no_more
 
+-- the body of a definition by texts that is stored and read back
+body-sound : (d : Definition) → IsReadBack (stored_body (row_body d)) → is_automatic d ≡ false → IsRequestBody (row_body d)
+body-sound (Static query reduce words reduce_words) f is =
+    static-stored query reduce words reduce_words (reading-fine (text_of (stored_body (row_body (Static query reduce words reduce_words)))) (stored_body (row_body (Static query reduce words reduce_words))) f.read).0
+body-sound (Auto collection fields) f is = absurd cc
+
 -- such a slot is right
-from-right : (rows : List Row) (y : Slot) → ((r : Row) → Has rows r → BodyRises r.body) → IsReadFrom rows y → IsRight y
-from-right rows y rises f =
+from-right : (rows : List Row) (y : Slot) → ((r : Row) → Has rows r → BodyRises r.body) → ((r : Row) → Has rows r → IsBack r) → IsReadFrom rows y → IsRight y
+from-right rows y rises back f =
     let d = y.version.definition in
-    record { read = subst (λ b. IsInBody b (Some d)) (toldin-is f.from.body d (rises f.from f.there) (body-told f.from.body d f.read)) f.read; named = f.named }
+    let kept = toldin-is f.from.body d (rises f.from f.there) (body-told f.from.body d f.read) in
+    record {
+      body = body-sound d (subst IsBodyBack kept (back f.from f.there).body);
+      read = subst (λ b. IsInBody b (Some d)) kept f.read;
+      named = f.named;
+    }
 
 same_opened : (a b : Machine) → (let r : Result Machine ℕ = Ok a in r) ≡ Ok b → a ≡ b
 same_opened a b h = cc
@@ -179,21 +195,21 @@ abbrev pub machine_of : Setting → List Row → List Slot → Machine
 machine_of s rows slots = record { world = record { setting = s; store = record { rows = rows }; slots = slots; notes = [] }; held = [] }
 
 opened-slots : (s : Setting) (held : List KeptRow) (M : Machine) (xs : List ReadRow) → rows_in s.max_rows held ≡ Ok (rows_of xs) → AreReadRows xs
-    → (r : Result (List Slot) ℕ) → slots_from s 0 [] xs ≡ r → opened_with s (rows_of xs) r ≡ Ok M → Again M.world
+    → (r : Result (List Slot) ℕ) → slots_from s (rows_of xs) 0 [] xs ≡ r → opened_with s (rows_of xs) r ≡ Ok M → Again M.world
 opened-slots s held M xs e right (Err etag) k g = absurd cc
 opened-slots s held M xs e right (Ok slots) k g =
     let rows = rows_of xs in
     let back = rows-read s.max_rows [] held rows (λ r at. absurd at) e in
     let stand = (rows_in-AreRowsOf s.max_rows held rows e).stand in
-    let f = all-shown s 0 [] xs slots right k in
+    let f = all-shown s (rows_of xs) 0 [] xs slots right k in
     subst (λ (N : Machine). Again N.world) (same_opened (machine_of s rows slots) M g) (record {
       all = λ r at. record { back = back r at; filed = f.filed r at };
-      slots = λ y at. elim (f.each y at) [ inl none ↦ absurd none | inr from ↦ from-right rows y stand.rises from ];
+      slots = λ y at. elim (f.each y at) [ inl none ↦ absurd none | inr from ↦ from-right rows y stand.rises back from ];
     })
 
 opened-by : (s : Setting) (held : List KeptRow) (M : Machine) (r : Result (List Row) ℕ) → rows_in s.max_rows held ≡ r → IsOpenedBy s r (Ok M) → Again M.world
 opened-by s held M (Err etag) e x = absurd cc
-opened-by s held M (Ok rows) e x = opened-slots s held M x.read (e ∙ ap Ok (sym x.rows)) x.right (slots_from s 0 [] x.read) refl x.opened
+opened-by s held M (Ok rows) e x = opened-slots s held M x.read (e ∙ ap Ok (sym x.rows)) x.right (slots_from s (rows_of x.read) 0 [] x.read) refl (ap (λ all. opened s all x.read) x.rows ∙ x.opened)
 
 pub opened-Again : (s : Setting) (held : List KeptRow) (M : Machine) → IsOpened s held (Ok M) → Again M.world
 opened-Again s held M x = opened-by s held M (rows_in s.max_rows held) refl x

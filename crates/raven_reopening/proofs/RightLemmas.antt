@@ -1,6 +1,6 @@
 -- The definitions of indexes are right: each is read again from the body of its row, and may have its name.
-use Rattle.std.proofs.Common.{◌≡◌, ℕ, ◌≤◌, List, [], ◌∷◌, Bool, true, false, if◌then◌else◌, length, filter, map, Option, Some, IfSome, Ok, IsUtf8, refl, sym, ◌∙◌, subst, inl, inr}
-use Rattle.spec_data.specs.Faults.{max_name}
+use Rattle.std.proofs.Common.{◌≡◌, ℕ, ◌≤◌, List, [], ◌∷◌, Bool, true, false, if◌then◌else◌, length, filter, map, Option, Some, IfSome, Ok, IsUtf8, refl, sym, ap, ◌==◌, ◌∙◌, subst, inl, inr}
+use Rattle.spec_data.specs.Faults.{max_name, replacement_of}
 use Rattle.spec_data.specs.Rows.{doc}
 use Rattle.spec_store.specs.Commit.{stored_body}
 use Rattle.index_tree.specs.Definitions.{Definition, Static, Auto, Texts}
@@ -10,20 +10,21 @@ use Rattle.spec_server.specs.Opening.{is_auto_name, is_static_name, may_be_named
 use Rattle.spec_server.specs.Machine.{Auto as AutoOne, after_batch, after_batch_if_named}
 use Rattle.spec_server.specs.Sound.{Has}
 use Rattle.spec_store.specs.Store.{Store}
-use Rattle.spec_index.specs.World.{Slot, World, added, is_named, is_reserved_name, row_body}
+use Rattle.spec_index.specs.World.{Slot, World, added_to, is_automatic, is_named, is_reserved_name, named_anew, renamed, row_body, without}
 use Rattle.raven_laws.proofs.MachineLemmas.{Keeps, brought-Keeps}
 use Rattle.raven_laws.proofs.SlotLemmas.{Has-append, Has-filter, Has-map}
 use Rattle.index_lang.specs.Openings.{IsInBody, IsOfForm}
 use Rattle.index_lang.specs.Says.{Says}
 use Rattle.raven_reading.specs.Requests.{IsRequestBody, IsByText, IsIndexing}
 use Rattle.raven_reopening.proofs.BodyLemmas.{auto-back, definition-body, static-back, static-body}
-use Rattle.raven_reopening.proofs.FitLemmas.{static_name-fit}
+use Rattle.raven_reopening.proofs.FitLemmas.{given-static, replacement-named, static-named, static_name-fit}
 
 -- what is read of the body that the server stores for a definition is that definition
 abbrev pub IsReadOf : Definition → Type 0
 IsReadOf d = IsInBody (doc (stored_body (row_body d))) (Some d)
 
 pub record IsRight (s : Slot) : Type 0 where
+  pub body : is_automatic s.version.definition ≡ false → IsRequestBody (row_body s.version.definition)
   pub read : IsReadOf s.version.definition
   pub named : may_be_named s.version.definition s.name ≡ true
 
@@ -44,7 +45,7 @@ auto-new name c f fits named =
     record { body = definition-body c f fits.0 fits.1.0; read = subst (λ form. IsOfForm form (Some d)) (sym (auto-back c f fits.1.1)) refl; named = named }
 
 texts-new : (name : List ℕ) (query : MapQuery) (reduce : Option ReduceQuery) (texts : Texts) → IsUtf8 texts.0 → IfSome texts.1 IsUtf8
-    → Says texts (Ok (Static query reduce texts.0 texts.1)) → is_static_name name ≡ true → IsNew name (Static query reduce texts.0 texts.1)
+    → Says texts (Ok (Static query reduce texts.0 texts.1)) → may_be_named (Static query reduce texts.0 texts.1) name ≡ true → IsNew name (Static query reduce texts.0 texts.1)
 texts-new name query reduce texts u v says named =
     let d = Static query reduce texts.0 texts.1 in
     record {
@@ -57,12 +58,17 @@ pub static-new : (name : List ℕ) (d : Definition) → IsByText name d → is_r
 static-new name d x free few =
     let own = x.by_texts in
     subst (IsNew name) (sym own.by_texts)
-    (texts-new name own.query own.reduce x.texts x.utf8 x.reduce_utf8 (subst (λ e. Says x.texts (Ok e)) own.by_texts x.says) (static_name-fit max_name name x.fit free few))
+    (texts-new name own.query own.reduce x.texts x.utf8 x.reduce_utf8 (subst (λ e. Says x.texts (Ok e)) own.by_texts x.says)
+    (static-named (Static own.query own.reduce x.texts.0 x.texts.1) name refl free (static_name-fit max_name name x.fit free few)))
 
-pub added-right : (W : World) (name : List ℕ) (d : Definition) → IsNew name d → AllRight W.slots → AllRight (added W name d).slots
-added-right W name d new all s h = elim (Has-append W.slots _ s h) [
+-- the same definition under the name of a replacement
+pub replacement-new : (name other : List ℕ) (d : Definition) → IsNew name d → is_automatic d ≡ false → is_static_name other ≡ true → IsNew (replacement_of other) d
+replacement-new name other d new is h = record { body = new.body; read = new.read; named = replacement-named d other is h }
+
+pub added-right : (W : World) (slots : List Slot) (name : List ℕ) (d : Definition) → IsNew name d → AllRight slots → AllRight (added_to W slots name d).slots
+added-right W slots name d new all s h = elim (Has-append slots _ s h) [
   | inl old ↦ all s old
-  | inr (inl e) ↦ subst IsRight e (record { read = new.read; named = new.named })
+  | inr (inl e) ↦ subst IsRight e (record { body = λ is. new.body; read = new.read; named = new.named })
   | inr (inr no_more) ↦ absurd no_more
 ]
 
@@ -71,8 +77,9 @@ added-right W name d new all s h = elim (Has-append W.slots _ s h) [
 pub filter-right : (p : Slot → Bool) (slots : List Slot) → AllRight slots → AllRight (filter p slots)
 filter-right p slots all s h = all s (Has-filter p slots s h)
 
-kept-right : (x y : Slot) → Keeps x y → IsRight x → IsRight y
+pub kept-right : (x y : Slot) → Keeps x y → IsRight x → IsRight y
 kept-right x y k r = record {
+  body = λ is. subst (λ d. IsRequestBody (row_body d)) (sym k.definition) (r.body (ap is_automatic (sym k.definition) ∙ is));
   read = subst IsReadOf (sym k.definition) r.read;
   named = (λ i. may_be_named (k.definition i) (k.name i)) ∙ r.named;
 }
@@ -88,3 +95,19 @@ pumped_at-right S max name slots = map-right (after_batch_if_named S max name) s
   | true ↦ brought-Keeps S max x
   | false ↦ record { number = refl; name = refl; row = refl; definition = refl }
 ])
+
+-- the slot that takes the name of another, which a client gave
+pub taker-right : (s r : Slot) (row : ℕ) → IsRight s → IsRight r → is_reserved_name s.name ≡ false → is_automatic r.version.definition ≡ false → IsRight (named_anew s.name row r)
+taker-right s r row its own given is = record { body = own.body; read = own.read; named = static-named r.version.definition s.name is given (given-static s.version.definition s.name its.named given) }
+
+pub renamed-right : (slots : List Slot) (s r : Slot) (row : ℕ) → AllRight slots → IsRight s → is_reserved_name s.name ≡ false → ((x : Slot) → Has slots x → is_automatic x.version.definition ≡ true → (x.number == r.number) ≡ false)
+    → AllRight (map (renamed r.number s.name row) slots)
+renamed-right slots s r row all its given auto y h =
+    let x = Has-map (renamed r.number s.name row) slots y h in
+    subst IsRight x.2 (elim (x.0.number == r.number) as (λ b. (x.0.number == r.number) ≡ b → IsRight (if b then named_anew s.name row x.0 else x.0)) [
+      | true ↦ λ e. taker-right s x.0 row its (all x.0 x.1) given (elim (is_automatic x.0.version.definition) as (λ b. is_automatic x.0.version.definition ≡ b → b ≡ false) [
+        | true ↦ λ f. absurd (let g = auto x.0 x.1 f in cc)
+        | false ↦ λ f. refl
+      ] refl)
+      | false ↦ λ e. all x.0 x.1
+    ] refl)
