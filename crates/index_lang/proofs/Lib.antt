@@ -3,3 +3,4 @@ pub mod Binding
 pub mod GroupScans
 pub mod Once
 pub mod Forms
+pub mod Texts

@@ -8,3 +8,4 @@ pub mod Rows
 pub mod Says
 pub mod Openings
 pub mod Bodies
+pub mod ByTexts

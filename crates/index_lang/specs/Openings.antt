@@ -46,7 +46,7 @@ pub record OpensAs (s : Setting) (all : List Row) (M : Machine) : Type 0 where
   pub read : List ReadRow
   pub rows : rows_of read ≡ all
   pub right : AreReadRows read
-  pub opened : opened s read ≡ Ok M
+  pub opened : opened s all read ≡ Ok M
 
 -- the last of the rows that are read is the first that is of no form, and has this etag; those behind it are not read
 pub record EndsAt (s : Setting) (all : List Row) (etag : ℕ) : Type 0 where
@@ -54,7 +54,7 @@ pub record EndsAt (s : Setting) (all : List Row) (etag : ℕ) : Type 0 where
   pub unread : List Row
   pub rows : rows_of read ++ unread ≡ all
   pub right : AreReadRows read
-  pub bad : opened s read ≡ Err etag
+  pub bad : opened s all read ≡ Err etag
 
 abbrev pub Opens : Setting → List Row → Result Machine ℕ → Type 0
 Opens s rows (Ok M) = OpensAs s rows M

@@ -2,6 +2,7 @@
 #![tactic(auto)]
 
 mod body;
+mod by_texts;
 mod groups;
 mod laws;
 mod members;
@@ -11,6 +12,7 @@ mod reading;
 mod rows;
 
 pub use body::{of_row_body, only_item, text_in};
+pub use by_texts::{TextDefinition, parse_texts};
 pub use groups::unbound_in_reduce;
 pub use index_definition::{
     DefBody, Definition, LangKind, LangRefusal, Part, auto_body, auto_definition, fields,
