@@ -2,7 +2,7 @@
 ghost use Rattle.std.specs.Prelude.{◌≡◌, ◌++◌, ◌∷◌, [], OnOk};
 ghost use Rattle.spec_data.specs.Written.{text_of};
 ghost use Rattle.spec_query.specs.Refusals.{kind_name as spec_rql_kind_name};
-ghost use Rattle.spec_server.specs.Replies.{BadQuery, Conflict, Lang as LangOf, error, error_at, reply_data};
+ghost use Rattle.spec_server.specs.Replies.{BadQuery, Conflict, Lang as LangOf, NotFresh, error, error_at, reply_data};
 ghost use Rattle.index_tree.specs.Language.{kind_name as spec_kind_name, part_name as spec_part_name};
 ghost use Rattle.index_definition.specs.RefusalView.{kind_view, part_view, refusal_view};
 ghost use Rattle.raven_lines.specs.SaysQuery.{kind_view as rql_kind_view, query_refusal};
@@ -85,6 +85,26 @@ pub fn write_conflict<'a>(
             ("Error", Piece::Text("Conflict")),
             ("Expected", Piece::Text(expected)),
             ("Found", Piece::Text(found)),
+        ],
+    )
+}
+
+/// Adds the error that a replacement lags.
+pub fn write_not_fresh(
+    alloc: Global,
+    out: &mut Vec<u8>,
+    index_etag: u64,
+    newest: u64,
+) -> Result<(), NoMemory>
+    ensures { OnOk result (out.new.items ≡ out.old.items ++ text_of (reply_data (NotFresh index_etag newest))) }
+{
+    write_object(
+        alloc,
+        out,
+        &[
+            ("Error", Piece::Text("NotFresh")),
+            ("IndexEtag", Piece::Number(index_etag)),
+            ("Newest", Piece::Number(newest)),
         ],
     )
 }

@@ -10,5 +10,5 @@ mod text;
 mod values;
 
 pub use moment::moment_text;
-pub use reply::{BulkResult, BulkResults, Listing, Listings, Pumping, Pumpings, Reply};
+pub use reply::{BulkResult, BulkResults, IndexNames, Listing, Listings, Pumping, Pumpings, Reply};
 pub use text::reply_text;

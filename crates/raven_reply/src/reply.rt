@@ -64,6 +64,9 @@ impl Model for Listing {
 /// Indexes in the order of their numbers.
 pub type Listings = Sequence<Listing>;
 
+/// Names of indexes, in order.
+pub type IndexNames = Sequence<Name>;
+
 /// What one command of a transaction did.
 #[derive(Drop)]
 pub enum BulkResult {
@@ -143,6 +146,31 @@ pub enum Reply {
 
         /// How many rows meet the condition, on the page or not.
         total_results: u64,
+    },
+
+    /// The replacement has the name, by the row of this etag.
+    Switched {
+        etag: u64,
+        name: Name,
+    },
+
+    /// The automatic indexes that went, and the names that their replacements took.
+    Tidied {
+        retired: IndexNames,
+        switched: IndexNames,
+    },
+
+    /// A worker holds the batch between these etags, or none if they are equal.
+    Held {
+        from: u64,
+        to: u64,
+    },
+
+    /// How far the batch that a worker held brought this index.
+    Published {
+        from: u64,
+        index: Name,
+        to: u64,
     },
 
     /// How far an index is, whether it lags, and the newest etag that it reads.
@@ -247,6 +275,31 @@ pub enum Reply {
     /// There are as many indexes as may be.
     TooManyIndexes,
 
+    /// The index has no replacement.
+    NoReplacement,
+
+    /// As many switches are noted as may be.
+    NotesFull,
+
+    /// The replacement lags: how far it is, and the newest etag that it reads.
+    NotFresh {
+        index_etag: u64,
+        newest: u64,
+    },
+
+    /// The worker holds no batch.
+    NothingHeld,
+
+    /// The index of this number is no longer there.
+    Gone {
+        number: u64,
+    },
+
+    /// The index is already as far as the batch, or further.
+    Passed {
+        now: u64,
+    },
+
     /// The id or the collection is the server's.
     ReservedId {
         at: u64,
@@ -322,6 +375,20 @@ impl Drop for Reply {
                 results: _results,
                 total_results: _,
             } => {}
+            Reply::Switched {
+                etag: _,
+                name: _name,
+            } => {}
+            Reply::Tidied {
+                retired: _retired,
+                switched: _switched,
+            } => {}
+            Reply::Held { from: _, to: _ } => {}
+            Reply::Published {
+                from: _,
+                index: _name,
+                to: _,
+            } => {}
             Reply::Stale {
                 index_etag: _,
                 is_stale: _,
@@ -336,6 +403,12 @@ impl Drop for Reply {
             } => {}
             Reply::UnknownLine | Reply::NotJson | Reply::NumberNotWhole | Reply::TooDeep => {}
             Reply::Empty | Reply::BadPage | Reply::ReservedName | Reply::TooManyIndexes => {}
+            Reply::NoReplacement | Reply::NotesFull | Reply::NothingHeld => {}
+            Reply::NotFresh {
+                index_etag: _,
+                newest: _,
+            } => {}
+            Reply::Gone { number: _ } | Reply::Passed { now: _ } => {}
             Reply::TooLong { len: _ } | Reply::NameTooLong { len: _ } => {}
             Reply::Control { at: _ } | Reply::ReservedId { at: _ } => {}
             Reply::BadMember { name: _name } | Reply::NoIndex { name: _name } => {}

@@ -2,33 +2,45 @@
 ghost use Rattle.std.specs.Prelude.{◌≡◌, ◌++◌, IfOk, OnOk, false, map};
 ghost use Rattle.spec_data.specs.Data.{items_of, text as spec_text};
 ghost use Rattle.spec_data.specs.Written.{items_text, text_of};
-ghost use Rattle.spec_server.specs.Replies.{Bulk, Deleted, Found as FoundIds, Index, Indexes as IndexesAll, Pumped as PumpedAll, Put as PutOne, Removed, Stale, Stats, listing_data, pumping_data, reply_data, result_data};
+ghost use Rattle.spec_server.specs.Replies.{Bulk, Deleted, Found as FoundIds, Held, Index, Indexes as IndexesAll, Published, Pumped as PumpedAll, Put as PutOne, Removed, Stale, Stats, Switched, Tidied, listing_data, pumping_data, reply_data, result_data};
 ghost use Rattle.raven_reply.specs.ReplyView.{reply_view, result_view};
 
 use crate::document::write_document;
 use crate::error::{
     write_conflict, write_error, write_error_at, write_error_at_with, write_error_with, write_lang,
-    write_rql,
+    write_not_fresh, write_rql,
 };
 use crate::piece::{Piece, write_bytes, write_object, write_piece};
 use crate::reply::{BulkResult, Listing, Pumping, Reply};
 use raven_base::NoMemory;
 use raven_json::write_text;
-use raven_value::Id;
+use raven_value::{Id, Name};
 use std::alloc::Global;
 
-fn write_pumping(alloc: Global, out: &mut Vec<u8>, pumping: &Pumping) -> Result<(), NoMemory>
-    ensures { OnOk result (out.new.items ≡ out.old.items ++ text_of (pumping_data pumping.now)) }
+fn write_published(
+    alloc: Global,
+    out: &mut Vec<u8>,
+    from: u64,
+    index: &str,
+    to: u64,
+) -> Result<(), NoMemory>
+    ensures { OnOk result (out.new.items ≡ out.old.items ++ text_of (reply_data (Published from index.now to))) }
 {
     write_object(
         alloc,
         out,
         &[
-            ("From", Piece::Number(pumping.from)),
-            ("Index", Piece::Text(pumping.index.as_str())),
-            ("To", Piece::Number(pumping.to)),
+            ("From", Piece::Number(from)),
+            ("Index", Piece::Text(index)),
+            ("To", Piece::Number(to)),
         ],
     )
+}
+
+fn write_pumping(alloc: Global, out: &mut Vec<u8>, pumping: &Pumping) -> Result<(), NoMemory>
+    ensures { OnOk result (out.new.items ≡ out.old.items ++ text_of (pumping_data pumping.now)) }
+{
+    write_published(alloc, out, pumping.from, pumping.index.as_str(), pumping.to)
 }
 
 fn write_listing(alloc: Global, out: &mut Vec<u8>, listing: &Listing) -> Result<(), NoMemory>
@@ -82,6 +94,20 @@ fn write_ids(out: &mut Vec<u8>, ids: &[Id]) -> Result<(), NoMemory>
             write_bytes(out, b",")?;
         }
         write_text(out, id.as_str())?;
+        later = true;
+    }
+    Ok(())
+}
+
+fn write_names(out: &mut Vec<u8>, names: &[Name]) -> Result<(), NoMemory>
+    ensures { OnOk result (out.new.items ≡ out.old.items ++ items_text false (items_of (map spec_text names.now))) }
+{
+    let mut later = false;
+    for name in names {
+        if later {
+            write_bytes(out, b",")?;
+        }
+        write_text(out, name.as_str())?;
         later = true;
     }
     Ok(())
@@ -156,6 +182,17 @@ fn write_pumped(alloc: Global, out: &mut Vec<u8>, pumped: &[Pumping]) -> Result<
     write_bytes(out, b"{\"Pumped\":[")?;
     write_pumpings(alloc, out, pumped)?;
     write_bytes(out, b"]}")
+}
+
+fn write_tidied(out: &mut Vec<u8>, retired: &[Name], switched: &[Name]) -> Result<(), NoMemory>
+    ensures { OnOk result (out.new.items ≡ out.old.items ++ text_of (reply_data (Tidied retired.now switched.now))) }
+{
+    write_bytes(out, b"{\"Retired\":[")?;
+    write_names(out, retired)?;
+    write_bytes(out, b"],\"Switched\":[")?;
+    write_names(out, switched)?;
+    write_bytes(out, b"]}")?;
+    Ok(())
 }
 
 #[tactic(auto, using(crate::proofs::Printed::printed))]
@@ -258,6 +295,29 @@ fn write_removed(alloc: Global, out: &mut Vec<u8>, name: &str) -> Result<(), NoM
     write_object(alloc, out, &[("Removed", Piece::Text(name))])
 }
 
+fn write_switched(alloc: Global, out: &mut Vec<u8>, etag: u64, name: &str) -> Result<(), NoMemory>
+    ensures { OnOk result (out.new.items ≡ out.old.items ++ text_of (reply_data (Switched etag name.now))) }
+{
+    write_object(
+        alloc,
+        out,
+        &[
+            ("Etag", Piece::Number(etag)),
+            ("Switched", Piece::Text(name)),
+        ],
+    )
+}
+
+fn write_held(alloc: Global, out: &mut Vec<u8>, from: u64, to: u64) -> Result<(), NoMemory>
+    ensures { OnOk result (out.new.items ≡ out.old.items ++ text_of (reply_data (Held from to))) }
+{
+    write_object(
+        alloc,
+        out,
+        &[("From", Piece::Number(from)), ("To", Piece::Number(to))],
+    )
+}
+
 /// Adds the reply as JSON to `out`, without a line end.
 fn write_reply(alloc: Global, out: &mut Vec<u8>, reply: &Reply) -> Result<(), NoMemory>
     ensures { OnOk result (out.new.items ≡ out.old.items ++ text_of (reply_data (reply_view reply.now))) }
@@ -294,6 +354,14 @@ fn write_reply(alloc: Global, out: &mut Vec<u8>, reply: &Reply) -> Result<(), No
                 ("TotalResults", Piece::Number(*total_results)),
             ];
             write_object(alloc, out, &members)
+        }
+        Reply::Switched { etag, name } => write_switched(alloc, out, *etag, name.as_str()),
+        Reply::Tidied { retired, switched } => {
+            write_tidied(out, retired.as_slice(), switched.as_slice())
+        }
+        Reply::Held { from, to } => write_held(alloc, out, *from, *to),
+        Reply::Published { from, index, to } => {
+            write_published(alloc, out, *from, index.as_str(), *to)
         }
         Reply::Stale {
             index_etag,
@@ -357,6 +425,14 @@ fn write_reply(alloc: Global, out: &mut Vec<u8>, reply: &Reply) -> Result<(), No
             write_error_with(alloc, out, "NameTooLong", "Len", Piece::Number(*len))
         }
         Reply::TooManyIndexes => write_error(alloc, out, "TooManyIndexes"),
+        Reply::NoReplacement => write_error(alloc, out, "NoReplacement"),
+        Reply::NotesFull => write_error(alloc, out, "NotesFull"),
+        Reply::NotFresh { index_etag, newest } => write_not_fresh(alloc, out, *index_etag, *newest),
+        Reply::NothingHeld => write_error(alloc, out, "NothingHeld"),
+        Reply::Gone { number } => {
+            write_error_with(alloc, out, "Gone", "Number", Piece::Number(*number))
+        }
+        Reply::Passed { now } => write_error_with(alloc, out, "Passed", "Now", Piece::Number(*now)),
         Reply::ReservedId { at } => write_error_at(alloc, out, *at, "ReservedId"),
         Reply::TooLarge { at, len } => {
             write_error_at_with(alloc, out, *at, "TooLarge", "Len", Piece::Number(*len))

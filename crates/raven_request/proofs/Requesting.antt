@@ -3,15 +3,11 @@ use Rattle.std.proofs.Common.{◌≡◌, ◌∙◌, ℕ, List, Option, Some, Non
 use Rattle.spec_data.specs.Data.{Data}
 use Rattle.spec_data.specs.Faults.{Fault}
 use Rattle.index_tree.specs.Definitions.{Texts}
-use Rattle.index_definition.specs.DefinitionView.{definition_view}
 use Rattle.index_definition.specs.RefusalView.{refusal_view}
-use Rattle.index_definition.specs.declared.definition.Definition as program
 use Rattle.index_definition.specs.declared.refusal.LangKind.{LangKind}
-use Rattle.index_definition.specs.declared.refusal.LangRefusal.{LangRefusal}
-use Rattle.index_definition.specs.declared.refusal.LangRefusal.TheVariants.{At}
 use Rattle.index_definition.specs.declared.refusal.Part.{Part}
-use Rattle.index_lang.specs.Parse.{AreRead, IsParsed, causes, definition as parsed_definition, first_cause, is_long, judged_if, lengths, unless}
-use Rattle.index_lang.specs.declared.reading.Trees.{Trees}
+use Rattle.index_lang.specs.ByTexts.{Gives, Named}
+use Rattle.index_lang.specs.Says.{Says}
 use Rattle.raven_lines.specs.Lines.{Comes, IsDefining, IsQuerying}
 use Rattle.raven_lines.specs.SaysQuery.{query_refusal}
 use Rattle.raven_value.specs.Refusal.{fault_in}
@@ -27,7 +23,7 @@ use Rattle.spec_server.specs.Script as read
 use Rattle.spec_server.specs.Script.{Asked, Asking, Defining, LineRead, Plain, Querying, asked_to_define, asked_to_query, asking_of_body, texts_of_body, then_read, whole_ask}
 use Rattle.raven_request.proofs.Readings.{refused_on}
 use Rattle.raven_request.specs.RequestRead.{AsksBy, ComesToRefusal, IsRefusedFor}
-use Rattle.raven_request.specs.RequestView.{IsBadId, IsBadName, Refuses}
+use Rattle.raven_request.specs.RequestView.{IsBadId, IsBadName, Refuses, define_view}
 use Rattle.raven_request.specs.declared.request.ReadRefusal.{ReadRefusal}
 use Rattle.raven_request.specs.declared.request.ReadRefusal.TheVariants as refusal
 
@@ -87,40 +83,16 @@ pub asks-read : {A : Type 0} (view : A → is.Request) (name : List ℕ) (texts 
     → given ≡ Ok (name, texts) → AsksBy view (Defining name texts) result → AsksBy view (asked_to_define given) result
 asks-read view name texts given result is h = subst (λ g. AsksBy view (asked_to_define g) result) (sym is) h
 
--- what is parsed has the name that it is given
-module _ (name map : List ℕ) (reduce : Option (List ℕ)) (definition : program.Definition) where
-  named_by : (trees : Trees) (cause : Option LangRefusal) → Ok definition ≡ unless cause (parsed_definition name map reduce trees) → definition.name ≡ name
-  named_by trees (Some why) h = absurd cc
-  named_by trees None h =
-      let same : (a b : program.Definition) → (let r : Result program.Definition LangRefusal = Ok a in r) ≡ Ok b → a ≡ b = λ a b e. cc in
-      ap (λ (d : program.Definition). d.name) (same definition (parsed_definition name map reduce trees) h)
-
-  named_if : (trees : Result Trees LangRefusal) → Ok definition ≡ judged_if name map reduce trees → definition.name ≡ name
-  named_if (Ok trees) h = named_by trees (first_cause (causes trees)) h
-  named_if (Err why) h = absurd cc
-
-  pub parsed-name : IsParsed name map reduce (Ok definition) → definition.name ≡ name
-  parsed-name h = by (first_cause (lengths map reduce)) h
-    where
-      by : (long : Option LangRefusal) → is_long long (Ok definition) ((trees : Result Trees LangRefusal) × AreRead map reduce trees × (Ok definition ≡ judged_if name map reduce trees)) → definition.name ≡ name
-      by (Some why) g = absurd cc
-      by None g = named_if g.0 g.2
-
 -- the texts say a definition
-pub asks-defined : (name map : List ℕ) (reduce : Option (List ℕ)) (d shared : program.Definition) → IsParsed name map reduce (Ok d) → shared ≡ d
-    → IsDefining name (map, reduce) (Ok (Some (Do (Define shared.name (definition_view shared.body)))))
-asks-defined name map reduce d shared parsed is = record {
-  answer = Ok (definition_view d.body);
-  says = record { name = name; definition = d; given = parsed; seen = refl };
-  read = ap (λ (e : program.Definition). Ok (Some (Do (Define e.name (definition_view e.body))))) is ∙ ap (λ n. Ok (Some (Do (Define n (definition_view d.body))))) (parsed-name name map reduce d parsed);
-}
+pub asks-defined : (name : List ℕ) (texts : Texts) (d : Named) → Gives name texts (Ok d) → IsDefining name texts (Ok (Some (Do (define_view d))))
+asks-defined name texts d gives = record { answer = Ok d.definition; says = gives.1; read = ap (λ n. Ok (Some (Do (Define n d.definition)))) gives.0 }
 
 -- the texts are refused
-pub asks-refused : (name map : List ℕ) (reduce : Option (List ℕ)) (p q : Part) (a b : ℕ) (k l : LangKind) → p ≡ q → a ≡ b → k ≡ l → IsParsed name map reduce (Err (At q b l))
-    → ComesToRefusal (Defining name (map, reduce)) (refusal.BadDefinition p a k)
-asks-refused name map reduce p q a b k l part at kind parsed = record {
+pub asks-refused : (name : List ℕ) (texts : Texts) (p q : Part) (a b : ℕ) (k l : LangKind) → p ≡ q → a ≡ b → k ≡ l → Says texts (Err (refusal_view q b l))
+    → ComesToRefusal (Defining name texts) (refusal.BadDefinition p a k)
+asks-refused name texts p q a b k l part at kind says = record {
   read = Err (read.BadDefinition (refusal_view q b l));
-  comes = record { answer = Err (refusal_view q b l); says = record { name = name; part = q; at = b; kind = l; given = parsed; seen = refl }; read = refl };
+  comes = record { answer = Err (refusal_view q b l); says = says; read = refl };
   told = λ i. Err (read.BadDefinition (refusal_view ((sym part) i) ((sym at) i) ((sym kind) i)));
 }
 

@@ -1,7 +1,5 @@
 -- What clients ask, and what it is read from.
 use Rattle.std.specs.Prelude.{◌≡◌, ℕ, List, Option, Some, None, map, Result, Ok, Err}
-use Rattle.std.specs.declared.alloc.Global.{Global}
-use Rattle.std.specs.declared.sync.Arc.{Arc}
 use Rattle.spec_data.specs.Faults.{Fault}
 use Rattle.spec_data.specs.Json.{not_json, number_not_whole, too_deep}
 use Rattle.raven_value.specs.Refusal.{fault_in}
@@ -9,9 +7,8 @@ use Rattle.raven_value.specs.View.{data_of}
 use Rattle.spec_server.specs.Machine as is
 use Rattle.spec_server.specs.Script as read
 use Rattle.doc_txn.specs.CommandView.{command_view, expect_view}
-use Rattle.index_definition.specs.DefinitionView.{definition_view}
 use Rattle.index_definition.specs.RefusalView.{refusal_view}
-use Rattle.index_definition.specs.declared.definition.Definition.{Definition}
+use Rattle.index_lang.specs.ByTexts.{Named}
 use Rattle.raven_lines.specs.SaysQuery.{query_refusal}
 use Rattle.raven_request.specs.declared.query.Asking.{Asking}
 use Rattle.raven_request.specs.declared.request.Request.{Request}
@@ -20,8 +17,8 @@ use Rattle.raven_request.specs.declared.request.ReadRefusal.{ReadRefusal}
 use Rattle.raven_request.specs.declared.request.ReadRefusal.TheVariants as refusal
 
 -- the request to define an index
-abbrev pub define_view : Arc Definition Global → is.Request
-define_view definition = is.Define definition.value.name (definition_view definition.value.body)
+abbrev pub define_view : Named → is.Request
+define_view d = is.Define d.name d.definition
 
 abbrev pub request_view : Request → is.Request
 request_view (r.Put id expected body) = is.Put id (expect_view expected) (data_of body)
@@ -34,6 +31,8 @@ request_view (r.Auto collection field) = is.Auto collection field
 request_view (r.Find index field words) = is.Find index field words
 request_view (r.Ask ask) = is.Ask ask
 request_view (r.Pump max index) = is.Pump max index
+request_view (r.Switch name) = is.Switch name
+request_view r.Tidy = is.Tidy
 request_view (r.Stale name cutoff) = is.Stale name cutoff
 request_view r.Indexes = is.Indexes
 request_view r.Stats = is.Stats

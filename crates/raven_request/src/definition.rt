@@ -9,12 +9,11 @@ ghost use Rattle.spec_server.specs.Script.{Defining, asked_to_define, index_of, 
 
 use crate::body::{bad_member, json_of, name_of};
 use crate::request::{ReadRefusal, Request};
-use index_definition::{Definition, LangRefusal};
-use index_lang::{only_item, parse, text_in};
+use index_definition::LangRefusal;
+use index_lang::{TextDefinition, only_item, parse_texts, text_in};
 use raven_base::NoMemory;
 use raven_value::{Members, Name, Value};
 use std::alloc::Global;
-use std::sync::Arc;
 
 /// The text of the map, and that of the reduce, if there is one.
 type Texts<'a> = (&'a str, Option<&'a str>);
@@ -98,20 +97,14 @@ fn texts_of_body(alloc: Global, value: &Value) -> Result<(Name, Texts<'_>), Read
     }
 }
 
-fn share(alloc: Global, definition: Definition) -> Result<Arc<Definition>, NoMemory>
-    ensures { IfOk result (λ shared. shared.value ≡ definition) }
-{
-    Ok(Arc::new(alloc, definition)?)
-}
-
 // The definition that the texts say.
 #[tactic(auto, using(crate::proofs::Requesting::requesting))]
-fn define_by(alloc: Global, name: Name, texts: Texts<'_>) -> Result<Arc<Definition>, ReadRefusal>
+fn define_by(alloc: Global, name: Name, texts: Texts<'_>) -> Result<TextDefinition, ReadRefusal>
     ensures { AsksBy define_view (Defining name (texts_behind texts.entry)) result }
 {
     let (map, reduce) = texts;
-    match parse(alloc, name, map, reduce) {
-        Ok(definition) => Ok(share(alloc, definition)?),
+    match parse_texts(alloc, name, map, reduce) {
+        Ok(definition) => Ok(definition),
         Err(LangRefusal::At { part, at, kind }) => {
             Err(ReadRefusal::BadDefinition { part, at, kind })
         }
@@ -121,7 +114,7 @@ fn define_by(alloc: Global, name: Name, texts: Texts<'_>) -> Result<Arc<Definiti
 
 /// The definition that this object says. Its members are read first, and then its texts by the grammar.
 #[tactic(auto, using(crate::proofs::Requesting::requesting))]
-pub fn definition_of(alloc: Global, value: &Value) -> Result<Arc<Definition>, ReadRefusal>
+pub fn definition_of(alloc: Global, value: &Value) -> Result<TextDefinition, ReadRefusal>
     ensures { AsksBy define_view (asked_to_define (spec_texts_of_body (data_of value.now))) result }
 {
     match texts_of_body(alloc, value) {

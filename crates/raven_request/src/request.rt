@@ -3,13 +3,13 @@ ghost use Rattle.std.specs.Prelude.{◌≡◌};
 ghost use Rattle.raven_request.specs.declared.request.ReadRefusal.TheVariants.{NoMemory as OutOfMemory};
 
 use doc_txn::{Commands, Expect};
-use index_definition::{Definition, LangKind, Part};
+use index_definition::{LangKind, Part};
+use index_lang::TextDefinition;
 use raven_base::NoMemory;
 use raven_value::{Id, IdRefusal, Name, Text, Value};
 use rql_grammar::RqlKind;
 use rql_plan::QueryAsk;
 use std::alloc::AllocError;
-use std::sync::Arc;
 use thiserror::Error;
 
 /// A request to the database.
@@ -48,7 +48,7 @@ pub enum Request {
     /// Define an index.
     Define {
         /// Its name, and what it says.
-        definition: Arc<Definition>,
+        definition: TextDefinition,
     },
 
     /// Remove the index of this name.
@@ -88,6 +88,15 @@ pub enum Request {
         /// The name of the index, if only one is to catch up.
         index: Option<Name>,
     },
+
+    /// Let the replacement of the index of this name take the name.
+    Switch {
+        /// The name of the index.
+        name: Name,
+    },
+
+    /// Let each replacement that does not lag take its name, and let automatic indexes go that are no longer needed.
+    Tidy,
 
     /// Report how far an index is.
     Stale {

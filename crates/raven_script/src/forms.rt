@@ -1,12 +1,14 @@
 //! What a line asks.
-ghost use Rattle.std.specs.Prelude.{◌≡◌, MatchOption, None, Some, [], option_map};
-ghost use Rattle.spec_server.specs.Script.{Asked, Plain, asked_of, asked_with as spec_asked_with, auto_of as spec_auto_of, by_command as spec_by_word, delete_if_of as spec_delete_if_of, drop_of as spec_drop_of, find_of as spec_find_of, get_of as spec_get_of, line_of, max_read, pump_of as spec_pump_of, pump_read, put_if_of as spec_put_if_of, put_of as spec_put_of, request_of as spec_request_of, stale_of as spec_stale_of};
+ghost use Rattle.std.specs.Prelude.{◌≡◌, ◌==◌, None, Some, [], false, length};
+ghost use Rattle.std.specs.Str.{IsUtf8};
+ghost use Rattle.spec_server.specs.Script.{Asked, argument_and_rest, asked_of, auto_of as spec_auto_of, by_command, delete_if_of as spec_delete_if_of, drop_of as spec_drop_of, find_of as spec_find_of, get_of as spec_get_of, pump_of as spec_pump_of, pump_read, put_if_of as spec_put_if_of, put_of as spec_put_of, request_of as spec_request_of, stale_of as spec_stale_of, switch_of as spec_switch_of};
 ghost use Rattle.raven_request.specs.RequestRead.{Asks};
 ghost use Rattle.raven_request.specs.RequestView.{Reads, request_view};
-ghost use Rattle.raven_script.specs.LineView.{Answers, line_view};
+ghost use Rattle.raven_script.specs.LineView.{Answers, AsksLine, word_asked};
 
 use crate::request::Line;
-use crate::words::{is_collection, is_field, number_of, parts, word_and_rest};
+use crate::words::{is_collection, is_field, max_of, parts, word_and_rest};
+use crate::workers::{publish, read};
 use doc_txn::Expect;
 use raven_request::{
     ReadRefusal, Request, bulk_of, define_of, delete_of, id_of, name_of, put_of, query_of,
@@ -14,9 +16,6 @@ use raven_request::{
 };
 use raven_value::Text;
 use std::alloc::Global;
-
-/// The most rows of a batch.
-const MAX_BATCH: u64 = 65_536;
 
 #[tactic(auto, using(raven_request::proofs::Readings::readings))]
 fn put(alloc: Global, more: &str) -> Result<Request, ReadRefusal>
@@ -83,16 +82,6 @@ fn auto(alloc: Global, more: &str) -> Result<Request, ReadRefusal>
         collection: Text::of(alloc, collection)?,
         field: Text::of(alloc, field)?,
     })
-}
-
-// How many rows a batch may take.
-fn max_of(text: &str) -> Result<u32, ReadRefusal>
-    ensures { Reads (λ max. max) result (max_read text.now) }
-{
-    match number_of(text.as_bytes()) {
-        Some(max) if max >= 1 && max <= MAX_BATCH => Ok(max as u32),
-        _ => Err(ReadRefusal::UnknownLine),
-    }
 }
 
 // Each index catches up by one batch.
@@ -176,55 +165,88 @@ fn stale(alloc: Global, more: &str) -> Result<Request, ReadRefusal>
     }
 }
 
-fn by_word(alloc: Global, word: &str, more: &str) -> Result<Request, ReadRefusal>
-    ensures { Reads request_view result (spec_by_word word.now more.now) }
-{
-    if word == "PUT" {
-        put(alloc, more)
-    } else if word == "PUTIF" {
-        put_if(alloc, more)
-    } else if word == "DEL" {
-        delete_of(alloc, Expect::Any, more)
-    } else if word == "DELIF" {
-        delete_if(alloc, more)
-    } else if word == "BULK" {
-        bulk_of(alloc, more.as_bytes())
-    } else if word == "GET" {
-        get(alloc, more)
-    } else if word == "DROP" {
-        drop_index(alloc, more)
-    } else if word == "AUTO" {
-        auto(alloc, more)
-    } else if word == "PUMP" {
-        pump(alloc, more)
-    } else if word == "FIND" {
-        find(alloc, more)
-    } else if word == "STALE" {
-        stale(alloc, more)
-    } else {
-        Err(ReadRefusal::UnknownLine)
-    }
-}
-
 #[tactic(auto, using(raven_request::proofs::Readings::readings))]
-fn request_of(alloc: Global, text: &str) -> Result<Request, ReadRefusal>
-    ensures { Reads request_view result (spec_request_of text.now) }
+fn switch(alloc: Global, more: &str) -> Result<Request, ReadRefusal>
+    ensures { Reads request_view result (spec_switch_of more.now) }
 {
-    if text == "STATS" {
-        return Ok(Request::Stats);
-    }
-    if text == "INDEXES" {
-        return Ok(Request::Indexes);
-    }
-    match parts(text) {
-        Ok((word, more)) => by_word(alloc, word, more),
+    match name_of(alloc, more) {
+        Ok(name) => Ok(Request::Switch { name }),
         Err(refusal) => Err(refusal),
     }
 }
 
-// What a line asks that holds no texts of a definition or of a query.
-fn plain_line(alloc: Global, bytes: &[u8]) -> Result<Option<Line>, ReadRefusal>
-    ensures { Reads (λ found. option_map line_view found) result (line_of bytes.now) }
+// The request of this first word and what follows it.
+fn request_of(alloc: Global, word: &str, more: &str) -> Result<Request, ReadRefusal>
+    ensures { Reads request_view result (by_command word.now more.now) }
+{
+    match word {
+        "PUT" => put(alloc, more),
+        "PUTIF" => put_if(alloc, more),
+        "DEL" => delete_of(alloc, Expect::Any, more),
+        "DELIF" => delete_if(alloc, more),
+        "BULK" => bulk_of(alloc, more.as_bytes()),
+        "GET" => get(alloc, more),
+        "DROP" => drop_index(alloc, more),
+        "AUTO" => auto(alloc, more),
+        "PUMP" => pump(alloc, more),
+        "FIND" => find(alloc, more),
+        "SWITCH" => switch(alloc, more),
+        "STALE" => stale(alloc, more),
+        _ => Err(ReadRefusal::UnknownLine),
+    }
+}
+
+// The request that one word is.
+fn lone_request(text: &str) -> Result<Request, ReadRefusal>
+    ensures { argument_and_rest text.now ≡ None → Reads request_view result (spec_request_of text.now) }
+{
+    match text {
+        "STATS" => Ok(Request::Stats),
+        "INDEXES" => Ok(Request::Indexes),
+        "TIDY" => Ok(Request::Tidy),
+        _ => Err(ReadRefusal::UnknownLine),
+    }
+}
+
+// A line with this request.
+fn asking(request: Result<Request, ReadRefusal>) -> Result<Line, ReadRefusal>
+    ensures { (asked : Asked) → Asks asked request → AsksLine asked result }
+{
+    match request {
+        Ok(request) => Ok(Line::Do(request)),
+        Err(refusal) => Err(refusal),
+    }
+}
+
+// What a line of this first word asks.
+#[tactic(auto, using(crate::proofs::Asking::asking))]
+fn by_word(alloc: Global, word: &str, rest: &str) -> Result<Line, ReadRefusal>
+    ensures { AsksLine (word_asked word.now rest.now) result }
+{
+    match word {
+        "INDEX" => asking(define_of(alloc, rest.as_bytes())),
+        "QUERY" => asking(query_of(alloc, rest)),
+        "ASK" => asking(query_of_json(alloc, rest.as_bytes())),
+        "READ" => read(alloc, rest),
+        "PUBLISH" => publish(rest),
+        _ => asking(request_of(alloc, word, rest)),
+    }
+}
+
+// What a text asks that has a byte.
+fn text_line(alloc: Global, text: &str) -> Result<Line, ReadRefusal>
+    ensures { (length text.now == 0) ≡ false → IsUtf8 text.now → AsksLine (asked_of text.now) result }
+{
+    match word_and_rest(text) {
+        Some((word, rest)) => by_word(alloc, word, rest),
+        None => asking(lone_request(text)),
+    }
+}
+
+/// What a line of a script asks: nothing, exactly if it has no bytes. If it defines an index or asks a query, it asks what its texts say, or is
+/// refused as they are.
+pub fn line(alloc: Global, bytes: &[u8]) -> Result<Option<Line>, ReadRefusal>
+    ensures { Answers (asked_of bytes.now) result }
 {
     if bytes.is_empty() {
         return Ok(None);
@@ -232,62 +254,8 @@ fn plain_line(alloc: Global, bytes: &[u8]) -> Result<Option<Line>, ReadRefusal>
     let Ok(text) = str::from_utf8(bytes) else {
         return Err(ReadRefusal::UnknownLine);
     };
-    match request_of(alloc, text) {
-        Ok(request) => Ok(Some(Line::Do(request))),
+    match text_line(alloc, text) {
+        Ok(line) => Ok(Some(line)),
         Err(refusal) => Err(refusal),
-    }
-}
-
-// The first word of a line and what follows it, if the line is text and has both.
-#[tactic(auto, using(crate::proofs::Asking::asking))]
-fn word_of(bytes: &[u8]) -> Option<(&str, &str)>
-    ensures { MatchOption result (asked_of bytes.now ≡ Plain (line_of bytes.now)) (λ parts. asked_of bytes.now ≡ spec_asked_with bytes.now parts.0.now parts.1.now) }
-{
-    match str::from_utf8(bytes) {
-        Ok(text) => word_and_rest(text),
-        Err(_) => None,
-    }
-}
-
-// A line with this request, if there is one.
-fn asking(request: Result<Request, ReadRefusal>) -> Result<Option<Line>, ReadRefusal>
-    ensures { (asked : Asked) → Asks asked request → Answers asked result }
-{
-    match request {
-        Ok(request) => Ok(Some(Line::Do(request))),
-        Err(refusal) => Err(refusal),
-    }
-}
-
-// What a line of this first word asks.
-#[tactic(auto, using(crate::proofs::Answering::answering))]
-fn asked_with(
-    alloc: Global,
-    bytes: &[u8],
-    word: &str,
-    rest: &str,
-) -> Result<Option<Line>, ReadRefusal>
-    ensures { Answers (spec_asked_with bytes.now word.now rest.now) result }
-{
-    if word == "INDEX" {
-        asking(define_of(alloc, rest.as_bytes()))
-    } else if word == "QUERY" {
-        asking(query_of(alloc, rest))
-    } else if word == "ASK" {
-        asking(query_of_json(alloc, rest.as_bytes()))
-    } else {
-        plain_line(alloc, bytes)
-    }
-}
-
-/// What a line of a script asks: nothing, exactly if it has no bytes. If it defines an index or asks a query, it asks what its texts say, or is
-/// refused as they are.
-#[tactic(auto, using(crate::proofs::Answering::answering))]
-pub fn line(alloc: Global, bytes: &[u8]) -> Result<Option<Line>, ReadRefusal>
-    ensures { Answers (asked_of bytes.now) result }
-{
-    match word_of(bytes) {
-        Some((word, rest)) => asked_with(alloc, bytes, word, rest),
-        None => plain_line(alloc, bytes),
     }
 }

@@ -4,6 +4,7 @@
 mod forms;
 mod request;
 mod words;
+mod workers;
 
 pub use forms::line;
 pub use request::Line;

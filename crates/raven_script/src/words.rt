@@ -1,12 +1,18 @@
 //! The words of a line.
 ghost use Rattle.std.specs.Prelude.{◌≡◌, None, Some, MatchOption};
-ghost use Rattle.spec_server.specs.Script.{before_space, after_space, has_byte, is_collection as spec_is_collection, is_field as spec_is_field, number_of as spec_number_of, parts_read, argument_and_rest as spec_word_and_rest};
+ghost use Rattle.spec_server.specs.Script.{before_space, after_space, is_collection as spec_is_collection, is_field as spec_is_field, max_read, number_of as spec_number_of, parts_read, worker_read, argument_and_rest as spec_word_and_rest};
 ghost use Rattle.raven_request.specs.RequestView.{Reads};
 
 use raven_request::ReadRefusal;
 
 /// The most digits of a number.
 const MAX_DIGITS: usize = 16;
+
+/// The most rows of a batch.
+const MAX_BATCH: u64 = 65_536;
+
+/// The greatest number of a worker.
+const LAST_WORKER: u64 = 15;
 
 // The first word, and what follows the space after it. There is none if there is no space.
 #[tactic(auto, using(crate::proofs::WordLemmas::splits))]
@@ -55,6 +61,26 @@ pub fn number_of(text: &[u8]) -> Option<u64>
         number = number * 10 + u64::from(*byte - b'0');
     }
     Some(number)
+}
+
+/// How many rows a batch may take.
+pub fn max_of(text: &str) -> Result<u32, ReadRefusal>
+    ensures { Reads (λ max. max) result (max_read text.now) }
+{
+    match number_of(text.as_bytes()) {
+        Some(max) if max >= 1 && max <= MAX_BATCH => Ok(max as u32),
+        _ => Err(ReadRefusal::UnknownLine),
+    }
+}
+
+/// The number of a worker.
+pub fn worker_of(text: &str) -> Result<u8, ReadRefusal>
+    ensures { Reads (λ worker. worker) result (worker_read text.now) }
+{
+    match number_of(text.as_bytes()) {
+        Some(worker) if worker <= LAST_WORKER => Ok(worker as u8),
+        _ => Err(ReadRefusal::UnknownLine),
+    }
 }
 
 /// A collection that an automatic index may be of.

@@ -10,7 +10,7 @@ use Rattle.http_read.specs.declared.end.HttpEnd.TheVariants as end
 
 -- THE STATUS
 
--- the status of the response with this reply; Found and Pumped are replies to lines alone
+-- the status of the response with this reply. Found, Pumped, Switched, Tidied, Held, Published, NothingHeld, Gone and Passed are replies to lines alone.
 abbrev pub status_of : Reply → ℕ
 status_of (reply.Put vector id) = 201
 status_of (reply.Deleted deleted id) = 204
@@ -21,6 +21,10 @@ status_of (reply.Removed name) = 204
 status_of (reply.Found ids etag is_stale) = 200
 status_of (reply.Answer answer) = 200
 status_of (reply.Pumped pumped) = 200
+status_of (reply.Switched etag name) = 200
+status_of (reply.Tidied retired switched) = 200
+status_of (reply.Held from to) = 200
+status_of (reply.Published from index to) = 200
 status_of (reply.Stale etag is_stale newest) = 200
 status_of (reply.Indexes results) = 200
 status_of (reply.Stats documents indexes tombstones last) = 200
@@ -40,6 +44,12 @@ status_of (reply.Lang refusal) = 400
 status_of reply.ReservedName = 400
 status_of (reply.NameTooLong len) = 400
 status_of reply.TooManyIndexes = 507
+status_of reply.NoReplacement = 404
+status_of reply.NotesFull = 507
+status_of (reply.NotFresh index_etag newest) = 409
+status_of reply.NothingHeld = 400
+status_of (reply.Gone number) = 400
+status_of (reply.Passed now) = 400
 status_of (reply.ReservedId at) = 400
 status_of (reply.TooLarge at len) = 413
 status_of (reply.CollectionChanged at from) = 409
