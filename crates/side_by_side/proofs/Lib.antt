@@ -1,0 +1,5 @@
+pub mod Changing
+pub mod Ids
+pub mod Names
+pub mod Rising
+pub mod InOrder
