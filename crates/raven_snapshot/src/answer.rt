@@ -6,14 +6,15 @@ ghost use Rattle.spec_server.specs.Replies.{Document as DocumentOf, Index as Ind
 ghost use Rattle.raven_reply.specs.ReplyView.{reply_view};
 
 use crate::documents::shown_metadata;
-use crate::slot::{Slot, is_stale, serving};
 use crate::snapshot::Snapshot;
+use crate::stale::is_stale;
 use doc_store::Store;
 use doc_txn::{BaseId, spelling};
 use index_lang::definition_value;
 use raven_base::NoMemory;
 use raven_reply::{Listing, Listings, Reply};
 use raven_value::{Body, Document, Id, Name, Row, Text, Value};
+use side_by_side::Slot;
 use std::alloc::Global;
 
 // The reply that shows a document. It shares the document that is stored.
@@ -92,7 +93,7 @@ impl<'w> Snapshot<'w> {
     pub fn stale(&self, alloc: Global, name: &Name, cutoff: Option<u64>) -> Result<Reply, NoMemory>
         ensures { IfOk result (λ reply. reply_view reply ≡ answer_stale self.now name.now cutoff (spec_serving self.now.slots name.now)) }
     {
-        let Some(slot) = serving(self.slots, name.as_str()) else {
+        let Some(slot) = self.slots.serving(name) else {
             return no_index(alloc, name);
         };
         let scope = slot.version.scope(alloc)?;
@@ -109,7 +110,7 @@ impl<'w> Snapshot<'w> {
     pub fn indexes(&self, alloc: Global) -> Result<Reply, NoMemory>
         ensures { IfOk result (λ reply. reply_view reply ≡ answer_indexes self.now) }
     {
-        let results = Listings::of(listings(alloc, self.store, self.slots)?);
+        let results = Listings::of(listings(alloc, self.store, self.slots.list())?);
         Ok(Reply::Indexes { results })
     }
 
@@ -120,7 +121,7 @@ impl<'w> Snapshot<'w> {
         let counts = self.store.counts_beside("@indexes");
         Reply::Stats {
             count_of_documents: u64::from(counts.documents),
-            count_of_indexes: self.slots.len() as u64,
+            count_of_indexes: self.slots.list().len() as u64,
             count_of_tombstones: u64::from(counts.tombstones),
             last_doc_etag: self.store.last(),
         }

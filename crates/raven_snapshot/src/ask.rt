@@ -18,8 +18,8 @@ ghost use Rattle.raven_snapshot.specs.Asked.{ReadsWhatItCounts};
 use crate::documents::{ShownBy, StoreRows};
 use crate::entries::IndexEntries;
 use crate::find::has_reduce;
-use crate::slot::{Slot, is_stale, serving};
 use crate::snapshot::Snapshot;
+use crate::stale::is_stale;
 use doc_store::Store;
 use doc_txn::BaseId;
 use index_version::IndexVersion;
@@ -29,6 +29,7 @@ use raven_value::Text;
 use rql_eval::{Found, find, find_all, find_in_rows};
 use rql_plan::{Plan, PlanRefusal, QueryAsk, bind, check, plan_for_collection};
 use rql_tree::{Origin, Query};
+use side_by_side::{Slot, serving_in};
 use std::alloc::Global;
 use std::sync::ledger::Ledger;
 
@@ -153,7 +154,7 @@ impl<'w> Snapshot<'w> {
         ensures reply { IfOk result (λ reply. reply_view reply ≡ unless_refused (answer_from_index self.now ask.now name.now (spec_serving self.now.slots name.now)) (spec_check ask.now)) }
         ensures reads { IfOk result (λ reply. ReadsWhatItCounts (reply_view reply) steps.old steps.new) }
     {
-        match serving(self.slots, name.as_str()) {
+        match serving_in(self.slots.list(), name.as_str()) {
             Some(slot) => self.ask_slot(alloc, ask, slot, steps),
             None => {
                 let name = name.clone()?;

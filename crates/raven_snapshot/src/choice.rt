@@ -9,13 +9,14 @@ ghost use Rattle.raven_snapshot.specs.AutoAnswer.{AnswersQuery};
 ghost use Rattle.raven_snapshot.specs.ChoiceView.{choice_view};
 
 use crate::answer::index_reply;
-use crate::slot::{Slot, is_stale};
 use crate::snapshot::Snapshot;
+use crate::stale::is_stale;
 use doc_store::Store;
 use index_definition::DefBody;
 use raven_base::NoMemory;
 use raven_reply::Reply;
 use raven_value::{Path, Paths, Text};
+use side_by_side::Slot;
 use std::alloc::Global;
 
 /// The answer to a query of one field.
@@ -178,7 +179,7 @@ impl<'w> Snapshot<'w> {
     ) -> Result<Answered, NoMemory>
         ensures { IfOk result (AnswersQuery self.now collection.now field.now) }
     {
-        match pick(alloc, self.store, self.slots, collection, field)? {
+        match pick(alloc, self.store, self.slots.list(), collection, field)? {
             Choice::Use(slot) => Ok(Answered::Reply(index_reply(&slot.name)?)),
             Choice::Make => Ok(Answered::MustMake),
             Choice::Merge => Ok(Answered::Reply(Reply::UnknownLine)),

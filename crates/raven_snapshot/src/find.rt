@@ -10,8 +10,8 @@ ghost use Rattle.raven_snapshot.specs.Asked.{ReadsWhatItCounts};
 
 use crate::answer::no_index;
 use crate::entries::IndexEntries;
-use crate::slot::{Slot, is_stale, serving};
 use crate::snapshot::Snapshot;
+use crate::stale::is_stale;
 use doc_store::Store;
 use index_definition::{DefBody, Definition};
 use index_version::IndexVersion;
@@ -20,6 +20,7 @@ use raven_reply::Reply;
 use raven_value::{Ids, Name, Scalar, Test, Text};
 use rql_eval::ids_that_meet;
 use rql_plan::{Condition, ConditionKind};
+use side_by_side::Slot;
 use std::alloc::Global;
 use std::sync::ledger::Ledger;
 
@@ -91,7 +92,7 @@ impl<'w> Snapshot<'w> {
         ensures reply { IfOk result (λ reply. reply_view reply ≡ answer_find self.now index.now field.now words.now (spec_serving self.now.slots index.now)) }
         ensures reads { IfOk result (λ reply. ReadsWhatItCounts (reply_view reply) steps.old steps.new) }
     {
-        match serving(self.slots, index.as_str()) {
+        match self.slots.serving(index) {
             Some(slot) => found(alloc, self.store, slot, field, words, steps),
             None => no_index(alloc, index),
         }

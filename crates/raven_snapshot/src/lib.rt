@@ -7,10 +7,9 @@ mod choice;
 mod documents;
 mod entries;
 mod find;
-mod slot;
 mod snapshot;
+mod stale;
 
 pub use answer::{index_reply, no_index};
 pub use choice::Answered;
-pub use slot::{Slot, copies, fresh_slot, is_named, others, serving};
 pub use snapshot::Snapshot;

@@ -1,113 +1,105 @@
--- Walks over the slots of which batches are made.
-use Rattle.std.proofs.Common.{◌≡◌, ◌<◌, ◌≤◌, ◌+◌, ◌*◌, ℕ, List, [], ◌∷◌, ◌++◌, length, drop, map, Bool, true, false, cond, filter, get_or, Option, Some, None, refl, sym, ap, ◌∙◌, subst, arith, append_assoc, length-append}
-use Rattle.std.specs.Prelude.{option_map}
-use Rattle.std.specs.Option.{option_or}
-use Rattle.std.proofs.lemmas.List.{drop_all, drop_more}
-use Rattle.std.proofs.lemmas.List.Sums.{sum_by-cons}
+-- Worlds after batches.
+use Rattle.std.proofs.Common.{◌≡◌, ◌≤◌, ℕ, List, [], ◌∷◌, Bool, true, false, cond, filter, map, take, Option, Some, None, Result, IfOk, refl, sym, ap, ◌∙◌, subst}
+use Rattle.std.specs.Prelude.{find}
 use Rattle.raven_base.specs.Counts.{Counts}
-use Rattle.spec_store.specs.Stale.{batch_rows, stale}
-use Rattle.spec_store.specs.Store.{Store}
-use Rattle.spec_index.specs.World.{Slot, Version, World, is_named, reads, serving}
-use Rattle.spec_server.specs.Machine.{after_batch_if_named, pump_at, pumping}
-use Rattle.spec_server.specs.Replies.{Pumping}
-use Rattle.raven_world.specs.Batches.{pumped_one, read_by, read_by_all, touched_by, touched_by_all}
+use Rattle.spec_store.specs.Store.{Store, last}
+use Rattle.spec_index.specs.World.{Slot, World, is_named, serving}
+use Rattle.spec_server.specs.Machine.{Course, after_batch, after_batch_if_named, one_change, only_reply, pump, pump_at, pumping}
+use Rattle.raven_base.specs.declared.memory.NoMemory.{NoMemory}
+use Rattle.spec_server.specs.Replies.{NoIndex, Pumped, Pumping, Reply}
+use Rattle.side_by_side.specs.Standing.{Standing, world_of}
+use Rattle.slot_batches.specs.Batches.{CountFew, after_batch_of}
+use Rattle.raven_world.specs.Roomy.{NumbersUpTo}
+use Rattle.raven_world.specs.WorldView.{change_view}
+use Rattle.raven_world.specs.declared.world.Change.{Change}
+use Rattle.raven_world.proofs.Numbers.{numbers-map}
 
--- THE ELEMENTS THAT ARE LEFT
+-- NUMBERS
 
-left_is : {A : Type 0} (xs : List A) (i : ℕ) (x : A) → i < length xs → x ≡ get_or xs i x → drop i xs ≡ x ∷ drop (i + 1) xs
-left_is xs i x within at = drop_more xs i x within ∙ ap (λ y. y ∷ drop (i + 1) xs) (sym at)
+batch-number : (index : Option (List ℕ)) (S : Store) (max : ℕ) (s : Slot) → (after_batch_of index S max s).number ≡ s.number
+batch-number None S max s = refl
+batch-number (Some name) S max s = elim (is_named name s) as (λ b. (cond b (after_batch S max s) s).number ≡ s.number) [ true ↦ refl | false ↦ refl ]
 
--- one more element of a list is taken to its place in another
-pub walked_more : {A B : Type 0} (f : A → B) (xs : List A) (i : ℕ) (x : A) (done now : List B) (y : B) → i < length xs → x ≡ get_or xs i x → y ≡ f x → now ≡ done ++ y ∷ []
-    → done ++ map f (drop i xs) ≡ map f xs → now ++ map f (drop (i + 1) xs) ≡ map f xs
-walked_more f xs i x done now y within at made pushed so_far =
-    ap (λ ys. ys ++ map f (drop (i + 1) xs)) (pushed ∙ ap (λ z. done ++ z ∷ []) made)
-    ∙ append_assoc done (f x ∷ []) (map f (drop (i + 1) xs))
-    ∙ ap (λ ys. done ++ map f ys) (sym (left_is xs i x within at))
-    ∙ so_far
+-- a batch gives no index another number
+batched-numbers : (latest : ℕ) (index : Option (List ℕ)) (S : Store) (max : ℕ) (slots : List Slot) → NumbersUpTo latest slots → NumbersUpTo latest (map (after_batch_of index S max) slots)
+batched-numbers latest index S max slots h = numbers-map latest (after_batch_of index S max) slots (batch-number index S max) h
 
--- WHAT THE FIRST BATCH OF A NAME DID
+pub batched-up-to : (V W : World) (index : Option (List ℕ)) (max : ℕ) (x : Standing) → V ≡ W → x ≡ record { slots = map (after_batch_of index V.store max) V.slots; notes = V.notes } → NumbersUpTo (last V.store) V.slots
+    → NumbersUpTo (last W.store) x.slots
+batched-up-to V W index max x same made up =
+    subst (λ (s : Standing). NumbersUpTo (last W.store) s.slots) (sym made)
+    (batched-numbers (last W.store) index V.store max V.slots (subst (λ (U : World). NumbersUpTo (last U.store) V.slots) same up))
 
-or_more : (S : Store) (max : ℕ) (first : Option Pumping) (b : Bool) (s : Slot) (later : Option Slot)
-    → option_or (option_or first (cond b (Some (pumping S max s)) None)) (option_map (pumping S max) later) ≡ option_or first (option_map (pumping S max) (cond b (Some s) later))
-or_more S max (Some p) b s later = refl
-or_more S max None true s later = refl
-or_more S max None false s later = refl
+-- ANSWERS
 
-or_none : (first : Option Pumping) → option_or first None ≡ first
-or_none (Some p) = refl
-or_none None = refl
+pumped-all : (W : World) (max : ℕ) (slots : Standing) (pumped : List Pumping) → slots ≡ record { slots = map (after_batch W.store max) W.slots; notes = W.notes } → pumped ≡ map (pumping W.store max) W.slots
+    → one_change (Pumped pumped) [] (world_of W.setting W.store slots) ≡ pump W max
+pumped-all W max slots pumped made told = λ i. one_change (Pumped (told i)) [] (world_of W.setting W.store (made i))
 
-pub first_more : (S : Store) (max : ℕ) (name : List ℕ) (slots : List Slot) (i : ℕ) (s : Slot) (first did now : Option Pumping) → i < length slots → s ≡ get_or slots i s
-    → did ≡ cond (is_named name s) (Some (pumping S max s)) None → now ≡ option_or first did
-    → option_or first (option_map (pumping S max) (serving (drop i slots) name)) ≡ option_map (pumping S max) (serving slots name)
-    → option_or now (option_map (pumping S max) (serving (drop (i + 1) slots) name)) ≡ option_map (pumping S max) (serving slots name)
-first_more S max name slots i s first did now within at did_is now_is so_far =
-    ap (λ o. option_or o (option_map (pumping S max) (serving (drop (i + 1) slots) name))) (now_is ∙ ap (option_or first) did_is)
-    ∙ or_more S max first (is_named name s) s (serving (drop (i + 1) slots) name)
-    ∙ ap (λ xs. option_or first (option_map (pumping S max) (serving xs name))) (sym (left_is slots i s within at))
-    ∙ so_far
+pub answers-all : (V W : World) (max : ℕ) (slots : Standing) (pumped : List Pumping) (r : Result Change NoMemory) → V ≡ W → slots ≡ record { slots = map (after_batch V.store max) V.slots; notes = V.notes }
+    → pumped ≡ map (pumping V.store max) V.slots → IfOk r (λ change. change_view change ≡ one_change (Pumped pumped) [] (world_of W.setting W.store slots)) → IfOk r (λ change. change_view change ≡ pump W max)
+answers-all V W max slots pumped r same made told h =
+    let slots_after : slots ≡ record { slots = map (after_batch W.store max) W.slots; notes = W.notes } =
+    made ∙ ap (λ (U : World). let x : Standing = record { slots = map (after_batch U.store max) U.slots; notes = U.notes } in x) same in
+    let told_of : pumped ≡ map (pumping W.store max) W.slots = told ∙ ap (λ (U : World). map (pumping U.store max) U.slots) same in
+    subst (λ x. IfOk r (λ change. change_view change ≡ x)) (pumped-all W max slots pumped slots_after told_of) h
 
-pub first_all : (S : Store) (max : ℕ) (name : List ℕ) (slots : List Slot) (i : ℕ) (first : Option Pumping) → length slots ≤ i
-    → option_or first (option_map (pumping S max) (serving (drop i slots) name)) ≡ option_map (pumping S max) (serving slots name) → first ≡ option_map (pumping S max) (serving slots name)
-first_all S max name slots i first ended so_far =
-    sym (or_none first) ∙ ap (λ xs. option_or first (option_map (pumping S max) (serving xs name))) (sym (drop_all i slots ended)) ∙ so_far
-
-pub pumped_at : (W : World) (max : ℕ) (name : List ℕ) (there : Option Slot)
-    → pumped_one W name (map (after_batch_if_named W.store max name) W.slots) (option_map (pumping W.store max) there) ≡ pump_at W max name there
-pumped_at W max name None = refl
-pumped_at W max name (Some s) = refl
-
--- HOW MANY DOCUMENTS ARE LEFT TO TOUCH
-
-pub touched_left : (S : Store) (max : ℕ) (slots : List Slot) (i : ℕ) (s : Slot) → i < length slots → s ≡ get_or slots i s
-    → length (touched_by_all S max (drop i slots)) ≡ length (touched_by S max s) + length (touched_by_all S max (drop (i + 1) slots))
-touched_left S max slots i s within at =
-    ap (λ xs. length (touched_by_all S max xs)) (left_is slots i s within at) ∙ length-append (touched_by S max s) (touched_by_all S max (drop (i + 1) slots))
-
-pub named_left : (S : Store) (max : ℕ) (name : List ℕ) (slots : List Slot) (i : ℕ) (s : Slot) → i < length slots → s ≡ get_or slots i s
-    → length (touched_by_all S max (filter (is_named name) (drop i slots))) ≡ cond (is_named name s) (length (touched_by S max s)) 0 + length (touched_by_all S max (filter (is_named name) (drop (i + 1) slots)))
-named_left S max name slots i s within at =
-    ap (λ xs. length (touched_by_all S max (filter (is_named name) xs))) (left_is slots i s within at)
-    ∙ by_name (filter (is_named name) (drop (i + 1) slots)) (is_named name s)
+-- the first of the indexes that serve a name
+first-found : (f : Slot → Pumping) (p : Slot → Bool) (slots : List Slot) (s : Slot) → find p slots ≡ Some s → take 1 (map f (filter p slots)) ≡ f s ∷ []
+first-found f p [] s h = absurd cc
+first-found f p (x ∷ slots) s h = by (p x) h (first-found f p slots s)
   where
-    by_name : (more : List Slot) (b : Bool) → length (touched_by_all S max (cond b (s ∷ more) more)) ≡ cond b (length (touched_by S max s)) 0 + length (touched_by_all S max more)
-    by_name more true = length-append (touched_by S max s) (touched_by_all S max more)
-    by_name more false = omega arith
+    by : (b : Bool) → cond b (Some x) (find p slots) ≡ Some s → (find p slots ≡ Some s → take 1 (map f (filter p slots)) ≡ f s ∷ []) → take 1 (map f (cond b (x ∷ filter p slots) (filter p slots))) ≡ f s ∷ []
+    by true g more = let same : x ≡ s = cc in ap (λ z. f z ∷ []) same
+    by false g more = more g
 
--- the same bound over the same store and slots
-pub touched_same : (S T : Store) (max : ℕ) (xs ys : List Slot) (before after : ℕ) → S ≡ T → xs ≡ ys → after ≤ before + length (touched_by_all S max xs) → after ≤ before + length (touched_by_all T max ys)
-touched_same S T max xs ys before after same_store same_slots most =
-    let same : length (touched_by_all S max xs) ≡ length (touched_by_all T max ys) = λ i. length (touched_by_all (same_store i) max (same_slots i)) in
-    subst (λ n. after ≤ before + n) same most
-
--- HOW MANY ROWS ARE LEFT TO READ
-
--- one that is not stale reads nothing
-pub read_if_stale : (S : Store) (max : ℕ) (v : Version) (before after : Counts) → after.reads ≤ before.reads + (length (batch_rows (reads v) v.etag S max) + 1) * length (reads v)
-    → (stale S (reads v) v.etag None ≡ false → after ≡ before)
-    → after.reads ≤ before.reads + cond (stale S (reads v) v.etag None) ((length (batch_rows (reads v) v.etag S max) + 1) * length (reads v)) 0
-read_if_stale S max v before after most idle =
-    elim (stale S (reads v) v.etag None) as (λ b. stale S (reads v) v.etag None ≡ b → after.reads ≤ before.reads + cond b ((length (batch_rows (reads v) v.etag S max) + 1) * length (reads v)) 0) [
-      | true ↦ λ e. most
-      | false ↦ λ e. let same = ap (λ (n : Counts). n.reads) (idle e) in omega (arith, same)
-    ] refl
-
-pub read_left : (S : Store) (max : ℕ) (slots : List Slot) (i : ℕ) (s : Slot) → i < length slots → s ≡ get_or slots i s
-    → read_by_all S max (drop i slots) ≡ read_by S max s + read_by_all S max (drop (i + 1) slots)
-read_left S max slots i s within at = ap (read_by_all S max) (left_is slots i s within at) ∙ sum_by-cons (read_by S max) s (drop (i + 1) slots)
-
-pub named_read_left : (S : Store) (max : ℕ) (name : List ℕ) (slots : List Slot) (i : ℕ) (s : Slot) → i < length slots → s ≡ get_or slots i s
-    → read_by_all S max (filter (is_named name) (drop i slots)) ≡ cond (is_named name s) (read_by S max s) 0 + read_by_all S max (filter (is_named name) (drop (i + 1) slots))
-named_read_left S max name slots i s within at =
-    ap (λ xs. read_by_all S max (filter (is_named name) xs)) (left_is slots i s within at)
-    ∙ by_name (filter (is_named name) (drop (i + 1) slots)) (is_named name s)
+none-found : (f : Slot → Pumping) (p : Slot → Bool) (slots : List Slot) → find p slots ≡ None → map f (filter p slots) ≡ []
+none-found f p [] h = refl
+none-found f p (x ∷ slots) h = by (p x) h (none-found f p slots)
   where
-    by_name : (more : List Slot) (b : Bool) → read_by_all S max (cond b (s ∷ more) more) ≡ cond b (read_by S max s) 0 + read_by_all S max more
-    by_name more true = sum_by-cons (read_by S max) s more
-    by_name more false = omega arith
+    by : (b : Bool) → cond b (Some x) (find p slots) ≡ None → (find p slots ≡ None → map f (filter p slots) ≡ []) → map f (cond b (x ∷ filter p slots) (filter p slots)) ≡ []
+    by true g more = absurd cc
+    by false g more = more g
 
-pub read_same : (S T : Store) (max : ℕ) (xs ys : List Slot) (before after : ℕ) → S ≡ T → xs ≡ ys → after ≤ before + read_by_all S max xs → after ≤ before + read_by_all T max ys
-read_same S T max xs ys before after same_store same_slots most =
-    let same : read_by_all S max xs ≡ read_by_all T max ys = λ i. read_by_all (same_store i) max (same_slots i) in
-    subst (λ n. after ≤ before + n) same most
+pumped-one : (W : World) (max : ℕ) (name : List ℕ) (slots : Standing) (pumped : List Pumping) → slots ≡ record { slots = map (after_batch_if_named W.store max name) W.slots; notes = W.notes }
+    → pumped ≡ map (pumping W.store max) (filter (is_named name) W.slots) → (pumped ≡ [] → ⊥) → one_change (Pumped (take 1 pumped)) [] (world_of W.setting W.store slots) ≡ pump_at W max name (serving W.slots name)
+pumped-one W max name slots pumped made told some = by (serving W.slots name) refl
+  where
+    by : (o : Option Slot) → serving W.slots name ≡ o → one_change (Pumped (take 1 pumped)) [] (world_of W.setting W.store slots) ≡ pump_at W max name o
+    by None e = absurd (some (told ∙ none-found (pumping W.store max) (is_named name) W.slots e))
+    by (Some s) e =
+        let one : take 1 pumped ≡ pumping W.store max s ∷ [] = ap (take 1) told ∙ first-found (pumping W.store max) (is_named name) W.slots s e in
+        λ i. one_change (Pumped (one i)) [] (world_of W.setting W.store (made i))
+
+pub answers-one : (V W : World) (max : ℕ) (name : List ℕ) (slots : Standing) (pumped first : List Pumping) (is_empty : Bool) (course : Course) → V ≡ W
+    → slots ≡ record { slots = map (after_batch_if_named V.store max name) V.slots; notes = V.notes } → pumped ≡ map (pumping V.store max) (filter (is_named name) V.slots)
+    → (pumped ≡ [] → is_empty ≡ true) → is_empty ≡ false → first ≡ take 1 pumped → course ≡ one_change (Pumped first) [] (world_of W.setting W.store slots) → course ≡ pump_at W max name (serving W.slots name)
+answers-one V W max name slots pumped first is_empty course same made told empty some one is =
+    let slots_after : slots ≡ record { slots = map (after_batch_if_named W.store max name) W.slots; notes = W.notes } =
+    made ∙ ap (λ (U : World). let x : Standing = record { slots = map (after_batch_if_named U.store max name) U.slots; notes = U.notes } in x) same in
+    let told_of : pumped ≡ map (pumping W.store max) (filter (is_named name) W.slots) = told ∙ ap (λ (U : World). map (pumping U.store max) (filter (is_named name) U.slots)) same in
+    is ∙ ap (λ p. one_change (Pumped p) [] (world_of W.setting W.store slots)) one ∙ pumped-one W max name slots pumped slots_after told_of (λ e. not_both is_empty (empty e) some)
+  where
+    not_both : (b : Bool) → b ≡ true → b ≡ false → ⊥
+    not_both true t f = cc
+    not_both false t f = cc
+
+pumped-none : (W : World) (max : ℕ) (name : List ℕ) (pumped : List Pumping) (told : Reply) → pumped ≡ map (pumping W.store max) (filter (is_named name) W.slots) → pumped ≡ [] → told ≡ NoIndex name
+    → only_reply told ≡ pump_at W max name (serving W.slots name)
+pumped-none W max name pumped told all none tells = by (serving W.slots name) refl
+  where
+    by : (o : Option Slot) → serving W.slots name ≡ o → only_reply told ≡ pump_at W max name o
+    by None e = ap only_reply tells
+    by (Some s) e =
+        let one : take 1 pumped ≡ pumping W.store max s ∷ [] = ap (take 1) all ∙ first-found (pumping W.store max) (is_named name) W.slots s e in
+        absurd (let empty : [] ≡ pumping W.store max s ∷ [] = ap (take 1) (sym none) ∙ one in cc)
+
+pub answers-none : (V W : World) (max : ℕ) (name : List ℕ) (pumped : List Pumping) (told : Reply) → V ≡ W → pumped ≡ map (pumping V.store max) (filter (is_named name) V.slots) → pumped ≡ [] → told ≡ NoIndex name
+    → only_reply told ≡ pump_at W max name (serving W.slots name)
+answers-none V W max name pumped told same all none tells =
+    pumped-none W max name pumped told (all ∙ ap (λ (U : World). map (pumping U.store max) (filter (is_named name) U.slots)) same) none tells
+
+-- what is counted if the batches were made is counted in any case
+pub counted : (S T : Store) (max : ℕ) (xs ys : List Slot) (made other : Bool) (old new : Counts) → S ≡ T → xs ≡ ys → made ≡ true → CountFew S max xs made old new → CountFew T max ys other old new
+counted S T max xs ys made other old new same_store same_slots is h =
+    subst (λ X. CountFew X max ys other old new) same_store (subst (λ l. CountFew S max l other old new) same_slots (record { maps = h.maps; plain = h.plain; merges = λ _. h.merges is; reads = h.reads }))

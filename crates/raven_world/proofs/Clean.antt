@@ -5,10 +5,10 @@ use Rattle.std.specs.Prelude.{◌==◌, nat_lt, option_map, is_none, IsTrue, if�
 use Rattle.std.specs.Fmt.{decimal}
 use Rattle.std.specs.List.{position_from}
 use Rattle.spec_data.specs.Faults.{empty, too_long, control, fault_of, is_control, is_fit}
-use Rattle.spec_data.specs.Limits.{max_id, max_name}
+use Rattle.spec_data.specs.Limits.{max_name}
 use Rattle.spec_data.proofs.Clean.{IsClean, clean-append, clean-decimal, faultless, few-decimal}
 use Rattle.spec_index.specs.Optimiser.{free_name, first_free}
-use Rattle.spec_index.specs.World.{Slot, serving, index_id}
+use Rattle.spec_index.specs.World.{Slot, serving}
 
 -- A NAME WITH A NUMBER
 
@@ -79,7 +79,7 @@ free-last most name slots = let none : most - most ≡ 0 = omega arith in ap (λ
 
 pub ruleset tries = (free-next, free-last)
 
--- THE ID OF A DEFINITION
+-- WHAT IS FIT
 
 clean-none : (i : ℕ) (s : List ℕ) → position_from is_control i s ≡ None → IsClean s
 clean-none i [] h = tt
@@ -94,14 +94,9 @@ fit-parts false true n r h = absurd cc
 fit-parts false false n None h = (refl, refl)
 fit-parts false false n (Some k) h = absurd cc
 
-fit-short : (limit : ℕ) (s : List ℕ) → IsTrue (is_fit limit s) → IsClean s × (length s ≤ limit)
+-- what is fit is short, and has no control characters
+pub fit-short : (limit : ℕ) (s : List ℕ) → IsTrue (is_fit limit s) → IsClean s × (length s ≤ limit)
 fit-short limit s h =
     let parts = fit-parts (length s == 0) (nat_lt limit (length s)) (length s) (position_from is_control 0 s) h in
     let few : nat_lt limit (length s) ≡ false = parts.0 in
     (clean-none 0 s parts.1, ltb-false limit (length s) few)
-
-pub faultless-index_id : (name : List ℕ) → IsTrue (is_fit max_name name) → fault_of max_id (index_id name) ≡ None
-faultless-index_id name fit =
-    let short = fit-short max_name name fit in
-    let long = length-append (codes "@index/") name in
-    faultless max_id (index_id name) (clean-append (codes "@index/") name (refl, (refl, (refl, (refl, (refl, (refl, (refl, tt))))))) short.0) (omega arith) (let few = short.1 in omega arith)

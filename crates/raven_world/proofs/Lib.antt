@@ -1,5 +1,6 @@
+pub mod Numbers
+pub mod Batches
 pub mod Clean
+pub mod Names
 pub mod Steps
 pub mod Openings
-pub mod Batches
-pub mod Merging

@@ -1,78 +1,34 @@
 -- How a world is opened by one row after another.
-use Rattle.std.proofs.Common.{◌≡◌, ◌<◌, ◌≤◌, ◌+◌, ℕ, suc, List, [], ◌∷◌, ◌++◌, length, Bool, true, false, cond, not, ◌&&◌, ◌||◌, Option, Some, None, Result, Ok, Err, drop, refl, sym, ap, ◌∙◌, arith, codes, get_or, IfOk, IsUtf8}
+use Rattle.std.proofs.Common.{◌≡◌, ◌<◌, ◌≤◌, ◌+◌, ℕ, suc, List, [], ◌∷◌, ◌++◌, length, Bool, true, false, cond, not, ◌&&◌, ◌||◌, Option, Some, None, Result, Ok, Err, drop, refl, sym, ap, ◌∙◌, subst, arith, codes, get_or, IfOk, IsUtf8}
+use Rattle.std.proofs.lemmas.Bool.{ltb-true}
 use Rattle.std.proofs.lemmas.Grind.{common_steps}
-use Rattle.std.specs.Prelude.{◌==◌, nat_lt, nat_eq, is_none, option_map, if◌then◌else◌}
-use Rattle.std.specs.List.{position_from, starts_with}
+use Rattle.std.specs.Prelude.{nat_eq, if◌then◌else◌}
+use Rattle.std.specs.List.{starts_with}
 use Rattle.std.specs.Str.{bytes_eq, IsCharBoundary}
 use Rattle.std.proofs.lemmas.Str.{IsCharBoundary-after_ascii}
-use Rattle.std.proofs.lemmas.List.{append_assoc, append-nil, drop_more, length-append, map-append}
+use Rattle.std.proofs.lemmas.List.{append_assoc, append-nil, drop_more, length-append, length-map, map-append}
+use Rattle.std.proofs.lemmas.List.Elements.{All-cons, All-nil}
 use Rattle.std.specs.Char.{to_ascii_lowercase}
-use Rattle.spec_data.specs.Faults.{Fault, empty, too_long, control, fault_of, is_control, is_fit}
-use Rattle.spec_data.specs.Limits.{max_name}
 use Rattle.spec_data.specs.Folding.{folded}
 use Rattle.spec_data.specs.Rows.{Row, is_document}
 use Rattle.spec_store.specs.Commit.{Setting, is_index_id}
+use Rattle.spec_store.specs.Store.{AreRising, Store, last, last_of}
+use Rattle.spec_store.proofs.StoreLemmas.{both_true, last_of-append}
+use Rattle.doc_store.specs.Opening.{first_bad, is_sound_after}
 use Rattle.spec_server.specs.Machine.{Machine, machine_of}
-use Rattle.index_tree.specs.Definitions.{Definition, Static, Auto}
-use Rattle.spec_server.specs.Opening.{ReadRow, and_then, is_defining, is_filed, is_too_many, may_be_named, name_in, opened_with, or_bad, rows_of, slot_of, slots_after, slots_from, slots_with, with_slot}
-use Rattle.spec_store.specs.Store.{Store}
-use Rattle.spec_index.specs.World.{Slot, new_version}
+use Rattle.index_tree.specs.Definitions.{Definition}
+use Rattle.spec_server.specs.Opening.{ReadRow, and_then, is_beside, is_defining, is_filed, is_too_many, may_be_named, name_in, opened_with, or_bad, rows_of, slot_of, slots_after, slots_from, slots_with, with_slot}
+use Rattle.spec_index.specs.World.{NumbersRise, Slot, begins_with_replacement, new_version}
 use Rattle.index_lang.specs.Openings.{AreReadRows, EndsAt, IsReadRow, OpensAs}
-use Rattle.raven_world.specs.Kinds.{begins_as}
+use Rattle.side_by_side.specs.Naming.{RiseTo}
 use Rattle.raven_world.specs.Opened.{HasRead}
-
--- NAMES
-
-long-fault : (n : ℕ) (empty_one : Bool) (rest : Option Fault) → nat_lt 200 n ≡ true → is_none (cond empty_one (Some empty) (cond (nat_lt 200 n) (Some (too_long n)) rest)) ≡ false
-long-fault n true rest h = refl
-long-fault n false rest h = ap (λ b. is_none (cond b (Some (too_long n)) rest)) h
-
-short-fault : (s : List ℕ) → length s ≤ 200 → fault_of 200 s ≡ fault_of max_name s
-short-fault s few =
-    let a : nat_lt 200 (length s) ≡ false = grind (arith, common_steps) in
-    let b : nat_lt max_name (length s) ≡ false = grind (arith, common_steps) in
-    ap (λ long. cond (length s == 0) (Some empty) (cond long (Some (too_long (length s))) (option_map control (position_from is_control 0 s)))) (a ∙ sym b)
-
-both : (a b : Bool) → a ≡ true → b ≡ true → (a && b) ≡ true
-both true true h g = refl
-both true false h g = cc
-both false b h g = absurd cc
-
-never_left : (a b : Bool) → a ≡ false → (a && b) ≡ false
-never_left true b h = absurd cc
-never_left false b h = refl
-
-never_right : (a b : Bool) → b ≡ false → (a && b) ≡ false
-never_right true b h = h
-never_right false b h = refl
-
-by_kind : (d : Definition) (s : List ℕ) → may_be_named d s ≡ (is_fit 200 s && begins_as d s)
-by_kind (Static m r t u) s = refl
-by_kind (Auto collection fields) s = refl
-
-pub long-name : (d : Definition) (s : List ℕ) → 200 < length s → may_be_named d s ≡ false
-long-name d s many = by_kind d s ∙ never_left (is_fit 200 s) _ (long-fault (length s) (length s == 0) _ (grind (arith, common_steps)))
-
-pub other-name : (d : Definition) (s : List ℕ) → begins_as d s ≡ false → may_be_named d s ≡ false
-other-name d s h = by_kind d s ∙ never_right (is_fit 200 s) _ h
-
-pub unfit-name : (d : Definition) (s : List ℕ) (fault : Fault) → length s ≤ 200 → Some fault ≡ fault_of max_name s → may_be_named d s ≡ false
-unfit-name d s fault few h = by_kind d s ∙ never_left (is_fit 200 s) _ (ap is_none (short-fault s few ∙ sym h))
-
-pub fit-name : (d : Definition) (s : List ℕ) → length s ≤ 200 → None ≡ fault_of max_name s → begins_as d s ≡ true → may_be_named d s ≡ true
-fit-name d s few fit starts = by_kind d s ∙ both (is_fit 200 s) _ (ap is_none (short-fault s few ∙ sym fit)) starts
-
-pub ruleset names = (long-name, other-name, unfit-name, fit-name)
+use Rattle.raven_world.specs.Roomy.{NumbersUpTo}
+use Rattle.raven_world.proofs.Names.{both, if_none, if_some, never_left, never_right}
 
 -- THE NAME IN AN ID
 
 slash_is_ascii : (b : ℕ) → nat_eq 47 (to_ascii_lowercase b) ≡ true → b < 128
 slash_is_ascii b h = grind (arith, common_steps)
-
-both_true : (a b : Bool) → (a && b) ≡ true → (a ≡ true) × (b ≡ true)
-both_true true true h = (refl, refl)
-both_true true false h = absurd cc
-both_true false b h = absurd cc
 
 -- what begins with a text that ends in a slash has a character that ends there
 ends_whole : (front id : List ℕ) → starts_with nat_eq (folded id) (front ++ 47 ∷ []) ≡ true → (length front < length id) × (get_or id (length front) 0 < 128)
@@ -84,25 +40,33 @@ ends_whole (x ∷ front) (b ∷ bs) h = let more = ends_whole front bs (both_tru
 pub index-boundary : (id : List ℕ) → is_index_id id ≡ true → IsUtf8 id → IsCharBoundary id 7
 index-boundary id h u = let whole = ends_whole (codes "@index") id h in IsCharBoundary-after_ascii id 6 u whole.0 whole.1
 
+pub replacement-boundary : (name : List ℕ) → begins_with_replacement name ≡ true → IsUtf8 name → IsCharBoundary name 14
+replacement-boundary name h u = let whole = ends_whole (codes "replacementof") name h in IsCharBoundary-after_ascii name 13 u whole.0 whole.1
+
 -- THE INDEX OF A ROW
 
 abbrev named : Definition → List ℕ → Option (List ℕ)
 named d name = if may_be_named d name then Some name else None
 
-pub slot-none : (slots : List Slot) (r : Row) (d : Definition) (name : List ℕ) → name ≡ name_in r → None ≡ named d name → None ≡ with_slot slots r (Some d)
-slot-none slots r d name own h = by (may_be_named d (name_in r)) (h ∙ ap (named d) own)
-  where
-    by : (fits : Bool) → (let x : Option (List ℕ) = None in x) ≡ (if fits then Some (name_in r) else None) → None ≡ (if fits then Some (slots ++ slot_of r d ∷ []) else None)
-    by true g = absurd cc
-    by false g = refl
+pub slot-none : (all : List Row) (slots : List Slot) (r : Row) (d : Definition) (name : List ℕ) → name ≡ name_in r → None ≡ named d name → None ≡ with_slot all slots r (Some d)
+slot-none all slots r d name own h =
+    ap (λ b. if b then Some (slots ++ slot_of r d ∷ []) else None)
+    (sym (never_left (may_be_named d (name_in r)) (is_beside all (name_in r)) (ap (may_be_named d) (sym own) ∙ if_none (may_be_named d name) name h)))
 
-pub slot-some : (slots : List Slot) (r : Row) (d : Definition) (name got : List ℕ) (slot : Slot) → name ≡ name_in r → Some got ≡ named d name
-    → slot ≡ record { number = r.etag; name = got; version = new_version d; row = r.etag } → Some (slots ++ slot ∷ []) ≡ with_slot slots r (Some d)
-slot-some slots r d name got slot own h made = by (may_be_named d (name_in r)) (h ∙ ap (named d) own)
-  where
-    by : (fits : Bool) → Some got ≡ (if fits then Some (name_in r) else None) → Some (slots ++ slot ∷ []) ≡ (if fits then Some (slots ++ slot_of r d ∷ []) else None)
-    by true g = let same : got ≡ name_in r = cc in ap (λ x. Some (slots ++ x ∷ [])) (made ∙ ap (λ n. let s : Slot = record { number = r.etag; name = n; version = new_version d; row = r.etag } in s) same)
-    by false g = absurd cc
+pub slot-alone : (all : List Row) (slots : List Slot) (r : Row) (d : Definition) (name got : List ℕ) → name ≡ name_in r → Some got ≡ named d name → is_beside all got ≡ false → None ≡ with_slot all slots r (Some d)
+slot-alone all slots r d name got own h alone =
+    let same : got ≡ name_in r = (if_some (may_be_named d name) name got h).1 ∙ own in
+    ap (λ b. if b then Some (slots ++ slot_of r d ∷ []) else None)
+    (sym (never_right (may_be_named d (name_in r)) (is_beside all (name_in r)) (ap (is_beside all) (sym same) ∙ alone)))
+
+pub slot-some : (all : List Row) (slots : List Slot) (r : Row) (d : Definition) (name got : List ℕ) (slot : Slot) → name ≡ name_in r → Some got ≡ named d name → is_beside all got ≡ true
+    → slot ≡ record { number = r.etag; name = got; version = new_version d; row = r.etag } → Some (slots ++ slot ∷ []) ≡ with_slot all slots r (Some d)
+slot-some all slots r d name got slot own h beside made =
+    let read = if_some (may_be_named d name) name got h in
+    let same : got ≡ name_in r = read.1 ∙ own in
+    ap (λ x. Some (slots ++ x ∷ [])) (made ∙ ap (λ n. let s : Slot = record { number = r.etag; name = n; version = new_version d; row = r.etag } in s) same)
+    ∙ ap (λ b. if b then Some (slots ++ slot_of r d ∷ []) else None)
+    (sym (both (may_be_named d (name_in r)) (is_beside all (name_in r)) (ap (may_be_named d) (sym own) ∙ read.0) (ap (is_beside all) (sym same) ∙ beside)))
 
 -- ONE ROW
 
@@ -120,20 +84,20 @@ neither true b x h g = absurd cc
 neither false true x h g = absurd cc
 neither false false x h g = refl
 
-pub too-many : (s : Setting) (count : ℕ) (slots : List Slot) (x : ReadRow) → is_too_many s count slots x.row ≡ true → None ≡ slots_after s count slots x
-too-many s count slots x h = either (is_too_many s count slots x.row) (not (is_filed x.row)) (slots_with slots x) h
+pub too-many : (s : Setting) (all : List Row) (count : ℕ) (slots : List Slot) (x : ReadRow) → is_too_many s count slots x.row ≡ true → None ≡ slots_after s all count slots x
+too-many s all count slots x h = either (is_too_many s count slots x.row) (not (is_filed x.row)) (slots_with all slots x) h
 
-pub unfiled : (s : Setting) (count : ℕ) (slots : List Slot) (x : ReadRow) → is_filed x.row ≡ false → None ≡ slots_after s count slots x
-unfiled s count slots x h = or_other (is_too_many s count slots x.row) (not (is_filed x.row)) (slots_with slots x) (ap not h)
+pub unfiled : (s : Setting) (all : List Row) (count : ℕ) (slots : List Slot) (x : ReadRow) → is_filed x.row ≡ false → None ≡ slots_after s all count slots x
+unfiled s all count slots x h = or_other (is_too_many s count slots x.row) (not (is_filed x.row)) (slots_with all slots x) (ap not h)
 
-good : (s : Setting) (count : ℕ) (slots : List Slot) (x : ReadRow) → is_too_many s count slots x.row ≡ false → is_filed x.row ≡ true → slots_with slots x ≡ slots_after s count slots x
-good s count slots x few filed = neither (is_too_many s count slots x.row) (not (is_filed x.row)) (slots_with slots x) few (ap not filed)
+good : (s : Setting) (all : List Row) (count : ℕ) (slots : List Slot) (x : ReadRow) → is_too_many s count slots x.row ≡ false → is_filed x.row ≡ true → slots_with all slots x ≡ slots_after s all count slots x
+good s all count slots x few filed = neither (is_too_many s count slots x.row) (not (is_filed x.row)) (slots_with all slots x) few (ap not filed)
 
-pub plain : (s : Setting) (count : ℕ) (slots : List Slot) (x : ReadRow) → is_too_many s count slots x.row ≡ false → is_filed x.row ≡ true → is_defining x.row ≡ false → Some slots ≡ slots_after s count slots x
-plain s count slots x few filed h = ap (λ b. if b then with_slot slots x.row x.definition else Some slots) (sym h) ∙ good s count slots x few filed
+pub plain : (s : Setting) (all : List Row) (count : ℕ) (slots : List Slot) (x : ReadRow) → is_too_many s count slots x.row ≡ false → is_filed x.row ≡ true → is_defining x.row ≡ false → Some slots ≡ slots_after s all count slots x
+plain s all count slots x few filed h = ap (λ b. if b then with_slot all slots x.row x.definition else Some slots) (sym h) ∙ good s all count slots x few filed
 
-pub defines : (s : Setting) (count : ℕ) (slots : List Slot) (x : ReadRow) → is_too_many s count slots x.row ≡ false → is_filed x.row ≡ true → is_defining x.row ≡ true → with_slot slots x.row x.definition ≡ slots_after s count slots x
-defines s count slots x few filed h = ap (λ b. if b then with_slot slots x.row x.definition else Some slots) (sym h) ∙ good s count slots x few filed
+pub defines : (s : Setting) (all : List Row) (count : ℕ) (slots : List Slot) (x : ReadRow) → is_too_many s count slots x.row ≡ false → is_filed x.row ≡ true → is_defining x.row ≡ true → with_slot all slots x.row x.definition ≡ slots_after s all count slots x
+defines s all count slots x few filed h = ap (λ b. if b then with_slot all slots x.row x.definition else Some slots) (sym h) ∙ good s all count slots x few filed
 
 pub filed-index : (r : Row) → is_filed r ≡ true → is_defining r ≡ true → is_index_id r.id ≡ true
 filed-index r filed defining =
@@ -145,22 +109,22 @@ pub ruleset takes = (too-many, unfiled, plain, defines, filed-index)
 -- ALL ROWS
 
 -- one row more
-one_more : (s : Setting) (count : ℕ) (slots mid : List Slot) (xs : List ReadRow) (x : ReadRow) → slots_from s count slots xs ≡ Ok mid
-    → slots_from s count slots (xs ++ x ∷ []) ≡ and_then (or_bad x.row.etag (slots_after s (count + length xs) mid x)) (λ more. Ok more)
-one_more s count slots mid [] x h =
+one_more : (s : Setting) (all : List Row) (count : ℕ) (slots mid : List Slot) (xs : List ReadRow) (x : ReadRow) → slots_from s all count slots xs ≡ Ok mid
+    → slots_from s all count slots (xs ++ x ∷ []) ≡ and_then (or_bad x.row.etag (slots_after s all (count + length xs) mid x)) (λ more. Ok more)
+one_more s all count slots mid [] x h =
     let own : slots ≡ mid = cc in
     let none : count ≡ count + 0 = omega arith in
-    λ i. and_then (or_bad x.row.etag (slots_after s (none i) (own i) x)) (λ more. Ok more)
-one_more s count slots mid (y ∷ xs) x h = by (or_bad y.row.etag (slots_after s count slots y)) h (λ more g. one_more s (count + 1) more mid xs x g)
+    λ i. and_then (or_bad x.row.etag (slots_after s all (none i) (own i) x)) (λ more. Ok more)
+one_more s all count slots mid (y ∷ xs) x h = by (or_bad y.row.etag (slots_after s all count slots y)) h (λ more g. one_more s all (count + 1) more mid xs x g)
   where
-    by : (one : Result (List Slot) ℕ) → and_then one (λ more. slots_from s (count + 1) more xs) ≡ Ok mid
-        → ((more : List Slot) → slots_from s (count + 1) more xs ≡ Ok mid
-        → slots_from s (count + 1) more (xs ++ x ∷ []) ≡ and_then (or_bad x.row.etag (slots_after s ((count + 1) + length xs) mid x)) (λ more. Ok more))
-        → and_then one (λ more. slots_from s (count + 1) more (xs ++ x ∷ [])) ≡ and_then (or_bad x.row.etag (slots_after s (count + suc (length xs)) mid x)) (λ more. Ok more)
+    by : (one : Result (List Slot) ℕ) → and_then one (λ more. slots_from s all (count + 1) more xs) ≡ Ok mid
+        → ((more : List Slot) → slots_from s all (count + 1) more xs ≡ Ok mid
+        → slots_from s all (count + 1) more (xs ++ x ∷ []) ≡ and_then (or_bad x.row.etag (slots_after s all ((count + 1) + length xs) mid x)) (λ more. Ok more))
+        → and_then one (λ more. slots_from s all (count + 1) more (xs ++ x ∷ [])) ≡ and_then (or_bad x.row.etag (slots_after s all (count + suc (length xs)) mid x)) (λ more. Ok more)
     by (Err etag) g on = absurd cc
     by (Ok more) g on =
         let place : (count + 1) + length xs ≡ count + suc (length xs) = omega arith in
-        on more g ∙ ap (λ n. and_then (or_bad x.row.etag (slots_after s n mid x)) (λ more. Ok more)) place
+        on more g ∙ ap (λ n. and_then (or_bad x.row.etag (slots_after s all n mid x)) (λ more. Ok more)) place
 
 behind : (xs : List ReadRow) (x : ReadRow) (rows : List Row) (count : ℕ) → count < length rows → get_or rows count x.row ≡ x.row → rows_of xs ++ drop count rows ≡ rows → rows_of (xs ++ x ∷ []) ++ drop (count + 1) rows ≡ rows
 behind xs x rows count lt is own =
@@ -173,33 +137,33 @@ right_behind : (xs : List ReadRow) (x : ReadRow) → AreReadRows xs → IsReadRo
 right_behind [] x h g = (g, tt)
 right_behind (y ∷ xs) x h g = (h.0, right_behind xs x h.1 g)
 
-taken_here : (s : Setting) (slots : List Slot) (xs : List ReadRow) (x : ReadRow) (count : ℕ) → length xs ≡ count → slots_from s 0 [] xs ≡ Ok slots
-    → slots_from s 0 [] (xs ++ x ∷ []) ≡ and_then (or_bad x.row.etag (slots_after s count slots x)) (λ more. Ok more)
-taken_here s slots xs x count own h =
+taken_here : (s : Setting) (all : List Row) (slots : List Slot) (xs : List ReadRow) (x : ReadRow) (count : ℕ) → length xs ≡ count → slots_from s all 0 [] xs ≡ Ok slots
+    → slots_from s all 0 [] (xs ++ x ∷ []) ≡ and_then (or_bad x.row.etag (slots_after s all count slots x)) (λ more. Ok more)
+taken_here s all slots xs x count own h =
     let place : 0 + length xs ≡ count = (let front : 0 + length xs ≡ length xs = omega arith in front ∙ own) in
-    one_more s 0 [] slots xs x h ∙ ap (λ n. and_then (or_bad x.row.etag (slots_after s n slots x)) (λ more. Ok more)) place
+    one_more s all 0 [] slots xs x h ∙ ap (λ n. and_then (or_bad x.row.etag (slots_after s all n slots x)) (λ more. Ok more)) place
 
 pub none-read : (s : Setting) (rows : List Row) → HasRead s rows 0 []
 none-read s rows = record { read = []; rows = refl; count = refl; right = tt; slots = refl }
 
-pub one-read : (s : Setting) (rows : List Row) (count : ℕ) (slots new : List Slot) (x : ReadRow) → count < length rows → get_or rows count x.row ≡ x.row → IsReadRow x → Some new ≡ slots_after s count slots x
+pub one-read : (s : Setting) (rows : List Row) (count : ℕ) (slots new : List Slot) (x : ReadRow) → count < length rows → get_or rows count x.row ≡ x.row → IsReadRow x → Some new ≡ slots_after s rows count slots x
     → HasRead s rows count slots → HasRead s rows (count + 1) new
 one-read s rows count slots new x lt is right taken h = record {
   read = h.read ++ x ∷ [];
   rows = behind h.read x rows count lt is h.rows;
   count = length-append h.read (x ∷ []) ∙ ap (λ n. n + 1) h.count;
   right = right_behind h.read x h.right right;
-  slots = taken_here s slots h.read x count h.count h.slots ∙ ap (λ o. and_then (or_bad x.row.etag o) (λ more. Ok more)) (sym taken);
+  slots = taken_here s rows slots h.read x count h.count h.slots ∙ ap (λ o. and_then (or_bad x.row.etag o) (λ more. Ok more)) (sym taken);
 }
 
-pub ends-here : (s : Setting) (rows : List Row) (count : ℕ) (slots : List Slot) (x : ReadRow) → count < length rows → get_or rows count x.row ≡ x.row → IsReadRow x → None ≡ slots_after s count slots x
+pub ends-here : (s : Setting) (rows : List Row) (count : ℕ) (slots : List Slot) (x : ReadRow) → count < length rows → get_or rows count x.row ≡ x.row → IsReadRow x → None ≡ slots_after s rows count slots x
     → HasRead s rows count slots → EndsAt s rows x.row.etag
 ends-here s rows count slots x lt is right taken h = record {
   read = h.read ++ x ∷ [];
   unread = drop (count + 1) rows;
   rows = behind h.read x rows count lt is h.rows;
   right = right_behind h.read x h.right right;
-  bad = ap (opened_with s (rows_of (h.read ++ x ∷ []))) (taken_here s slots h.read x count h.count h.slots ∙ ap (λ o. and_then (or_bad x.row.etag o) (λ more. Ok more)) (sym taken));
+  bad = ap (opened_with s (rows_of (h.read ++ x ∷ []))) (taken_here s rows slots h.read x count h.count h.slots ∙ ap (λ o. and_then (or_bad x.row.etag o) (λ more. Ok more)) (sym taken));
 }
 
 -- THE WORLD
@@ -221,6 +185,91 @@ opens s rows count store slots all is h =
     }
 
 pub ruleset opening = (none-read, one-read, ends-here, opens)
+
+-- THE NUMBERS
+
+-- the rows of a store that opens rise
+rising-from : (earlier rows : List Row) → first_bad earlier rows ≡ None → AreRising (last_of 0 earlier) rows
+rising-from earlier [] h = tt
+rising-from earlier (r ∷ rows) h = by (is_sound_after earlier r) refl h (rising-from (earlier ++ r ∷ []) rows)
+  where
+    by : (b : Bool) → is_sound_after earlier r ≡ b → (if b then first_bad (earlier ++ r ∷ []) rows else Some r.etag) ≡ None
+        → (first_bad (earlier ++ r ∷ []) rows ≡ None → AreRising (last_of 0 (earlier ++ r ∷ [])) rows) → AreRising (last_of 0 earlier) (r ∷ rows)
+    by true e g more = (
+      ltb-true (last_of 0 earlier) r.etag (both_true _ _ (both_true _ _ (both_true _ _ (both_true _ _ e).0).0).0).0,
+      subst (λ n. AreRising n rows) (last_of-append 0 earlier (r ∷ [])) (more g),
+    )
+    by false e g more = absurd cc
+
+pub rows-rise : (rows : List Row) → first_bad [] rows ≡ None → AreRising 0 rows
+rows-rise rows h = rising-from [] rows h
+
+-- the slots of rows that rise, so far
+rise-push : (low latest : ℕ) (slots : List Slot) (new : Slot) → RiseTo low latest slots → latest < new.number → RiseTo low new.number (slots ++ new ∷ [])
+rise-push low latest [] new up lt = let a : low ≤ latest = up in (omega (arith, a, lt), let same : new.number ≤ new.number = omega arith in same)
+rise-push low latest (s ∷ slots) new up lt = (up.0, rise-push s.number latest slots new up.1 lt)
+
+rise-on : (low latest next : ℕ) (slots : List Slot) → RiseTo low latest slots → latest ≤ next → RiseTo low next slots
+rise-on low latest next [] up le = let a : low ≤ latest = up in omega (arith, a, le)
+rise-on low latest next (s ∷ slots) up le = (up.0, rise-on s.number latest next slots up.1 le)
+
+rise-one : (all : List Row) (latest : ℕ) (slots more : List Slot) (r : Row) (d : Option Definition) (defines : Bool) → RiseTo 0 latest slots → latest < r.etag
+    → (if defines then with_slot all slots r d else Some slots) ≡ Some more → RiseTo 0 r.etag more
+rise-one all latest slots more r d false up lt h = let same : slots ≡ more = cc in subst (RiseTo 0 r.etag) same (rise-on 0 latest r.etag slots up (omega (arith, lt)))
+rise-one all latest slots more r None true up lt h = absurd cc
+rise-one all latest slots more r (Some d) true up lt h = by (may_be_named d (name_in r) && is_beside all (name_in r)) h
+  where
+    by : (b : Bool) → (if b then Some (slots ++ slot_of r d ∷ []) else None) ≡ Some more → RiseTo 0 r.etag more
+    by true g = let same : slots ++ slot_of r d ∷ [] ≡ more = cc in subst (RiseTo 0 r.etag) same (rise-push 0 latest slots (slot_of r d) up lt)
+    by false g = absurd cc
+
+rise-after : (s : Setting) (all : List Row) (count latest : ℕ) (slots more : List Slot) (x : ReadRow) → RiseTo 0 latest slots → latest < x.row.etag → slots_after s all count slots x ≡ Some more → RiseTo 0 x.row.etag more
+rise-after s all count latest slots more x up lt h = by (is_too_many s count slots x.row || not (is_filed x.row)) h
+  where
+    by : (b : Bool) → (if b then None else slots_with all slots x) ≡ Some more → RiseTo 0 x.row.etag more
+    by true g = absurd cc
+    by false g = rise-one all latest slots more x.row x.definition (is_defining x.row) up lt g
+
+rise-all : (s : Setting) (all : List Row) (count latest : ℕ) (slots found : List Slot) (xs : List ReadRow) → RiseTo 0 latest slots → AreRising latest (rows_of xs) → slots_from s all count slots xs ≡ Ok found
+    → RiseTo 0 (last_of latest (rows_of xs)) found
+rise-all s all count latest slots found [] up rise h = let same : slots ≡ found = cc in subst (RiseTo 0 latest) same up
+rise-all s all count latest slots found (x ∷ xs) up rise h = by (slots_after s all count slots x) refl h (λ more above g. rise-all s all (count + 1) x.row.etag more found xs above rise.1 g)
+  where
+    by : (o : Option (List Slot)) → slots_after s all count slots x ≡ o → and_then (or_bad x.row.etag o) (λ more. slots_from s all (count + 1) more xs) ≡ Ok found
+        → ((more : List Slot) → RiseTo 0 x.row.etag more → slots_from s all (count + 1) more xs ≡ Ok found → RiseTo 0 (last_of x.row.etag (rows_of xs)) found)
+        → RiseTo 0 (last_of x.row.etag (rows_of xs)) found
+    by None e g on = absurd cc
+    by (Some more) e g on = on more (rise-after s all count latest slots more x up rise.0 e) g
+
+rises : (low latest : ℕ) (slots : List Slot) → RiseTo low latest slots → NumbersRise low slots
+rises low latest [] up = tt
+rises low latest (s ∷ slots) up = (up.0, rises s.number latest slots up.1)
+
+up-to : (low latest : ℕ) (slots : List Slot) → RiseTo low latest slots → (low ≤ latest) × NumbersUpTo latest slots
+up-to low latest [] up = (up, All-nil (λ (s : Slot). s.number ≤ latest))
+up-to low latest (s ∷ slots) up =
+    let more = up-to s.number latest slots up.1 in
+    (let a = up.0 in let b = more.0 in omega (arith, a, b), All-cons (λ (s : Slot). s.number ≤ latest) s slots more.0 more.1)
+
+-- no row is left when so many are read
+pub all-read : (s : Setting) (rows : List Row) (count : ℕ) (slots : List Slot) → length rows ≤ count → HasRead s rows count slots → count ≡ length rows
+all-read s rows count slots many h =
+    let parts = ap length (sym h.rows) ∙ length-append (rows_of h.read) (drop count rows) in
+    let as_many : length (rows_of h.read) ≡ count = length-map h.read (λ (x : ReadRow). x.row) ∙ h.count in
+    omega (arith, parts, as_many, many)
+
+-- all rows are read
+pub all-rise : (s : Setting) (rows : List Row) (count : ℕ) (slots : List Slot) → count ≡ length rows → first_bad [] rows ≡ None → HasRead s rows count slots → RiseTo 0 (last_of 0 rows) slots
+all-rise s rows count slots all sound h =
+    let whole : rows_of h.read ≡ rows = sym (append-nil (rows_of h.read)) ∙ ap (λ ys. rows_of h.read ++ ys) (sym (ap (λ n. drop n rows) all ∙ none_left rows)) ∙ h.rows in
+    subst (λ rs. RiseTo 0 (last_of 0 rs) slots) whole
+    (rise-all s rows 0 0 [] slots h.read (let none : 0 ≤ 0 = omega arith in none) (subst (AreRising 0) (sym whole) (rows-rise rows sound)) h.slots)
+
+pub opened-rise : (s : Setting) (rows : List Row) (count : ℕ) (slots : List Slot) → count ≡ length rows → first_bad [] rows ≡ None → HasRead s rows count slots → NumbersRise 0 slots
+opened-rise s rows count slots all sound h = rises 0 (last_of 0 rows) slots (all-rise s rows count slots all sound h)
+
+pub opened-numbers : (s : Setting) (rows : List Row) (count : ℕ) (slots : List Slot) → count ≡ length rows → first_bad [] rows ≡ None → HasRead s rows count slots → NumbersUpTo (last_of 0 rows) slots
+opened-numbers s rows count slots all sound h = (up-to 0 (last_of 0 rows) slots (all-rise s rows count slots all sound h)).1
 
 -- what holds of a result holds of it in other words
 pub if-ok : {T E : Type 0} (r : Result T E) (P Q : T → Type 0) → ((t : T) → P t → Q t) → IfOk r P → IfOk r Q

@@ -1,17 +1,30 @@
 -- The changes that a world makes.
-use Rattle.std.proofs.Common.{◌≡◌, ◌<◌, ◌+◌, ◌^◌, ℕ, List, [], ◌∷◌, length, Bool, true, false, cond, nat_le, map, Option, Some, None, is_some, Ok, Err, refl, sym, ap, ◌∙◌, arith}
+use Rattle.std.proofs.Common.{◌≡◌, ◌<◌, ◌+◌, ◌++◌, ◌^◌, ℕ, List, [], ◌∷◌, length, Bool, true, false, cond, nat_le, Bor, map, Option, Some, None, is_some, Result, Ok, Err, refl, sym, ap, ◌∙◌, subst, arith}
 use Rattle.std.proofs.lemmas.Grind.{common_steps}
-use Rattle.std.specs.Prelude.{filter, not, nat_lt}
+use Rattle.std.specs.Prelude.{IfSome, is_none, option_copied}
+use Rattle.std.specs.Option.{option_map}
 use Rattle.spec_store.specs.Store.{Store, last}
 use Rattle.spec_data.specs.Rows.{Row}
-use Rattle.spec_store.specs.Commit.{Client, Server, Command, Put, Delete, AnyVector, Refused, Written, commit, etags_taken}
-use Rattle.spec_server.specs.Replies.{Reply, Index, Removed, NoIndex, UnknownLine, Result as Done, TooManyIndexes as TooMany}
+use Rattle.spec_store.specs.Commit.{Client, Server, Command, Put, Delete, Refused, Written, commit, etags_taken}
+use Rattle.spec_server.specs.Replies.{Reply, Index, UnknownLine, Result as Done, TooManyIndexes as TooMany}
 use Rattle.spec_server.specs.Replies as replies
-use Rattle.index_tree.specs.Definitions.{Definition, same_definition}
-use Rattle.spec_index.specs.Optimiser.{Make, pick, name_of}
-use Rattle.spec_index.specs.World.{World, Slot, NameServes, NameTooLong, ReservedName, TooManyIndexes, added, added_if_room, define_at, index_id, is_named, is_reserved_name, removed, serving, unless_refused}
-use Rattle.spec_server.specs.Machine.{Course, Define, Remove, Auto as AutoOne, in_world, one_change, only_reply, one_field, refused_at, change_of_slots, result_of, results_of, rewrote, single_reply, use_or_make, wrote, write, course_of}
+use Rattle.index_tree.specs.Definitions.{Definition}
+use Rattle.spec_index.specs.Optimiser.{Make, pick, name_of, retired, retirement}
+use Rattle.spec_index.specs.World.{World, Slot, SlotChange, added, begins_with_auto, define, define_named, is_automatic, serving}
+use Rattle.spec_index.specs.World as is
+use Rattle.spec_server.specs.Machine.{Course, Auto as AutoOne, changed, in_world, one_change, only_reply, one_field, refused_at, change_of_slots, result_of, results_of, retire, rewrote, single_reply, slot_refused, switch_and, then_course, try_switch, use_or_make, write_refused, wrote, write, course_of}
+use Rattle.raven_laws.proofs.KindLemmas.{name_of-begins}
+use Rattle.raven_reply.specs.ReplyView.{reply_view}
+use Rattle.side_by_side.specs.Changes.{MayDefine, answer_view as slot_answer}
+use Rattle.side_by_side.specs.Standing.{Standing}
+use Rattle.side_by_side.specs.declared.change.SlotRefusal.{SlotRefusal}
+use Rattle.side_by_side.specs.declared.change.SlotRefusal.TheVariants as refusal
+use Rattle.raven_world.specs.Slotting.{IsRewritten, Rewrites, change_to, refusal_view}
 use Rattle.raven_world.specs.Transacts.{bare}
+use Rattle.raven_world.specs.WorldView.{answer_view, tried_view}
+use Rattle.raven_world.specs.declared.world.Rewritten.{Rewritten}
+use Rattle.raven_world.specs.declared.world.WorldFault.{WorldFault}
+use Rattle.raven_world.specs.declared.world.WorldFault.TheVariants.{Refused as Refuse, NoMemory}
 
 -- WRITES
 
@@ -61,15 +74,86 @@ pub ruleset writes_one = (write-refused, write-one)
 
 -- CHANGES OF SLOTS
 
-pub rewrote-refused : (W : World) (now : ℕ) (reply : Reply) (slots : List Slot) (commands : List Command) (refused : Refused) (told : Reply) → commit W.setting Server now commands W.store ≡ Err refused
-    → told ≡ refused_at refused.at refused.kind → only_reply told ≡ rewrote W reply slots (commit W.setting Server now commands W.store)
-rewrote-refused W now reply slots commands refused told is tells = ap only_reply tells ∙ ap (rewrote W reply slots) (sym is)
+pub rewrote-refused : (W : World) (now : ℕ) (reply : Reply) (c : SlotChange) (refused : Refused) (told : Reply) → commit W.setting Server now c.commands W.store ≡ Err refused → told ≡ write_refused refused
+    → only_reply told ≡ rewrote W reply c (commit W.setting Server now c.commands W.store)
+rewrote-refused W now reply c refused told is tells = ap only_reply tells ∙ ap (rewrote W reply c) (sym is)
 
-pub rewrote-done : (W : World) (now : ℕ) (reply : Reply) (slots : List Slot) (commands : List Command) (store : Store) (rows : List Row) → (let w : Written = record { store = store; rows = rows } in commit W.setting Server now commands W.store ≡ Ok w)
-    → one_change reply rows (in_world W store slots) ≡ rewrote W reply slots (commit W.setting Server now commands W.store)
-rewrote-done W now reply slots commands store rows is = ap (rewrote W reply slots) (sym is)
+rewrote-done : (W : World) (now : ℕ) (reply : Reply) (c : SlotChange) (w : Written) (rows : List Row) (V : World) → commit W.setting Server now c.commands W.store ≡ Ok w → rows ≡ w.rows → V ≡ changed W w.store c
+    → one_change reply rows V ≡ rewrote W reply c (commit W.setting Server now c.commands W.store)
+rewrote-done W now reply c w rows V is own made = (λ i. one_change reply (own i) (made i)) ∙ ap (rewrote W reply c) (sym is)
 
-pub ruleset definitions = (rewrote-refused, rewrote-done)
+-- the answer, from the world that is made
+pub told-with : (W : World) (now : ℕ) (standing : Standing) (commands : List Command) (name : List ℕ) (reply : Reply) (r : Rewritten) → IsRewritten W now standing commands r
+    → one_change reply r.rows r.world ≡ rewrote W reply (change_to standing commands name) (commit W.setting Server now commands W.store)
+told-with W now standing commands name reply r h = rewrote-done W now reply (change_to standing commands name) h.written r.rows r.world h.cause h.rows h.world
+
+pub told-fault : (W : World) (now : ℕ) (standing : Standing) (commands : List Command) (name : List ℕ) (reply : Reply) (fault : WorldFault) → Rewrites W now standing commands (Err fault)
+    → IfSome (answer_view (Err fault)) (λ course. course ≡ rewrote W reply (change_to standing commands name) (commit W.setting Server now commands W.store))
+told-fault W now standing commands name reply (Refuse told) h = rewrote-refused W now reply (change_to standing commands name) h.refused (reply_view told) h.cause h.told
+told-fault W now standing commands name reply NoMemory h = tt
+
+-- a change that is made, and what is answered
+pub reslotted : (W : World) (now : ℕ) (told : List ℕ → Reply) (name : List ℕ) (change : Result SlotChange is.SlotRefusal) (c : SlotChange) (reply : Reply) (answer : Option Course) → Ok c ≡ change → reply ≡ told c.name
+    → IfSome answer (λ course. course ≡ rewrote W reply c (commit W.setting Server now c.commands W.store)) → IfSome answer (λ course. course ≡ change_of_slots W now told name change)
+reslotted W now told name change c reply answer is tells h =
+    subst (λ x. IfSome answer (λ course. course ≡ x)) (ap (λ r. rewrote W r c (commit W.setting Server now c.commands W.store)) tells ∙ ap (change_of_slots W now told name) is) h
+
+some-same : {A : Type 0} (a b : A) → Some a ≡ Some b → a ≡ b
+some-same a b h = cc
+
+-- a change that is not made, and its reply
+pub reslots-refused : (W : World) (now : ℕ) (told : List ℕ → Reply) (name : List ℕ) (change : Result SlotChange is.SlotRefusal) (refusal : SlotRefusal) (reply : Reply)
+    → IfSome (slot_answer (Err refusal)) (λ c. c ≡ change) → option_map (slot_refused name) (refusal_view refusal) ≡ Some reply → only_reply reply ≡ change_of_slots W now told name change
+reslots-refused W now told name change refusal.NoIndex reply h e = ap only_reply (sym (some-same (slot_refused name is.NoIndex) reply e)) ∙ ap (change_of_slots W now told name) h
+reslots-refused W now told name change refusal.TooManyIndexes reply h e = ap only_reply (sym (some-same (slot_refused name is.TooManyIndexes) reply e)) ∙ ap (change_of_slots W now told name) h
+reslots-refused W now told name change (refusal.NotFresh index_etag newest) reply h e =
+    ap only_reply (sym (some-same (slot_refused name (is.NotFresh index_etag newest)) reply e)) ∙ ap (change_of_slots W now told name) h
+reslots-refused W now told name change refusal.NoReplacement reply h e = ap only_reply (sym (some-same (slot_refused name is.NoReplacement) reply e)) ∙ ap (change_of_slots W now told name) h
+reslots-refused W now told name change refusal.NotesFull reply h e = ap only_reply (sym (some-same (slot_refused name is.NotesFull) reply e)) ∙ ap (change_of_slots W now told name) h
+reslots-refused W now told name change refusal.ReservedName reply h e = ap only_reply (sym (some-same (slot_refused name is.ReservedName) reply e)) ∙ ap (change_of_slots W now told name) h
+reslots-refused W now told name change (refusal.NameTooLong len) reply h e =
+    ap only_reply (sym (some-same (slot_refused name (is.NameTooLong len)) reply e)) ∙ ap (change_of_slots W now told name) h
+reslots-refused W now told name change refusal.NoMemory reply h e = absurd cc
+
+-- SWITCHES THAT ARE TRIED
+
+pub tried-with : (W : World) (now : ℕ) (switched : List (List ℕ)) (more : World → List (List ℕ) → Course) (standing : Standing) (commands : List Command) (name : List ℕ) (r : Rewritten) (change : Result SlotChange is.SlotRefusal)
+    → Ok (change_to standing commands name) ≡ change → IsRewritten W now standing commands r
+    → then_course (record { rows = r.rows; world = r.world }) (more r.world (switched ++ name ∷ [])) ≡ try_switch W now switched more change
+tried-with W now switched more standing commands name r change is h =
+    (λ i. then_course (record { rows = h.rows i; world = h.world i }) (more (h.world i) (switched ++ name ∷ [])))
+    ∙ ap (switch_and W (change_to standing commands name) (λ V. more V (switched ++ name ∷ []))) (sym h.cause)
+    ∙ ap (try_switch W now switched more) is
+
+pub tried-fault : (W : World) (now : ℕ) (switched : List (List ℕ)) (more : World → List (List ℕ) → Course) (standing : Standing) (commands : List Command) (name : List ℕ) (fault : WorldFault) (change : Result SlotChange is.SlotRefusal)
+    → Ok (change_to standing commands name) ≡ change → Rewrites W now standing commands (Err fault)
+    → IfSome (tried_view W switched more (Err fault)) (λ course. course ≡ try_switch W now switched more change)
+tried-fault W now switched more standing commands name (Refuse told) change is h =
+    ap only_reply h.told ∙ ap (switch_and W (change_to standing commands name) (λ V. more V (switched ++ name ∷ []))) (sym h.cause) ∙ ap (try_switch W now switched more) is
+tried-fault W now switched more standing commands name NoMemory change is h = tt
+
+-- a refusal that is not for want of memory is passed over
+pub tried-passed : (W : World) (now : ℕ) (switched : List (List ℕ)) (more : World → List (List ℕ) → Course) (r : SlotRefusal) (change : Result SlotChange is.SlotRefusal) → is_none (refusal_view r) ≡ false
+    → IfSome (slot_answer (Err r)) (λ c. c ≡ change) → more W switched ≡ try_switch W now switched more change
+tried-passed W now switched more refusal.NoIndex change other h = ap (try_switch W now switched more) h
+tried-passed W now switched more refusal.TooManyIndexes change other h = ap (try_switch W now switched more) h
+tried-passed W now switched more (refusal.NotFresh index_etag newest) change other h = ap (try_switch W now switched more) h
+tried-passed W now switched more refusal.NoReplacement change other h = ap (try_switch W now switched more) h
+tried-passed W now switched more refusal.NotesFull change other h = ap (try_switch W now switched more) h
+tried-passed W now switched more refusal.ReservedName change other h = ap (try_switch W now switched more) h
+tried-passed W now switched more (refusal.NameTooLong len) change other h = ap (try_switch W now switched more) h
+tried-passed W now switched more refusal.NoMemory change other h = absurd cc
+
+-- RETIREMENT
+
+pub retired-told : (W : World) (now : ℕ) (switched retired_names : List (List ℕ)) (standing : Standing) (commands : List Command) (answer : Option Course)
+    → standing.slots ≡ (retirement W).slots → standing.notes ≡ (retirement W).notes → commands ≡ (retirement W).commands → retired_names ≡ map (λ (s : Slot). s.name) (retired W.slots)
+    → IfSome answer (λ course. course ≡ rewrote W (replies.Tidied retired_names switched) (change_to standing commands []) (commit W.setting Server now commands W.store))
+    → IfSome answer (λ course. course ≡ retire W now switched)
+retired-told W now switched retired_names standing commands answer slots notes own names h =
+    subst (λ x. IfSome answer (λ course. course ≡ x))
+    (λ i. rewrote W (replies.Tidied (names i) switched) (let c : SlotChange = record { slots = slots i; notes = notes i; commands = own i; name = [] } in c) (commit W.setting Server now (own i) W.store))
+    h
 
 -- A NEW AUTOMATIC INDEX
 
@@ -82,9 +166,9 @@ module _ (W : World) (now : ℕ) (collection field : List ℕ) where
 
   -- what is answered where there are as many indexes as may be, or not, and where the name serves, or not
   abbrev made : Bool → Bool → Course
-  made many serves = change_of_slots W now Index name (cond many (Err TooManyIndexes) (cond serves (Err NameServes) (Ok (added W name own))))
+  made many serves = change_of_slots W now Index name (cond many (Err is.TooManyIndexes) (cond serves (Err is.NameServes) (Ok (added W name own))))
 
-  picked : pick (one_field collection field) W.store W.slots ≡ Make (one_field collection field)
+  pub picked : pick (one_field collection field) W.store W.slots ≡ Make (one_field collection field)
       → made (nat_le W.setting.max_slots (length W.slots)) (is_some (serving W.slots name)) ≡ course_of W now (AutoOne collection field)
   picked p = ap (use_or_make W now) (sym p)
 
@@ -96,61 +180,32 @@ module _ (W : World) (now : ℕ) (collection field : List ℕ) where
       → is_some (serving W.slots name) ≡ true → only_reply UnknownLine ≡ course_of W now (AutoOne collection field)
   make-serves p few serves = (λ i. made ((sym few) i) ((sym serves) i)) ∙ picked p
 
-  pub make-added : pick (one_field collection field) W.store W.slots ≡ Make (one_field collection field) → nat_le W.setting.max_slots (length W.slots) ≡ false
-      → is_some (serving W.slots name) ≡ false → change_of_slots W now Index name (Ok (added W name own)) ≡ course_of W now (AutoOne collection field)
-  make-added p few free = (λ i. made ((sym few) i) ((sym free) i)) ∙ picked p
-
 -- an index that is told the name and the definition
 pub make-told : (W : World) (now : ℕ) (collection field told : List ℕ) (d : Definition) → pick (one_field collection field) W.store W.slots ≡ Make (one_field collection field)
-    → nat_le W.setting.max_slots (length W.slots) ≡ false → told ≡ name_of W.slots (last W.store + 1) (one_field collection field) → is_some (serving W.slots told) ≡ false
-    → d ≡ Definition.Auto collection ((field ∷ []) ∷ []) → change_of_slots W now Index told (Ok (added W told d)) ≡ course_of W now (AutoOne collection field)
-make-told W now collection field told d p few is free own =
-    (λ i. change_of_slots W now Index (is i) (Ok (added W (is i) (own i))))
-    ∙ make-added W now collection field p few (ap (λ n. is_some (serving W.slots n)) (sym is) ∙ free)
+    → told ≡ name_of W.slots (last W.store + 1) (one_field collection field) → d ≡ Definition.Auto collection ((field ∷ []) ∷ [])
+    → change_of_slots W now Index told (define W told d) ≡ course_of W now (AutoOne collection field)
+make-told W now collection field told d p is body =
+    (λ i. change_of_slots W now Index (is i) (define W (is i) (body i))) ∙ picked W now collection field p
 
--- AN INDEX THAT A CLIENT DEFINES
+-- the server may define it
+pub may-make : (W : World) (collection field told : List ℕ) (d : Definition) → told ≡ name_of W.slots (last W.store + 1) (one_field collection field) → d ≡ Definition.Auto collection ((field ∷ []) ∷ [])
+    → serving W.slots told ≡ None → MayDefine Server W.slots told d
+may-make W collection field told d is body free =
+    (ap is_automatic body, ap begins_with_auto is ∙ name_of-begins W.slots (last W.store + 1) (one_field collection field), free)
 
-module _ (W : World) (now : ℕ) (name : List ℕ) (d : Definition) where
-  abbrev asked : Bool → Bool → Option Slot → Course
-  asked reserved long found =
-      change_of_slots W now Index name (unless_refused (cond reserved (Some ReservedName) (cond long (Some (NameTooLong (length name))) None)) (define_at W name d found))
-
-  pub define-reserved : is_reserved_name name ≡ true → only_reply replies.ReservedName ≡ course_of W now (Define name d)
-  define-reserved h = λ i. asked ((sym h) i) (nat_lt 200 (length name)) (serving W.slots name)
-
-  pub define-long : is_reserved_name name ≡ false → nat_lt 200 (length name) ≡ true → only_reply (replies.NameTooLong (length name)) ≡ course_of W now (Define name d)
-  define-long h long = λ i. asked ((sym h) i) ((sym long) i) (serving W.slots name)
-
-  pub define-new : is_reserved_name name ≡ false → nat_lt 200 (length name) ≡ false → serving W.slots name ≡ None
-      → change_of_slots W now Index name (added_if_room W name d) ≡ course_of W now (Define name d)
-  define-new h short none = λ i. asked ((sym h) i) ((sym short) i) ((sym none) i)
-
-  served : (s : Slot) → is_reserved_name name ≡ false → nat_lt 200 (length name) ≡ false → serving W.slots name ≡ Some s
-      → change_of_slots W now Index name (define_at W name d (Some s)) ≡ course_of W now (Define name d)
-  served s h short found = λ i. asked ((sym h) i) ((sym short) i) ((sym found) i)
-
-  pub define-again : (s : Slot) → is_reserved_name name ≡ false → nat_lt 200 (length name) ≡ false → serving W.slots name ≡ Some s → same_definition d s.version.definition ≡ true
-      → one_change (Index s.name) [] W ≡ course_of W now (Define name d)
-  define-again s h short found same =
-      ap (λ b. change_of_slots W now Index name (cond b (Ok (record { slots = W.slots; commands = []; name = s.name })) (Err NameServes))) (sym same)
-      ∙ served s h short found
-
-  pub define-other : (s : Slot) → is_reserved_name name ≡ false → nat_lt 200 (length name) ≡ false → serving W.slots name ≡ Some s → same_definition d s.version.definition ≡ false
-      → only_reply UnknownLine ≡ course_of W now (Define name d)
-  define-other s h short found other =
-      ap (λ b. change_of_slots W now Index name (cond b (Ok (record { slots = W.slots; commands = []; name = s.name })) (Err NameServes))) (sym other)
-      ∙ served s h short found
-
--- AN INDEX THAT IS REMOVED
-
-pub remove-none : (W : World) (now : ℕ) (name : List ℕ) → serving W.slots name ≡ None → only_reply (NoIndex name) ≡ course_of W now (Remove name)
-remove-none W now name none = ap (λ o. change_of_slots W now Removed name (removed W name o)) (sym none)
-
-pub remove-some : (W : World) (now : ℕ) (name : List ℕ) (s : Slot) → serving W.slots name ≡ Some s
-    → rewrote W (Removed s.name) (filter (λ t. not (is_named name t)) W.slots) (commit W.setting Server now (Delete (index_id s.name) AnyVector ∷ []) W.store) ≡ course_of W now (Remove name)
-remove-some W now name s found = ap (λ o. change_of_slots W now Removed name (removed W name o)) (sym found)
+pub copied-none : {T : Type 0} (o : Option (Bor T)) → is_some o ≡ false → option_copied o ≡ None
+copied-none None h = refl
+copied-none (Some x) h = absurd cc
 
 -- THE NAME OF A NEW INDEX
 
 pub few_slots : (most slots : ℕ) → nat_le most slots ≡ false → most < 2 ^ 32 → slots < 2 ^ 32
 few_slots most slots h lt = grind (arith, common_steps)
+
+-- DEFINITIONS BY TEXTS
+
+-- a shared definition is defined as what it is
+pub shared-defined : (W : World) (now : ℕ) (a b : List ℕ) (d e : Definition) (told : Option Course) → a ≡ b → d ≡ e
+    → IfSome told (λ course. course ≡ change_of_slots W now Index a (define_named W a d)) → IfSome told (λ course. course ≡ change_of_slots W now Index b (define_named W b e))
+shared-defined W now a b d e told name is h =
+    let P : List ℕ → Definition → Type 0 = λ n x. IfSome told (λ course. course ≡ change_of_slots W now Index n (define_named W n x)) in subst (λ n. P n e) name (subst (P a) is h)

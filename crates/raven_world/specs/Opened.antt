@@ -19,16 +19,16 @@ TellsBadRow s rows NoMemory = Unit {0}
 abbrev pub read_as : Row → Option Definition → ReadRow
 read_as r d = record { row = r; definition = d }
 
--- what is read of the row makes these slots of those, if it is good
-pub record TakesRow (limits : Limits) (count : ℕ) (old new : List Slot) (r : Row) (is_good : Bool) : Type 0 where
+-- what is read of the row, which is one of `all`, makes these slots of those, if it is good
+pub record TakesRow (limits : Limits) (all : List Row) (count : ℕ) (old new : List Slot) (r : Row) (is_good : Bool) : Type 0 where
   pub definition : Option Definition
   pub right : IsReadRow (read_as r definition)
-  pub taken : (base : List ℕ) → (if is_good then Some new else None) ≡ slots_after (setting_of base limits) count old (read_as r definition)
+  pub taken : (base : List ℕ) → (if is_good then Some new else None) ≡ slots_after (setting_of base limits) all count old (read_as r definition)
 
--- so many rows were read, and are those of these slots
+-- so many of all rows were read, and are those of these slots
 pub record HasRead (s : Setting) (all : List Row) (many : ℕ) (found : List Slot) : Type 0 where
   pub read : List ReadRow
   pub rows : rows_of read ++ drop many all ≡ all
   pub count : length read ≡ many
   pub right : AreReadRows read
-  pub slots : slots_from s 0 [] read ≡ Ok found
+  pub slots : slots_from s all 0 [] read ≡ Ok found

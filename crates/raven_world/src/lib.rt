@@ -5,13 +5,18 @@ mod define;
 mod make;
 mod naming;
 mod opening;
+mod publish;
 mod pump;
+mod rewrite;
+mod switch;
 mod world;
 mod write;
 
 pub use doc_store::OpenFault;
+pub use publish::{Batch, PublishRefusal};
 pub use raven_reply::{
-    BulkResult, BulkResults, Listing, Listings, Pumping, Pumpings, Reply, reply_text,
+    BulkResult, BulkResults, IndexNames, Listing, Listings, Pumping, Pumpings, Reply, reply_text,
 };
 pub use raven_snapshot::{Answered, Snapshot};
+pub use switch::Taken;
 pub use world::{Change, World, WorldFault};

@@ -7,8 +7,9 @@ ghost use Rattle.spec_store.specs.Store.{last};
 ghost use Rattle.raven_world.specs.WorldView.{answer_view};
 
 use crate::define::shared;
-use crate::naming::{auto_name, is_served};
+use crate::naming::auto_name;
 use crate::world::{Change, World, WorldFault};
+use doc_txn::Writer;
 use index_definition::auto_definition;
 use raven_base::NoMemory;
 use raven_reply::Reply;
@@ -22,7 +23,13 @@ impl World {
         ensures { IfOk result (λ name. name ≡ name_of self.now.slots (last self.now.store + 1) (one_field collection.now field.now)) }
     {
         let _roomy = &self.store;
-        auto_name(alloc, self.live(), self.next_number(), collection, field)
+        auto_name(
+            alloc,
+            self.slots.list(),
+            self.next_number(),
+            collection,
+            field,
+        )
     }
 
     /// Makes an automatic index for a query of one field of a collection. The field can be a part of a path; an index of another would not
@@ -42,10 +49,10 @@ impl World {
             return Err(WorldFault::Refused(Reply::TooManyIndexes));
         }
         let name = self.new_name(alloc, collection, field)?;
-        if is_served(self.live(), name.as_str()) {
+        if self.slots.serving(&name).is_some() {
             return Err(WorldFault::Refused(Reply::UnknownLine));
         }
         let definition = auto_definition(alloc, name, collection, field)?;
-        self.add(alloc, shared(alloc, definition)?, now)
+        self.define_for(alloc, shared(alloc, definition)?, Writer::Server, now)
     }
 }

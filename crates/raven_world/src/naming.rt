@@ -1,24 +1,26 @@
 //! What an automatic index is called.
-ghost use Rattle.std.specs.Prelude.{◌≡◌, ◌++◌, ◌<◌, ◌^◌, IfOk, None, Some, codes, decimal, if◌then◌else◌, is_some, length, string_bytes};
+ghost use Rattle.std.specs.Prelude.{◌≡◌, ◌++◌, ◌<◌, ◌^◌, ◌&&◌, IfOk, IfSome, None, Some, codes, decimal, if◌then◌else◌, is_some, length, option_map, string_bytes};
 ghost use Rattle.spec_server.specs.Machine.{one_field};
 ghost use Rattle.spec_server.specs.Opening.{may_be_named};
 ghost use Rattle.index_definition.specs.DefinitionView.{definition_view};
-ghost use Rattle.raven_world.specs.Kinds.{begins_as};
+ghost use Rattle.raven_world.specs.Kinds.{HasOwnName, begins_as, own_part as spec_own_part};
 ghost use Rattle.spec_index.specs.Optimiser.{first_free as spec_first_free, name_of, plain_name as spec_plain_name};
 ghost use Rattle.raven_value.specs.Refusal.{fault_in};
-ghost use Rattle.spec_index.specs.World.{index_id as spec_index_id, is_reserved_name as spec_is_reserved_name, serving as spec_serving};
+ghost use Rattle.spec_data.specs.Faults.{fault_of, is_fit};
+ghost use Rattle.spec_data.specs.Limits.{max_index_name, max_name};
+ghost use Rattle.spec_index.specs.World.{replaced_name, serving as spec_serving};
 
 use index_definition::DefBody;
 use raven_base::NoMemory;
-use raven_snapshot::{Slot, serving};
-use raven_value::{Id, IdRefusal, MAX_INDEX_NAME, Name, Text, starts_folded};
+use raven_value::{IdRefusal, MAX_INDEX_NAME, Name, Text, starts_folded};
+use side_by_side::{Slot, is_reserved_name, serving_in};
 use std::alloc::Global;
 
-/// Whether some slot serves the name.
-pub fn is_served(slots: &[Slot], name: &str) -> bool
+// Whether some index serves the name.
+fn is_served(slots: &[Slot], name: &str) -> bool
     ensures { result ≡ is_some (spec_serving slots.now name.now) }
 {
-    serving(slots, name).is_some()
+    serving_in(slots, name).is_some()
 }
 
 fn with_number(alloc: Global, name: &str, number: u64) -> Result<String, NoMemory>
@@ -99,19 +101,33 @@ fn numbered_name(alloc: Global, slots: &[Slot], number: u64) -> Result<Name, NoM
     }
 }
 
-/// The name of an index, if the text can be one. The name of an automatic index begins with `Auto/`, and no other name begins with a prefix that
-/// is the server's.
-#[tactic(auto, using(crate::proofs::Openings::names))]
-pub fn read_name(alloc: Global, body: &DefBody, text: &str) -> Result<Option<Name>, NoMemory>
-    ensures { IfOk result (λ name. name ≡ if may_be_named (definition_view body.now) text.now then Some text.now else None) }
+/// The name of an index, and the name that its definition has.
+#[derive(Drop)]
+pub struct IndexName {
+    pub name: Name,
+
+    /// That of a replacement is the name that it is to take.
+    pub own: Name,
+}
+
+// The text without one leading `ReplacementOf/`, in any case of letters.
+fn replaced(text: &str) -> &str
+    ensures { result.now ≡ replaced_name text.now }
 {
-    if text.len() > MAX_INDEX_NAME || !is_of_kind(body, text) {
-        return Ok(None);
+    if starts_folded(text.as_bytes(), b"replacementof/") {
+        &text[14..]
+    } else {
+        text
     }
-    match Name::new(alloc, text) {
-        Ok(name) => Ok(Some(name)),
-        Err(IdRefusal::NoMemory) => Err(NoMemory),
-        Err(_) => Ok(None),
+}
+
+// The part of an index's name that is the name of its definition.
+fn own_part<'a>(body: &DefBody, text: &'a str) -> &'a str
+    ensures { result.now ≡ spec_own_part (definition_view body.now) text.now }
+{
+    match body {
+        DefBody::Auto { .. } => text,
+        DefBody::Static { .. } => replaced(text),
     }
 }
 
@@ -125,6 +141,45 @@ fn is_of_kind(body: &DefBody, name: &str) -> bool
     }
 }
 
+// The name that a definition has, if the text can be one.
+#[tactic(auto, using(crate::proofs::Names::names))]
+fn read_own(alloc: Global, body: &DefBody, text: &str) -> Result<Option<Name>, NoMemory>
+    ensures { IfOk result (λ name. name ≡ if is_fit max_index_name text.now && begins_as (definition_view body.now) text.now then Some text.now else None) }
+{
+    if text.len() > MAX_INDEX_NAME || !is_of_kind(body, text) {
+        return Ok(None);
+    }
+    match Name::new(alloc, text) {
+        Ok(name) => Ok(Some(name)),
+        Err(IdRefusal::NoMemory) => Err(NoMemory),
+        Err(_) => Ok(None),
+    }
+}
+
+// The name of an index, whose definition may have its name.
+fn whole_name(alloc: Global, text: &str) -> Result<Name, NoMemory>
+    requires { fault_of max_name text.now ≡ None }
+    ensures { IfOk result (λ name. name ≡ text.now) }
+{
+    match Name::new(alloc, text) {
+        Ok(name) => Ok(name),
+        Err(refusal) => Err(memory_alone(refusal)),
+    }
+}
+
+/// The name of an index, if the text can be one. The name of an automatic index begins with `Auto/`. That of another does not begin with a prefix
+/// that is the server's, but it may be such a name behind `ReplacementOf/`.
+pub fn read_name(alloc: Global, body: &DefBody, text: &str) -> Result<Option<IndexName>, NoMemory>
+    ensures name { IfOk result (λ read. option_map (λ n. n.name) read ≡ if may_be_named (definition_view body.now) text.now then Some text.now else None) }
+    ensures own { IfOk result (λ read. IfSome read HasOwnName) }
+{
+    let Some(own) = read_own(alloc, body, own_part(body, text))? else {
+        return Ok(None);
+    };
+    let name = whole_name(alloc, text)?;
+    Ok(Some(IndexName { name, own }))
+}
+
 /// What is left of a refusal of a text that has no fault.
 pub fn memory_alone(refusal: IdRefusal) -> NoMemory
     requires { fault_in refusal ≡ None }
@@ -133,23 +188,4 @@ pub fn memory_alone(refusal: IdRefusal) -> NoMemory
         IdRefusal::NoMemory => NoMemory,
         IdRefusal::Empty | IdRefusal::TooLong { .. } | IdRefusal::Control { .. } => unreachable!(),
     }
-}
-
-/// The id of the row of the definition of this name.
-pub fn index_id(alloc: Global, name: &Name) -> Result<Id, NoMemory>
-    ensures { IfOk result (λ id. id ≡ spec_index_id name.now) }
-{
-    let mut text = String::from_str(alloc, "@index/")?;
-    text.push_str(name.as_str())?;
-    match Id::new(alloc, text.as_str()) {
-        Ok(id) => Ok(id),
-        Err(refusal) => Err(memory_alone(refusal)),
-    }
-}
-
-/// Whether only the server gives such names.
-pub fn is_reserved_name(name: &str) -> bool
-    ensures { result ≡ spec_is_reserved_name name.now }
-{
-    starts_folded(name.as_bytes(), b"auto/") || starts_folded(name.as_bytes(), b"replacementof/")
 }

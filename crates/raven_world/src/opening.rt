@@ -2,23 +2,27 @@
 ghost use Rattle.std.specs.Prelude.{◌≡◌, ◌<◌, ◌^◌, ℕ, List, [], ◌++◌, ◌∷◌, IfErr, IfOk, IsTrue, None, Some, drop, if◌then◌else◌, length, option_map};
 ghost use Rattle.doc_txn.specs.SettingView.{setting_of};
 ghost use Rattle.spec_store.specs.Commit.{is_index_id as spec_is_index_id};
-ghost use Rattle.spec_server.specs.Opening.{is_defining as spec_is_defining, is_filed as spec_is_filed, is_too_many as spec_is_too_many, with_slot};
+ghost use Rattle.spec_server.specs.Opening.{is_beside as spec_is_beside, is_defining as spec_is_defining, is_filed as spec_is_filed, is_live, is_too_many as spec_is_too_many, with_slot};
 ghost use Rattle.index_definition.specs.DefinitionView.{definition_view};
 ghost use Rattle.index_lang.specs.Openings.{IsReadRow, OpensAs};
 ghost use Rattle.raven_world.specs.Opened.{TakesRow, TellsBadRow, read_as};
-ghost use Rattle.spec_index.specs.World.{new_version};
+ghost use Rattle.spec_data.specs.Folding.{folded};
+ghost use Rattle.spec_store.specs.Store.{row_at};
+ghost use Rattle.doc_store.specs.Opening.{first_bad};
+ghost use Rattle.spec_index.specs.World.{index_id as spec_index_id, new_version};
+ghost use Rattle.raven_world.specs.Kinds.{HasOwnName};
 ghost use Rattle.spec_server.specs.Machine.{machine_of};
 
-use crate::naming::read_name;
+use crate::naming::{IndexName, read_name};
 use crate::world::World;
 use doc_store::{OpenFault, Store};
 use doc_txn::{BaseId, Limits, is_index_id};
 use index_definition::{DefBody, Definition};
 use index_lang::of_row_body;
 use index_version::is_document;
-use raven_base::{NoMemory, Shared};
-use raven_snapshot::{Slot, fresh_slot};
-use raven_value::{Body, Id, Name, Row, Rows};
+use raven_base::NoMemory;
+use raven_value::{Body, Id, Name, Row, Rows, starts_folded};
+use side_by_side::{Slot, Slots, index_id};
 use std::alloc::Global;
 use std::sync::Arc;
 
@@ -69,42 +73,68 @@ fn name_in(id: &Id) -> &str
 }
 
 // The index of the row of a definition of this name.
-fn named_slot(alloc: Global, row: &Row, name: Name, body: DefBody) -> Result<Slot, NoMemory>
-    ensures { IfOk result (λ slot. slot ≡ record { number = row.now.etag; name = name; version = new_version (definition_view body); row = row.now.etag }) }
+fn named_slot(alloc: Global, row: &Row, name: IndexName, body: DefBody) -> Result<Slot, NoMemory>
+    requires { HasOwnName name }
+    ensures { IfOk result (λ slot. slot ≡ record { number = row.now.etag; name = name.name; version = new_version (definition_view body); row = row.now.etag }) }
 {
-    let definition = Definition {
-        name: name.clone()?,
-        body,
-    };
-    let definition = Arc::new(alloc, definition)?;
-    fresh_slot(alloc, row.etag, name, definition)
+    let IndexName { name, own } = name;
+    let definition = Arc::new(alloc, Definition { name: own, body })?;
+    Slot::fresh(alloc, row.etag, name, definition)
+}
+
+// Whether the row of the definition of this name is live.
+fn is_defined(alloc: Global, store: &Store, name: &Name) -> Result<bool, NoMemory>
+    ensures { IfOk result (λ flag. flag ≡ is_live (row_at (folded (spec_index_id name.now)) store.now.rows)) }
+{
+    let id = index_id(alloc, name)?;
+    match store.get(&id) {
+        Some(row) => Ok(is_document(row)),
+        None => Ok(false),
+    }
+}
+
+// Whether the index of this name replaces none, or one whose row is live.
+fn is_beside(alloc: Global, store: &Store, name: &IndexName) -> Result<bool, NoMemory>
+    requires { HasOwnName name.now }
+    ensures { IfOk result (λ flag. flag ≡ spec_is_beside store.now.rows name.now.name) }
+{
+    if starts_folded(name.name.as_str().as_bytes(), b"replacementof/") {
+        is_defined(alloc, store, &name.own)
+    } else {
+        Ok(true)
+    }
 }
 
 // The index of the row of this definition, or nothing if it cannot have its name.
-fn slot_of(alloc: Global, row: &Row, body: DefBody) -> Result<Option<Slot>, NoMemory>
+fn slot_of(alloc: Global, store: &Store, row: &Row, body: DefBody) -> Result<Option<Slot>, NoMemory>
     requires { IsTrue (spec_is_index_id row.now.id) }
-    ensures { IfOk result (λ slot. (slots : List Slot) → option_map (λ s. slots ++ s ∷ []) slot ≡ with_slot slots row.now (Some (definition_view body))) }
+    ensures { IfOk result (λ slot. (slots : List Slot) → option_map (λ s. slots ++ s ∷ []) slot ≡ with_slot store.now.rows slots row.now (Some (definition_view body))) }
 {
-    match read_name(alloc, &body, name_in(&row.id))? {
-        Some(name) => Ok(Some(named_slot(alloc, row, name, body)?)),
-        None => Ok(None),
+    let Some(name) = read_name(alloc, &body, name_in(&row.id))? else {
+        return Ok(None);
+    };
+    if is_beside(alloc, store, &name)? {
+        Ok(Some(named_slot(alloc, row, name, body)?))
+    } else {
+        Ok(None)
     }
 }
 
 // Adds the index of a row of a definition. It returns false if there is none, and adds nothing then.
 fn take_index(
     alloc: Global,
+    store: &Store,
     slots: &mut Vec<Slot>,
     row: &Row,
     body: Option<DefBody>,
 ) -> Result<bool, NoMemory>
     requires { IsTrue (spec_is_index_id row.now.id) }
-    ensures { IfOk result (λ is_good. (if is_good then Some slots.new.items else None) ≡ with_slot slots.old.items row.now (option_map definition_view body)) }
+    ensures { IfOk result (λ is_good. (if is_good then Some slots.new.items else None) ≡ with_slot store.now.rows slots.old.items row.now (option_map definition_view body)) }
 {
     let Some(body) = body else {
         return Ok(false);
     };
-    match slot_of(alloc, row, body)? {
+    match slot_of(alloc, store, row, body)? {
         Some(slot) => {
             slots.push(slot)?;
             Ok(true)
@@ -118,11 +148,12 @@ fn take_index(
 fn take_row(
     alloc: Global,
     limits: &Limits,
+    store: &Store,
     count: usize,
     slots: &mut Vec<Slot>,
     row: &Row,
 ) -> Result<bool, NoMemory>
-    ensures { IfOk result (λ is_good. TakesRow limits.now count slots.old.items slots.new.items row.now is_good) }
+    ensures { IfOk result (λ is_good. TakesRow limits.now store.now.rows count slots.old.items slots.new.items row.now is_good) }
 {
     let body = definition_in(alloc, row)?;
     if is_too_many(limits, count, slots, row) || !is_filed(row) {
@@ -131,7 +162,7 @@ fn take_row(
     if !is_defining(row) {
         return Ok(true);
     }
-    take_index(alloc, slots, row, body)
+    take_index(alloc, store, slots, row, body)
 }
 
 impl World {
@@ -144,7 +175,8 @@ impl World {
     /// - a row whose id begins with `@index/`, without regard to case, and whose collection is not `@indexes`, or the other way
     ///   round;
     /// - the live row of a definition whose body is neither that of an automatic index of one field nor that of a map by a text
-    ///   of the language, or the rest of whose id cannot be the name of such an index.
+    ///   of the language, or the rest of whose id cannot be the name of such an index;
+    /// - the live row of a definition that is to replace one that has no live row.
     #[tactic(auto, using(crate::proofs::Openings::opening))]
     pub fn open(
         alloc: Global,
@@ -155,20 +187,17 @@ impl World {
     ) -> Result<World, OpenFault>
         requires few { length rows.now < 2 ^ 32 }
         requires stored { store ≡ record { rows = rows.now } }
+        requires sound { first_bad [] rows.now ≡ None }
         ensures opened { IfOk result (λ world. OpensAs (setting_of base limits) rows.now (machine_of world)) }
         ensures fault { IfErr result (TellsBadRow (setting_of base limits) rows.now) }
     {
         let mut slots = Vec::new(alloc);
         for (count, row) in rows.as_slice().iter().enumerate() {
-            if !take_row(alloc, &limits, count, &mut slots, row)? {
+            if !take_row(alloc, &limits, &store, count, &mut slots, row)? {
                 return Err(OpenFault::KeptBad { etag: row.etag });
             }
         }
-        Ok(World {
-            store,
-            slots: Shared::of(alloc, slots)?,
-            base,
-            limits,
-        })
+        let live = Slots::of(alloc, slots)?;
+        Ok(World::of_parts(store, live, base, limits))
     }
 }

@@ -1,24 +1,29 @@
 //! The world.
 ghost use Rattle.std.specs.Prelude.{◌≡◌, [], IfOk};
-ghost use Rattle.spec_server.specs.Machine.{in_world, one_change};
+ghost use Rattle.spec_store.specs.Store.{last};
+ghost use Rattle.spec_server.specs.Machine.{one_change};
 ghost use Rattle.raven_reply.specs.ReplyView.{reply_view};
+ghost use Rattle.doc_txn.specs.SettingView.{setting_of};
+ghost use Rattle.side_by_side.specs.Standing.{world_of};
+ghost use Rattle.raven_world.specs.Roomy.{NumbersUpTo};
 ghost use Rattle.raven_world.specs.WorldView.{change_view};
 ghost use Rattle.raven_world.specs.declared.world.WorldFault.TheVariants.{NoMemory as OutOfMemory};
 
 use doc_store::Store;
 use doc_txn::{BaseId, Limits};
-use raven_base::{NoMemory, Shared};
+use raven_base::NoMemory;
 use raven_reply::Reply;
-use raven_snapshot::{Slot, Snapshot};
+use raven_snapshot::Snapshot;
 use raven_value::Rows;
+use side_by_side::Slots;
 use std::alloc::Global;
 use std::marker::Model;
 
-/// A database: its store and its indexes, with the base id and the limits, which nothing changes.
+/// A database: its store, its indexes and the notes of their switches, with the base id and the limits, which nothing changes.
 pub struct World {
     pub(crate) store: Store,
     /// The indexes, which the worlds after a change of documents share.
-    pub(crate) slots: Shared<Vec<Slot>>,
+    pub(crate) slots: Slots,
     pub(crate) base: BaseId,
     pub(crate) limits: Limits,
 }
@@ -36,20 +41,20 @@ impl Drop for World {
 }
 
 impl Model for World {
-    ghost use Rattle.std.specs.Prelude.{[]};
     ghost use Rattle.spec_index.specs.World as world;
     ghost use Rattle.spec_index.specs.Codes.{world_code};
     ghost use Rattle.doc_txn.specs.SettingView.{setting_of};
+    ghost use Rattle.side_by_side.specs.Standing.{world_of};
 
     ghost Value = { world.World };
 
     ghost coded = { world_code };
 
-    ghost view = { λ a. record { setting = setting_of a.base a.limits; store = a.store; slots = a.slots.items; notes = [] } };
+    ghost view = { λ a. world_of (setting_of a.base a.limits) a.store a.slots };
 
     ghost use Rattle.raven_world.specs.Roomy.{IsRoomy};
 
-    ghost invariant = { λ a. IsRoomy a.store a.limits.rows a.limits.slots };
+    ghost invariant = { λ a. IsRoomy a.store a.limits.rows a.limits.slots a.slots.slots };
 }
 
 /// A new world, the rows that its keeper is to take, and the reply to what was asked.
@@ -58,6 +63,13 @@ pub struct Change {
     pub world: World,
     pub rows: Rows,
     pub reply: Reply,
+}
+
+/// A world after a change of its indexes, and the rows that its keeper is to take.
+#[derive(Drop)]
+pub struct Rewritten {
+    pub world: World,
+    pub rows: Rows,
 }
 
 /// Why a change was not made. The world is as it was.
@@ -79,28 +91,35 @@ impl From<NoMemory> for WorldFault {
 }
 
 impl World {
-    /// The live indexes.
-    pub(crate) fn live(&self) -> &[Slot]
-        ensures { result.now ≡ self.now.slots }
-    {
-        self.slots.get().as_slice()
-    }
-
     /// The database as it stands.
     pub fn snapshot(&self) -> Snapshot<'_>
         ensures { result ≡ self.now }
     {
         Snapshot {
             store: &self.store,
-            slots: self.live(),
+            slots: &self.slots,
             base: &self.base,
             limits: self.limits,
         }
     }
 
-    /// The world with this store and these slots.
-    pub(crate) fn with(&self, store: Store, slots: Shared<Vec<Slot>>) -> Result<World, NoMemory>
-        ensures { IfOk result (λ world. world ≡ in_world self.now store slots.items) }
+    /// The database of these parts.
+    pub(crate) fn of_parts(store: Store, slots: Slots, base: BaseId, limits: Limits) -> World
+        requires { NumbersUpTo (last store) slots.slots }
+        ensures { result ≡ world_of (setting_of base limits) store slots }
+    {
+        World {
+            store,
+            slots,
+            base,
+            limits,
+        }
+    }
+
+    /// The world with this store and these indexes.
+    pub(crate) fn with(&self, store: Store, slots: Slots) -> Result<World, NoMemory>
+        requires { NumbersUpTo (last store) slots.slots }
+        ensures { IfOk result (λ world. world ≡ world_of self.now.setting store slots) }
     {
         Ok(World {
             store,
@@ -110,19 +129,11 @@ impl World {
         })
     }
 
-    /// The world with these slots over its store.
-    pub(crate) fn with_slots(&self, alloc: Global, slots: Vec<Slot>) -> Result<World, NoMemory>
-        ensures { IfOk result (λ world. world ≡ in_world self.now self.now.store slots.items) }
+    /// The world with these indexes over its store.
+    pub(crate) fn with_slots(&self, slots: Slots) -> Result<World, NoMemory>
+        requires { NumbersUpTo (last self.now.store) slots.slots }
+        ensures { IfOk result (λ world. world ≡ world_of self.now.setting self.now.store slots) }
     {
-        self.with(self.store.clone()?, Shared::of(alloc, slots)?)
-    }
-
-    /// The same world, with a reply.
-    pub(crate) fn unchanged(&self, alloc: Global, reply: Reply) -> Result<Change, NoMemory>
-        ensures { IfOk result (λ change. change_view change ≡ one_change (reply_view reply) [] self.now) }
-    {
-        let world = self.with(self.store.clone()?, self.slots.clone()?)?;
-        let rows = Rows::new(alloc);
-        Ok(Change { world, rows, reply })
+        self.with(self.store.clone()?, slots)
     }
 }

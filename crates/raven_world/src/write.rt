@@ -1,5 +1,6 @@
 //! Writes of clients.
-ghost use Rattle.std.specs.Prelude.{◌≡◌, ◌∷◌, [], IfOk, IfSome, map, true};
+ghost use Rattle.std.specs.Prelude.{◌≡◌, ◌≤◌, ◌∷◌, [], IfOk, IfSome, map, true};
+ghost use Rattle.spec_store.specs.Store.{last};
 ghost use Rattle.spec_server.specs.Machine.{refused_at as spec_refused_at, result_of as spec_result_of, results_of as spec_results_of, in_world, one_change, single_reply, write};
 ghost use Rattle.spec_server.specs.Replies.{Bulk};
 ghost use Rattle.spec_server.specs.WellFormed.{put_bodies, puts_body};
@@ -149,7 +150,8 @@ impl World {
         commands: Commands,
         now: u64,
     ) -> Result<Transaction, WorldFault>
-        ensures { Transacts self.now now (map command_view commands) result }
+        ensures done { Transacts self.now now (map command_view commands) result }
+        ensures later { IfOk result (λ done. last self.now.store ≤ last done.store) }
     {
         match transact(
             alloc,
@@ -172,7 +174,8 @@ impl World {
         command: Command,
         now: u64,
     ) -> Result<Transaction, WorldFault>
-        ensures { Transacts self.now now (command_view command ∷ []) result }
+        ensures done { Transacts self.now now (command_view command ∷ []) result }
+        ensures later { IfOk result (λ done. last self.now.store ≤ last done.store) }
     {
         match transact_one(
             alloc,
@@ -218,7 +221,8 @@ impl World {
         )
     }
 
-    fn changed(&self, alloc: Global, done: Transaction, reply: Reply) -> Result<Change, NoMemory>
+    fn changed(&self, done: Transaction, reply: Reply) -> Result<Change, NoMemory>
+        requires { last self.now.store ≤ last done.store }
         ensures { IfOk result (λ change. change_view change ≡ one_change (reply_view reply) done.rows (in_world self.now done.store self.now.slots)) }
     {
         let world = self.with(done.store, self.slots.clone()?)?;
@@ -236,10 +240,11 @@ impl World {
         commands: &Commands,
         done: Transaction,
     ) -> Result<Change, NoMemory>
+        requires { last self.now.store ≤ last done.store }
         ensures { IfOk result (λ change. change_view change ≡ one_change (Bulk (spec_results_of self.now.setting.base done.store (map command_view commands.now) done.etags)) done.rows (in_world self.now done.store self.now.slots)) }
     {
         let results = BulkResults::of(self.results(alloc, commands, &done)?);
-        self.changed(alloc, done, Reply::Bulk { results })
+        self.changed(done, Reply::Bulk { results })
     }
 
     /// Takes one command, and replies to it. A document that it puts is an object at most 100 deep; another would not open again.
@@ -256,7 +261,7 @@ impl World {
         let head = without_document(&command)?;
         let done = self.transact_one(alloc, command, now)?;
         let reply = self.reply_to(alloc, &head, &done)?;
-        Ok(self.changed(alloc, done, reply)?)
+        Ok(self.changed(done, reply)?)
     }
 
     /// Takes commands in order, all of them or none, and replies to each. The documents are as for `commit_one`, and are moved into the store.

@@ -19,8 +19,8 @@ returns-then-is_too_many c =
           let s = setting_of base c.args.limits.now in
           let told = ap (λ (slots : List Slot). is_too_many s c.args.count slots c.args.row.now) (sym c.deref.ensures.value) ∙ sym (c.is_too_many.ensures base) in
           elim c.then-is_too_many.branch [
-            | then-is_too_many-via-then-is_too_many w ↦ too-many s c.args.count c.args.slots.now.items x (told ∙ w.if-is_too_many.true)
-            | then-is_too_many-via-else-is_too_many+then-not-is_filed w ↦ unfiled s c.args.count c.args.slots.now.items x (sym w.is_filed.ensures ∙ w.if-not-is_filed.true)
+            | then-is_too_many-via-then-is_too_many w ↦ too-many s c.args.store.now.rows c.args.count c.args.slots.now.items x (told ∙ w.if-is_too_many.true)
+            | then-is_too_many-via-else-is_too_many+then-not-is_filed w ↦ unfiled s c.args.store.now.rows c.args.count c.args.slots.now.items x (sym w.is_filed.ensures ∙ w.if-not-is_filed.true)
           ];
     }
 
@@ -34,7 +34,7 @@ returns-then-not-is_defining c =
       taken = λ base.
           let s = setting_of base c.args.limits.now in
           let told = ap (λ (slots : List Slot). is_too_many s c.args.count slots c.args.row.now) (sym c.deref.ensures.value) ∙ sym (c.is_too_many.ensures base) in
-          plain s c.args.count c.args.slots.now.items x (told ∙ c.if-is_too_many.false) (sym c.is_filed.ensures ∙ c.if-not-is_filed.false) (sym c.is_defining.ensures ∙ c.if-not-is_defining.true);
+          plain s c.args.store.now.rows c.args.count c.args.slots.now.items x (told ∙ c.if-is_too_many.false) (sym c.is_filed.ensures ∙ c.if-not-is_filed.false) (sym c.is_defining.ensures ∙ c.if-not-is_defining.true);
     }
 
 pub returns : goal.returns
@@ -48,6 +48,6 @@ returns c =
       taken = λ base.
           let s = setting_of base c.args.limits.now in
           let told = ap (λ (slots : List Slot). is_too_many s c.args.count slots c.args.row.now) (sym c.deref.ensures.value) ∙ sym (c.is_too_many.ensures base) in
-          g ∙ defines s c.args.count c.args.slots.now.items x (told ∙ c.if-is_too_many.false) (sym c.is_filed.ensures ∙ c.if-not-is_filed.false) (sym c.is_defining.ensures ∙ c.if-not-is_defining.false);
+          g ∙ defines s c.args.store.now.rows c.args.count c.args.slots.now.items x (told ∙ c.if-is_too_many.false) (sym c.is_filed.ensures ∙ c.if-not-is_filed.false) (sym c.is_defining.ensures ∙ c.if-not-is_defining.false);
     })
     c.take_index.ensures
