@@ -42,6 +42,10 @@ pub on_err : {T E : Type 0} (r : Result T E) (P : Type 0) → P → OnErr r P
 on_err (Ok t) P p = tt
 on_err (Err e) P p = p
 
+pub if_err : {T E : Type 0} (r : Result T E) (P Q : Type 0) → (P → Q) → OnErr r P → OnErr r Q
+if_err (Ok t) P Q f h = tt
+if_err (Err e) P Q f h = f h
+
 -- the counts that were read are those of the keeper
 pub stopped_as : (changes : List Change) (x y : Lived) (before after : ℕ) → before ≡ x.keeper.count → after ≡ y.keeper.count → Settles changes x (Stopped x.keeper.count y.keeper.count) y
     → Settles changes x (Stopped before after) y

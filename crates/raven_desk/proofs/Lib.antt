@@ -3,3 +3,5 @@ pub mod Changes
 pub mod Kept
 pub mod Opened
 pub mod Pieces
+pub mod Courses
+pub mod Publications

@@ -8,6 +8,7 @@ ghost use Rattle.raven_world.specs.WorldView.{answer_view, change_view};
 ghost use Rattle.raven_reply.specs.ReplyView.{reply_view};
 ghost use Rattle.raven_desk.specs.CourseView.{course_view};
 
+use crate::tidying::tidied;
 use doc_keeper::all_kept;
 use doc_txn::Command;
 use raven_base::{NoMemory, Shared, Steps};
@@ -57,6 +58,13 @@ impl Model for Pending {
 
 impl Pending {
     /// The world once the rows are stored.
+    pub(crate) fn world(&self) -> &World
+        ensures { result.now ≡ self.now.world }
+    {
+        self.world.get()
+    }
+
+    /// The same world, taken out.
     pub(crate) fn into_world(self) -> Shared<World>
         ensures { result ≡ self.world }
     {
@@ -69,14 +77,15 @@ impl Pending {
     }
 }
 
-/// The reply to a request, and the changes that it makes, each of the world that the one before it leaves. The reply is due if all are made.
+/// The reply to a request, and the changes that it makes, each of the world that the one before it leaves. The reply is due if all are made. Only a
+/// TIDY makes several.
 #[derive(Drop)]
 pub struct Course {
     pub reply: Reply,
     pub changes: Vec<Pending>,
 }
 
-fn unchanged(alloc: Global, reply: Reply) -> Course
+pub(crate) fn unchanged(alloc: Global, reply: Reply) -> Course
     ensures { course_view result ≡ only_reply (reply_view reply) }
 {
     Course {
@@ -85,7 +94,8 @@ fn unchanged(alloc: Global, reply: Reply) -> Course
     }
 }
 
-fn make_pending(alloc: Global, rows: Rows, world: World) -> Result<Pending, NoMemory>
+/// A change of these rows, which leaves this world.
+pub(crate) fn make_pending(alloc: Global, rows: Rows, world: World) -> Result<Pending, NoMemory>
     ensures { IfOk result (λ pending. pending ≡ record { rows = rows; world = world }) }
 {
     let kept = all_kept(alloc, &rows)?;
@@ -145,12 +155,8 @@ fn pumped<R: Threads, L: Ledger>(
     ensures { IfOk result (λ course. course_view course ≡ pump_for world.now max index) }
 {
     let mut steps = Steps::<L>::new(blank);
-    match index {
-        None => changed(alloc, world.pump(rt, alloc, max, &mut steps)?),
-        Some(name) => {
-            changed_or_refused(alloc, world.pump_one(rt, alloc, max, &name, &mut steps))
-        }
-    }
+    let change = world.pump(rt, alloc, max, index.as_ref(), &mut steps);
+    changed_or_refused(alloc, change)
 }
 
 // What a look for a text finds. Nobody reads the counter.
@@ -236,6 +242,8 @@ pub(crate) fn course_of<R: Threads>(
         Request::Pump { max, index } => {
             pumped::<R, Brand>(rt, alloc, world, max, index, Blank::new(3))
         }
+        Request::Switch { name } => changed_or_refused(alloc, world.switch(alloc, &name, now)),
+        Request::Tidy => tidied(alloc, world, now),
         Request::Stale { name, cutoff } => Ok(unchanged(alloc, seen.stale(alloc, &name, cutoff)?)),
         Request::Indexes => Ok(unchanged(alloc, seen.indexes(alloc)?)),
         Request::Stats => Ok(unchanged(alloc, seen.stats())),

@@ -1,5 +1,5 @@
 //! Asking a keeper to store the rows of a change.
-ghost use Rattle.std.specs.Prelude.{◌≡◌, ◌≤◌, None, IfOk, IfSome, OnErr};
+ghost use Rattle.std.specs.Prelude.{◌≡◌, ◌≢◌, ◌≤◌, [], None, IfOk, IfSome, OnErr};
 ghost use Rattle.spec_data.specs.Kept.{EtagsRise, all_kept, last_kept};
 ghost use Rattle.spec_desk.specs.Keepers.{IsKept};
 
@@ -14,6 +14,7 @@ pub(crate) fn keep<K: Keeper>(keeper: &mut K, change: &Pending) -> Result<bool, 
     requires past { IfSome (K.state keeper.old).held (λ all. EtagsRise (last_kept None all) (all_kept change.now.rows)) }
     ensures asked { IfOk result (IsKept (K.state keeper.old) (K.state keeper.new) change.now.rows) }
     ensures err { OnErr result ((K.state keeper.new).held ≡ (K.state keeper.old).held) }
+    ensures asks { OnErr result (change.now.rows ≢ []) }
     ensures later { (K.state keeper.old).count ≤ (K.state keeper.new).count }
 {
     if change.rows.is_empty() {

@@ -8,10 +8,12 @@ mod keeping;
 mod live;
 mod one_desk;
 mod opening;
+mod publishing;
 mod receipt;
 mod settling;
 mod shot;
 mod step;
+mod tidying;
 
 pub use course::{Course, Pending};
 pub use desk::Desk;

@@ -15,8 +15,8 @@ use std::marker::Model;
 use std::sync::{Arc, Wait};
 use std::thread::Threads;
 
-/// The live value of one caller. After each request each index catches up by one batch of at most `pump` rows, unless `pump` is 0. The Tidy that is
-/// to follow the batches comes with the replacements of indexes.
+/// The live value of one caller. After each request each index catches up by one batch of at most `pump` rows, unless `pump` is 0, and then a Tidy is
+/// made. What these two reply is dropped.
 pub struct OneDesk<K: Keeper, C: Clock> {
     live: Live<K>,
     clock: Arc<C>,
@@ -121,6 +121,8 @@ impl<K: Keeper, C: Clock> Desk for OneDesk<K, C> {
         let max = self.pump;
         let request = Request::Pump { max, index: None };
         self.live.step(rt, alloc, now, request)?;
+        let later = self.clock.now();
+        self.live.step(rt, alloc, later, Request::Tidy)?;
         Ok(())
     }
 

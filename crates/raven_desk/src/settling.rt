@@ -1,9 +1,9 @@
 //! Making the changes of a course while the keeper takes their rows.
-ghost use Rattle.std.specs.Prelude.{◌≡◌, ◌≤◌, length, IfOk, OnErr};
+ghost use Rattle.std.specs.Prelude.{◌≡◌, ◌≢◌, ◌≤◌, [], IfOk, OnErr};
 ghost use Rattle.spec_server.specs.Sound.{Sound};
 ghost use Rattle.raven_laws.specs.Keeping.{IsItsRows};
 ghost use Rattle.spec_desk.specs.Lived.{Follows};
-ghost use Rattle.spec_desk.specs.Stepped.{IsStopped, MakesOne, MayMake, Settles};
+ghost use Rattle.spec_desk.specs.Stepped.{IsMadeInPart, IsStopped, MakesOne, MayMake, Settles, Stays};
 ghost use Rattle.raven_desk.specs.SettledView.{settled_view};
 
 use crate::course::Pending;
@@ -34,7 +34,8 @@ impl<K: Keeper> Live<K> {
         requires rows { IsItsRows self.old.world.store change }
         requires sound { Sound change.world }
         ensures made { IfOk result (λ taken. MakesOne self.old change taken self.new) }
-        ensures err { OnErr result ((self.new.world ≡ self.old.world) × (self.new.keeper.held ≡ self.old.keeper.held)) }
+        ensures err { OnErr result (Stays self.old self.new) }
+        ensures asks { OnErr result (change.rows ≢ []) }
         ensures fronts { self.new.fronts ≡ self.old.fronts }
         ensures later { self.old.keeper.count ≤ self.new.keeper.count }
     {
@@ -46,15 +47,14 @@ impl<K: Keeper> Live<K> {
     }
 
     /// Makes the changes one after another, each once the keeper has taken its rows, of which it is asked once if there are any. The first whose
-    /// rows it does not take is not made, and none after it. It takes no memory of its own: out of memory is the keeper's, and then the changes
-    /// before stand.
+    /// rows it does not take is not made, and none after it. It takes no memory of its own: out of memory is the keeper's. Then too the change is
+    /// not made, and none after it. The changes before stand. So of one change at most nothing was made.
     pub fn settle(&mut self, changes: Vec<Pending>) -> Result<Settled, NoMemory>
         requires may { MayMake self.old changes.items }
         ensures settled { IfOk result (λ s. Settles changes.items self.old (settled_view s) self.new) }
         ensures later { Follows self.old self.new }
-        ensures halted { IfOk result (λ s. IsStopped (settled_view s) → length changes.items ≤ 1
-            → (self.new.world ≡ self.old.world) × (self.new.keeper.held ≡ self.old.keeper.held)) }
-        ensures alone { OnErr result (length changes.items ≤ 1 → (self.new.world ≡ self.old.world) × (self.new.keeper.held ≡ self.old.keeper.held)) }
+        ensures halted { IfOk result (λ s. IsStopped (settled_view s) → IsMadeInPart changes.items self.old self.new) }
+        ensures lacks { OnErr result (IsMadeInPart changes.items self.old self.new) }
     {
         let before = self.faults();
         for change in changes {

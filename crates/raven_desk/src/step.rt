@@ -1,11 +1,11 @@
 //! One request, answered on one value.
-ghost use Rattle.std.specs.Prelude.{◌≡◌, ◌≤◌, length, IfOk, OnErr};
-ghost use Rattle.spec_server.specs.Machine.{Ask, Do, course_of as spec_course_of};
+ghost use Rattle.std.specs.Prelude.{◌≡◌, ◌≢◌, ◌⊎◌, IfOk, OnErr};
+ghost use Rattle.spec_server.specs.Machine.{Ask, Do, Tidy, course_of as spec_course_of};
 ghost use Rattle.spec_server.specs.WellFormed.{IsWellFormed};
 ghost use Rattle.raven_reply.specs.ReplyView.{reply_view};
 ghost use Rattle.raven_request.specs.RequestView.{request_view};
 ghost use Rattle.spec_desk.specs.Lived.{Follows};
-ghost use Rattle.spec_desk.specs.Stepped.{IsStep, Makes, MayMake, reply_after as spec_reply_after};
+ghost use Rattle.spec_desk.specs.Stepped.{IsMadeInPart, IsStep, Makes, MayMake, Stays, reply_after as spec_reply_after};
 ghost use Rattle.raven_desk.specs.CourseView.{course_view};
 ghost use Rattle.raven_desk.specs.SettledView.{settled_view};
 
@@ -47,21 +47,21 @@ impl<K: Keeper> Live<K> {
         course_of(rt, alloc, self.world.get(), now, request)
     }
 
-    // Settles a course of one change at most, and returns its reply, or the one for a keeper that failed.
+    // Settles a course, and returns its reply, or the one for a keeper that failed.
     fn finish(&mut self, course: Course) -> Result<Reply, NoMemory>
         requires may { MayMake self.old (course_view course).changes }
-        requires few { length (course_view course).changes ≤ 1 }
         ensures made { IfOk result (λ reply.
             Makes self.old.keeper.count (course_view course).changes (course_view course).reply self.old (reply_view reply) self.new) }
         ensures later { Follows self.old self.new }
-        ensures err { OnErr result ((self.new.world ≡ self.old.world) × (self.new.keeper.held ≡ self.old.keeper.held)) }
+        ensures lacks { OnErr result (IsMadeInPart (course_view course).changes self.old self.new) }
     {
         let Course { reply, changes } = course;
         let settled = self.settle(changes)?;
         Ok(reply_after(settled, reply))
     }
 
-    /// The step of the machine: `course`, and then `settle`. If the keeper fails or memory runs out, nothing changes.
+    /// The step of the machine: `course`, and then `settle`. If the keeper fails or memory runs out, nothing changes. Of a TIDY, which makes
+    /// several changes, those before stand: `lacks` says so, and what the reply for a failed keeper leaves is in `IsStep`.
     pub fn step<R: Threads>(
         &mut self,
         rt: &R,
@@ -72,7 +72,8 @@ impl<K: Keeper> Live<K> {
         requires { IsWellFormed (Do (request_view request)) }
         ensures stepped { IfOk result (λ reply. IsStep now (request_view request) self.old (reply_view reply) self.new) }
         ensures later { Follows self.old self.new }
-        ensures err { OnErr result ((self.new.world ≡ self.old.world) × (self.new.keeper.held ≡ self.old.keeper.held)) }
+        ensures lacks { OnErr result (Stays self.old self.new ⊎ IsMadeInPart (spec_course_of self.old.world now (request_view request)).changes self.old self.new) }
+        ensures alone { OnErr result (request_view request ≢ Tidy → Stays self.old self.new) }
     {
         let course = self.course(rt, alloc, now, request)?;
         self.finish(course)
@@ -90,7 +91,7 @@ impl<K: Keeper> Live<K> {
     pub fn ask(&mut self, alloc: Global, now: u64, ask: &QueryAsk) -> Result<Reply, NoMemory>
         ensures stepped { IfOk result (λ reply. IsStep now (Ask ask.now) self.old (reply_view reply) self.new) }
         ensures later { Follows self.old self.new }
-        ensures err { OnErr result ((self.new.world ≡ self.old.world) × (self.new.keeper.held ≡ self.old.keeper.held)) }
+        ensures err { OnErr result (Stays self.old self.new) }
     {
         let course = self.query_course(alloc, now, ask)?;
         self.finish(course)

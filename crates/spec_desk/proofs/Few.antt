@@ -1,11 +1,11 @@
--- A request makes one change at most. A Tidy, which makes several, is not built yet.
-use Rattle.std.proofs.Common.{◌≡◌, ℕ, ◌+◌, ◌≤◌, List, [], ◌∷◌, Option, Some, None, Result, Ok, Err, length, sym, subst, arith}
+-- A request makes one change at most, unless it is a TIDY.
+use Rattle.std.proofs.Common.{◌≡◌, ◌≢◌, ℕ, ◌+◌, ◌≤◌, List, [], ◌∷◌, Option, Some, None, Result, Ok, Err, length, refl, sym, subst, arith}
 use Rattle.index_tree.specs.Definitions.{Definition}
 use Rattle.spec_store.specs.Commit.{Client, Command, Refused, Server, Written, commit}
 use Rattle.spec_store.specs.Store.{last}
 use Rattle.spec_index.specs.Optimiser.{Choice, Make, Merge, Use, name_of, pick}
-use Rattle.spec_index.specs.World.{Slot, SlotChange, SlotRefusal, World, define, define_named, remove, serving}
-use Rattle.spec_server.specs.Machine.{Ask, Auto, Bulk, Course, Define, Delete, Find, Get, Indexes, Pump, Put, Remove, Request, Stale, Stats, change_of_slots, course_of, one_field, pump_at, pump_for, rewrote, single_reply, use_or_make, wrote}
+use Rattle.spec_index.specs.World.{Slot, SlotChange, SlotRefusal, World, define, define_named, remove, serving, switch}
+use Rattle.spec_server.specs.Machine.{Ask, Auto, Bulk, Course, Define, Delete, Find, Get, Indexes, Pump, Put, Remove, Request, Stale, Stats, Switch, Tidy, change_of_slots, course_of, one_field, pump_at, pump_for, rewrote, single_reply, use_or_make, wrote}
 use Rattle.spec_server.specs.Replies as replies
 use Rattle.spec_server.specs.Replies.{Reply}
 
@@ -16,13 +16,13 @@ wrote_few : (W : World) (reply : List replies.Result → Reply) (now : ℕ) (com
 wrote_few W reply now commands (Err refused) = omega arith
 wrote_few W reply now commands (Ok w) = omega arith
 
-rewrote_few : (W : World) (reply : Reply) (slots : List Slot) (o : Result Written Refused) → Few (rewrote W reply slots o)
-rewrote_few W reply slots (Err refused) = omega arith
-rewrote_few W reply slots (Ok w) = omega arith
+rewrote_few : (W : World) (reply : Reply) (c : SlotChange) (o : Result Written Refused) → Few (rewrote W reply c o)
+rewrote_few W reply c (Err refused) = omega arith
+rewrote_few W reply c (Ok w) = omega arith
 
 reslotted_few : (W : World) (now : ℕ) (reply : List ℕ → Reply) (name : List ℕ) (r : Result SlotChange SlotRefusal) → Few (change_of_slots W now reply name r)
 reslotted_few W now reply name (Err refusal) = omega arith
-reslotted_few W now reply name (Ok c) = rewrote_few W (reply c.name) c.slots (commit W.setting Server now c.commands W.store)
+reslotted_few W now reply name (Ok c) = rewrote_few W (reply c.name) c (commit W.setting Server now c.commands W.store)
 
 auto_few : (W : World) (now : ℕ) (c : Choice) → Few (use_or_make W now c)
 auto_few W now (Use s) = omega arith
@@ -38,20 +38,22 @@ pump_for_few : (W : World) (max : ℕ) (index : Option (List ℕ)) → Few (pump
 pump_for_few W max None = omega arith
 pump_for_few W max (Some name) = pump_at_few W max name (serving W.slots name)
 
-pub one_at_most : (W : World) (now : ℕ) (request : Request) → length (course_of W now request).changes ≤ 1
-one_at_most W now (Put id expected body) = wrote_few W single_reply now (Command.Put id expected body ∷ []) (commit W.setting Client now (Command.Put id expected body ∷ []) W.store)
-one_at_most W now (Delete id expected) = wrote_few W single_reply now (Command.Delete id expected ∷ []) (commit W.setting Client now (Command.Delete id expected ∷ []) W.store)
-one_at_most W now (Bulk commands) = wrote_few W replies.Bulk now commands (commit W.setting Client now commands W.store)
-one_at_most W now (Get id) = omega arith
-one_at_most W now (Define name d) = reslotted_few W now replies.Index name (define_named W name d)
-one_at_most W now (Remove name) = reslotted_few W now replies.Removed name (remove W name)
-one_at_most W now (Auto collection field) = auto_few W now (pick (one_field collection field) W.store W.slots)
-one_at_most W now (Find index field ws) = omega arith
-one_at_most W now (Ask ask) = omega arith
-one_at_most W now (Pump max index) = pump_for_few W max index
-one_at_most W now (Stale name cutoff) = omega arith
-one_at_most W now Indexes = omega arith
-one_at_most W now Stats = omega arith
+pub one_at_most : (W : World) (now : ℕ) (request : Request) → request ≢ Tidy → length (course_of W now request).changes ≤ 1
+one_at_most W now (Put id expected body) other = wrote_few W single_reply now (Command.Put id expected body ∷ []) (commit W.setting Client now (Command.Put id expected body ∷ []) W.store)
+one_at_most W now (Delete id expected) other = wrote_few W single_reply now (Command.Delete id expected ∷ []) (commit W.setting Client now (Command.Delete id expected ∷ []) W.store)
+one_at_most W now (Bulk commands) other = wrote_few W replies.Bulk now commands (commit W.setting Client now commands W.store)
+one_at_most W now (Get id) other = omega arith
+one_at_most W now (Define name d) other = reslotted_few W now replies.Index name (define_named W name d)
+one_at_most W now (Remove name) other = reslotted_few W now replies.Removed name (remove W name)
+one_at_most W now (Auto collection field) other = auto_few W now (pick (one_field collection field) W.store W.slots)
+one_at_most W now (Find index field ws) other = omega arith
+one_at_most W now (Ask ask) other = omega arith
+one_at_most W now (Pump max index) other = pump_for_few W max index
+one_at_most W now (Switch name) other = reslotted_few W now (replies.Switched (last W.store + 1)) name (switch W name)
+one_at_most W now Tidy other = absurd (other refl)
+one_at_most W now (Stale name cutoff) other = omega arith
+one_at_most W now Indexes other = omega arith
+one_at_most W now Stats other = omega arith
 
-pub few : (c : Course) (W : World) (now : ℕ) (request : Request) → c ≡ course_of W now request → length c.changes ≤ 1
-few c W now request is = subst (λ (d : Course). length d.changes ≤ 1) (sym is) (one_at_most W now request)
+pub few : (c : Course) (W : World) (now : ℕ) (request : Request) → request ≢ Tidy → c ≡ course_of W now request → length c.changes ≤ 1
+few c W now request other is = subst (λ (d : Course). length d.changes ≤ 1) (sym is) (one_at_most W now request other)

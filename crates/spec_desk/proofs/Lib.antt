@@ -1,5 +1,6 @@
 pub mod Later
 pub mod Keeping
+pub mod Parts
 pub mod Making
 pub mod Few
 pub mod Onwards

@@ -1,8 +1,8 @@
 -- Changes that are made one after another.
-use Rattle.std.proofs.Common.{◌≡◌, ℕ, ◌≤◌, List, [], ◌∷◌, Bool, true, false, map, refl, sym, ap, ◌∙◌, subst, arith, ◌⊎◌, inl, inr}
+use Rattle.std.proofs.Common.{◌≡◌, ◌≢◌, ℕ, ◌≤◌, List, [], ◌∷◌, Bool, true, false, map, refl, sym, ap, ◌∙◌, subst, arith, ◌⊎◌, inl, inr}
 use Rattle.spec_data.specs.Rows.{Row}
 use Rattle.spec_index.specs.World.{World}
-use Rattle.spec_server.specs.Machine.{Auto, Ask, Bulk, Change, Define, Delete, Do, Find, Get, Indexes, IsFromClient, Pump, Put, Remove, Replied, Request, Stale, Stats, course_of, is_taken, machine_of, made}
+use Rattle.spec_server.specs.Machine.{Auto, Ask, Bulk, Change, Define, Delete, Do, Find, Get, Indexes, IsFromClient, Pump, Put, Remove, Replied, Request, Stale, Stats, Switch, Tidy, course_of, is_taken, machine_of, made}
 use Rattle.spec_server.specs.Replies.{KeeperFault, Reply}
 use Rattle.spec_server.specs.Sound.{Has, LaterW, Sound}
 use Rattle.spec_server.specs.WellFormed.{IsWellFormed}
@@ -13,8 +13,9 @@ use Rattle.raven_ports.specs.Asking.{Asked, AskedOnce}
 use Rattle.raven_ports.specs.States.{KeeperState}
 use Rattle.spec_desk.specs.Keepers.{IsKept, Keeps}
 use Rattle.spec_desk.specs.Lived.{Follows, Lived, machine_in}
-use Rattle.spec_desk.specs.Stepped.{All, IsStep, Makes, MakesOne, MayMake, Settles, Stopped}
+use Rattle.spec_desk.specs.Stepped.{All, IsMadeInPart, IsStep, Makes, MakesOne, MayMake, Settles, Stays, Stopped}
 use Rattle.spec_desk.proofs.Later.{Follows-itself}
+use Rattle.spec_desk.proofs.Parts.{part_failed, part_more, part_none}
 
 -- ONE CHANGE MORE, IN FRONT
 
@@ -87,6 +88,8 @@ from_client (Auto collection field) h = tt
 from_client (Find index field words) h = tt
 from_client (Ask ask) h = tt
 from_client (Pump max index) h = tt
+from_client (Switch name) h = tt
+from_client Tidy h = tt
 from_client (Stale name cutoff) h = tt
 from_client Indexes h = tt
 from_client Stats h = tt
@@ -104,6 +107,7 @@ may_make now q x k formed = record {
 -- of all changes that were to be made on x, these are left on `here`
 pub record Going (x : Lived) (all left : List Change) (here : Lived) : Type 0 where
   pub leads : (due reply : Reply) (y : Lived) → Makes x.keeper.count left due here reply y → Makes x.keeper.count all due x reply y
+  pub parts : (y : Lived) → IsMadeInPart left here y → IsMadeInPart all x y
   pub rows : AreTheirRows here.world.store left
   pub sound : (c : Change) → Has left c → Sound c.world
   pub later : (c : Change) → Has left c → LaterW x.world c.world
@@ -112,6 +116,7 @@ pub record Going (x : Lived) (all left : List Change) (here : Lived) : Type 0 wh
 pub begins : (x : Lived) (all : List Change) → MayMake x all → Going x all all x
 begins x all may = record {
   leads = λ due reply y m. m;
+  parts = λ y m. m;
   rows = may.rows;
   sound = may.sound;
   later = may.later;
@@ -122,6 +127,7 @@ pub goes_on : (x : Lived) (all : List Change) (c : Change) (more : List Change) 
     → here.keeper.count ≤ z.keeper.count → Going x all more z
 goes_on x all c more here z g m n = record {
   leads = λ due reply y k. g.leads due reply y (makes_taken x.keeper.count c more due here z y reply m.kept m.world m.fronts k);
+  parts = λ y k. g.parts y (part_more c more here z y m.kept m.world k);
   rows = subst (λ (V : World). AreTheirRows V.store more) (sym m.world) g.rows.1;
   sound = λ d has. g.sound d (inr has);
   later = λ d has. g.later d (inr has);
@@ -139,3 +145,11 @@ pub stops : (x : Lived) (all : List Change) (c : Change) (more : List Change) (h
     → Settles all x (Stopped x.keeper.count y.keeper.count) y
 stops x all c more here y g m =
     λ due. g.leads due (KeeperFault x.keeper.count y.keeper.count) y (makes_failed x.keeper.count c more due here y m.kept m.world m.fronts)
+
+-- so only a part was made, if the keeper did not take the rows of the next change
+pub stops_part : (x : Lived) (all : List Change) (c : Change) (more : List Change) (here y : Lived) → Going x all (c ∷ more) here → MakesOne here c false y → IsMadeInPart all x y
+stops_part x all c more here y g m = g.parts y (part_failed c more here y m)
+
+-- or if memory ran out there
+pub lacks_part : (x : Lived) (all : List Change) (c : Change) (more : List Change) (here y : Lived) → Going x all (c ∷ more) here → c.rows ≢ [] → Stays here y → IsMadeInPart all x y
+lacks_part x all c more here y g some s = g.parts y (part_none c more here y some s)

@@ -2,7 +2,7 @@
 use Rattle.std.proofs.Common.{◌≡◌, ℕ, ◌+◌, ◌-◌, ◌==◌, List, [], ◌∷◌, Bool, true, false, Option, refl, sym, ◌∙◌, ap, subst, arith}
 use Rattle.std.specs.Prelude.{All, MatchBool, None}
 use Rattle.std.proofs.lemmas.List.Elements.{All-cons, All-nil, All-head, All-tail}
-use Rattle.spec_server.specs.Machine.{Pump, Request}
+use Rattle.spec_server.specs.Machine.{Pump, Request, Tidy}
 use Rattle.spec_server.specs.Replies.{Reply}
 use Rattle.spec_desk.specs.Keepers.{MayGive}
 use Rattle.spec_desk.specs.Lived.{Follows, Lived, Seen, etags, seen_of}
@@ -70,15 +70,16 @@ rests clock pump x none = record {
   now_made = omega arith;
 }
 
--- a batch for each index
-pub brings : (clock : Option ℕ) (pump : ℕ) (x y : Lived) (now : ℕ) (reply : Reply) → (pump == 0) ≡ false → MayGive clock now → IsStep now (Pump pump None) x reply y → Follows x y
-    → HasCaughtUp clock pump x (etags x) (y ∷ []) (etags y)
-brings clock pump x y now reply some may step later = record {
+-- a batch for each index, and then a Tidy
+pub brings : (clock : Option ℕ) (pump : ℕ) (x z y : Lived) (now then_at : ℕ) (pumped tidied : Reply) → (pump == 0) ≡ false → MayGive clock now → IsStep now (Pump pump None) x pumped z → Follows x z
+    → MayGive clock then_at → IsStep then_at Tidy z tidied y → Follows z y → HasCaughtUp clock pump x (etags x) (y ∷ []) (etags y)
+brings clock pump x z y now then_at pumped tidied some may step later may_then tidy goes = record {
   end = y;
-  caught_up = match_false (pump == 0) (y ≡ x) (MakesBatches clock pump x y) some (record { reply = reply; batch = (now, may, step) });
-  later = later;
+  caught_up = match_false (pump == 0) (y ≡ x) (MakesBatches clock pump x y) some
+      (record { pumped = pumped; between = z; batch = (now, may, step); tidied = tidied; tidy = (then_at, may_then, tidy) });
+  later = Follows-then x z y later goes;
   now_seen = refl;
-  now_made = let more = etags-more x y later in omega arith;
+  now_made = let more = etags-more x y (Follows-then x z y later goes) in omega arith;
 }
 
 -- of what a desk of one caller has seen

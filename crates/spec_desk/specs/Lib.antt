@@ -2,4 +2,5 @@ pub mod Keepers
 pub mod Lived
 pub mod Codes
 pub mod Stepped
+pub mod Publishing
 pub mod Receipts

@@ -1,8 +1,8 @@
 -- The value on which requests are answered, what a look takes away of it, and which of two is later.
-use Rattle.std.specs.Prelude.{◌≡◌, ℕ, ◌≤◌}
+use Rattle.std.specs.Prelude.{◌≡◌, ℕ, ◌≤◌, List}
 use Rattle.raven_ports.specs.States.{KeeperState}
 use Rattle.spec_index.specs.World.{World}
-use Rattle.spec_server.specs.Machine.{Machine, machine_of}
+use Rattle.spec_server.specs.Machine.{Held, Machine, machine_of}
 use Rattle.spec_server.specs.Sound.{LaterW}
 use Rattle.spec_store.specs.Store.{last}
 
@@ -18,6 +18,10 @@ lived W keeper fronts = record { world = W; keeper = keeper; fronts = fronts }
 -- its machine, of which no worker holds anything
 abbrev pub machine_in : Lived → Machine
 machine_in x = machine_of x.world
+
+-- and that of which workers hold these batches
+abbrev pub machine_with : Lived → List Held → Machine
+machine_with x held = record { world = x.world; held = held }
 
 -- the etag of the last row
 abbrev pub etags : Lived → ℕ

@@ -1,7 +1,7 @@
 -- What a desk gives for a request, and what it has then seen.
 use Rattle.std.specs.Prelude.{◌≡◌, ℕ, ◌+◌, ◌-◌, ◌≤◌, ◌==◌, List, [], ◌∷◌, length, All, Bool, false, if◌then◌else◌, IsTrue, Option, None, MatchBool}
 use Rattle.spec_query.specs.Query.{Ask as QueryAsk}
-use Rattle.spec_server.specs.Machine.{Request, Ask, Pump}
+use Rattle.spec_server.specs.Machine.{Request, Ask, Pump, Tidy}
 use Rattle.spec_server.specs.Replies.{Answer, Reply}
 use Rattle.spec_desk.specs.Lived.{Follows, Lived, Seen, etags, seen_of}
 use Rattle.spec_desk.specs.Stepped.{IsStepAt}
@@ -56,10 +56,13 @@ pub record IsTrueReceipt (Link : Lived → Lived → Type 0) (clock : Option ℕ
 
 -- AFTER A REQUEST
 
--- Each index catches up by one batch. Here is the place of the Tidy that is to follow the batches: it comes with the replacements of indexes.
+-- Each index catches up by one batch, and then a Tidy is made: what is fresh takes its name. Their replies are dropped, also that for a failed keeper.
 pub record MakesBatches (clock : Option ℕ) (pump : ℕ) (x y : Lived) : Type 0 where
-  pub reply : Reply
-  pub batch : IsStepAt clock (Pump pump None) x reply y
+  pub pumped : Reply
+  pub between : Lived
+  pub batch : IsStepAt clock (Pump pump None) x pumped between
+  pub tidied : Reply
+  pub tidy : IsStepAt clock Tidy between tidied y
 
 -- a desk whose batches have no rows leaves the value as it is
 abbrev pub CatchesUp : Option ℕ → ℕ → Lived → Lived → Type 0

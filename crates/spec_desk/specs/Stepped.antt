@@ -1,7 +1,10 @@
 -- One request, answered on one value.
-use Rattle.std.specs.Prelude.{◌≡◌, ℕ, List, [], ◌∷◌, Bool, if◌then◌else◌, Option, map}
+use Rattle.std.specs.Prelude.{◌≡◌, ◌≢◌, ℕ, List, [], ◌∷◌, ◌++◌, Bool, true, if◌then◌else◌, Option, map}
+use Rattle.spec_data.specs.Kept.{KeptRow}
 use Rattle.raven_ports.specs.Asking.{Asked}
-use Rattle.spec_server.specs.Machine.{Change, Do, Keeping, Replied, Request, made, step}
+use Rattle.raven_ports.specs.States.{KeeperState}
+use Rattle.spec_index.specs.World.{World}
+use Rattle.spec_server.specs.Machine.{Change, Do, Keeping, Replied, Request, is_taken, made, step, takes_after}
 use Rattle.spec_server.specs.Replies.{KeeperFault, Reply}
 use Rattle.spec_server.specs.Sound.{Has, LaterW, Sound}
 use Rattle.raven_laws.specs.Keeping.{AreTheirRows}
@@ -61,3 +64,38 @@ reply_after (Stopped before after) due = KeeperFault before after
 -- they were made so, whatever reply is due
 abbrev pub Settles : List Change → Lived → Settled → Lived → Type 0
 Settles changes x s y = (due : Reply) → Makes x.keeper.count changes due x (reply_after s due) y
+
+-- WHERE MEMORY RAN OUT
+
+-- y has the world of x, and its keeper holds what that of x held
+abbrev pub Stays : Lived → Lived → Type 0
+Stays x y = (y.world ≡ x.world) × (y.keeper.held ≡ x.keeper.held)
+
+-- the world after these changes, made of W one after another
+abbrev pub world_after : World → List Change → World
+world_after W [] = W
+world_after W (c ∷ more) = world_after c.world more
+
+-- the keeper took the rows of each of these changes
+abbrev pub AreTaken : List Bool → List Change → Type 0
+AreTaken takes [] = Unit {0}
+AreTaken takes (c ∷ more) = (is_taken takes c.rows ≡ true) × AreTaken (takes_after c.rows takes) more
+
+-- Of these changes of W only the first were made, one after another, and they stand: the keeper took their rows, and holds what it held then. The
+-- next, which has rows, was not made, and none after it.
+pub record MadeInPart (changes : List Change) (W : World) (keeper : KeeperState) (V : World) (held : Option (List KeptRow)) : Type 0 where
+  pub done : List Change
+  pub next : Change
+  pub left : List Change
+  pub split : changes ≡ done ++ next ∷ left
+  pub has_rows : next.rows ≢ []
+  pub takes : List Bool
+  pub reached : KeeperState
+  pub asked : Asked keeper reached takes (map (λ c. c.rows) done)
+  pub taken : AreTaken takes done
+  pub world : V ≡ world_after W done
+  pub holds : held ≡ reached.held
+
+-- so they were made on x, and y is left
+abbrev pub IsMadeInPart : List Change → Lived → Lived → Type 0
+IsMadeInPart changes x y = MadeInPart changes x.world x.keeper y.world y.keeper.held

@@ -6,7 +6,7 @@ use Rattle.spec_desk.specs.Lived.{Lived}
 use Rattle.spec_desk.specs.Stepped.{MakesOne}
 use Rattle.spec_desk.proofs.Keeping.{failed_held}
 use Rattle.spec_desk.proofs.Later.{Follows-then, stays-follows}
-use Rattle.spec_desk.proofs.Making.{Going, begins, ends, goes_on, stops}
+use Rattle.spec_desk.proofs.Making.{Going, begins, ends, goes_on, lacks_part, stops, stops_part}
 use Rattle.raven_desk.proofs.Changes.{nothing_left, on_err, stopped_as}
 use Rattle.raven_desk.proofs.live.Live.settle.Given.{Over}
 use Rattle.raven_desk.proofs.live.Live.settle.Goals as goal
@@ -20,8 +20,6 @@ loop-change-init g c =
     record {
       going = subst (λ (l : List Change). Going x all l x) (sym same) (begins x all c.requires.may);
       left = c.into_iter-change-iterator.ensures.into_iter_gives.1 ∙ c.args.changes.ok.0 ∙ ap length (sym same);
-      shorter = let e = ap length same in omega arith;
-      untouched = λ e. (refl, refl);
       counted = c.faults-before.ensures;
     }
 
@@ -38,13 +36,9 @@ loop-change-preserved g c =
     let here = c.loop-change.self in
     let z = c.make.new.self in
     let made = subst (λ taken. MakesOne here c.in-Some.change taken z) c.if-not-branch.false c.in_ok-make.ensures.made in
-    let more = ap length c.in-Some.ensures.steps.0 in
-    let short = c.loop-change.invariant.shorter in
     record {
       going = goes_on x c.args.changes.items c.in-Some.change (into_iter_items c.next.new.self) here z (going g (goal.at.loop-change-preserved g c).In-Some) made c.make.ensures.later;
       left = let was = c.loop-change.invariant.left in let gone = c.in-Some.ensures.steps.1 in omega arith;
-      shorter = omega arith;
-      untouched = λ all. absurd (omega arith);
       counted = c.loop-change.invariant.counted;
     }
 
@@ -57,3 +51,21 @@ returns-then-not-branch-clause-settled g c =
     let made = subst (λ taken. MakesOne here c.in-Some.change taken z) c.if-not-branch.true c.in_ok-make.ensures.made in
     stopped_as c.args.changes.items x z c.faults-before.result c.faults-after.result c.faults-before.ensures c.faults-after.ensures
     (stops x c.args.changes.items c.in-Some.change (into_iter_items c.next.new.self) here z (going g (goal.at.returns-then-not-branch-clause-settled g c).In-Some) made)
+
+pub returns-then-not-branch-clause-halted : goal.returns-then-not-branch-clause-halted
+returns-then-not-branch-clause-halted g c = λ halted.
+    let x = c.args.self.now in
+    let here = c.loop-change.self in
+    let z = c.make.new.self in
+    let made = subst (λ taken. MakesOne here c.in-Some.change taken z) c.if-not-branch.true c.in_ok-make.ensures.made in
+    stops_part x c.args.changes.items c.in-Some.change (into_iter_items c.next.new.self) here z (going g (goal.at.returns-then-not-branch-clause-halted g c).In-Some) made
+
+-- memory ran out
+pub returns-in_err-make-clause-lacks : goal.returns-in_err-make-clause-lacks
+returns-in_err-make-clause-lacks g c =
+    let x = c.args.self.now in
+    let here = c.loop-change.self in
+    let z = c.make.new.self in
+    on_err c.from_residual.result _
+    (lacks_part x c.args.changes.items c.in-Some.change (into_iter_items c.next.new.self) here z (going g (goal.at.returns-in_err-make-clause-lacks g c).In-Some)
+    c.in_err-make.ensures.asks c.in_err-make.ensures.err)

@@ -1,4 +1,4 @@
-use Rattle.std.proofs.Common.{◌≡◌, ◌≤◌, length}
+use Rattle.std.proofs.Common.{◌≡◌, length}
 use Rattle.std.specs.Vec.Iter.{into_iter_items, into_iter_len}
 use Rattle.spec_desk.proofs.Making.{Going}
 use Rattle.raven_desk.proofs.live.Live.settle.Given as goal
@@ -8,7 +8,5 @@ abbrev pub invariant-loop-change : goal.invariant-loop-change
 invariant-loop-change g l = record {
   going : Going l.fn.self l.fn.changes.items (into_iter_items l.change-iterator) l.self;
   left : into_iter_len l.change-iterator ≡ length (into_iter_items l.change-iterator);
-  shorter : length (into_iter_items l.change-iterator) ≤ length l.fn.changes.items;
-  untouched : length (into_iter_items l.change-iterator) ≡ length l.fn.changes.items → (l.self.world ≡ l.fn.self.world) × (l.self.keeper.held ≡ l.fn.self.keeper.held);
   counted : l.before ≡ l.fn.self.keeper.count;
 }
