@@ -7,6 +7,16 @@ use Rattle.raven_request.specs.RequestView.{request_view}
 use Rattle.raven_request.specs.declared.request.Request.{Request}
 use Rattle.spec_measure.specs.Requests.{definitions, index_texts}
 use Rattle.spec_server.specs.Machine as is
+use Rattle.spec_server.specs.WellFormed.{IsWellFormed}
+
+-- one request makes one change at most: any but a TIDY
+abbrev pub MakesOneChange : is.Request → Type 0
+MakesOneChange is.Tidy = ⊥
+MakesOneChange other = Unit {0}
+
+-- a request that a measurement may make
+abbrev pub MayBeMade : is.Request → Type 0
+MayBeMade q = IsWellFormed (is.Do q) × MakesOneChange q
 
 -- one request, or none
 abbrev pub requests_view : Option Request → List is.Request

@@ -4,12 +4,11 @@ ghost use Rattle.raven_measure.specs.Defining.{IsDefining};
 ghost use Rattle.spec_measure.specs.Requests.{index_name as spec_index_name};
 
 use index_definition::LangRefusal;
-use index_lang::parse;
+use index_lang::parse_texts;
 use raven_base::NoMemory;
 use raven_request::Request;
 use raven_value::{IdRefusal, Name};
 use std::alloc::Global;
-use std::sync::Arc;
 
 /// The name of the index.
 pub const INDEX: &str = "Orders/ByCompanyMonth";
@@ -35,11 +34,8 @@ pub fn index_name(alloc: Global) -> Result<Name, NoMemory>
 pub fn defining(alloc: Global) -> Result<Option<Request>, NoMemory>
     ensures { IfOk result IsDefining }
 {
-    match parse(alloc, index_name(alloc)?, MAP, Some(REDUCE)) {
-        Ok(definition) => {
-            let definition = Arc::new(alloc, definition)?;
-            Ok(Some(Request::Define { definition }))
-        }
+    match parse_texts(alloc, index_name(alloc)?, MAP, Some(REDUCE)) {
+        Ok(definition) => Ok(Some(Request::Define { definition })),
         Err(LangRefusal::At { .. }) => Ok(None),
         Err(LangRefusal::NoMemory) => Err(NoMemory),
     }

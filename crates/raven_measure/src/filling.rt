@@ -4,10 +4,9 @@ ghost use Rattle.spec_store.specs.Commit.{AnyVector};
 ghost use Rattle.spec_measure.specs.Draws.{draw, next};
 ghost use Rattle.spec_measure.specs.Orders.{order as spec_order, order_id as spec_order_id};
 ghost use Rattle.spec_measure.specs.Requests.{batches as spec_batches, deletions, pumping as spec_pumping, requests, requests_with};
-ghost use Rattle.spec_server.specs.Machine.{Delete, Do, Put};
-ghost use Rattle.spec_server.specs.WellFormed.{IsWellFormed};
+ghost use Rattle.spec_server.specs.Machine.{Delete, Put};
 ghost use Rattle.raven_request.specs.RequestView.{request_view};
-ghost use Rattle.raven_measure.specs.Defining.{requests_view};
+ghost use Rattle.raven_measure.specs.Defining.{MayBeMade, requests_view};
 ghost use Rattle.raven_measure.specs.Doing.{Does, Stops};
 ghost use Rattle.raven_measure.specs.OptionsView.{options_view};
 
@@ -128,7 +127,7 @@ impl<K: Keeper> Measured<K> {
         clock: &C,
         definition: Option<Request>,
     ) -> Result<(), Stop>
-        requires formed { IfSome definition (λ request. IsWellFormed (Do (request_view request))) }
+        requires formed { IfSome definition (λ request. MayBeMade (request_view request)) }
         requires room { self.old.moved + 1 < 2 ^ 64 }
         ensures done { OnOk result (Does (C.moment clock.now) self.old (requests_view definition) self.new) }
         ensures stopped { IfErr result (Stops (C.moment clock.now) self.old (requests_view definition) self.new) }
@@ -148,7 +147,7 @@ impl<K: Keeper> Measured<K> {
         options: Options,
         definition: Option<Request>,
     ) -> Result<(), Stop>
-        requires formed { IfSome definition (λ request. IsWellFormed (Do (request_view request))) }
+        requires formed { IfSome definition (λ request. MayBeMade (request_view request)) }
         requires none { self.old.moved ≡ 0 }
         ensures done { OnOk result (Does (C.moment clock.now) self.old (requests_view definition ++ requests (options_view options) options.docs) self.new) }
         ensures stopped { IfErr result (Stops (C.moment clock.now) self.old (requests_view definition ++ requests (options_view options) options.docs) self.new) }

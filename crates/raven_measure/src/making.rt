@@ -7,8 +7,7 @@ ghost use Rattle.raven_request.specs.RequestView.{request_view};
 ghost use Rattle.spec_desk.specs.Keepers.{Keeps};
 ghost use Rattle.spec_desk.specs.Lived.{machine_in};
 ghost use Rattle.spec_measure.specs.Summary.{is_moving as spec_is_moving};
-ghost use Rattle.spec_server.specs.Machine.{Do};
-ghost use Rattle.spec_server.specs.WellFormed.{IsWellFormed};
+ghost use Rattle.raven_measure.specs.Defining.{MayBeMade};
 ghost use Rattle.spec_store.specs.Store.{last};
 
 use raven_base::NoMemory;
@@ -127,7 +126,7 @@ impl<K: Keeper> Measured<K> {
         clock: &C,
         request: Request,
     ) -> Result<(), Stop>
-        requires formed { IsWellFormed (Do (request_view request)) }
+        requires formed { MayBeMade (request_view request) }
         requires room { self.old.moved + 1 < 2 ^ 64 }
         ensures done { OnOk result (Does (C.moment clock.now) self.old (request_view request ∷ []) self.new) }
         ensures stopped { IfErr result (Stops (C.moment clock.now) self.old (request_view request ∷ []) self.new) }

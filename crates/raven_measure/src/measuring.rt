@@ -1,12 +1,10 @@
 //! The command.
 ghost use Rattle.std.specs.Prelude.{◌≡◌, IfErr, IfOk, IfSome, OnOk};
-ghost use Rattle.spec_server.specs.Machine.{Do};
-ghost use Rattle.spec_server.specs.WellFormed.{IsWellFormed};
 ghost use Rattle.spec_desk.specs.Keepers.{Keeps};
 ghost use Rattle.spec_desk.specs.Lived.{machine_in};
 ghost use Rattle.raven_desk.specs.Openings.{Loads};
 ghost use Rattle.raven_request.specs.RequestView.{request_view};
-ghost use Rattle.raven_measure.specs.Defining.{requests_view};
+ghost use Rattle.raven_measure.specs.Defining.{MayBeMade, requests_view};
 ghost use Rattle.raven_measure.specs.Doing.{Measures, StopsMeasuring};
 ghost use Rattle.raven_measure.specs.Ends.{IsRefused, IsUnmeasured, MeasuresRightly, end_of_load, end_of_stop};
 ghost use Rattle.raven_measure.specs.Measures.{Begins, ends_of};
@@ -68,7 +66,7 @@ impl<K: Keeper> Measured<K> {
         options: Options,
         definition: Option<Request>,
     ) -> Result<(), Stop>
-        requires formed { IfSome definition (λ request. IsWellFormed (Do (request_view request))) }
+        requires formed { IfSome definition (λ request. MayBeMade (request_view request)) }
         requires none { self.old.moved ≡ 0 }
         ensures done { OnOk result (Measures (C.moment clock.now) (options_view options) (requests_view definition) self.old self.new) }
         ensures stopped { IfErr result (StopsMeasuring (C.moment clock.now) (options_view options) (requests_view definition) self.old self.new) }

@@ -10,12 +10,13 @@ use Rattle.spec_server.specs.Options.{setting_with}
 use Rattle.doc_keeper.specs.declared.loading.LoadFault.{LoadFault}
 use Rattle.doc_keeper.specs.declared.loading.LoadFault.TheVariants as load
 use Rattle.spec_desk.specs.Keepers.{Keeps}
-use Rattle.spec_desk.specs.Lived.{Lived, machine_in}
+use Rattle.spec_desk.specs.Lived.{Lived, machine_in, machine_with}
 use Rattle.raven_desk.specs.Openings.{Loads, NamesBadRow, Opens}
 use Rattle.raven_run.specs.declared.run_end.RunEnd.{RunEnd}
 use Rattle.raven_run.specs.declared.run_end.RunEnd.TheVariants as is
 use Rattle.raven_run.specs.Answers.{Answers, ServerState, StopsBefore, StopsIn, StopsShort, state_in, state_of}
 use Rattle.raven_run.specs.Ends.{ComesAfterReading, IsUnread, RunsRightly, end_answered, end_unopened}
+use Rattle.raven_run.specs.Holding.{NamedBatch, all_held}
 use Rattle.raven_run.specs.Input.{IsRead, TakesMore, TakesWithin}
 use Rattle.raven_run.specs.Runs.{FailsToLoad, Finished, HasNoFault, HoldsSame, IsKeptBad, IsValid, LinesRan, Run, Stopped, StoppedEarly}
 use Rattle.raven_run.proofs.Completes.{not_bad, not_more}
@@ -168,38 +169,51 @@ the_input : (left after : Option (List ℕ)) (script : List ℕ) → IfSome left
 the_input None after script h = tt
 the_input (Some l) after script h = h.0
 
-ran : (run : Run) (Happened : Option ℕ → List ℕ → ServerState → ServerState → Type 0) (script : List ℕ) (x y : Lived) → HasBegun run script x → HasEnded run y
-    → Happened run.clock script (state_in x run.before.output) (state_in y run.after.output) → LinesRan run Happened
-ran run Happened script x y h k a = record {
+ran : (run : Run) (Happened : Option ℕ → List ℕ → ServerState → ServerState → Type 0) (script : List ℕ) (x y : Lived) (left : List NamedBatch) → HasBegun run script x → HasEnded run y
+    → Happened run.clock script (state_in x [] run.before.output) (state_in y left run.after.output) → LinesRan run Happened
+ran run Happened script x y left h k a = record {
   script = script;
   input = the_input run.before.input.left run.after.input.left script h.all;
   within = h.size;
   begun = x.keeper;
   first = machine_in x;
-  last = machine_in y;
+  last = machine_with y (all_held left);
   begins = record { opens = h.opens; loads = h.loads };
-  happened = subst (λ (s : KeeperState). Happened run.clock script (state_in x run.before.output) (state_of (machine_in y) s run.after.output)) (sym k.keeper) a;
+  happened = subst (λ (s : KeeperState). Happened run.clock script (state_in x [] run.before.output) (state_of (machine_with y (all_held left)) s run.after.output)) (sym k.keeper) a;
   holds = k.keeps.holds;
 }
 
-short : (run : Run) (script : List ℕ) (x y : Lived) → HasBegun run script x → HasEnded run y → StopsShort run.clock script (state_in x run.before.output) (state_in y run.after.output) → Short run
-short run script x y h k (inl a) = inl (ran run StopsBefore script x y h k a)
-short run script x y h k (inr a) = inr (ran run StopsIn script x y h k a)
+short : (run : Run) (script : List ℕ) (x y : Lived) (left : List NamedBatch) → HasBegun run script x → HasEnded run y → StopsShort run.clock script (state_in x [] run.before.output) (state_in y left run.after.output) → Short run
+short run script x y left h k (inl a) = inl (ran run StopsBefore script x y left h k a)
+short run script x y left h k (inr a) = inr (ran run StopsIn script x y left h k a)
 
-pub ends_answered : (run : Run) (script : List ℕ) (x y : Lived) (answered : Result (Unit {0}) SinkFault) (e : RunEnd) → e ≡ end_answered answered → HasBegun run script x → HasEnded run y
-    → OnOk answered (Answers run.clock script (state_in x run.before.output) (state_in y run.after.output))
-    → (IsErrOf answered sink.Failed → StopsIn run.clock script (state_in x run.before.output) (state_in y run.after.output))
-    → (IsErrOf answered sink.NoMemory → StopsShort run.clock script (state_in x run.before.output) (state_in y run.after.output))
+pub ends_answered : (run : Run) (script : List ℕ) (x y : Lived) (left : List NamedBatch) (answered : Result (Unit {0}) SinkFault) (e : RunEnd) → e ≡ end_answered answered → HasBegun run script x → HasEnded run y
+    → OnOk answered (Answers run.clock script (state_in x [] run.before.output) (state_in y left run.after.output))
+    → (IsErrOf answered sink.Failed → StopsIn run.clock script (state_in x [] run.before.output) (state_in y left run.after.output))
+    → (IsErrOf answered sink.NoMemory → StopsShort run.clock script (state_in x [] run.before.output) (state_in y left run.after.output))
     → (IsErrOf answered sink.Failed → Rose run.before.output.faults run.after.output.faults) → RunsRightly e run
-ends_answered run script x y answered e same h k all stops lacks rose = subst (λ (z : RunEnd). RunsRightly z run) (sym same) (by answered all stops lacks rose)
+ends_answered run script x y left answered e same h k all stops lacks rose = subst (λ (z : RunEnd). RunsRightly z run) (sym same) (by answered all stops lacks rose)
   where
     read : Read run
     read = was_read run.before.input.left run.after.input.left script h.all h.size
 
-    by : (r : Result (Unit {0}) SinkFault) → OnOk r (Answers run.clock script (state_in x run.before.output) (state_in y run.after.output))
-        → (IsErrOf r sink.Failed → StopsIn run.clock script (state_in x run.before.output) (state_in y run.after.output))
-        → (IsErrOf r sink.NoMemory → StopsShort run.clock script (state_in x run.before.output) (state_in y run.after.output))
+    by : (r : Result (Unit {0}) SinkFault) → OnOk r (Answers run.clock script (state_in x [] run.before.output) (state_in y left run.after.output))
+        → (IsErrOf r sink.Failed → StopsIn run.clock script (state_in x [] run.before.output) (state_in y left run.after.output))
+        → (IsErrOf r sink.NoMemory → StopsShort run.clock script (state_in x [] run.before.output) (state_in y left run.after.output))
         → (IsErrOf r sink.Failed → Rose run.before.output.faults run.after.output.faults) → RunsRightly (end_answered r) run
-    by (Ok done) all stops lacks rose = ends_as run is.Done (read, ran run Answers script x y h k all)
-    by (Err sink.Failed) all stops lacks rose = ends_as run is.WriteFault (rose refl, read, ran run StopsIn script x y h k (stops refl))
-    by (Err sink.NoMemory) all stops lacks rose = ends_as run is.NoMemory (inr (short run script x y h k (lacks refl)))
+    by (Ok done) all stops lacks rose = ends_as run is.Done (read, ran run Answers script x y left h k all)
+    by (Err sink.Failed) all stops lacks rose = ends_as run is.WriteFault (rose refl, read, ran run StopsIn script x y left h k (stops refl))
+    by (Err sink.NoMemory) all stops lacks rose = ends_as run is.NoMemory (inr (short run script x y left h k (lacks refl)))
+
+-- while nobody holds anything
+pub ends_idle : (run : Run) (script : List ℕ) (x y : Lived) (idle left : List NamedBatch) (answered : Result (Unit {0}) SinkFault) (e : RunEnd) → idle ≡ [] → e ≡ end_answered answered → HasBegun run script x
+    → HasEnded run y → OnOk answered (Answers run.clock script (state_in x idle run.before.output) (state_in y left run.after.output))
+    → (IsErrOf answered sink.Failed → StopsIn run.clock script (state_in x idle run.before.output) (state_in y left run.after.output))
+    → (IsErrOf answered sink.NoMemory → StopsShort run.clock script (state_in x idle run.before.output) (state_in y left run.after.output))
+    → (IsErrOf answered sink.Failed → Rose run.before.output.faults run.after.output.faults) → RunsRightly e run
+ends_idle run script x y idle left answered e is same h k all stops lacks rose =
+    ends_answered run script x y left answered e same h k
+    (subst (λ (w : List NamedBatch). OnOk answered (Answers run.clock script (state_in x w run.before.output) (state_in y left run.after.output))) is all)
+    (λ f. subst (λ (w : List NamedBatch). StopsIn run.clock script (state_in x w run.before.output) (state_in y left run.after.output)) is (stops f))
+    (λ f. subst (λ (w : List NamedBatch). StopsShort run.clock script (state_in x w run.before.output) (state_in y left run.after.output)) is (lacks f))
+    rose

@@ -1,6 +1,8 @@
 pub mod LineLemmas
 pub mod Answered
 pub mod Performed
+pub mod Waiting
+pub mod Worked
 pub mod Runs
 pub mod Completes
 pub mod Truth

@@ -8,7 +8,7 @@ use Rattle.raven_ports.specs.States.{KeeperState, SinkState}
 use Rattle.spec_server.specs.Lines.{lines}
 use Rattle.spec_server.specs.Machine.{Machine}
 use Rattle.spec_server.specs.Script.{Given, reply_to, replies_to, after_line, after_lines}
-use Rattle.raven_run.specs.Answering.{IsAnswered}
+use Rattle.raven_run.specs.Answering.{IsAnswered, IsCutAt}
 use Rattle.spec_desk.specs.Keepers.{MayGive}
 use Rattle.raven_run.specs.Devices.{AreGiven, IsGiven, given, rows_in}
 use Rattle.raven_desk.specs.Giving.{GivesPrefix}
@@ -105,18 +105,19 @@ stops_in clock script before at after rest line more moment reply h l a k =
       executed = a.answer.machine ∙ ap (after_line g) h.left ∙ sym (after_lines-after h.done g M);
     }
 
-pub stops_before : (clock : Option ℕ) (script : List ℕ) (before at after : ServerState) (rest line : List ℕ) (more : List (List ℕ)) → HasRun clock script before at rest → lines rest ≡ line ∷ more
-    → after.keeper.held ≡ at.keeper.held → after.output ≡ at.output → after.machine ≡ at.machine → StopsBefore clock script before after
-stops_before clock script before at after rest line more h l s w m = record {
+pub stops_before : (clock : Option ℕ) (script : List ℕ) (before at after : ServerState) (rest line : List ℕ) (more : List (List ℕ)) (moment : ℕ) → HasRun clock script before at rest
+    → lines rest ≡ line ∷ more → MayGive clock moment → IsCutAt line moment at.machine at.keeper after.machine after.keeper.held → after.output ≡ at.output → StopsBefore clock script before after
+stops_before clock script before at after rest line more moment h l m cut w = record {
   done = h.done;
   line = line;
   more = more;
   split = h.split ∙ ap (λ z. texts_of h.done ++ z) l;
   reached = at.keeper;
   given = h.given;
-  same = s;
+  now = moment;
+  moment = m;
+  cut = subst (λ (M : Machine). IsCutAt line moment M at.keeper after.machine after.keeper.held) h.left cut;
   written = ap (λ (z : SinkState). z.held) w ∙ h.written;
-  executed = m ∙ h.left;
 }
 
 pub ruleset steps = (starts, answered, runs_on, runs_out)

@@ -1,13 +1,15 @@
 -- What is answered to a line.
-use Rattle.std.specs.Prelude.{◌≡◌, ℕ, List, Bool}
+use Rattle.std.specs.Prelude.{◌≡◌, ℕ, List, Bool, Option, Some, Ok, ◌⊎◌}
+use Rattle.spec_data.specs.Kept.{KeptRow}
 use Rattle.raven_ports.specs.Asking.{Asked}
 use Rattle.raven_ports.specs.States.{KeeperState}
-use Rattle.spec_server.specs.Machine.{Machine, Request}
+use Rattle.spec_server.specs.Machine.{Course, Do, Line, Machine, Request, Tidy, course_of, step}
 use Rattle.spec_server.specs.Replies.{Reply, printed}
 use Rattle.spec_server.specs.Script.{LineRead, after_line, reply_to}
 use Rattle.raven_lines.specs.Lines.{IsLine}
+use Rattle.spec_desk.specs.Keepers.{keeping, rows_of}
 use Rattle.spec_desk.specs.Lived.{Lived}
-use Rattle.spec_desk.specs.Stepped.{IsStep}
+use Rattle.spec_desk.specs.Stepped.{IsStep, MadeInPart, Makes}
 use Rattle.raven_run.specs.Devices.{given, rows_in}
 
 -- the line has a meaning, its reply is this text, the keeper was asked for the rows of its changes, and the machine is that after it
@@ -19,8 +21,37 @@ pub record IsAnswered (line : List ℕ) (now : ℕ) (before after : KeeperState)
   pub machine : N ≡ after_line (given line read now takes before after) M
   pub asked : Asked before after takes (rows_in M now read)
 
+-- this was done: the keeper was asked for the rows of its changes, its reply is printed as this text, and the machine is that after it
+pub record IsHandled (line : Line) (now : ℕ) (before after : KeeperState) (M N : Machine) (text : List ℕ) : Type 0 where
+  pub takes : List Bool
+  pub asked : Asked before after takes (rows_of M now line)
+  pub reply : text ≡ printed (step M (keeping takes before after) now line).reply
+  pub machine : N ≡ (step M (keeping takes before after) now line).machine
+
 -- the step of a request, whose reply is printed as this text
 pub record IsPerformed (request : Request) (now : ℕ) (before after : Lived) (text : List ℕ) : Type 0 where
   pub reply : Reply
   pub step : IsStep now request before reply after
   pub written : text ≡ printed reply
+
+-- the changes of a course were made on x up to the first whose rows the keeper did not take, y is left, and the reply is printed as this text
+pub record IsSettled (course : Course) (x y : Lived) (text : List ℕ) : Type 0 where
+  pub reply : Reply
+  pub makes : Makes x.keeper.count course.changes course.reply x reply y
+  pub written : text ≡ printed reply
+
+-- WITHOUT A REPLY, since memory ran out
+
+-- it is a TIDY, and only the first of its changes were made: they stand, and the keeper holds their rows
+pub record TidiesInPart (IsTidy : Type 0) (now : ℕ) (M : Machine) (keeper : KeeperState) (N : Machine) (held : Option (List KeptRow)) : Type 0 where
+  pub tidies : IsTidy
+  pub part : MadeInPart (course_of M.world now Tidy).changes M.world keeper N.world held
+  pub workers : N.held ≡ M.held
+
+-- The machine is as it was and the keeper holds what it held, unless it is a TIDY: of that a part may have been made.
+abbrev pub IsCut : Type 0 → ℕ → Machine → KeeperState → Machine → Option (List KeptRow) → Type 0
+IsCut IsTidy now M keeper N held = ((N ≡ M) × (held ≡ keeper.held)) ⊎ TidiesInPart IsTidy now M keeper N held
+
+-- so of a line
+abbrev pub IsCutAt : List ℕ → ℕ → Machine → KeeperState → Machine → Option (List KeptRow) → Type 0
+IsCutAt line now M keeper N held = IsCut (IsLine line (Ok (Some (Do Tidy)))) now M keeper N held

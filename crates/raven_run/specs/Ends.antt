@@ -34,7 +34,7 @@ pub record RunsRightly (end : RunEnd) (run : Run) : Type 0 where
   pub read : ComesAfterReading end → IsRead run.before.input.left run.after.input.left
   -- the replies end in one of them, and no later line was executed
   pub stopped : end ≡ WriteFault → Stopped run
-  -- nothing was written and stored, or it stopped before one of the lines, or at its reply
+  -- nothing was written and stored, or it stopped before the reply to one of the lines, or at it
   pub memory : end ≡ NoMemory → HoldsSame run ⊎ (StoppedEarly run ⊎ Stopped run)
   -- one byte more than may be read was taken of the input
   pub too_large : end ≡ InputTooLarge → TakesMore run.before.input.left run.after.input.left

@@ -1,6 +1,7 @@
 pub mod LineEnds
 pub mod Input
 pub mod Devices
+pub mod Holding
 pub mod Answering
 pub mod Answers
 pub mod Runs

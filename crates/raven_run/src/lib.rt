@@ -3,9 +3,12 @@
 
 mod answering;
 mod lines;
+mod printing;
 mod read;
 mod run_end;
 mod running;
+mod workers;
+mod working;
 
 pub use run_end::RunEnd;
 pub use running::{Ran, run};

@@ -24,6 +24,7 @@ pub enum RunEnd {
     /// The input has more than 16,777,216 bytes. Nothing was written.
     InputTooLarge,
 
-    /// Memory ran out. The replies to all earlier lines are whole.
+    /// Memory ran out, which ends the run. The replies to all earlier lines are whole. The line that found none did nothing, but the first changes
+    /// of a TIDY may stand. A PUBLISH that found none published nothing.
     NoMemory,
 }

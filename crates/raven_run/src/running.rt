@@ -6,6 +6,7 @@ ghost use Rattle.raven_run.specs.Runs.{devices_of};
 use crate::answering::answer_lines;
 use crate::read::read_all;
 use crate::run_end::RunEnd;
+use crate::workers::Workers;
 use doc_keeper::LoadFault;
 use doc_txn::BaseId;
 use raven_desk::{Live, Unopened};
@@ -74,7 +75,8 @@ pub fn run<R: Threads, S: Source, O: Sink, K: Keeper, C: Clock>(
             return Ran { end, keeper };
         }
     };
-    let answered = answer_lines(rt, alloc, &mut live, clock, &script, output);
+    let mut workers = Workers::idle(alloc);
+    let answered = answer_lines(rt, alloc, &mut live, &mut workers, clock, &script, output);
     let end = end_answered(answered);
     let keeper = live.into_keeper();
     Ran { end, keeper }

@@ -6,14 +6,14 @@ use Rattle.raven_run.proofs.answering.answer_lines.Goals as goal
 
 pub returns-in-Err-clause-stopped : goal.returns-in-Err-clause-stopped
 returns-in-Err-clause-stopped g c = λ _.
-    let after = state_in c.answer.new.live (g.O.Sink.state c.give_all.new.sink) in
+    let after = state_in c.answer.new.live c.answer.new.workers (g.O.Sink.state c.give_all.new.sink) in
     stops_in _ _ _ _ after _ _ _ _ _ c.loop-rest.invariant.ran c.next_line.ensures.line
     (answered _ _ after _ _ _ c.now-now.ensures.below c.now-now.ensures.still (subst (IsAnswered _ _ _ _ _ _) (sym c.deref.ensures.value) c.in-Ok.ensures.answered))
     c.in-Err.ensures.err
 
 pub returns-in-Err-clause-memory : goal.returns-in-Err-clause-memory
 returns-in-Err-clause-memory g c = λ _.
-    let after = state_in c.answer.new.live (g.O.Sink.state c.give_all.new.sink) in
+    let after = state_in c.answer.new.live c.answer.new.workers (g.O.Sink.state c.give_all.new.sink) in
     inr
     (stops_in _ _ _ _ after _ _ _ _ _ c.loop-rest.invariant.ran c.next_line.ensures.line
     (answered _ _ after _ _ _ c.now-now.ensures.below c.now-now.ensures.still (subst (IsAnswered _ _ _ _ _ _) (sym c.deref.ensures.value) c.in-Ok.ensures.answered))
@@ -21,10 +21,11 @@ returns-in-Err-clause-memory g c = λ _.
 
 pub loop-rest-preserved : goal.loop-rest-preserved
 loop-rest-preserved g c =
-    let after = state_in c.answer.new.live (g.O.Sink.state c.give_all.new.sink) in
+    let after = state_in c.answer.new.live c.answer.new.workers (g.O.Sink.state c.give_all.new.sink) in
     record {
       ran = runs_on _ _ _ _ after _ _ _ _ _ c.loop-rest.invariant.ran c.next_line.ensures.line
           (answered _ _ after _ _ _ c.now-now.ensures.below c.now-now.ensures.still (subst (IsAnswered _ _ _ _ _ _) (sym c.deref.ensures.value) c.in-Ok.ensures.answered))
           c.in_default-give_all.ensures.ok;
+      waits = c.answer.ensures.waits;
       later = let a = c.loop-rest.invariant.later in let b = c.give_all.ensures.later in omega arith;
     }

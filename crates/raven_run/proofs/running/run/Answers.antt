@@ -1,5 +1,5 @@
 use Rattle.std.proofs.Common.{Err, ap, refl}
-use Rattle.raven_run.proofs.Ended.{ends_answered, ends_unopened, ends_unread, has_begun}
+use Rattle.raven_run.proofs.Ended.{ends_idle, ends_unopened, ends_unread, has_begun}
 use Rattle.raven_run.proofs.running.run.Goals as goal
 
 pub returns-in-Err-clause-ends : goal.returns-in-Err-clause-ends
@@ -15,7 +15,7 @@ returns-in-Err-open-clause-ends g c =
 pub returns-clause-ends : goal.returns-clause-ends
 returns-clause-ends g c =
     let lines = c.answer_lines-answered.ensures in
-    ends_answered _ c.deref.result.now c.in-Ok-open.live c.answer_lines-answered.new.live _ _ c.end_answered-end.ensures
+    ends_idle _ c.deref.result.now c.in-Ok-open.live c.answer_lines-answered.new.live c.idle-workers.result c.answer_lines-answered.new.workers _ _ c.idle-workers.ensures c.end_answered-end.ensures
     (has_begun _ c.in-Ok.script.items _ _ c.deref.ensures.value c.in-Ok.ensures.all c.in-Ok.ensures.size c.in-Ok-open.ensures.opens c.in-Ok-open.ensures.loads)
     (record { keeper = c.into_keeper-keeper.ensures.keeper; keeps = c.into_keeper-keeper.ensures.keeps })
     lines.answered lines.stopped lines.memory lines.cause

@@ -10,7 +10,7 @@ use Rattle.spec_measure.specs.Summary.{one_if}
 use Rattle.raven_measure.specs.Doing.{Does, State, Stops}
 use Rattle.raven_measure.specs.declared.making.Stop.TheVariants.{Kept, NoMemory as OutOfMemory}
 use Rattle.raven_measure.proofs.Doing.{stops_at_once, stops_one}
-use Rattle.raven_measure.proofs.Settled.{as_one, does_settled, few_changes, not_taken}
+use Rattle.raven_measure.proofs.Settled.{as_one, does_settled, not_made, not_taken}
 use Rattle.raven_measure.proofs.making.Measured.make.Goals as goal
 
 pub returns-in_err-reply-clause-stopped : goal.returns-in_err-reply-clause-stopped
@@ -25,7 +25,7 @@ returns-in_err-settle-clause-stopped g c =
     let x = c.self.inside.live in
     let n = c.self.inside.batches in
     let q = request_view c.args.request in
-    let same = c.in_err-settle.ensures.alone (few_changes x.world c.now.result q (course_view c.in_ok-reply.field-0) c.in_ok-reply.ensures.course) in
+    let same = not_made x c.settle.new.self c.now.result q (course_view c.in_ok-reply.field-0) c.requires.formed c.in_ok-reply.ensures.course c.in_err-settle.ensures.lacks in
     rw (p.1, p.2) (subst (λ (s : State). Stops clock s (q ∷ []) (record { live = c.settle.new.self; moved = n }) OutOfMemory) c.self.view_is
     (stops_one clock (record { live = x; moved = n }) (record { live = c.settle.new.self; moved = n }) q OutOfMemory same.0 same.1 (λ kept. absurd cc)))
 
@@ -38,7 +38,7 @@ returns-clause-stopped g c =
     let q = request_view c.args.request in
     let course = course_view c.in_ok-reply.field-0 in
     let settled = subst (λ (s : program.Settled). Settles course.changes x (settled_view s) y) c.in-Stopped.is c.in_ok-settle.ensures.settled in
-    let same = c.in_ok-settle.ensures.halted (rw c.in-Stopped.is tt) (few_changes x.world c.now.result q course c.in_ok-reply.ensures.course) in
+    let same = not_made x y c.now.result q course c.requires.formed c.in_ok-reply.ensures.course (c.in_ok-settle.ensures.halted (rw c.in-Stopped.is tt)) in
     let given : MayGive clock c.now.result = record { below = c.now.ensures.below; still = c.now.ensures.still } in
     subst (λ (s : State). Stops clock s (q ∷ []) (record { live = y; moved = n }) Kept) c.self.view_is
     (stops_one clock (record { live = x; moved = n }) (record { live = y; moved = n }) q Kept same.0 same.1
