@@ -2,11 +2,11 @@
 """Answers a script as `raven run` has to, or a session as `raven http` has to: a small model, written from the rules and not from the
 program. It stores nothing.
 
-    tools/model.py [--stage side-by-side] [--stage optimiser] [--id BASE] < SCRIPT
+    tools/model.py [--stage optimiser] [--id BASE] < SCRIPT
     tools/model.py --http [--stage ..] [--db NAME] [--id BASE] [--pump N] < BYTES
 
 It writes the replies, or the responses, and ends with the number of the status. With --stage it also answers what the program does
-not have yet: replacements of indexes and batches that are held, or queries that choose an index.
+not have yet: queries that choose an index.
 """
 
 import argparse

@@ -284,7 +284,7 @@ def test_answers_that_are_fresh() -> None:
 # What the program does not have yet
 
 
-FULL = model.Stage(side_by_side=True, optimiser=True)
+FULL = model.Stage(optimiser=True)
 
 
 def answer_of(name: str, etag: int, is_stale: bool, results: str, total: int) -> bytes:

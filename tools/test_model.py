@@ -97,7 +97,7 @@ TOTALS = """
 "Entries":2,"Errors":0,"Etag":3,"IsStale":false,"Name":"T"}]}
 < {"At":0,"Error":"FieldsDiffer","Part":"Reduce"}
 < {"At":76,"Error":"NotReducible","Part":"Reduce"}
-< {"Error":"UnknownLine"}
+< {"Index":"ReplacementOf/T"}
 """
 
 # Definition rows may be loaded too. Then each definition and removal counts, also those of the index itself.
@@ -289,12 +289,12 @@ def test_names():
 
 
 def test_places_of_indexes():
-    """A place that a removal leaves is free again. Another definition under a live name is reported before the limit."""
+    """A place that a removal leaves is free again. Another definition under a live name needs one too."""
     autos = [f"AUTO c{number} F" for number in range(model.MAX_SLOTS)]
     index = 'INDEX {"Map":"from u in docs.U select new { u.%s }","Name":"N"}'
     unknown, full, made = {"Error": "UnknownLine"}, {"Error": "TooManyIndexes"}, {"Index": "N"}
     more = [("AUTO more F", full), ("AUTO c0 F", {"Index": "Auto/c0/ByF"}), ("AUTO c0 G", unknown), (index % "A", full)]
-    more += [("DROP Auto/c7/ByF", {"Removed": "Auto/c7/ByF"}), (index % "A", made), (index % "B", unknown), (index % "A", made)]
+    more += [("DROP Auto/c7/ByF", {"Removed": "Auto/c7/ByF"}), (index % "A", made), (index % "B", full), (index % "A", made)]
     more += [("AUTO more F", full)]
     assert replies_of(*autos, *(line for line, _ in more))[len(autos) :] == [reply for _, reply in more]
 

@@ -17,23 +17,22 @@ from raven_tools.model import keeping, opening
 from raven_tools.transcripts import holds, replies_of
 
 CHOOSING = model.Stage(optimiser=True)
-BOTH = model.Stage(side_by_side=True, optimiser=True)
 LAST = model.MAX_ETAG
 
 
-def database(stage: model.Stage = CHOOSING) -> model.Database:
-    return model.Database(stage=stage)
+def database() -> model.Database:
+    return model.Database(stage=CHOOSING)
 
 
 def test_worked_scripts() -> None:
     for transcript in worked_stages.WORKED["optimiser"].values():
         holds(transcript, database())
-        holds(transcript, database(BOTH))
 
 
 def test_without_the_stage() -> None:
     unknown = {"Error": "UnknownLine"}
-    assert replies_of("AUTO C F", "AUTO C G", "QUERY from C where F = 1", "QUERY from C group by F", "TIDY")[1:] == [unknown] * 4
+    replies = replies_of("AUTO C F", "AUTO C G", "QUERY from C where F = 1", "QUERY from C group by F", "TIDY")
+    assert replies[1:] == [unknown] * 3 + [{"Retired": [], "Switched": []}]
 
 
 def names_of(*lines: str, found: model.Database | None = None) -> list[str]:
@@ -316,7 +315,7 @@ def test_what_is_retired_of_groups() -> None:
 def test_a_retirement_is_one_change() -> None:
     """If the keeper fails nothing goes. Switches before it stand. An index that has gone is made again under its name."""
     keeper = keeping.Keeper(fails=[8])
-    found = opening.opened(keeper, stage=BOTH)
+    found = opening.opened(keeper, stage=CHOOSING)
     lines = ["AUTO C A", "AUTO C B", "QUERY from C where A = 1 and D = 1"]
     lines += [definition("U", f"from u in docs.U select new {{ u.{field} }}") for field in "AB"]
     assert names_of(*lines, found=found)[:3] == ["Auto/C/ByA", "Auto/C/ByAAndB", "Auto/C/ByAAndBAndD"]
@@ -341,7 +340,7 @@ def test_a_retirement_up_to_the_last_etag() -> None:
 
 def test_what_is_held_of_a_retired_index_is_gone() -> None:
     lines = ["AUTO C A", "PUT x {[C]}", "READ 0 64 Auto/C/ByA", "QUERY from C where A = 1 and B = 1", "TIDY", "PUBLISH 0"]
-    replies = replies_of(*lines, database=database(BOTH))
+    replies = replies_of(*lines, database=database())
     assert replies[4:] == [{"Retired": ["Auto/C/ByA"], "Switched": []}, {"Error": "Gone", "Number": 1}]
 
 

@@ -3,25 +3,24 @@
 
     tools/test_replacements.py
 
-The program does not have these lines yet, so the model answers them only at a stage. It needs no program. It ends with 0 if every
-test holds, and otherwise at the first assertion that does not.
+It needs no program. It ends with 0 if every test holds, and otherwise at the first assertion that does not.
 """
 
 import sys
 
 sys.dont_write_bytecode = True
 from raven_tools import model
-from raven_tools.making import worked_stages
+from raven_tools.making import worked_slots
 from raven_tools.making.lines import definition
 from raven_tools.model import keeping, opening
 from raven_tools.transcripts import holds, replies_of
 
-BESIDE = model.Stage(side_by_side=True)
+CHOOSING = model.Stage(optimiser=True)
 LAST = model.MAX_ETAG
 
 
 def database(**more: object) -> model.Database:
-    return model.Database(stage=BESIDE, **more)
+    return model.Database(**more)
 
 
 def map_of(field: str, collection: str = "U") -> str:
@@ -33,20 +32,19 @@ def beside(name: str) -> dict:
 
 
 def test_worked_scripts() -> None:
-    for transcript in worked_stages.WORKED["side_by_side"].values():
+    for transcript in worked_slots.WORKED.values():
         holds(transcript, database())
-        holds(transcript, model.Database(stage=model.Stage(side_by_side=True, optimiser=True)))
+        holds(transcript, database(stage=CHOOSING))
 
 
 def test_lines_that_are_unknown() -> None:
-    """Numbers are tested before names, and what the program does not have is unknown without a stage."""
+    """Numbers are tested before names."""
     unknown = {"Error": "UnknownLine"}
     wrong = ["READ", "READ 0", "READ 0 64", "READ 0 64 ", "READ 16 64 U", "READ 0 0 U", "READ 0 65537 U", "READ 0  U", "READ 16 64 a\tb"]
     wrong += ["READ x 64 U", "READ 0 00000000000000064 U", "PUBLISH", "PUBLISH ", "PUBLISH 16", "PUBLISH 0 ", "PUBLISH -1", "PUBLISH 1 x"]
     wrong += ["SWITCH", "SWITCH ", "switch U", "TIDY ", "TIDY x", "CLEAN"]
     good = ["SWITCH U", "SWITCH " + "n" * 215, "READ 0 64 U", "READ 0 64 a\tb", "PUBLISH 00", "TIDY"]
     assert replies_of(*wrong, database=database()) == [unknown] * len(wrong)
-    assert replies_of(*wrong, *good) == [unknown] * len(wrong + good)
     no_index = {"Error": "NoIndex", "Name": "U"}
     replies = [no_index, {"Error": "TooLong", "Len": 215}, no_index, {"At": 1, "Error": "Control"}, {"Error": "NothingHeld"}]
     assert replies_of(*good, database=database()) == [*replies, {"Retired": [], "Switched": []}]
@@ -153,10 +151,10 @@ AUTO = {"Kind": "auto", "Collection": "C", "Fields": [["F"]]}
 BAD = {"Kind": "static", "Map": "from", "Reduce": None}
 
 
-def opened(rows: list[keeping.KeptRow], stage: model.Stage = BESIDE, **more: object) -> list[tuple[int, str]] | int:
+def opened(rows: list[keeping.KeptRow], **more: object) -> list[tuple[int, str]] | int:
     """The numbers and names of the indexes, or the etag of the first bad row."""
     try:
-        found = opening.opened(keeping.Keeper(rows), stage=stage, **more)
+        found = opening.opened(keeping.Keeper(rows), **more)
     except keeping.KeptBad as bad:
         return bad.etag
     assert all(index.etag == 0 and not index.table for index in found.indexes) and not found.notes and not found.held
@@ -189,7 +187,6 @@ def test_opening_with_rows_of_replacements() -> None:
     for rows, expected in cases:
         assert opened([kept(*row) for row in rows]) == expected, rows
     pair = [kept(1, "U", STATIC), kept(2, "ReplacementOf/U", OTHER)]
-    assert opened(pair, model.Stage()) == 2
     assert opened(pair, limits=model.Limits(slots=1)) == 2
     folded = opened([kept(1, "u", STATIC), kept(2, "REPLACEMENTOF/U", OTHER)])
     assert [(number, model.folded(name)) for number, name in folded] == [(1, "u"), (2, "replacementof/u")]
@@ -197,7 +194,7 @@ def test_opening_with_rows_of_replacements() -> None:
 
 def test_what_was_built_beside_goes_on_after_an_opening() -> None:
     keeper = keeping.Keeper([kept(1, "ReplacementOf/U", OTHER), kept(2, "U", STATIC)])
-    found = opening.opened(keeper, stage=BESIDE)
+    found = opening.opened(keeper)
     lines = ["PUT u {[U]}", "SWITCH U", "PUMP 1", "SWITCH U"]
     assert replies_of(*lines, database=found)[1:] == [
         {"Error": "NotFresh", "IndexEtag": 0, "Newest": 3},
@@ -223,7 +220,7 @@ def waiting(names: list[str]) -> list[str]:
 def test_tidying_in_order_of_folded_names_up_to_a_fault() -> None:
     """What was switched before the keeper fails stands, and the rest goes on with the next line. The first call is that of the opening."""
     keeper = keeping.Keeper(fails=[9])
-    found = opening.opened(keeper, stage=BESIDE)
+    found = opening.opened(keeper)
     replies_of(*waiting(["b", "A", "C"]), database=found)
     assert replies_of("TIDY", "SWITCH A", database=found) == [{"Error": "KeeperFault"}, {"Error": "NoReplacement"}]
     assert [index.name for index in found.indexes] == ["b", "C", "ReplacementOf/b", "A", "ReplacementOf/C"]
@@ -234,7 +231,7 @@ def test_tidying_in_order_of_folded_names_up_to_a_fault() -> None:
 
 def test_a_failed_switch_leaves_the_old_definition() -> None:
     keeper = keeping.Keeper(fails=[5])
-    found = opening.opened(keeper, stage=BESIDE)
+    found = opening.opened(keeper)
     lines = [*waiting(["U"]), "PUT u {[U]}", "PUMP 64", "TIDY", "QUERY from index 'U' where B = 1", "SWITCH U"]
     replies = replies_of(*lines, database=found)[4:]
     assert replies == [{"Error": "KeeperFault"}, {"Error": "NoField", "Name": "B"}, {"Etag": 4, "Switched": "U"}]
@@ -243,7 +240,7 @@ def test_a_failed_switch_leaves_the_old_definition() -> None:
 def test_tidying_up_to_the_last_etag() -> None:
     """The second switch has an etag for its put and none for its deletion."""
     keeper = keeping.Keeper([keeping.KeptRow(LAST - 7, "x", "@empty", '{"@metadata":{}}', 0)])
-    found = opening.opened(keeper, stage=BESIDE)
+    found = opening.opened(keeper)
     replies_of(*waiting(["b", "A"]), database=found)
     spent = {"At": 1, "Error": "EtagsSpent", "Last": LAST}
     lines = ["TIDY", "SWITCH A", "SWITCH b", "PUT y {}", "SWITCH b", "DROP b"]

@@ -16,15 +16,18 @@ import sys
 sys.dont_write_bytecode = True
 from raven_tools import model
 from raven_tools.checks import sound
-from raven_tools.making import OF_STAGES, makers_of
+from raven_tools.making import choice_scripts, makers_of, slot_scripts
 from raven_tools.model import keeping, opening
 
-STAGES = [model.Stage(), model.Stage(side_by_side=True), model.Stage(optimiser=True), model.Stage(side_by_side=True, optimiser=True)]
+STAGES = [model.Stage(), model.Stage(optimiser=True)]
 FEW = model.Limits(slots=6, notes=1)
+# The makers of most scripts.
+OWN = [slot_scripts.SlotMaker, choice_scripts.ChoiceMaker]
 # What many scripts have to reach.
 REACHED = """
 switched by a line, switched by tidying, retired, published, Gone, Passed, NotFresh, NoReplacement, NothingHeld, NotesFull, TooManyIndexes,
-KeeperFault, made by a query, a fresh answer of a query that chose, a fresh answer of groups, a replacement, kept by tidying
+KeeperFault, made by a query, a fresh answer of a query that chose, a fresh answer of groups, a replacement, kept by tidying,
+a replacement in place of another, a replacement that ended, removed together, published after a switch, tidied up to a fault
 """
 
 
@@ -35,6 +38,10 @@ def reached(before: model.Database, after: model.Database, line: bytes, reply: d
     ask = sound.ask_in(line) if is_fresh else None
     is_chosen = ask is not None and ask.query.origin[0] == "collection" and reply["Results"]
     waits = any(after.replacement_of(index) for index in after.indexes)
+    added = len(after.indexes) - len(before.indexes)
+    is_noted = len(after.notes) > len(before.notes)
+    switched = {note.new for note in before.notes}
+    published = [batch.number for worker, batch in before.held.items() if word == "PUBLISH" and worker not in after.held and "To" in reply]
     tests = {
         "switched by a line": "Switched" in reply and word == "SWITCH",
         "switched by tidying": word == "TIDY" and reply.get("Switched"),
@@ -42,6 +49,11 @@ def reached(before: model.Database, after: model.Database, line: bytes, reply: d
         "retired": word == "TIDY" and reply.get("Retired"),
         "published": word == "PUBLISH" and "To" in reply,
         "a replacement": reply.get("Index", "").startswith("ReplacementOf/") and word == "INDEX",
+        "a replacement in place of another": word == "INDEX" and added == 0 and before.store.last < after.store.last,
+        "a replacement that ended": word == "INDEX" and added < 0,
+        "removed together": word == "DROP" and added == -2,
+        "published after a switch": switched.intersection(published),
+        "tidied up to a fault": word == "TIDY" and is_noted and "Error" in reply,
         "made by a query": is_made,
         "a fresh answer of a query that chose": is_chosen and not ask.query.groups,
         "a fresh answer of groups": is_chosen and ask.query.groups,
@@ -55,12 +67,12 @@ class Round:
 
     def __init__(self, seed: int, number: int, lines: int):
         self.chance = random.Random(seed * 1_000_003 + number)
-        stage = STAGES[1 + number % 3] if number % 16 else STAGES[0]
+        stage = STAGES[number % 3 > 0]
         makers = makers_of(stage)
-        own = [maker for maker in makers if maker.func in {made for made_by in OF_STAGES.values() for made in made_by}]
-        maker = self.chance.choice(own if own and number % 8 else makers)(seed * 1_000_003 + number)
+        own = [maker for maker in makers if maker.func in OWN]
+        maker = self.chance.choice(own if number % 8 else makers)(seed * 1_000_003 + number)
         self.lines = [line for line in model.lines(maker.script(lines)) if line]
-        fails = [self.chance.randrange(2, 60) for _ in range(self.chance.choice([0, 0, 1, 5]))]
+        fails = [self.chance.randrange(2, 60) for _ in range(self.chance.choice([0, 0, 1, 5, 20]))]
         self.keeper = keeping.Keeper(fails=fails)
         limits = FEW if number % 4 == 1 else model.Limits()
         self.database = opening.opened(self.keeper, stage=stage, limits=limits)

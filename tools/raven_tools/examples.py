@@ -6,7 +6,7 @@ import re
 from raven_tools.places import TOP
 
 # The pages with scripts.
-PAGES = ["script", "queries"]
+PAGES = ["script", "queries", "replacing"]
 BLOCK = re.compile(r"^```(raven|replies)\n(.*?)^```$", re.MULTILINE | re.DOTALL)
 
 

@@ -26,6 +26,8 @@ mod shift;
 #[cfg(test)]
 mod stores;
 #[cfg(test)]
+mod switches;
+#[cfg(test)]
 mod tally;
 #[cfg(test)]
 mod trees;

@@ -2,13 +2,17 @@
 
 import argparse
 import pathlib
+import subprocess
 import sys
+import tempfile
 
-from raven_tools import case_file, examples
+from raven_tools import case_file, examples, programs
+from raven_tools.making import random_cases
 from raven_tools.model import running
 from raven_tools.places import CRATES
 
 CASES = CRATES / "raven_cases"
+PROGRAM = CASES / "out/raven_cases"
 
 
 def missing(cases: list[case_file.Case]) -> list[str]:
@@ -42,12 +46,36 @@ def differing(cases: list[case_file.Case], expected: bytes, found: bytes) -> int
     return count or int(expected != found)
 
 
+def differing_at_random(program: pathlib.Path, seed: int, rounds: int) -> int:
+    """How many random cases the program prints in another way than the model."""
+    text = random_cases.cases(seed, rounds)
+    cases = case_file.read(text)
+    expected = "".join(map(case_file.printed, cases)).encode()
+    found = subprocess.run([program], input=text.encode(), capture_output=True, timeout=600).stdout
+    count = differing(cases, expected, found)
+    if count:
+        folder = pathlib.Path(tempfile.mkdtemp(prefix="cases-"))
+        (folder / "stdin").write_text(text)
+        (folder / "stdout").write_bytes(found)
+        print(f"the cases and what was printed of them are in {folder}")
+    print(f"{count} of {rounds} random cases with seed {seed} differ")
+    return count
+
+
 def main() -> int:
     sys.setrecursionlimit(10_000)
     given = argparse.ArgumentParser(description="Compares what is expected of the cases with the model.")
     given.add_argument("folder", nargs="?", type=pathlib.Path, default=CASES)
     given.add_argument("--write", action="store_true")
+    given.add_argument("--random", type=int, default=0)
+    given.add_argument("--seed", type=int, default=1)
+    given.add_argument("--program", type=pathlib.Path, default=PROGRAM)
     given = given.parse_args()
+    if given.random and not programs.is_built(given.program):
+        print(f"skipped: no program at {given.program}")
+        return 0
+    if given.random:
+        return 1 if differing_at_random(given.program, given.seed, given.random) else 0
     try:
         cases = case_file.read((given.folder / "stdin").read_bytes().decode())
         expected = "".join(map(case_file.printed, cases)).encode()

@@ -11,7 +11,7 @@ import tempfile
 
 from raven_tools import model, programs
 from raven_tools.checks.outside import outside
-from raven_tools.making import case_scripts, limit_scripts, makers_of, worked_stages
+from raven_tools.making import case_scripts, limit_scripts, makers_of, worked_slots, worked_stages
 from raven_tools.model.stage import SWITCHES, stage_of
 from raven_tools.places import PROGRAM
 
@@ -108,6 +108,7 @@ def scripts_of(given: argparse.Namespace, stage: model.Stage, kinds: collections
     if not given.random:
         yield from limit_scripts.at_the_limits()
         yield from case_scripts.at_the_limits()
+        yield from worked_slots.scripts()
         yield from worked_stages.scripts_of(stage)
     makers = makers_of(stage)
     for round_ in range(given.rounds):

@@ -5,10 +5,13 @@
 - `random_scripts`, in which something is wrong now and then;
 - `map_scripts`, mostly good lines, of maps and of documents that load one another;
 - `query_scripts`, mostly good queries, over indexes that lag behind;
-- `slot_scripts` and `choice_scripts`, for the stages of the model, replacements with held batches, and queries that choose an index;
-- `crash_scripts` and `load_scripts`, writes over a file.
+- `slot_scripts`, mostly definitions under names that serve, switches, and batches that are held meanwhile;
+- `choice_scripts`, for a stage of the model: queries that choose an index;
+- `crash_scripts` and `load_scripts`, writes over a file;
+- `random_cases`, any of these over a keeper in memory that fails.
 
-`limit_scripts` and `case_scripts` are at each limit and of each case in `worked`, and `worked_stages` has scripts for the stages.
+`limit_scripts` and `case_scripts` are at each limit and of each case in `worked`. `worked_slots` has scripts of replacements, and
+`worked_stages` those for the stages.
 
 `http_calls` makes calls over HTTP, out of the lines of scripts too, and `http_sessions` spells them as bytes. `worked_http` has bytes with
 what they are read as and what is answered.
@@ -31,10 +34,11 @@ MAKERS = [
     map_scripts.LagMaker,
     map_scripts.MapMaker,
     query_scripts.QueryMaker,
+    *[slot_scripts.SlotMaker] * 4,
 ]
 
 # Those that a stage has besides, by its switch.
-OF_STAGES = {"side_by_side": [slot_scripts.SlotMaker] * 4, "optimiser": [choice_scripts.ChoiceMaker] * 4}
+OF_STAGES = {"optimiser": [choice_scripts.ChoiceMaker] * 4}
 
 
 def makers_of(stage: model.Stage) -> list[collections.abc.Callable[[int], Maker]]:

@@ -36,9 +36,6 @@ class ChoiceMaker(QueryMaker):
         field = self.one_of(["F", "Age", "Name", "Team", "f"])
         return f"AUTO {self.one_of(['Users', 'Users', 'users', 'Orders', 'C'])} {field}"
 
-    def tidy(self) -> str:
-        return "TIDY"
-
     def all(self) -> str:
         return "PUMP 64"
 

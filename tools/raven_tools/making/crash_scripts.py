@@ -70,13 +70,19 @@ class CrashMaker(Maker):
         return f"AUTO {self.one_of(COLLECTIONS)} {self.one_of(FIELDS)}"
 
     def define(self):
-        """Mostly a name has one definition, so that it is seldom defined otherwise while it serves."""
+        """Mostly a name has one definition, so that few are built beside another one."""
         at = self.random.randrange(len(NAMED))
         texts = TEXTS[at % len(TEXTS)] if self.chance(90) else self.one_of(TEXTS)
         return lines.definition(NAMED[at], *texts)
 
     def drop(self):
         return f"DROP {self.one_of(NAMED + AUTOS)}"
+
+    def take_over(self) -> list[str]:
+        """Another definition of a name, batches, and its switch, which is one commit of two rows."""
+        name = self.one_of(NAMED)
+        written = [lines.definition(name, *self.one_of(TEXTS)) for _ in range(self.one_of([1, 1, 2]))]
+        return [*written, self.one_of(["PUMP 65536", self.pump()]), f"SWITCH {name}", self.look()]
 
     def pump(self):
         return f"PUMP {self.one_of([1, 2, 7, 64])}"
@@ -86,13 +92,17 @@ class CrashMaker(Maker):
 
     def script(self) -> list[bytes]:
         kinds = [self.put] * 8 + [self.put_if] * 2 + [self.delete] * 3 + [self.delete_if] + [self.bulk] * 5
-        kinds += [self.auto, self.define, self.drop, self.pump, self.pump, self.look]
+        kinds += [self.auto, self.define, self.drop, self.pump, self.pump, self.look, self.take_over]
         count = 1 if self.chance(25) else self.one_of([2, 5, 10, 20, 40, 80])
-        return [self.one_of(kinds)().encode() for _ in range(count)]
+        script: list[str] = []
+        while len(script) < count:
+            made = self.one_of(kinds)()
+            script += made if isinstance(made, list) else [made]
+        return [line.encode() for line in script]
 
 
 def ids_asked() -> list[str]:
-    return [*IDS, "nobody/1", *("@index/" + name for name in AUTOS + NAMED)]
+    return [*IDS, "nobody/1", *("@index/" + name for name in AUTOS + NAMED + ["ReplacementOf/" + name for name in NAMED])]
 
 
 def questions(number: int) -> list[bytes]:

@@ -6,6 +6,7 @@ from raven_tools import model
 from raven_tools.making import lines
 from raven_tools.making.lines import command, put_command
 from raven_tools.making.random_scripts import BAD_JSON, FILL, NUMBERS, SIZES, padded
+from raven_tools.model.limits import MAX_NOTES
 
 Named = collections.abc.Iterator[tuple[str, str]]
 
@@ -113,11 +114,21 @@ def faults() -> Named:
     yield "faults of a write", put("a", of("C")) + put("b", of("C")) + delete("b") + "".join(puts + rest + deletions + rest)
 
 
+def switches() -> Named:
+    """As many switches as may be noted, and what is left to do then."""
+    texts = [f"from u in docs.U select new {{ u.{field} }}" for field in "AB"]
+    taken_over = [lines.definition("U", text) + "\nSWITCH U\n" for text in texts]
+    first = lines.definition("U", texts[1]) + "\n" + lines.definition("V", texts[0]) + "\n" + lines.definition("V", texts[1]) + "\n"
+    asked = "".join(f"QUERY from index 'U' where {field} = 1\n" for field in "AB")
+    last = f"SWITCH V\nTIDY\nSWITCH V\n{taken_over[1]}TIDY\nSWITCH W\n{asked}INDEXES\nDROP V\nDROP U\nSWITCH U\nSTATS\n"
+    yield "more switches than may be noted", first + "".join(taken_over) * (MAX_NOTES // 2 - 1) + taken_over[0] + last
+
+
 def at_the_limits() -> collections.abc.Iterator[tuple[str, bytes]]:
     """Scripts at the limits, with their names."""
     for extra in (-1, 0, 1):
         for name, script in sizes(extra):
             yield f"{name} at the limit {extra:+}", script.encode()
     others = [("nothing", ""), ("a blank line without an end", "\r"), ("each line of an id", at_an_id("users/1"))]
-    for name, script in [*others, *bodies(), *indexes(), *transactions(), *faults()]:
+    for name, script in [*others, *bodies(), *indexes(), *transactions(), *faults(), *switches()]:
         yield name, script.encode()

@@ -6,6 +6,7 @@ import random
 from raven_tools import model
 from raven_tools.making import maps, questions, reduces
 from raven_tools.making.maker import Maker
+from raven_tools.model.indexes import REPLACEMENT, is_replacement
 
 IDS = ["users/1", "USERS/1", "Users/1", "users/2", "users/10", "a", "A", "Z", "zz", "é", "É", "@index/x", "@INDEX/y",
        "@indexer", "orders/1", "x.y(z)", "users/\u212a", "\U0001f426", '"', "\\", "a\\b", "tab\tid", "del\x7f", "nul\0"]
@@ -29,6 +30,7 @@ NUMBERS = ["0", "1", "-1", "36", "9223372036854775807", "-9223372036854775808", 
            "366959622842914819860834936475292719074168444365510704342711559699508093042879"]
 SIZES = ["1", "2", "3", "64", "65536", "0", "65537", "001", "0000000000000064", "00000000000000064", "-1", "+1", "1.0",
          " 1", "1 ", "x", "", "٣", "4 x", "9999999999999999", "99999999999999999999", "0000000000000000", "1e1", "0x1", "1\r"]
+WORKERS = ["0", "1", "7", "15", "015", "0000000000000015", "00000000000000001", "16", "-1", "+1", "x", "", " 1", "1 ", "1.0", "٣", "9999999999999999"]
 BAD_JSON = ["", "{", "}", "[1,]", "{\"a\":1,}", "{\"a\"}", "{a:1}", "{'a':1}", "nul", "True", "[1 2]", "{} {}", "{}x",
             "\ufeff{}", "\"\\x\"", "\"\\u12\"", "\"\\ud800\"", "\"\\udc00\"", "\"\\ud800\\u0041\"", "\"a", "// x", "[]]",
             "{\"a\":1 \"b\":2}", "\"\t\"", "{,}", "[,1]", "\"\\ud800x\"", "\"\\ud83d\\ud83d\""]
@@ -55,8 +57,10 @@ OTHERS = ["", "", " ", "\r", "PUT", "PUT ", "PUT a", "PUT a ", "AUTO", "AUTO C",
           "FIND x y ", "PUMP", "put a {}", "Put a {}", "get a", "DEL", "DEL ", "DEL  a", "GET", "GET ", "STATS ", "STATS x",
           "stats", "STALE", "STALE ", "STALE a b", "DELIF", "DELIF a", "DELIF a ", "DELIF  a", "DELIF a  b", "PUTIF a",
           "PUTIF a x", "PUTIF a x ", "PUTIF a  {}", "PUTIF  a x {}", "BULK", "BULK ", "BULK  {}", "BULK{}", "TIDY", "INDEXES",
-          "CLEAN", "PUMP 64 Auto/C/ByF", "QUERY from Users", "INDEX {}", "ASK {}", "DROP x", "SWITCH x", "READ 0 1 x",
-          "PUBLISH 0", "INDEX", "INDEX ", "INDEX  {}", "INDEX{}", "INDEXES ", "INDEXES x", "indexes", "DROP", "DROP ",
+          "CLEAN", "PUMP 64 Auto/C/ByF", "QUERY from Users", "INDEX {}", "ASK {}", "DROP x", "SWITCH", "SWITCH ", "SWITCH  x", "SWITCH x",
+          "SWITCH a\tb", "switch x", "READ", "READ 0", "READ 0 1", "READ 0 1 ", "READ 0  x", "READ 0 1  x", "READ  0 1 x", "READ 0 1 x",
+          "READ 0 0 x", "READ 16 1 a\tb", "READ 0 1 a\tb", "PUBLISH", "PUBLISH ", "PUBLISH 0", "PUBLISH  0", "PUBLISH 0 x", "TIDY ", "TIDY x",
+          "tidy", "CLEAN ", "INDEX", "INDEX ", "INDEX  {}", "INDEX{}", "INDEXES ", "INDEXES x", "indexes", "DROP", "DROP ",
           "DROP  x", "DROPx", "PUMP 1 ", "PUMP 1  x", "PUMP 1 x y", "PUMP 0 x", "PUMP x y", "PUMP x a\tb", "PUMP 1 a\tb", "#",
           "\ufeffPUMP 1", "PUT  a {}", "AUTO  C F", "FIND  x y z", "FIND x  y z", "PUMP  1", "PUTa {}"]
 # The fill of the longest document.
@@ -73,6 +77,11 @@ def kind_of(reply: dict) -> str:
     if any("Definition" in result for result in reply.get("Results", ())):
         return "indexes"
     return reply.get("Error") or " ".join(sorted(reply))
+
+
+def own_name(index: model.Index) -> str:
+    """The name of the index, or that of the one beside which it is built."""
+    return index.name[len(REPLACEMENT) :] if is_replacement(index.name) else index.name
 
 
 def padded(fill: int) -> str:
@@ -273,6 +282,27 @@ class RandomMaker(Maker):
     def drop(self):
         return f"DROP {self.live_name()}"
 
+    def switch(self):
+        """Mostly of an index with another one beside it."""
+        waiting = [index for index in self.database.indexes if self.database.replacement_of(index)]
+        if waiting and self.chance(80):
+            return f"SWITCH {self.in_other_case(self.one_of(waiting).name)}"
+        return f"SWITCH {self.live_name(20)}"
+
+    def tidy(self):
+        return "TIDY"
+
+    def worker(self):
+        return self.one_of(WORKERS[:4] if self.chance(92) else WORKERS)
+
+    def read(self):
+        return f"READ {self.worker()} {self.size()} {self.live_name()}"
+
+    def publish(self):
+        """Mostly by a worker that holds something."""
+        holding = list(self.database.held)
+        return f"PUBLISH {self.one_of(holding) if holding and self.chance(80) else self.worker()}"
+
     def listed(self):
         return "INDEXES"
 
@@ -291,7 +321,7 @@ class RandomMaker(Maker):
             index = self.one_of(static)
             tree = index.definition.tree
             text = index.definition.text if self.chance(20) else self.maps.text_of(tree)
-            return self.in_other_case(index.name), text, self.reduce_again(index.definition)
+            return self.in_other_case(own_name(index)), text, self.reduce_again(index.definition)
         name = self.one_of(ODD_NAMES if self.chance(8) else INDEX_NAMES)
         tree = self.tree()
         reduce = self.reduces.reduce_text([name for name, _ in tree.members]) if self.chance(25) else None
@@ -403,7 +433,7 @@ class RandomMaker(Maker):
     def kinds_of_lines(self):
         kinds = [self.put] * 7 + [self.put_if] * 2 + [self.delete] * 3 + [self.delete_if] * 2 + [self.bulk] * 4 + [self.get] * 3
         kinds += [self.auto] * 2 + [self.pump] * 3 + [self.find] * 6 + [self.stale] * 2 + [self.stats, self.other]
-        kinds += [self.query] * 5 + [self.ask] * 4
+        kinds += [self.query] * 5 + [self.ask] * 4 + [self.switch, self.tidy, self.read, self.read, self.publish, self.publish]
         return kinds + [self.index] * 5 + [self.drop] + [self.listed] * 2 + [self.pump_one] * 2
 
     def line(self) -> bytes:

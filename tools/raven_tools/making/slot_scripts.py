@@ -2,7 +2,7 @@
 
 from raven_tools.making import lines
 from raven_tools.making.map_scripts import LagMaker
-from raven_tools.making.random_scripts import kind_of
+from raven_tools.making.random_scripts import kind_of, own_name
 from raven_tools import model
 
 NAMES = ["U", "V", "w"]
@@ -48,29 +48,50 @@ class SlotMaker(LagMaker):
         if not static:
             return self.define()
         index = self.one_of(static)
-        name = index.name.rpartition("/")[2]
-        return lines.definition(self.in_other_case(name), index.definition.text, index.definition.reduce_text)
+        return lines.definition(self.in_other_case(own_name(index)), index.definition.text, index.definition.reduce_text)
+
+    def once_more(self) -> str:
+        """Another definition for what is built beside an index, which takes its place, also if that is held or was fresh."""
+        waiting = self.waiting()
+        if not waiting:
+            return self.define()
+        ways = [self.read, self.all, self.switch, self.publish, self.again, self.write, self.tidy]
+        self.ahead = [self.one_of(ways) for _ in range(self.random.randint(1, 3))] + self.ahead
+        return lines.definition(self.in_other_case(self.one_of(waiting).name), *self.one_of(TEXTS))
+
+    def drop_both(self) -> str:
+        """A removal of an index with another one beside it, of which workers may hold batches."""
+        waiting = self.waiting()
+        if not waiting:
+            return self.drop()
+        index = self.one_of(waiting)
+        self.ahead = [lambda: f"DROP {self.in_other_case(index.name)}", self.publish, self.listed]
+        return f"READ {self.worker()} {self.size()} {self.one_of(['', 'ReplacementOf/'])}{index.name}"
+
+    def waiting(self) -> list[model.Index]:
+        """The indexes with another one beside them."""
+        return [index for index in self.database.indexes if self.database.replacement_of(index)]
+
+    def worker(self) -> str:
+        return self.one_of("0012") if self.chance(80) else str(self.random.randrange(16))
 
     def pump_one(self) -> str:
         return f"PUMP {self.size()} {self.any_name()}"
 
     def switch(self) -> str:
         """Mostly of an index with another one beside it."""
-        waiting = [index for index in self.database.indexes if self.database.replacement_of(index)]
+        waiting = self.waiting()
         if waiting and self.chance(85):
             return f"SWITCH {self.in_other_case(self.one_of(waiting).name)}"
         return f"SWITCH {self.one_of([self.name, self.any_name])()}"
 
-    def tidy(self) -> str:
-        return "TIDY"
-
     def read(self) -> str:
-        return f"READ {self.one_of('0012')} {self.size()} {self.any_name()}"
+        return f"READ {self.worker()} {self.size()} {self.any_name()}"
 
     def publish(self) -> str:
         """Mostly by a worker that holds something."""
         holding = list(self.database.held)
-        return f"PUBLISH {self.one_of(holding) if holding and self.chance(90) else self.one_of('012')}"
+        return f"PUBLISH {self.one_of(holding) if holding and self.chance(90) else self.worker()}"
 
     def drop(self) -> str:
         return f"DROP {self.any_name()}"
@@ -88,6 +109,13 @@ class SlotMaker(LagMaker):
         self.ahead += [self.one_of([self.switch, self.switch, self.tidy]), self.ask_one]
         return self.define()
 
+    def take_over_all(self) -> str:
+        """Definitions for all names, and a tidying, which may switch several."""
+        names = self.random.sample(NAMES, len(NAMES))
+        first, *more = [lines.definition(self.in_other_case(name), *self.one_of(TEXTS)) for name in names]
+        self.ahead = [lambda text=text: text for text in more] + [self.all] * self.chance(90) + [self.tidy, self.ask_one, self.tidy]
+        return first
+
     def hold(self) -> str:
         """A batch that is read, and what may come before it is published."""
         ways = [self.write, self.write, self.read, self.define, self.switch, self.pump_one, self.publish, self.tidy, self.drop]
@@ -99,6 +127,7 @@ class SlotMaker(LagMaker):
 
     def kinds_of_lines(self) -> list:
         kinds = [self.write] * 6 + [self.define] * 2 + [self.take_over] * 5 + [self.hold] * 5 + [self.again] * 2 + [self.pump] * 2
+        kinds += [self.once_more] * 2 + [self.take_over_all] * 2 + [self.drop_both]
         kinds += [self.pump_one] * 3 + [self.switch] * 2 + [self.tidy, self.drop, self.listed, self.stats, self.auto, self.publish]
         return kinds + [self.ask_one] * 5 + [self.query] * 3 + [self.stale, self.bulk, self.get]
 

@@ -41,7 +41,7 @@ def options_of(arguments: tuple[str, ...]) -> Options | None:
 
 
 def tidy(database: model.Database) -> None:
-    """What the line TIDY does, whose reply is dropped. At a stage that does not have the line it does nothing."""
+    """What the line TIDY does, whose reply is dropped."""
     answer(database, b"TIDY")
 
 

@@ -256,10 +256,10 @@ def asked(database: Database, line: bytes) -> Reply:
         text = line.decode("utf-8")
     except UnicodeDecodeError:
         raise Refused("UnknownLine") from None
-    if text in ALONE and database.stage.knows(text):
+    if text in ALONE:
         return ALONE[text](database)
     word, rest = arguments(text, 1)
-    if word not in COMMANDS or not database.stage.knows(word):
+    if word not in COMMANDS:
         raise Refused("UnknownLine")
     return COMMANDS[word](database, rest)
 

@@ -78,7 +78,7 @@ def index_of(row: model.Row, rows: dict[str, model.Row], stage: Stage) -> Index:
     """The index of a live row of a definition."""
     name = row.spelling[len("@index/") :]
     definition = definition_of(row.body)
-    if definition is None or not is_named(name, definition, rows) or not stage.opens(name, definition):
+    if definition is None or not is_named(name, definition, rows) or not stage.opens(definition):
         raise keeping.KeptBad(row.etag)
     return Index(row.etag, name, definition)
 

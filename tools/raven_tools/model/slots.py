@@ -51,7 +51,6 @@ def define(database: Database, name: str, definition: Static) -> Reply:
         return {"Index": serving.name}
     if replacement and replacement.definition.is_same(definition):
         return {"Index": replacement.name}
-    database.stage.must_replace()
     return {"Index": make(database, REPLACEMENT + serving.name, definition, replacement).name}
 
 

@@ -1,45 +1,27 @@
 """What the model has beyond the program, behind one switch each.
 
-The program answers the lines of both with UnknownLine until it has them. Each switch is read in this module alone, and as a name in
-`making`, which has scripts for it. When the program has what it stands for, its default becomes true, and then its field goes, with
-the lines that read it.
+The program answers what it does not have yet with UnknownLine. Each switch is read in this module alone, and as a name in `making`,
+which has scripts for it. When the program has what it stands for, its default becomes true, and then its field goes, with the lines
+that read it.
 """
 
 import dataclasses
 
 from raven_tools.model.definitions import Auto, AutoReduce, Definition
-from raven_tools.model.indexes import is_replacement
 from raven_tools.model.refused import Refused
-
-# Lines that the program does not know yet.
-OF_REPLACEMENTS = ("SWITCH", "READ", "PUBLISH")
 
 
 @dataclasses.dataclass(frozen=True)
 class Stage:
-    side_by_side: bool = False  # replacements that are built beside an index, and batches that workers hold
     optimiser: bool = False  # queries of some documents of a collection, and automatic indexes of several fields
-
-    def knows(self, word: str) -> bool:
-        """Whether the line that begins with this word is known."""
-        if word == "TIDY":
-            return self.side_by_side or self.optimiser
-        return self.side_by_side or word not in OF_REPLACEMENTS
-
-    def must_replace(self) -> None:
-        """Refuses what needs a replacement."""
-        if not self.side_by_side:
-            raise Refused("UnknownLine")
 
     def must_choose(self) -> None:
         """Refuses what needs a choice among automatic indexes, or one that is made wider."""
         if not self.optimiser:
             raise Refused("UnknownLine")
 
-    def opens(self, name: str, definition: Definition) -> bool:
+    def opens(self, definition: Definition) -> bool:
         """Whether the program reads a kept definition of this kind."""
-        if is_replacement(name):
-            return self.side_by_side
         if isinstance(definition, Auto):
             return self.optimiser or list(map(len, definition.paths)) == [1]
         return self.optimiser or not isinstance(definition, AutoReduce)
