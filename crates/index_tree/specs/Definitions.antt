@@ -23,6 +23,8 @@ pub data Definition : Type 0 where
   Static : (map : MapQuery) (reduce : Option ReduceQuery) (map_text : List ℕ) (reduce_text : Option (List ℕ)) → Definition
   -- the fields of an automatic index, in the order of the bytes of their joined paths
   Auto : (collection : List ℕ) (fields : List Path) → Definition
+  -- those by which an automatic index groups, and those that it sums beside the number of entries, in the same order
+  AutoReduce : (collection : List ℕ) (groups sums : List Path) → Definition
 
 -- MAPS
 
@@ -96,19 +98,22 @@ abbrev pub Texts : Type 0
 Texts = List ℕ × Option (List ℕ)
 
 abbrev pub Parts : Type 0
-Parts = ((MapQuery × Option ReduceQuery) × Texts) ⊎ (List ℕ × List Path)
+Parts = ((MapQuery × Option ReduceQuery) × Texts) ⊎ ((List ℕ × List Path) ⊎ (List ℕ × (List Path × List Path)))
 
 abbrev definition_parts : Definition → Parts
 definition_parts (Static map reduce map_text reduce_text) = inl ((map, reduce), (map_text, reduce_text))
-definition_parts (Auto collection fields) = inr (collection, fields)
+definition_parts (Auto collection fields) = inr (inl (collection, fields))
+definition_parts (AutoReduce collection groups sums) = inr (inr (collection, (groups, sums)))
 
 abbrev parts_definition : Parts → Definition
 parts_definition (inl p) = Static p.0.0 p.0.1 p.1.0 p.1.1
-parts_definition (inr p) = Auto p.0 p.1
+parts_definition (inr (inl p)) = Auto p.0 p.1
+parts_definition (inr (inr p)) = AutoReduce p.0 p.1.0 p.1.1
 
 pub definition_back : (d : Definition) → parts_definition (definition_parts d) ≡ d
 definition_back (Static map reduce map_text reduce_text) = refl
 definition_back (Auto collection fields) = refl
+definition_back (AutoReduce collection groups sums) = refl
 
 abbrev pub path_code : Coded Path
 path_code = coded_list text_code
@@ -117,7 +122,8 @@ abbrev pub trees_code : Coded (MapQuery × Option ReduceQuery)
 trees_code = coded× map_code (coded_option reduce_code)
 
 abbrev pub definition_code : Coded Definition
-definition_code = code_by Parts (coded⊎ (coded× trees_code (coded× text_code (coded_option text_code))) (coded× text_code (coded_list path_code)))
+definition_code = code_by Parts
+    (coded⊎ (coded× trees_code (coded× text_code (coded_option text_code))) (coded⊎ (coded× text_code (coded_list path_code)) (coded× text_code (coded× (coded_list path_code) (coded_list path_code)))))
     definition_parts parts_definition definition_back
 
 -- WHETHER TWO ARE THE SAME
@@ -135,4 +141,6 @@ is_same code a b = same_codes (code.code a) (code.code b)
 abbrev pub same_definition : Definition → Definition → Bool
 same_definition (Static m r t u) (Static n s v w) = is_same map_code m n && is_same (coded_option reduce_code) r s
 same_definition (Auto c fields) (Auto d others) = is_same text_code c d && is_same (coded_list path_code) fields others
+same_definition (AutoReduce c groups sums) (AutoReduce d others more) =
+    is_same text_code c d && (is_same (coded_list path_code) groups others && is_same (coded_list path_code) sums more)
 same_definition d e = false

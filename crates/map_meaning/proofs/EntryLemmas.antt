@@ -1,20 +1,20 @@
 -- The fields of an entry rise by the bytes of their names.
-use Rattle.std.proofs.Common.{◌≡◌, List, [], ◌∷◌, Option, Some, None, refl, ap, ◌∙◌, subst}
+use Rattle.std.proofs.Common.{◌≡◌, pos, List, [], ◌∷◌, Option, Some, None, refl, ap, ◌∙◌, subst}
 use Rattle.std.specs.FinMap.{get}
 use Rattle.spec_data.specs.Data.{Data}
 use Rattle.spec_data.specs.Members.{Path}
 use Rattle.spec_data.specs.Rising.{IsRising, put}
 use Rattle.spec_data.specs.Rows.{Row, Body}
-use Rattle.spec_data.specs.Scalars.{scalar_of}
+use Rattle.spec_data.specs.Scalars.{number, scalar_of}
 use Rattle.spec_data.specs.Tables.{Table}
 use Rattle.spec_data.proofs.MemberLemmas.{IsRising-put}
 use Rattle.index_tree.specs.declared.map_query.MapMember.{MapMember}
 use Rattle.index_tree.specs.declared.map_query.MapQuery.{MapQuery}
 use Rattle.index_tree.specs.Asking.{Lookup, Asking, gives, goes_on}
-use Rattle.index_tree.specs.Definitions.{Definition, Static, Auto}
+use Rattle.index_tree.specs.Definitions.{Definition, Static, Auto, AutoReduce}
 use Rattle.index_tree.specs.Evaluate.{Bindings, document_of, evaluate}
-use Rattle.index_tree.specs.Mapper.{field_of, fields_at, joined, mapper_of}
-use Rattle.index_tree.specs.Meaning.{Fields, Outcome, Entry, where_some, bound_after, fields_with, fields_under, entry_of, outcome_of, meaning}
+use Rattle.index_tree.specs.Mapper.{count_name, field_of, fields_at, joined, mapper_of, sum_name, sums_at}
+use Rattle.index_tree.specs.Meaning.{Fields, Entry, where_some, bound_after, fields_with, fields_under, entry_of, outcome_of, meaning}
 
 abbrev Rises : Fields → Type 0
 Rises fields = IsRising fields
@@ -69,9 +69,23 @@ at_rises body [] found r = r
 at_rises body (path ∷ more) found r =
     at_rises body more (put (joined path) (field_of body path) found) (IsRising-put (joined path) (field_of body path) found r)
 
+sums_rise : (body : Body) (paths : List Path) (found : Fields) → Rises found → Rises (sums_at body found paths)
+sums_rise body [] found r = r
+sums_rise body (path ∷ more) found r =
+    sums_rise body more (put (sum_name path) (field_of body path) found) (IsRising-put (sum_name path) (field_of body path) found r)
+
+-- the groups and a one
+abbrev counted : Body → List Path → Fields
+counted body groups = put count_name (number (pos 1)) (fields_at body [] groups)
+
+counted_rises : (body : Body) (groups : List Path) → Rises (counted body groups)
+counted_rises body groups = IsRising-put count_name (number (pos 1)) (fields_at body [] groups) (at_rises body groups [] tt)
+
 same_outcome : (a b : Fields) → Entry a ≡ Entry b → a ≡ b
 same_outcome a b h = cc
 
 pub entries_rise : (definition : Definition) (d : Row) (T : Table) (fields : Fields) → ((mapper_of definition).meaning d T).outcome ≡ Entry fields → IsRising fields
 entries_rise (Static map reduce map_text reduce_text) d T fields h = map_rises map d (get T) fields h
 entries_rise (Auto collection paths) d T fields h = subst Rises (same_outcome (fields_at d.body [] paths) fields h) (at_rises d.body paths [] tt)
+entries_rise (AutoReduce collection groups sums) d T fields h =
+    subst Rises (same_outcome (sums_at d.body (counted d.body groups) sums) fields h) (sums_rise d.body sums (counted d.body groups) (counted_rises d.body groups))

@@ -12,7 +12,7 @@ use Rattle.spec_store.specs.Store.{Store, last}
 use Rattle.spec_data.specs.Tables.{Table, Scope, note_rows}
 use Rattle.spec_store.specs.Stale.{batch_rows, newest, stale}
 use Rattle.spec_index.specs.Index.{etag_of_batch}
-use Rattle.index_tree.specs.Definitions.{Definition, Static, Auto, same_definition}
+use Rattle.index_tree.specs.Definitions.{Definition, Static, Auto, AutoReduce, same_definition}
 use Rattle.index_tree.specs.Mapper.{mapper_of, scope_of}
 use Rattle.spec_store.specs.Commit.{Command, Put, Delete, AnyVector, Setting}
 
@@ -48,6 +48,7 @@ pub record World : Type 0 where
 abbrev pub is_automatic : Definition → Bool
 is_automatic (Static map reduce map_text reduce_text) = false
 is_automatic (Auto collection fields) = true
+is_automatic (AutoReduce collection groups sums) = true
 
 abbrev pub reads : Version → Scope
 reads v = scope_of (mapper_of v.definition)
@@ -109,6 +110,12 @@ definition_members (Auto collection fields) =
     (codes "Collection", text collection)
     ∷ (codes "Fields", path_list fields)
     ∷ (codes "Kind", text (codes "auto"))
+    ∷ []
+definition_members (AutoReduce collection groups sums) =
+    (codes "Collection", text collection)
+    ∷ (codes "Groups", path_list groups)
+    ∷ (codes "Kind", text (codes "auto-reduce"))
+    ∷ (codes "Sums", path_list sums)
     ∷ []
 
 abbrev pub definition_data : Definition → Data

@@ -1,5 +1,5 @@
 -- What is asked of the server.
-use Rattle.std.specs.Prelude.{ℕ, zero, suc, pos, ◌-◌, ◌%◌, ◌==◌, List, [], ◌∷◌, ◌++◌, if◌then◌else◌, Some, None, codes, Result, Ok, Err}
+use Rattle.std.specs.Prelude.{ℕ, zero, suc, ◌-◌, ◌%◌, ◌==◌, List, [], ◌∷◌, ◌++◌, if◌then◌else◌, Some, None, codes, Result, Ok, Err}
 use Rattle.index_tree.specs.Definitions.{Definition, Texts}
 use Rattle.index_tree.specs.Language.{LangRefusal}
 use Rattle.spec_store.specs.Commit.{AnyVector}

@@ -1,11 +1,10 @@
 -- What a run comes to.
-use Rattle.std.specs.Prelude.{ℕ, ℤ, pos, ◌+◌, ◌+ℤ◌, List, [], ◌∷◌, ◌++◌, Bool, false, not, ◌==◌, if◌then◌else◌, Option, Some, None, codes, map}
+use Rattle.std.specs.Prelude.{ℕ, ℤ, pos, ◌+◌, ◌+ℤ◌, List, [], ◌∷◌, ◌++◌, Bool, false, not, ◌==◌, if◌then◌else◌, Option, Some, codes}
 use Rattle.std.specs.List.{list_any}
 use Rattle.spec_data.specs.Data.{Data, flag, num}
 use Rattle.spec_data.specs.Members.{member_of}
 use Rattle.spec_data.specs.Written.{text_of}
-use Rattle.spec_server.specs.Asking.{answer_ask}
-use Rattle.spec_server.specs.Machine.{Do, Event, Machine, Request, after, count_documents, course_of, takes_all}
+use Rattle.spec_server.specs.Machine.{Ask, Do, Event, Machine, Request, after, count_documents, course_of, takes_all}
 use Rattle.spec_server.specs.Replies.{Answer, Pumped, Reply, members, number}
 use Rattle.spec_measure.specs.Requests.{rows_ask}
 
@@ -64,9 +63,9 @@ abbrev pub summary_by : ℕ → ℕ → Reply → Summary
 summary_by batches docs (Answer a) = record { batches = batches; docs = docs; groups = a.total; is_stale = a.is_stale; total = total_of a.results }
 summary_by batches docs other = record { batches = batches; docs = docs; groups = 0; is_stale = false; total = pos 0 }
 
--- all documents are orders
+-- All documents are orders. A query on an index changes nothing, so the moment does not matter.
 abbrev pub summary_of : ℕ → Machine → Summary
-summary_of batches M = summary_by batches (count_documents M.world.store) (answer_ask M.world rows_ask)
+summary_of batches M = summary_by batches (count_documents M.world.store) (course_of M.world 0 (Ask rows_ask)).reply
 
 abbrev pub summary_data : Summary → Data
 summary_data s = members (

@@ -1,7 +1,7 @@
 -- Which fields an index has for queries.
-use Rattle.std.specs.Prelude.{false, true, Option, Some, None, map}
-use Rattle.index_tree.specs.Definitions.{Definition, Static, Auto}
-use Rattle.index_tree.specs.Mapper.{joined}
+use Rattle.std.specs.Prelude.{◌∷◌, ◌++◌, false, true, Option, Some, None, map}
+use Rattle.index_tree.specs.Definitions.{Definition, Static, Auto, AutoReduce}
+use Rattle.index_tree.specs.Mapper.{count_name, joined, sum_name}
 use Rattle.index_tree.specs.Scope.{fields_of}
 use Rattle.index_tree.specs.declared.map_query.MapQuery.{MapQuery}
 use Rattle.index_tree.specs.declared.reduce_query.ReduceQuery.{ReduceQuery}
@@ -15,3 +15,4 @@ offered_by query (Some reduce) = record { names = map (λ m. m.name) reduce.memb
 abbrev pub offered_of : Definition → Offered
 offered_of (Static query reduce map_text reduce_text) = offered_by query reduce
 offered_of (Auto collection fields) = record { names = map joined fields; reduced = false }
+offered_of (AutoReduce collection groups sums) = record { names = map joined groups ++ count_name ∷ map sum_name sums; reduced = true }

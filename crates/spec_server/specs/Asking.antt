@@ -1,4 +1,4 @@
--- What is answered to a query, which changes nothing.
+-- What is answered to a query. It changes nothing, unless an automatic index is to be made for it.
 use Rattle.std.specs.Prelude.{ℕ, List, ◌++◌, Bool, false, if◌then◌else◌, Option, Some, None, Result, Ok, Err, codes, map}
 use Rattle.spec_data.specs.Data.{Data}
 use Rattle.spec_data.specs.Rows.{Row}
@@ -17,8 +17,10 @@ use Rattle.spec_query.specs.Query.{Ask, OfIndex, OfCollection, is_whole}
 use Rattle.spec_index.specs.Reduces.{reduce_of}
 use Rattle.spec_index.specs.Rows.{reduced}
 use Rattle.spec_index.specs.Mapping.{scratch}
+use Rattle.spec_index.specs.Optimiser.{Choice, Use, Make, Shape, pick}
 use Rattle.spec_index.specs.World.{Slot, World, reads, serving}
-use Rattle.spec_server.specs.Replies.{Reply, Answer, BadPlan, NoIndex, UnknownLine}
+use Rattle.spec_server.specs.Replies.{Reply, Answer, BadPlan, NoIndex}
+use Rattle.spec_server.specs.Shapes.{shape_asked}
 use Rattle.spec_server.specs.Shown.{shown}
 
 -- the rows of a reduce, which have no ids
@@ -65,17 +67,29 @@ abbrev pub answer_from_collection : World → Ask → List ℕ → Reply
 answer_from_collection W ask collection =
     answer_of (found_in_collection (shown W.setting.base) (plan_of ask) collection W.store) (last W.store) (codes "collection/" ++ collection) false
 
--- a query on a collection that would need an automatic index is not supported yet
-abbrev pub answer_from : World → Ask → Reply
+-- what is answered without a change of the indexes, if the query is not refused before
+pub data Answered : Type 0 where
+  Ready : (reply : Reply) → Answered
+  -- an automatic index of this shape is to be made first
+  MustMake : (shape : Shape) → Answered
+
+-- by the index that was picked
+abbrev pub answer_picked : World → Ask → Choice → Answered
+answer_picked W ask (Use s) = Ready (answer_by s.version.table W ask s)
+answer_picked W ask (Make shape) = MustMake shape
+
+-- by the index of a name, from a whole collection, or by an automatic index
+abbrev pub answer_from : World → Ask → Answered
 answer_from W ask = elim ask.query.origin [
-  | OfIndex name ↦ answer_from_index W ask name (serving W.slots name)
-  | OfCollection collection ↦ if is_whole ask.query then answer_from_collection W ask collection else UnknownLine
+  | OfIndex name ↦ Ready (answer_from_index W ask name (serving W.slots name))
+  | OfCollection collection ↦
+      if is_whole ask.query then Ready (answer_from_collection W ask collection) else answer_picked W ask (pick (shape_asked collection ask.query) W.store W.slots)
 ]
 
-abbrev pub unless_refused : Reply → Option PlanRefusal → Reply
-unless_refused reply None = reply
-unless_refused reply (Some refusal) = BadPlan refusal
+abbrev pub unless_refused : Answered → Option PlanRefusal → Answered
+unless_refused answered None = answered
+unless_refused answered (Some refusal) = Ready (BadPlan refusal)
 
 -- first what needs no index may be refused
-abbrev pub answer_ask : World → Ask → Reply
+abbrev pub answer_ask : World → Ask → Answered
 answer_ask W ask = unless_refused (answer_from W ask) (check ask)

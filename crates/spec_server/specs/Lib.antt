@@ -1,5 +1,6 @@
 pub mod Replies
 pub mod Shown
+pub mod Shapes
 pub mod Asking
 pub mod Machine
 pub mod Sound

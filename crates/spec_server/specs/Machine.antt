@@ -16,13 +16,13 @@ use Rattle.spec_index.specs.Reduces.{reduce_of}
 use Rattle.spec_index.specs.Mapping.{failures, scratch}
 use Rattle.index_tree.specs.Mapper.{mapper_of}
 use Rattle.spec_store.specs.Commit.{Command, Expect, Client, Server, Setting, Refusal, Written, Refused, commit, vector_of, row_spelling, etags_taken}
-use Rattle.spec_index.specs.Optimiser.{Shape, Choice, Use, Make, Merge, pick, name_of, retired, retirement}
+use Rattle.spec_index.specs.Optimiser.{Shape, Choice, Use, Make, definition_of, pick, name_of, retired, retirement}
 use Rattle.spec_server.specs.Replies.{Reply, Index, Removed, Pumped, Pumping, Listing, Found, NoIndex, Switched, Tidied, UnknownLine}
 use Rattle.spec_server.specs.Replies as replies
 use Rattle.spec_index.specs.World.{Version, Slot, World, reads, batch, numbered, serving, SlotChange, SlotRefusal, define, define_named, remove, switch, is_named, is_automatic, definition_data}
 pub use Rattle.spec_index.specs.World.{is_stale, with_version}
 use Rattle.spec_index.specs.Find.{found_in}
-use Rattle.spec_server.specs.Asking.{answer_ask}
+use Rattle.spec_server.specs.Asking.{Answered, MustMake, Ready, answer_ask, answer_from_index}
 pub use Rattle.spec_server.specs.Shown.{members_of, shown, shown_metadata}
 
 -- a batch that a worker has read and not yet published: the number of its index, and the version after the batch
@@ -243,17 +243,35 @@ abbrev pub change_of_slots : World → ℕ → (List ℕ → Reply) → List ℕ
 change_of_slots W now reply name (Err refusal) = only_reply (slot_refused name refusal)
 change_of_slots W now reply name (Ok c) = rewrote W (reply c.name) c (commit W.setting Server now c.commands W.store)
 
+-- the name of the index that is made for a shape
+abbrev pub made_name : World → Shape → List ℕ
+made_name W shape = name_of W.slots (last W.store + 1) shape
+
+abbrev pub make : World → Shape → Result SlotChange SlotRefusal
+make W shape = define W (made_name W shape) (definition_of shape)
+
 -- the index that was picked, or a new one of the shape
 abbrev pub use_or_make : World → ℕ → Choice → Course
 use_or_make W now (Use s) = only_reply (Index s.name)
-use_or_make W now (Make shape) =
-    let name = name_of W.slots (last W.store + 1) shape in
-    change_of_slots W now Index name (define W name (Definition.Auto shape.collection shape.fields))
-use_or_make W now Merge = only_reply UnknownLine
+use_or_make W now (Make shape) = change_of_slots W now Index (made_name W shape) (make W shape)
+
+-- the query is answered in the world that the change leaves
+abbrev pub answer_made : World → query.Ask → SlotChange → Result Written Refused → Course
+answer_made W ask c (Err refused) = only_reply (write_refused refused)
+answer_made W ask c (Ok w) = let V = changed W w.store c in one_change (answer_from_index V ask c.name (serving V.slots c.name)) w.rows V
+
+abbrev pub answer_making : World → ℕ → query.Ask → List ℕ → Result SlotChange SlotRefusal → Course
+answer_making W now ask name (Err refusal) = only_reply (slot_refused name refusal)
+answer_making W now ask name (Ok c) = answer_made W ask c (commit W.setting Server now c.commands W.store)
+
+-- what a query does: nothing, or the automatic index that it needs is made first
+abbrev pub ask_course : World → ℕ → query.Ask → Answered → Course
+ask_course W now ask (Ready reply) = only_reply reply
+ask_course W now ask (MustMake shape) = answer_making W now ask (made_name W shape) (make W shape)
 
 -- the shape of a query for one field
 abbrev pub one_field : List ℕ → List ℕ → Shape
-one_field collection field = record { collection = collection; fields = (field ∷ []) ∷ [] }
+one_field collection field = record { collection = collection; grouped = false; groups = []; fields = (field ∷ []) ∷ [] }
 
 -- TIDYING
 
@@ -443,7 +461,7 @@ course_of W now (Define name definition) = change_of_slots W now Index name (def
 course_of W now (Remove name) = change_of_slots W now Removed name (remove W name)
 course_of W now (Auto collection field) = use_or_make W now (pick (one_field collection field) W.store W.slots)
 course_of W now (Find index field ws) = only_reply (answer_find W index field ws (serving W.slots index))
-course_of W now (Ask ask) = only_reply (answer_ask W ask)
+course_of W now (Ask ask) = ask_course W now ask (answer_ask W ask)
 course_of W now (Pump max index) = pump_for W max index
 course_of W now (Switch name) = change_of_slots W now (Switched (last W.store + 1)) name (switch W name)
 course_of W now Tidy = tidy now (replaced_names W) W []

@@ -1,14 +1,17 @@
 -- What stored rows open: a machine, or the first row that is not valid.
-use Rattle.std.specs.Prelude.{ℕ, ◌+◌, List, [], ◌∷◌, ◌++◌, Bool, false, not, ◌&&◌, ◌||◌, ◌==◌, nat_le, nat_lt, if◌then◌else◌, Option, Some, None, Result, Ok, Err, length, codes, drop, map, ◌≡◌}
-use Rattle.std.specs.List.{list_any}
+use Rattle.std.specs.Prelude.{ℕ, ◌+◌, List, [], ◌∷◌, ◌++◌, Bool, true, false, not, ◌&&◌, ◌||◌, ◌==◌, nat_le, nat_lt, if◌then◌else◌, Option, Some, None, Result, Ok, Err, length, codes, drop, map, ◌≡◌}
+use Rattle.std.specs.List.{list_all, list_any}
+use Rattle.std.specs.Option.{option_map}
+use Rattle.std.specs.Ordering.{is_lt}
 use Rattle.std.specs.Str.{bytes_eq}
-use Rattle.spec_data.specs.Data.{Data, null, text, array, object, no_items, item, no_entries, pairs_of}
+use Rattle.spec_data.specs.Data.{Data, null, text, array, object, Items, no_items, item, no_entries, pairs_of}
 use Rattle.spec_data.specs.Faults.{is_fit}
-use Rattle.spec_data.specs.Folding.{folded}
-use Rattle.spec_data.specs.Members.{member}
+use Rattle.spec_data.specs.Folding.{folded, key_cmp}
+use Rattle.spec_data.specs.Members.{Path, member}
 use Rattle.spec_data.specs.Rows.{Row, is_document}
 use Rattle.spec_store.specs.Commit.{Setting, is_index_id}
-use Rattle.index_tree.specs.Definitions.{Definition, Static, Auto, Texts}
+use Rattle.index_tree.specs.Definitions.{Definition, Static, Auto, AutoReduce, Texts}
+use Rattle.index_tree.specs.Mapper.{joined}
 use Rattle.spec_store.specs.Store.{row_at}
 pub use Rattle.spec_index.specs.World.{replaced_name}
 use Rattle.spec_index.specs.World.{Slot, index_id, new_version, begins_with_auto, begins_with_replacement, is_reserved_name, max_index_name}
@@ -22,11 +25,64 @@ use Rattle.spec_store.specs.Kept.{rows_in}
 abbrev pub is_part : List ℕ → Bool
 is_part part = nat_lt 0 (length part) && not (list_any (λ b. (b == 46) || (b == 40) || (b == 41)) part)
 
--- the definition of an automatic index of one field of one part, from the four members of its body
+abbrev pub and_then_some : {A B : Type 0} → Option A → (A → Option B) → Option B
+and_then_some None more = None
+and_then_some (Some a) more = more a
+
+-- the texts of a list of texts
+abbrev pub words_of : Items → Option (List (List ℕ))
+words_of no_items = Some []
+words_of (item (text t) more) = option_map (λ ts. t ∷ ts) (words_of more)
+words_of (item other more) = None
+
+-- a path has at least one part
+abbrev pub is_path : Path → Bool
+is_path path = nat_lt 0 (length path) && list_all is_part path
+
+abbrev pub path_of : Data → Option Path
+path_of (array ds) = and_then_some (words_of ds) (λ path. if is_path path then Some path else None)
+path_of other = None
+
+abbrev pub paths_of : Items → Option (List Path)
+paths_of no_items = Some []
+paths_of (item d more) = and_then_some (path_of d) (λ path. option_map (λ paths. path ∷ paths) (paths_of more))
+
+-- each joined form is below the next
+abbrev pub are_rising : List Path → Bool
+are_rising [] = true
+are_rising (p ∷ []) = true
+are_rising (p ∷ q ∷ more) = is_lt (key_cmp (joined p) (joined q)) && are_rising (q ∷ more)
+
+-- a list of paths in order
+abbrev pub paths_read : Option Data → Option (List Path)
+paths_read (Some (array ds)) = and_then_some (paths_of ds) (λ paths. if are_rising paths then Some paths else None)
+paths_read other = None
+
+abbrev pub is_empty_object : Option Data → Bool
+is_empty_object (Some (object no_entries)) = true
+is_empty_object other = false
+
+abbrev pub is_kind : List ℕ → Option Data → Bool
+is_kind kind (Some (text t)) = bytes_eq t kind
+is_kind kind other = false
+
+abbrev pub text_in : Option Data → Option (List ℕ)
+text_in (Some (text t)) = Some t
+text_in other = None
+
+-- the definition of an automatic index without groups, from the four members of its body
 abbrev pub auto_read : Option Data → Option Data → Option Data → Option Data → Option Definition
-auto_read (Some (object no_entries)) (Some (text collection)) (Some (array (item (array (item (text field) no_items)) no_items))) (Some (text kind)) =
-    if bytes_eq kind (codes "auto") && is_part field then Some (Auto collection ((field ∷ []) ∷ [])) else None
-auto_read metadata collection fields kind = None
+auto_read metadata collection fields kind =
+    if is_empty_object metadata && is_kind (codes "auto") kind
+    then and_then_some (text_in collection) (λ c. option_map (Auto c) (paths_read fields))
+    else None
+
+-- that of one with groups, from the five members of its body
+abbrev pub reduce_read : Option Data → Option Data → Option Data → Option Data → Option Data → Option Definition
+reduce_read metadata collection groups kind sums =
+    if is_empty_object metadata && is_kind (codes "auto-reduce") kind
+    then and_then_some (text_in collection) (λ c. and_then_some (paths_read groups) (λ gs. option_map (AutoReduce c gs) (paths_read sums)))
+    else None
 
 -- the texts of an index, from the four members of its body: that of a map, and that of a reduce or null
 abbrev pub texts_read : Option Data → Option Data → Option Data → Option Data → Option Texts
@@ -45,13 +101,20 @@ form_of (Some d) other = AutoForm d
 form_of None (Some texts) = StaticForm texts
 form_of None None = NoForm
 
--- what the body says; it has exactly four members
+abbrev pub reduce_form : Option Definition → BodyForm
+reduce_form None = NoForm
+reduce_form (Some d) = AutoForm d
+
+-- what the body says; it has exactly four members, or five for an automatic index with groups
 abbrev pub body_form : Data → BodyForm
 body_form (object ms) =
     if length (pairs_of ms) == 4
     then form_of (auto_read (member (codes "@metadata") ms) (member (codes "Collection") ms) (member (codes "Fields") ms) (member (codes "Kind") ms))
     (texts_read (member (codes "@metadata") ms) (member (codes "Kind") ms) (member (codes "Map") ms) (member (codes "Reduce") ms))
-    else NoForm
+    else (
+    if length (pairs_of ms) == 5
+    then reduce_form (reduce_read (member (codes "@metadata") ms) (member (codes "Collection") ms) (member (codes "Groups") ms) (member (codes "Kind") ms) (member (codes "Sums") ms))
+    else NoForm)
 body_form other = NoForm
 
 -- ROWS OF DEFINITIONS
@@ -75,6 +138,7 @@ is_static_name name = is_fit max_index_name name && not (is_reserved_name name)
 abbrev pub may_be_named : Definition → List ℕ → Bool
 may_be_named (Static map reduce map_text reduce_text) name = is_static_name (replaced_name name)
 may_be_named (Auto collection fields) name = is_auto_name name
+may_be_named (AutoReduce collection groups sums) name = is_auto_name name
 
 abbrev pub is_live : Option Row → Bool
 is_live None = false
