@@ -24,7 +24,7 @@ pub record IsMade (M : Machine) (k : Keeping) (now : ℕ) (c : SlotChange) (repl
   pub made : replied ≡ record { reply = reply; machine = with_world M (changed M.world wrote.store c) }
   pub store : wrote.store ≡ after_commands now c.commands M.world.store
 
-not-taken : (takes : List Bool) (rows : List Row) → is_taken takes rows ≡ false → (later : List Bool) × (takes ≡ false ∷ later)
+pub not-taken : (takes : List Bool) (rows : List Row) → is_taken takes rows ≡ false → (later : List Bool) × (takes ≡ false ∷ later)
 not-taken takes [] h = absurd cc
 not-taken [] (r ∷ rows) h = absurd cc
 not-taken (true ∷ more) (r ∷ rows) h = absurd cc

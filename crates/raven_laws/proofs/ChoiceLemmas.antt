@@ -1,18 +1,16 @@
 -- The index that is picked is the best one, and a new name has the least number that is free.
 use Rattle.std.proofs.Common.{◌≡◌, ℕ, zero, suc, ◌+◌, ◌<◌, ◌≤◌, ◌^◌, List, [], ◌∷◌, Bool, true, false, not, ◌&&◌, ◌||◌, cond, nat_lt, nat_le, is_some, length, Option, Some, None, Ok, Err, filter, refl, sym, ap, ◌∙◌, subst, arith, ◌⊎◌, inl, inr}
 use Rattle.std.proofs.lemmas.Bool.{leb-true, ltb-false, ltb-true}
-use Rattle.std.specs.List.{list_any, list_all}
-use Rattle.std.specs.Str.{bytes_eq}
-use Rattle.index_tree.specs.Definitions.{Definition}
 use Rattle.spec_store.specs.Store.{Store, last}
-use Rattle.spec_index.specs.Optimiser.{Choice, Make, Merge, Shape, Use, beats, best, better, chosen, covers, first_free, free_name, has_collection, has_path, is_fresh, is_of, name_of, pick, slot_shape, width}
+use Rattle.spec_index.specs.Optimiser.{Choice, Make, Shape, Use, beats, best, better, chosen, covers, definition_of, first_free, free_name, is_fresh, pick, slot_shape, width}
 use Rattle.spec_index.specs.World.{Slot, SlotRefusal, added, serving}
-use Rattle.spec_server.specs.Machine.{Keeping, Machine, one_field, change_of_slots, settled, use_or_make}
+use Rattle.spec_server.specs.Machine.{Keeping, Machine, made_name, make, one_field, change_of_slots, settled, use_or_make}
 use Rattle.spec_server.specs.Replies.{Reply}
 use Rattle.spec_server.specs.Sound.{Has, NumbersRise, Sound}
 use Rattle.raven_laws.specs.Choices.{AutoIsAnswered, Before, FollowsChoice, IsMakeAnswer, IsBefore, IsChosen, IsFirstFree, IsNumberedName, IsUsed, numbered_name}
 use Rattle.raven_laws.proofs.DefinitionLemmas.{new-answered}
 use Rattle.raven_laws.proofs.NameLemmas.{name_of-free}
+use Rattle.raven_laws.proofs.UnionLemmas.{one-widened, widened-is}
 use Rattle.raven_laws.proofs.SlotLemmas.{Has-filter, NumbersRise-filter, above, into-filter, passes}
 
 -- THE ORDER
@@ -104,20 +102,6 @@ some-best S low (a ∷ more) s up h = elim (best S more) as (λ o. best S more �
 
 -- THE CHOICE
 
-none-of : (p : Slot → Bool) (slots : List Slot) → list_any p slots ≡ false → (t : Slot) → Has slots t → p t ≡ false
-none-of p [] h t at = absurd at
-none-of p (x ∷ slots) h t at = elim (p x) as (λ b. p x ≡ b → b || list_any p slots ≡ false → p t ≡ false) [
-  | true ↦ λ e f. absurd cc
-  | false ↦ λ e f. elim at [ inl same ↦ ap p (sym same) ∙ e | inr more ↦ none-of p slots f t more ]
-] refl h
-
-one-of : (p : Slot → Bool) (slots : List Slot) → list_any p slots ≡ true → (t : Slot) × Has slots t × (p t ≡ true)
-one-of p [] h = absurd cc
-one-of p (x ∷ slots) h = elim (p x) as (λ b. p x ≡ b → b || list_any p slots ≡ true → (t : Slot) × Has (x ∷ slots) t × (p t ≡ true)) [
-  | true ↦ λ e f. (x, inl refl, e)
-  | false ↦ λ e f. let r = one-of p slots f in (r.0, inr r.1, r.2)
-] refl h
-
 abbrev covering : Shape → List Slot → List Slot
 covering shape slots = filter (λ s. covers (slot_shape s) shape) slots
 
@@ -133,24 +117,11 @@ chosen-is shape S slots (Some s) up h =
       covers_it = passes (λ x. covers (slot_shape x) shape) slots s b.has;
       first = λ t at is. b.first t (into-filter (λ x. covers (slot_shape x) shape) slots t at is);
     }
-chosen-is shape S slots None up h = elim (list_any (is_of shape.collection) slots) as (λ b. list_any (is_of shape.collection) slots ≡ b → IsChosen S slots shape (cond b Merge (Make shape))) [
-  | true ↦ λ e. (λ t at. uncovered (covers (slot_shape t) shape) (λ is. none-best S (covering shape slots) h t (into-filter (λ x. covers (slot_shape x) shape) slots t at is)), one-of (is_of shape.collection) slots e)
-  | false ↦ λ e. (refl, none-of (is_of shape.collection) slots e)
-] refl
+chosen-is shape S slots None up h =
+    (λ t at. uncovered (covers (slot_shape t) shape) (λ is. none-best S (covering shape slots) h t (into-filter (λ x. covers (slot_shape x) shape) slots t at is)), widened-is shape slots)
 
 pub pick-chosen : (S : Store) (slots : List Slot) (shape : Shape) → NumbersRise 0 slots → IsChosen S slots shape (pick shape S slots)
 pick-chosen S slots shape up = chosen-is shape S slots (best S (covering shape slots)) up refl
-
--- what covers a shape is of its collection
-shape-of : (shape : Shape) (o : Option Shape) → covers o shape ≡ true → has_collection shape.collection o ≡ true
-shape-of shape None h = absurd cc
-shape-of shape (Some a) h = elim (bytes_eq a.collection shape.collection) as (λ b. b && list_all (has_path a.fields) shape.fields ≡ true → b ≡ true) [
-  | true ↦ λ e. refl
-  | false ↦ λ e. absurd cc
-] h
-
-covering-of : (shape : Shape) (s : Slot) → covers (slot_shape s) shape ≡ true → is_of shape.collection s ≡ true
-covering-of shape s h = shape-of shape (slot_shape s) h
 
 pub one-chosen : (S : Store) (slots : List Slot) (shape : Shape) (c d : Choice) → IsChosen S slots shape c → IsChosen S slots shape d → c ≡ d
 one-chosen S slots shape (Use s) (Use t) a b = elim (a.first t b.has b.covers_it) as (λ _. Use s ≡ Use t) [
@@ -160,25 +131,19 @@ one-chosen S slots shape (Use s) (Use t) a b = elim (a.first t b.has b.covers_it
     | inr back ↦ absurd (apart (is_fresh S s) (is_fresh S t) (width s) (width t) s.number t.number before back)
   ]
 ]
-one-chosen S slots shape (Use s) (Make m) a b = absurd (let e = b.1 s a.has in let f = covering-of shape s a.covers_it in cc)
-one-chosen S slots shape (Use s) Merge a b = absurd (let e = b.0 s a.has in let f = a.covers_it in cc)
-one-chosen S slots shape (Make m) (Use t) a b = absurd (let e = a.1 t b.has in let f = covering-of shape t b.covers_it in cc)
-one-chosen S slots shape (Make m) (Make n) a b = ap Make (a.0 ∙ sym b.0)
-one-chosen S slots shape (Make m) Merge a b = absurd (let e = a.1 b.1.0 b.1.1 in let f = b.1.2 in cc)
-one-chosen S slots shape Merge (Use t) a b = absurd (let e = a.0 t b.has in let f = b.covers_it in cc)
-one-chosen S slots shape Merge (Make n) a b = absurd (let e = b.1 a.1.0 a.1.1 in let f = a.1.2 in cc)
-one-chosen S slots shape Merge Merge a b = refl
+one-chosen S slots shape (Use s) (Make m) a b = absurd (let e = b.0 s a.has in let f = a.covers_it in cc)
+one-chosen S slots shape (Make m) (Use t) a b = absurd (let e = a.0 t b.has in let f = b.covers_it in cc)
+one-chosen S slots shape (Make m) (Make n) a b = ap Make (one-widened slots shape m n a.1 b.1)
 
 -- WHAT AUTO DOES
 
-choice-followed : (M : Machine) (k : Keeping) (now : ℕ) (c : Choice) → Sound M.world → M.world.setting.max_slots < 2 ^ 32
-    → FollowsChoice M k now (settled M k (use_or_make M.world now c)) c
-choice-followed M k now (Use s) o few = refl
-choice-followed M k now Merge o few = refl
-choice-followed M k now (Make shape) o few =
+-- what is made for a shape is a new index, if there is room
+pub make-answered : (M : Machine) (k : Keeping) (now : ℕ) (shape : Shape) → Sound M.world → M.world.setting.max_slots < 2 ^ 32
+    → IsMakeAnswer M k now (made_name M.world shape) (definition_of shape) (settled M k (change_of_slots M.world now Reply.Index (made_name M.world shape) (make M.world shape)))
+make-answered M k now shape o few =
     let W = M.world in
-    let name = name_of W.slots (last W.store + 1) shape in
-    let d = Definition.Auto shape.collection shape.fields in
+    let name = made_name W shape in
+    let d = definition_of shape in
     let free : serving W.slots name ≡ None = name_of-free W.slots (last W.store + 1) shape (let a = o.limits.slots in omega arith) in
     elim (nat_le W.setting.max_slots (length W.slots)) as (λ b. nat_le W.setting.max_slots (length W.slots) ≡ b
     → IsMakeAnswer M k now name d (settled M k (change_of_slots M.world now Reply.Index name
@@ -187,6 +152,11 @@ choice-followed M k now (Make shape) o few =
       | false ↦ λ e. subst (λ found. IsMakeAnswer M k now name d (settled M k (change_of_slots M.world now Reply.Index name (cond (is_some found) (Err SlotRefusal.NameServes) (Ok (added W name d))))))
           (sym free) (inr (new-answered M k now name d free e))
     ] refl
+
+choice-followed : (M : Machine) (k : Keeping) (now : ℕ) (c : Choice) → Sound M.world → M.world.setting.max_slots < 2 ^ 32
+    → FollowsChoice M k now (settled M k (use_or_make M.world now c)) c
+choice-followed M k now (Use s) o few = refl
+choice-followed M k now (Make shape) o few = make-answered M k now shape o few
 
 pub auto-answered : (M : Machine) (k : Keeping) (now : ℕ) (collection field : List ℕ) → Sound M.world → M.world.setting.max_slots < 2 ^ 32
     → AutoIsAnswered M k now collection field

@@ -10,7 +10,7 @@ use Rattle.spec_data.specs.Faults.{replacement_of}
 use Rattle.spec_data.specs.Folding.{folded, same_key}
 use Rattle.spec_data.specs.Rows.{Row, doc}
 use Rattle.spec_store.specs.Store.{Store, last, row_at}
-use Rattle.index_tree.specs.Definitions.{Definition, Static, Auto, map_code, path_code, reduce_code, is_same, same_codes, same_definition}
+use Rattle.index_tree.specs.Definitions.{Definition, Static, Auto, AutoReduce, map_code, path_code, reduce_code, is_same, same_codes, same_definition}
 use Rattle.spec_store.specs.Commit.{Command, AnyVector, Server, after_command, commit, document_at, stored_body, tombstone}
 use Rattle.spec_index.specs.World.{Slot, SlotRefusal, World, added, added_if_room, added_to, define_at, define_beside, define_named, dropped, index_id, is_named, is_reserved_name, max_index_name, removed, row_body, serving, taken_out, unchanged, unless_refused, without}
 use Rattle.spec_server.specs.Sound.{Has, IsListed, Sound}
@@ -61,7 +61,23 @@ definitions-told (Static m r t u) (Static n s v w) = (
   λ h. both_are (is_same map_code m n) (is_same (coded_option reduce_code) r s) ((told-apart map_code m n).1 h.map) ((told-apart (coded_option reduce_code) r s).1 h.reduce),
 )
 definitions-told (Static m r t u) (Auto d others) = (λ h. absurd cc, λ h. absurd h)
+definitions-told (Static m r t u) (AutoReduce d others more) = (λ h. absurd cc, λ h. absurd h)
 definitions-told (Auto c fields) (Static n s v w) = (λ h. absurd cc, λ h. absurd h)
+definitions-told (Auto c fields) (AutoReduce d others more) = (λ h. absurd cc, λ h. absurd h)
+definitions-told (AutoReduce c groups sums) (Static n s v w) = (λ h. absurd cc, λ h. absurd h)
+definitions-told (AutoReduce c groups sums) (Auto d others) = (λ h. absurd cc, λ h. absurd h)
+definitions-told (AutoReduce c groups sums) (AutoReduce d others more) = (
+  λ h.
+      let first = both_true (is_same text_code c d) (is_same (coded_list path_code) groups others && is_same (coded_list path_code) sums more) h in
+      let rest = both_true (is_same (coded_list path_code) groups others) (is_same (coded_list path_code) sums more) first.1 in
+      record {
+        collection = (told-apart text_code c d).0 first.0;
+        groups = (told-apart (coded_list path_code) groups others).0 rest.0;
+        sums = (told-apart (coded_list path_code) sums more).0 rest.1;
+      },
+  λ h. both_are (is_same text_code c d) (is_same (coded_list path_code) groups others && is_same (coded_list path_code) sums more) ((told-apart text_code c d).1 h.collection)
+      (both_are (is_same (coded_list path_code) groups others) (is_same (coded_list path_code) sums more) ((told-apart (coded_list path_code) groups others).1 h.groups) ((told-apart (coded_list path_code) sums more).1 h.sums)),
+)
 definitions-told (Auto c fields) (Auto d others) = (
   λ h. let both = both_true (is_same text_code c d) (is_same (coded_list path_code) fields others) h in
       record { collection = (told-apart text_code c d).0 both.0; fields = (told-apart (coded_list path_code) fields others).0 both.1 },
@@ -126,22 +142,27 @@ other-left W r name x o is h other = elim (left_or r.number W.slots x h) [
 ]
 
 module _ (M : Machine) (k : Keeping) (now : ℕ) (name : List ℕ) (d : Definition) where
+  -- the new index that such a change leaves
+  pub new-made : serving M.world.slots name ≡ None → nat_le M.world.setting.max_slots (length M.world.slots) ≡ false
+      → (replied : Replied) → IsMade M k now (added M.world name d) (Reply.Index name) replied → IsNewIndex M k now name d replied
+  new-made free room replied m = subst (IsNewIndex M k now name d) (sym m.made) (record {
+    allowed = record { wrote = m.wrote; unrefused = m.unrefused; taken = m.taken };
+    free = free;
+    room = leb-false M.world.setting.max_slots (length M.world.slots) room;
+    reply = refl;
+    slots = refl;
+    serves = served-pushed M.world.slots (new_slot M name d) name free (same_itself (folded name));
+    listed = subst (λ S. IsListed S (new_slot M name d)) (sym m.store) (put-listed now M.world.store name d (new_slot M name d) refl refl refl);
+    rows = λ q other. ap (λ (S : Store). row_at q S.rows) m.store ∙ put-others now M.world.store (index_id name) (row_body d) q other;
+  })
+
   pub new-answered : serving M.world.slots name ≡ None → nat_le M.world.setting.max_slots (length M.world.slots) ≡ false
       → let replied = settled M k (change_of_slots M.world now Reply.Index name (Ok (added M.world name d))) in
       IsRowRefused M now (Command.Put (index_id name) AnyVector (row_body d) ∷ []) replied ⊎ (IsKeeperFault M k replied ⊎ IsNewIndex M k now name d replied)
   new-answered free room = elim (change-answered M k now (added M.world name d) (Reply.Index name)) [
     | inl refused ↦ inl refused
     | inr (inl failed) ↦ inr (inl failed)
-    | inr (inr m) ↦ inr (inr (subst (IsNewIndex M k now name d) (sym m.made) (record {
-      allowed = record { wrote = m.wrote; unrefused = m.unrefused; taken = m.taken };
-      free = free;
-      room = leb-false M.world.setting.max_slots (length M.world.slots) room;
-      reply = refl;
-      slots = refl;
-      serves = served-pushed M.world.slots (new_slot M name d) name free (same_itself (folded name));
-      listed = subst (λ S. IsListed S (new_slot M name d)) (sym m.store) (put-listed now M.world.store name d (new_slot M name d) refl refl refl);
-      rows = λ q other. ap (λ (S : Store). row_at q S.rows) m.store ∙ put-others now M.world.store (index_id name) (row_body d) q other;
-    })))
+    | inr (inr m) ↦ inr (inr (new-made free room (settled M k (change_of_slots M.world now Reply.Index name (Ok (added M.world name d)))) m))
   ]
 
   define-kept : MayBeGiven name → define_named M.world name d ≡ Ok (added M.world name d) → serving M.world.slots name ≡ None → nat_le M.world.setting.max_slots (length M.world.slots) ≡ false

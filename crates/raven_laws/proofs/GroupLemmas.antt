@@ -29,10 +29,10 @@ use Rattle.spec_server.specs.Asking.{found_by, without_ids}
 use Rattle.spec_server.specs.Machine.{Machine, is_stale}
 use Rattle.spec_server.specs.Shown.{shown}
 use Rattle.spec_server.specs.Sound.{Has, Sound}
-use Rattle.raven_laws.specs.Queries.{AsksForAll, AsksIndex, FitsIndex, IsEntry, IsRowOfKey, entries_in, query_reply, results_in}
+use Rattle.raven_laws.specs.Queries.{AsksIndex, FitsIndex, HasNoPage, IsEntry, IsRowOfKey, entries_in, query_reply, results_in}
 use Rattle.raven_laws.proofs.EntryLemmas.{given-scratch, scratch-given}
 use Rattle.raven_laws.proofs.QueryLemmas.{bound-answer, fresh-query}
-use Rattle.raven_laws.proofs.ResultLemmas.{Has-page, page-Has, taken-all}
+use Rattle.raven_laws.proofs.ResultLemmas.{Has-page, page-Has, taken-rows}
 use Rattle.raven_laws.proofs.SlotLemmas.{Has-map, Has-mapped}
 
 -- MAPS
@@ -142,11 +142,11 @@ grouped-results M o ask s reduce asks fits is_fresh has =
     ap results_in (fresh-query M o ask s asks is_fresh ∙ bound-answer U W ask s fits)
     ∙ ap (λ reduce. let found = found_by reduce (shown W.setting.base) (plan_of ask) (scratch (mapper_of s.version.definition) U) W.store in found.results) has
 
-result-row : (W : World) (d : Definition) (reduce : ReduceQuery) (ask : Ask) (x : Data) → IsStore W.store → AsksForAll ask
+result-row : (W : World) (d : Definition) (reduce : ReduceQuery) (ask : Ask) (x : Data) → IsStore W.store → HasNoPage ask
     → Has (results W (plan_of ask) (reduced reduce (entries_in W d))) x → IsRowOfKey W d reduce ask x
 result-row W d reduce ask x s all h =
     let q = plan_of ask in
-    let taken = taken-all ask all in
+    let taken = taken-rows ask all in
     let rows = reduced reduce (entries_in W d) in
     let r = Has-map (result_of W q.columns) (page q (without_ids rows)) x h in
     let p = page-Has q (without_ids rows) r.0 taken r.1 in
@@ -159,21 +159,21 @@ result-row W d reduce ask x s all h =
       row = r.0.1;
       of_key = k.of_key ∙ same;
       passes = p.1;
-      shows = sym (ap (λ columns. result_of W columns r.0) taken.columns) ∙ r.2;
+      shows = r.2;
     }
 
-row-result : (W : World) (d : Definition) (reduce : ReduceQuery) (ask : Ask) (x : Data) → IsStore W.store → AsksForAll ask
+row-result : (W : World) (d : Definition) (reduce : ReduceQuery) (ask : Ask) (x : Data) → IsStore W.store → HasNoPage ask
     → IsRowOfKey W d reduce ask x → Has (results W (plan_of ask) (reduced reduce (entries_in W d))) x
 row-result W d reduce ask x s all k =
     let q = plan_of ask in
-    let taken = taken-all ask all in
+    let taken = taken-rows ask all in
     let rows = reduced reduce (entries_in W d) in
     let pair : Unit {0} × Fields = (tt, k.row) in
     let there = keyed-reduced reduce (entries_in W d) k.row (record { entry = k.entry; among = IsEntry-listed W d k.entry s k.given; of_key = k.of_key }) in
     let listed = Has-page q (without_ids rows) pair taken (Has-mapped (λ (fields : Fields). (let y : Unit {0} × Fields = (tt, fields) in y)) rows k.row there) k.passes in
-    subst (Has (results W q rows)) (ap (λ columns. result_of W columns pair) taken.columns ∙ k.shows) (Has-mapped (result_of W q.columns) (page q (without_ids rows)) pair listed)
+    subst (Has (results W q rows)) k.shows (Has-mapped (result_of W q.columns) (page q (without_ids rows)) pair listed)
 
-pub grouped-exact : (M : Machine) → Sound M.world → (ask : Ask) (s : Slot) (reduce : ReduceQuery) (d : Data) → AsksIndex M.world ask s → FitsIndex ask s → AsksForAll ask
+pub grouped-exact : (M : Machine) → Sound M.world → (ask : Ask) (s : Slot) (reduce : ReduceQuery) (d : Data) → AsksIndex M.world ask s → FitsIndex ask s → HasNoPage ask
     → is_stale M.world.store s ≡ false → reduce_of s.version.definition ≡ Some reduce → Has (results_in (query_reply M ask)) d ↔ IsRowOfKey M.world s.version.definition reduce ask d
 grouped-exact M o ask s reduce d asks fits all is_fresh has =
     let same = grouped-results M o ask s reduce asks fits is_fresh has in (

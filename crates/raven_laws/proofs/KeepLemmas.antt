@@ -6,13 +6,14 @@ use Rattle.spec_data.specs.Rows.{Row}
 use Rattle.spec_data.specs.Kept.{all_kept, keep_all}
 use Rattle.spec_store.specs.Store.{Store, last, with_row, with_rows}
 use Rattle.spec_store.specs.Commit.{AreNext, Client, Command, Put, Delete, Refused, Server, Setting, Writer, Written, commit, commit_from, document_at, refusal_of, row_of, tombstone, or_refused, with_written}
-use Rattle.index_tree.specs.Definitions.{Definition}
-use Rattle.spec_index.specs.Optimiser.{Choice, Use, Make, Merge, pick, name_of}
+use Rattle.spec_index.specs.Optimiser.{Choice, Use, Make, pick}
+use Rattle.spec_query.specs.Query as query
+use Rattle.spec_server.specs.Asking.{Answered, MustMake, Ready, answer_ask}
 use Rattle.spec_server.specs.Replies as replies
-use Rattle.spec_index.specs.World.{Slot, World, serving, SlotChange, SlotRefusal, define, define_named, remove, switch}
-use Rattle.spec_server.specs.Machine.{Machine, Request, Put as PutOne, Delete as DeleteOne, Bulk, Get, Define, Remove, Auto, Find, Ask, Pump, Switch, Tidy, Stale, Indexes, Stats, Line, Do, Read, Publish, Event, Keeping, Change, after, changes_of, course_of, is_taken, held_by, made, one_field, pump_at, pump_for, change_of_slots, replaced_names, rewrote, tidy, run, same_machine, single_reply, step, takes_after, use_or_make, with_world, write, wrote}
+use Rattle.spec_index.specs.World.{Slot, World, serving, SlotChange, SlotRefusal, define_named, remove, switch}
+use Rattle.spec_server.specs.Machine.{Machine, Request, Put as PutOne, Delete as DeleteOne, Bulk, Get, Define, Remove, Auto, Find, Ask, Pump, Switch, Tidy, Stale, Indexes, Stats, Line, Do, Read, Publish, Event, Keeping, Change, after, ask_course, changes_of, course_of, is_taken, held_by, made, made_name, make, one_field, pump_at, pump_for, change_of_slots, replaced_names, rewrote, tidy, run, same_machine, single_reply, step, takes_after, use_or_make, with_world, write, wrote}
 use Rattle.spec_server.specs.Script.{Given, after_lines, events_of}
-use Rattle.raven_laws.proofs.MachineLemmas.{AllDo, publish-store, read-world, tidy-do}
+use Rattle.raven_laws.proofs.MachineLemmas.{AllDo, making-changes, publish-store, read-world, tidy-do}
 use Rattle.raven_laws.proofs.ScriptLemmas.{lines-run}
 use Rattle.raven_laws.specs.Keeping.{AreTheirRows, IsItsRows, kept_after_all, rows_made, stored_after}
 use Rattle.spec_store.proofs.StoreLemmas.{same_row}
@@ -81,9 +82,11 @@ reslotted-rows W now reply name (Ok c) = rewrote-rows W (reply c.name) c now (co
 
 auto-rows : (W : World) (now : ℕ) (c : Choice) → AreTheirRows W.store (use_or_make W now c).changes
 auto-rows W now (Use s) = tt
-auto-rows W now (Make shape) =
-    let name = name_of W.slots (last W.store + 1) shape in reslotted-rows W now replies.Index name (define W name (Definition.Auto shape.collection shape.fields))
-auto-rows W now Merge = tt
+auto-rows W now (Make shape) = reslotted-rows W now replies.Index (made_name W shape) (make W shape)
+
+ask-rows : (W : World) (now : ℕ) (ask : query.Ask) (a : Answered) → AreTheirRows W.store (ask_course W now ask a).changes
+ask-rows W now ask (Ready reply) = tt
+ask-rows W now ask (MustMake shape) = subst (AreTheirRows W.store) (sym (making-changes W now ask (made_name W shape) (make W shape))) (reslotted-rows W now replies.Index (made_name W shape) (make W shape))
 
 pump_at-rows : (W : World) (max : ℕ) (name : List ℕ) (there : Option Slot) → AreTheirRows W.store (pump_at W max name there).changes
 pump_at-rows W max name None = tt
@@ -112,7 +115,7 @@ course-rows W now (Define name d) = reslotted-rows W now replies.Index name (def
 course-rows W now (Remove name) = reslotted-rows W now replies.Removed name (remove W name)
 course-rows W now (Auto collection field) = auto-rows W now (pick (one_field collection field) W.store W.slots)
 course-rows W now (Find index field ws) = tt
-course-rows W now (Ask ask) = tt
+course-rows W now (Ask ask) = ask-rows W now ask (answer_ask W ask)
 course-rows W now (Pump max index) = pump_for-rows W max index
 course-rows W now (Switch name) = reslotted-rows W now (replies.Switched (last W.store + 1)) name (switch W name)
 course-rows W now Tidy = tidy-rows W now

@@ -5,8 +5,8 @@ use Rattle.std.specs.Fmt.{decimal}
 use Rattle.std.specs.List.{starts_with}
 use Rattle.spec_data.specs.Faults.{is_fit}
 use Rattle.spec_data.specs.Folding.{folded}
-use Rattle.index_tree.specs.Definitions.{Definition, Static, Auto}
-use Rattle.spec_index.specs.Optimiser.{Shape, and_joined, first_free, free_name, name_of, plain_name}
+use Rattle.index_tree.specs.Definitions.{Definition, Static, Auto, AutoReduce}
+use Rattle.spec_index.specs.Optimiser.{Shape, and_between, definition_of, first_free, free_name, name_of, plain_name, reduced_by, value_names}
 use Rattle.spec_index.specs.World.{Slot, SlotRefusal, begins_with_auto, is_automatic, begins_with_replacement, is_reserved_name, name_refusal, serving}
 use Rattle.spec_server.specs.Opening.{is_static_name, may_be_named}
 use Rattle.spec_store.proofs.StoreLemmas.{both_true, either_false}
@@ -34,9 +34,13 @@ pub name_of-begins : (slots : List Slot) (number : ℕ) (shape : Shape) → begi
 name_of-begins slots number shape =
     let plain = first_free (plain_name shape) slots in
     elim (is_fit 200 plain) as (λ b. begins_with_auto (cond b plain (first_free (codes "Auto/" ++ decimal number) slots)) ≡ true) [
-      | true ↦ first-begins (shape.collection ++ (codes "/By" ++ and_joined shape.fields)) slots
+      | true ↦ first-begins (shape.collection ++ (codes "/By" ++ (and_between (value_names shape) ++ reduced_by shape))) slots
       | false ↦ first-begins (decimal number) slots
     ]
+
+-- what is made for a shape is automatic
+pub definition_of-automatic : (shape : Shape) → is_automatic (definition_of shape) ≡ true
+definition_of-automatic shape = elim shape.grouped as (λ b. is_automatic (cond b (AutoReduce shape.collection shape.groups shape.fields) (Auto shape.collection shape.fields)) ≡ true) [ true ↦ refl | false ↦ refl ]
 
 -- THE NAME OF A CLIENT'S
 
@@ -83,6 +87,7 @@ named-kind (Static map reduce map_text reduce_text) name h =
       | false ↦ λ e g. sym (free-of-auto name (not_true (is_reserved_name name) (both_true (is_fit 200 name) (not (is_reserved_name name)) g).1))
     ] refl h
 named-kind (Auto collection fields) name h = sym (both_true (is_fit 200 name) (begins_with_auto name) h).1
+named-kind (AutoReduce collection groups sums) name h = sym (both_true (is_fit 200 name) (begins_with_auto name) h).1
 
 -- the rest of the name of a replacement is a name that a client may give
 pub named-given : (d : Definition) (name : List ℕ) → may_be_named d name ≡ true → begins_with_replacement name ≡ true → is_reserved_name (drop 14 name) ≡ false
@@ -90,3 +95,4 @@ named-given (Static map reduce map_text reduce_text) name h is =
     let g = ap (λ b. is_static_name (cond b (drop 14 name) name)) (sym is) ∙ h in
     not_true (is_reserved_name (drop 14 name)) (both_true (is_fit 200 (drop 14 name)) (not (is_reserved_name (drop 14 name))) g).1
 named-given (Auto collection fields) name h is = absurd (let f = replacement-no-auto name is in let g = (both_true (is_fit 200 name) (begins_with_auto name) h).1 in cc)
+named-given (AutoReduce collection groups sums) name h is = absurd (let f = replacement-no-auto name is in let g = (both_true (is_fit 200 name) (begins_with_auto name) h).1 in cc)

@@ -6,6 +6,7 @@ pub mod LimitLemmas
 pub mod KindLemmas
 pub mod WorldLemmas
 pub mod MachineLemmas
+pub mod PickLemmas
 pub mod QueryLemmas
 pub mod FlagLemmas
 pub mod AnswerLemmas
@@ -14,11 +15,13 @@ pub mod ResultLemmas
 pub mod GroupLemmas
 pub mod MatchLemmas
 pub mod NameLemmas
+pub mod UnionLemmas
 pub mod PumpLemmas
 pub mod ScriptLemmas
 pub mod ClientLemmas
 pub mod WorkedRows
 pub mod WorkedQueries
+pub mod WorkedSides
 pub mod WorkedScript
 pub mod WriteLemmas
 pub mod ChangeLemmas
@@ -28,6 +31,10 @@ pub mod SwitchLemmas
 pub mod TidyLemmas
 pub mod WorkerLemmas
 pub mod ChoiceLemmas
+pub mod CoverLemmas
+pub mod AskLemmas
+pub mod AlikeLemmas
+pub mod AlikeGroups
 pub mod WordLemmas
 pub mod KeepLemmas
 pub mod MemberLemmas

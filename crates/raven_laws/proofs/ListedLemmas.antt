@@ -7,7 +7,7 @@ use Rattle.std.specs.Option.{option_and_then, option_map}
 use Rattle.spec_data.specs.Folding.{folded, same_key}
 use Rattle.spec_data.specs.Rows.{Row, Body, doc, gone, key, is_document}
 use Rattle.spec_store.specs.Store.{row_at, put, Store, last, with_row}
-use Rattle.index_tree.specs.Definitions.{Definition, Static, Auto}
+use Rattle.index_tree.specs.Definitions.{Definition, Static, Auto, AutoReduce}
 use Rattle.spec_store.specs.Commit.{Command, Put, Delete, AnyVector, Writer, Client, Setting, Refusal, Written, first_of, refusal_of, reserved, is_reserved, is_index_id, too_large, collection_changed, conflict, store_full, etags_spent, collection_of, stored_body, row_spelling, document_at, tombstone, row_of, with_written, with_option, after_commands, or_refused, commit_from}
 use Rattle.spec_index.specs.World.{Slot, index_id, row_body}
 use Rattle.spec_server.specs.Sound.{Has, IsListed, AreListed}
@@ -43,6 +43,7 @@ index_key q a h = subst (λ k. starts_with nat_eq k (codes "@index/") ≡ true) 
 pub in_indexes_collection : (d : Definition) → collection_of (row_body d) ≡ codes "@indexes"
 in_indexes_collection (Static map reduce map_text reduce_text) = refl
 in_indexes_collection (Auto c fields) = refl
+in_indexes_collection (AutoReduce c groups sums) = refl
 
 pub differ : (q k : List ℕ) → (q ≡ k → ⊥) → same_key q k ≡ false
 differ q k never = elim (same_key q k) as (λ b. same_key q k ≡ b → b ≡ false) [ true ↦ λ e. absurd (never (same_means q k e)) | false ↦ λ e. refl ] refl

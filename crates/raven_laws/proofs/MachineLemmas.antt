@@ -7,20 +7,21 @@ use Rattle.spec_store.specs.Store.{Store, last, IsStore}
 use Rattle.spec_store.specs.Later.{Later}
 use Rattle.spec_store.specs.Stale.{batch_rows}
 use Rattle.spec_index.specs.Index.{etag_of_batch}
-use Rattle.index_tree.specs.Definitions.{Definition}
-use Rattle.spec_index.specs.Optimiser.{Choice, Use, Make, Merge, pick, name_of, retirement}
+use Rattle.spec_index.specs.Optimiser.{Choice, Shape, Use, Make, definition_of, pick, retirement}
 use Rattle.spec_store.specs.Commit.{Command, Put, Delete, Writer, Client, Server, Setting, Refused, Written, refusal_of, row_of, with_written, or_refused, commit_from, commit}
+use Rattle.spec_query.specs.Query as query
+use Rattle.spec_server.specs.Asking.{Answered, MustMake, Ready, answer_ask}
 use Rattle.spec_server.specs.Replies as replies
-use Rattle.spec_index.specs.World.{Slot, Note, Version, World, reads, advanced, batch, numbered, serving, SlotChange, SlotRefusal, define, define_named, is_automatic, is_named, remove, switch}
-use Rattle.spec_server.specs.Machine.{Machine, Request, Put as PutOne, Delete as DeleteOne, Bulk, Get, Define, Remove, Auto, Find, Ask, Pump, Switch, Tidy, Stale, Indexes, Stats, Event, Held, Keeping, Line, Do, Read, Publish, IsFromClient, AreFromClients, Change, Course, is_taken, takes_after, with_world, same_machine, made, settled, single_reply, wrote, write, changed, rewrote, change_of_slots, use_or_make, one_field, or_as_before, after_batch, after_batch_if_named, in_world, with_slots, pump, pump_at, pump_for, replaced_names, retire, switch_and, tidied, tidy, try_switch, PublishRefusal, Passed, held_by, let_go, with_held, read_at, read_batch, published, published_in, published_reply, publish_by, publish_to, with_version, course_of, changes_of, step, start, after, run}
+use Rattle.spec_index.specs.World.{Slot, Note, Version, World, reads, advanced, batch, numbered, serving, SlotChange, SlotRefusal, define_named, is_automatic, is_named, remove, switch}
+use Rattle.spec_server.specs.Machine.{Machine, Request, Put as PutOne, Delete as DeleteOne, Bulk, Get, Define, Remove, Auto, Find, Ask, Pump, Switch, Tidy, Stale, Indexes, Stats, Event, Held, Keeping, Line, Do, Read, Publish, IsFromClient, AreFromClients, Change, Course, is_taken, takes_after, with_world, same_machine, made, settled, single_reply, wrote, write, changed, rewrote, answer_made, answer_making, ask_course, change_of_slots, make, made_name, use_or_make, one_field, or_as_before, after_batch, after_batch_if_named, in_world, with_slots, pump, pump_at, pump_for, replaced_names, retire, switch_and, tidied, tidy, try_switch, PublishRefusal, Passed, held_by, let_go, with_held, read_at, read_batch, published, published_in, published_reply, publish_by, publish_to, with_version, course_of, changes_of, step, start, after, run}
 use Rattle.spec_server.specs.Sound.{Has, Fits, NumbersRise, NamesApart, HaveTheirSlots, AreListed, IsWithinLimits, Sound, IsHeld, IsMachine, LaterW}
 use Rattle.spec_store.proofs.LaterLemmas.{Later-itself, IsStore-with, last-with}
 use Rattle.spec_store.proofs.CommitLemmas.{row_of-follows, commit-Commits}
 use Rattle.raven_laws.proofs.SlotLemmas.{Brought, Fits-later, Has-append, Has-filter, Has-map, find-Has, HaveTheirSlots-map, NumbersRise-map, NamesApart-map, batch-Brought, same_slot}
 use Rattle.raven_laws.proofs.ListedLemmas.{commit_from-applied, clients-AreListed, map-AreListed}
-use Rattle.raven_laws.proofs.KindLemmas.{auto-no-replacement, name_of-begins}
+use Rattle.raven_laws.proofs.KindLemmas.{auto-no-replacement, definition_of-automatic, name_of-begins}
 use Rattle.raven_laws.proofs.LimitLemmas.{commit_from-fits, commit_from-last, length_mapped}
-use Rattle.raven_laws.proofs.WorldLemmas.{append-none, LaterW-itself, LaterW-then, Comes, stays, StartsWithPut, Onto, Settles, define-Settles, define_named-Settles, remove-Settles, switch-Settles, retirement-Settles}
+use Rattle.raven_laws.proofs.WorldLemmas.{append-none, LaterW-itself, LaterW-then, Comes, stays, StartsWithPut, Onto, Settles, SuitsName, define-Settles, define_named-Settles, remove-Settles, switch-Settles, retirement-Settles}
 
 -- from a sound world to a sound and later one
 pub record Moves (W V : World) : Type 0 where
@@ -210,14 +211,31 @@ reslotted-Moves : (now : ℕ) (W : World) (reply : List ℕ → replies.Reply) (
 reslotted-Moves now W reply name (Err refusal) o by = tt
 reslotted-Moves now W reply name (Ok c) o by = rewrote-Moves now W (reply c.name) c (commit W.setting Server now c.commands W.store) o (by c refl o) refl
 
+-- a new automatic index suits its name
+pub made-suits : (W : World) (shape : Shape) → SuitsName (made_name W shape) (definition_of shape)
+made-suits W shape =
+    let begins = name_of-begins W.slots (last W.store + 1) shape in
+    record { kind = definition_of-automatic shape ∙ sym begins; plain = auto-no-replacement (made_name W shape) begins }
+
+make-Moves : (now : ℕ) (W : World) (shape : Shape) → Sound W → CourseMoves W (change_of_slots W now replies.Index (made_name W shape) (make W shape))
+make-Moves now W shape o = reslotted-Moves now W replies.Index (made_name W shape) (make W shape) o (define-Settles W (made_name W shape) (definition_of shape) (made-suits W shape))
+
 auto-Moves : (now : ℕ) (W : World) (c : Choice) → Sound W → CourseMoves W (use_or_make W now c)
 auto-Moves now W (Use s) o = tt
-auto-Moves now W (Make shape) o =
-    let name = name_of W.slots (last W.store + 1) shape in
-    let d = Definition.Auto shape.collection shape.fields in
-    let begins = name_of-begins W.slots (last W.store + 1) shape in
-    reslotted-Moves now W replies.Index name (define W name d) o (define-Settles W name d (record { kind = sym begins; plain = auto-no-replacement name begins }))
-auto-Moves now W Merge o = tt
+auto-Moves now W (Make shape) o = make-Moves now W shape o
+
+-- a query makes the same changes as an AUTO for its shape
+pub making-changes : (W : World) (now : ℕ) (ask : query.Ask) (name : List ℕ) (r : Result SlotChange SlotRefusal) → (answer_making W now ask name r).changes ≡ (change_of_slots W now replies.Index name r).changes
+making-changes W now ask name (Err refusal) = refl
+making-changes W now ask name (Ok c) = by (commit W.setting Server now c.commands W.store)
+  where
+    by : (o : Result Written Refused) → (answer_made W ask c o).changes ≡ (rewrote W (replies.Index c.name) c o).changes
+    by (Err refused) = refl
+    by (Ok w) = refl
+
+pub ask-Moves : (now : ℕ) (W : World) (ask : query.Ask) (a : Answered) → Sound W → CourseMoves W (ask_course W now ask a)
+ask-Moves now W ask (Ready reply) o = tt
+ask-Moves now W ask (MustMake shape) o = subst (AllMove W) (sym (making-changes W now ask (made_name W shape) (make W shape))) (make-Moves now W shape o)
 
 -- TIDYING
 
@@ -348,7 +366,7 @@ course-Moves W now (Define name d) from o = reslotted-Moves now W replies.Index 
 course-Moves W now (Remove name) from o = reslotted-Moves now W replies.Removed name (remove W name) o (remove-Settles W name)
 course-Moves W now (Auto collection field) from o = auto-Moves now W (pick (one_field collection field) W.store W.slots) o
 course-Moves W now (Find index field ws) from o = tt
-course-Moves W now (Ask ask) from o = tt
+course-Moves W now (Ask ask) from o = ask-Moves now W ask (answer_ask W ask) o
 course-Moves W now (Pump max index) from o = pump_for-Moves W max index o
 course-Moves W now (Switch name) from o = reslotted-Moves now W (replies.Switched (last W.store + 1)) name (switch W name) o (switch-Settles W name)
 course-Moves W now Tidy from o = tidy-Moves now W o

@@ -18,7 +18,7 @@ use Rattle.raven_laws.proofs.AnswerLemmas.{found-ids, ids-found, Sound-fresh}
 use Rattle.raven_laws.proofs.EntryLemmas.{scratch-given, given-scratch}
 use Rattle.raven_laws.proofs.GroupLemmas.{grouped-exact}
 use Rattle.raven_laws.proofs.QueryLemmas.{cutoff-whole}
-use Rattle.raven_laws.proofs.ResultLemmas.{collection-exact, query-exact}
+use Rattle.raven_laws.proofs.ResultLemmas.{collection-exact, query-exact, whole-unrefused}
 
 found-IsMatch : (S : Store) (d : Definition) (field ws id : List ℕ) → IsStore S → Has (ids_found d (documents (scope_of (mapper_of d)) S) field ws) id → IsMatch S d field ws id
 found-IsMatch S d field ws id s h =
@@ -64,7 +64,7 @@ find-exact M o index field ws id s h is_fresh =
     )
 
 pub Sound-exact : (M : Machine) → Sound M.world → FreshIsExact M
-Sound-exact M o = record { find = find-exact M o; asked = query-exact M o; grouped = grouped-exact M o; cutoff = cutoff-whole M o; collection = collection-exact M o }
+Sound-exact M o = record { find = find-exact M o; asked = query-exact M o; grouped = grouped-exact M o; cutoff = cutoff-whole M o; collection = collection-exact M o; unrefused = whole-unrefused }
 
 pub run-exact : (setting : Setting) (events : List Event) → AreFromClients events → FreshIsExact (run events (start setting))
 run-exact setting events from = Sound-exact (run events (start setting)) (run-Sound setting events from)

@@ -1,5 +1,5 @@
 -- What stored rows open is a sound world.
-use Rattle.std.proofs.Common.{◌≡◌, ℕ, zero, suc, ◌+◌, ◌<◌, ◌≤◌, List, [], ◌∷◌, ◌++◌, Bool, true, false, cond, not, ◌&&◌, ◌||◌, ◌==◌, nat_eq, nat_lt, nat_le, is_none, length, take, drop, codes, Option, Some, None, option_map, Result, Ok, Err, refl, sym, ap, ◌∙◌, subst, arith, inl, inr, append_assoc, append-nil}
+use Rattle.std.proofs.Common.{◌≡◌, ℕ, zero, suc, ◌+◌, ◌<◌, ◌≤◌, List, [], ◌∷◌, ◌++◌, Bool, true, false, cond, not, ◌&&◌, ◌||◌, ◌==◌, nat_eq, nat_lt, nat_le, is_none, length, take, drop, codes, map, Option, Some, None, option_map, Result, Ok, Err, refl, sym, ap, ◌∙◌, subst, arith, inl, inr, append_assoc, append-nil}
 use Rattle.std.proofs.lemmas.Bool.{ltb-true, leb-true, leb-false, eqb-true}
 use Rattle.std.proofs.lemmas.List.{length-append, take-append-drop}
 use Rattle.std.proofs.lemmas.Slice.Eq.{bytes_eq-Decides}
@@ -7,22 +7,22 @@ use Rattle.std.specs.Cmp.Lexicographic.{nat_list_eq_equiv}
 use Rattle.std.specs.Option.{option_or}
 use Rattle.std.specs.List.{starts_with}
 use Rattle.std.specs.Str.{bytes_eq}
-use Rattle.spec_data.specs.Data.{Data, null, flag, num, text, array, object, Items, Entries, no_items, item, no_entries, entry, pairs_of}
+use Rattle.spec_data.specs.Data.{Data, null, flag, num, text, array, object, Items, Entries, no_items, item, items_of, no_entries, entry, pairs_of}
 use Rattle.spec_data.specs.Faults.{is_fit, max_id, replacement_of}
 use Rattle.spec_data.specs.Folding.{folded, same_key}
 use Rattle.spec_data.specs.Json.{JsonRefusal, reading}
 use Rattle.spec_data.specs.Kept.{KeptRow, all_kept, body_text, kept}
-use Rattle.spec_data.specs.Members.{member}
+use Rattle.spec_data.specs.Members.{Path, member}
 use Rattle.spec_data.specs.Moments.{moments_end}
 use Rattle.spec_data.specs.Rising.{Pairs, IsRising}
 use Rattle.spec_data.specs.Rows.{Row, Body, doc, gone, key, is_document}
 use Rattle.spec_data.specs.Written.{text_of}
 use Rattle.spec_store.specs.Store.{row_at, last_of, AreRising, AreApart, IsStore}
-use Rattle.index_tree.specs.Definitions.{Definition, Auto, Texts}
+use Rattle.index_tree.specs.Definitions.{Definition, Auto, AutoReduce, Texts}
 use Rattle.spec_store.specs.Commit.{Setting, is_index_id, stored_body}
-use Rattle.spec_index.specs.World.{Slot, new_version, index_id, row_body, text_or_null, is_automatic, is_reserved_name, begins_with_auto, begins_with_replacement}
+use Rattle.spec_index.specs.World.{Slot, new_version, index_id, row_body, path_list, text_list, text_or_null, is_automatic, is_reserved_name, begins_with_auto, begins_with_replacement}
 use Rattle.spec_server.specs.Machine.{Machine}
-use Rattle.spec_server.specs.Opening.{OpenedFrom, is_part, auto_read, texts_read, form_of, body_form, NoForm, ReadRow, is_defining, name_in, may_be_named, is_filed, is_too_many, is_live, is_beside, slot_of, with_slot, slots_with, slots_after, or_bad, and_then, slots_from, opened_with, rows_of}
+use Rattle.spec_server.specs.Opening.{OpenedFrom, and_then_some, words_of, is_path, path_of, paths_of, are_rising, paths_read, is_empty_object, is_kind, text_in, auto_read, reduce_read, texts_read, form_of, reduce_form, body_form, NoForm, ReadRow, is_defining, name_in, may_be_named, is_filed, is_too_many, is_live, is_beside, slot_of, with_slot, slots_with, slots_after, or_bad, and_then, slots_from, opened_with, rows_of}
 use Rattle.spec_store.specs.Kept.{max_body, max_etag, is_stored, document_of, document_in, body_in, is_etag, row_in, can_follow, row_if_it_follows, or_bad_row, rows_after, rows_in}
 use Rattle.spec_server.specs.Sound.{Has, Fits, NumbersRise, NamesApart, HaveTheirSlots, AreListed, IsMachine, Sound}
 use Rattle.raven_laws.specs.Opened.{AgreesWithForm, AgreesWithBody, HasOwnDefinition, HaveOwnDefinitions, OpenedFaithfully}
@@ -206,98 +206,174 @@ rows_in-AreRowsOf max held rows h =
 
 -- THE BODY OF A DEFINITION
 
--- the four members of the body of an automatic index's definition
-record IsAuto (metadata collection fields kind : Option Data) (d : Definition) : Type 0 where
-  pub name : List ℕ
-  pub field : List ℕ
-  pub metadata_is : metadata ≡ Some (object no_entries)
-  pub collection_is : collection ≡ Some (text name)
-  pub fields_are : fields ≡ Some (array (item (array (item (text field) no_items)) no_items))
-  pub kind_is : kind ≡ Some (text (codes "auto"))
-  pub definition_is : Auto name ((field ∷ []) ∷ []) ≡ d
-
 same_definition : (a b : Definition) → Some a ≡ Some b → a ≡ b
 same_definition a b h = cc
 
-abbrev one_path : List ℕ → Data
-one_path field = array (item (array (item (text field) no_items)) no_items)
+-- what was taken apart
+after-some : {A B : Type 0} (o : Option A) (more : A → Option B) (b : B) → and_then_some o more ≡ Some b → (a : A) × (o ≡ Some a) × (more a ≡ Some b)
+after-some None more b h = absurd cc
+after-some (Some a) more b h = (a, refl, h)
 
-by_kind : (c f : List ℕ) (k : Option Data) (d : Definition) → auto_read (Some (object no_entries)) (Some (text c)) (Some (one_path f)) k ≡ Some d
-    → IsAuto (Some (object no_entries)) (Some (text c)) (Some (one_path f)) k d
-by_kind c f None d h = absurd cc
-by_kind c f (Some null) d h = absurd cc
-by_kind c f (Some (flag b)) d h = absurd cc
-by_kind c f (Some (num n)) d h = absurd cc
-by_kind c f (Some (array ds)) d h = absurd cc
-by_kind c f (Some (object ms)) d h = absurd cc
-by_kind c f (Some (text kind)) d h =
-    elim (bytes_eq kind (codes "auto") && is_part f) as (λ b. bytes_eq kind (codes "auto") && is_part f ≡ b → cond b (Some (Auto c ((f ∷ []) ∷ []))) None ≡ Some d
-    → IsAuto (Some (object no_entries)) (Some (text c)) (Some (one_path f)) (Some (text kind)) d) [
-      | true ↦ λ e g. record {
-        name = c;
-        field = f;
-        metadata_is = refl;
-        collection_is = refl;
-        fields_are = refl;
-        kind_is = ap (λ s. Some (text s)) ((bytes_eq-Decides kind (codes "auto")).0 (both_true (bytes_eq kind (codes "auto")) (is_part f) e).0);
-        definition_is = same_definition _ d g;
-      }
+mapped-some : {A B : Type 0} (f : A → B) (o : Option A) (b : B) → option_map f o ≡ Some b → (a : A) × (o ≡ Some a) × (f a ≡ b)
+mapped-some f None b h = absurd cc
+mapped-some f (Some a) b h = (a, refl, let same : f a ≡ b = cc in same)
+
+if-some : {A : Type 0} (t : Bool) (a b : A) → cond t (Some a) None ≡ Some b → a ≡ b
+if-some true a b h = cc
+if-some false a b h = absurd cc
+
+words_of-is : (ds : Items) (ts : List (List ℕ)) → words_of ds ≡ Some ts → ds ≡ items_of (map text ts)
+words_of-is no_items [] h = refl
+words_of-is no_items (t ∷ ts) h = absurd cc
+words_of-is (item null more) ts h = absurd cc
+words_of-is (item (flag b) more) ts h = absurd cc
+words_of-is (item (num n) more) ts h = absurd cc
+words_of-is (item (array ds) more) ts h = absurd cc
+words_of-is (item (object ms) more) ts h = absurd cc
+words_of-is (item (text t) more) ts h =
+    let r = mapped-some (λ us. t ∷ us) (words_of more) ts h in
+    ap (item (text t)) (words_of-is more r.0 r.1) ∙ ap (λ us. items_of (map text us)) r.2
+
+path_of-is : (d : Data) (p : Path) → path_of d ≡ Some p → d ≡ text_list p
+path_of-is null p h = absurd cc
+path_of-is (flag b) p h = absurd cc
+path_of-is (num n) p h = absurd cc
+path_of-is (text t) p h = absurd cc
+path_of-is (object ms) p h = absurd cc
+path_of-is (array ds) p h =
+    let r = after-some (words_of ds) (λ path. cond (is_path path) (Some path) None) p h in
+    ap array (words_of-is ds r.0 r.1) ∙ ap text_list (if-some (is_path r.0) r.0 p r.2)
+
+paths_of-is : (ds : Items) (ps : List Path) → paths_of ds ≡ Some ps → ds ≡ items_of (map text_list ps)
+paths_of-is no_items [] h = refl
+paths_of-is no_items (p ∷ ps) h = absurd cc
+paths_of-is (item d more) ps h =
+    let r = after-some (path_of d) (λ path. option_map (λ paths. path ∷ paths) (paths_of more)) ps h in
+    let rest = mapped-some (λ paths. r.0 ∷ paths) (paths_of more) ps r.2 in
+    let one = path_of-is d r.0 r.1 in
+    let others = paths_of-is more rest.0 rest.1 in
+    (λ i. item (one i) (others i)) ∙ ap (λ qs. items_of (map text_list qs)) rest.2
+
+paths_read-is : (o : Option Data) (ps : List Path) → paths_read o ≡ Some ps → o ≡ Some (path_list ps)
+paths_read-is None ps h = absurd cc
+paths_read-is (Some null) ps h = absurd cc
+paths_read-is (Some (flag b)) ps h = absurd cc
+paths_read-is (Some (num n)) ps h = absurd cc
+paths_read-is (Some (text t)) ps h = absurd cc
+paths_read-is (Some (object ms)) ps h = absurd cc
+paths_read-is (Some (array ds)) ps h =
+    let r = after-some (paths_of ds) (λ paths. cond (are_rising paths) (Some paths) None) ps h in
+    ap (λ xs. Some (array xs)) (paths_of-is ds r.0 r.1) ∙ ap (λ qs. Some (path_list qs)) (if-some (are_rising r.0) r.0 ps r.2)
+
+text_in-is : (o : Option Data) (t : List ℕ) → text_in o ≡ Some t → o ≡ Some (text t)
+text_in-is None t h = absurd cc
+text_in-is (Some null) t h = absurd cc
+text_in-is (Some (flag b)) t h = absurd cc
+text_in-is (Some (num n)) t h = absurd cc
+text_in-is (Some (array ds)) t h = absurd cc
+text_in-is (Some (object ms)) t h = absurd cc
+text_in-is (Some (text s)) t h = let same : s ≡ t = cc in ap (λ x. Some (text x)) same
+
+kind-is : (kind : List ℕ) (o : Option Data) → is_kind kind o ≡ true → o ≡ Some (text kind)
+kind-is kind None h = absurd cc
+kind-is kind (Some null) h = absurd cc
+kind-is kind (Some (flag b)) h = absurd cc
+kind-is kind (Some (num n)) h = absurd cc
+kind-is kind (Some (array ds)) h = absurd cc
+kind-is kind (Some (object ms)) h = absurd cc
+kind-is kind (Some (text t)) h = ap (λ x. Some (text x)) ((bytes_eq-Decides t kind).0 h)
+
+empty-is : (o : Option Data) → is_empty_object o ≡ true → o ≡ Some (object no_entries)
+empty-is None h = absurd cc
+empty-is (Some null) h = absurd cc
+empty-is (Some (flag b)) h = absurd cc
+empty-is (Some (num n)) h = absurd cc
+empty-is (Some (text t)) h = absurd cc
+empty-is (Some (array ds)) h = absurd cc
+empty-is (Some (object (entry n v ms))) h = absurd cc
+empty-is (Some (object no_entries)) h = refl
+
+-- the four members of the body of an automatic index's definition
+record IsAuto (metadata collection fields kind : Option Data) (d : Definition) : Type 0 where
+  pub name : List ℕ
+  pub paths : List Path
+  pub metadata_is : metadata ≡ Some (object no_entries)
+  pub collection_is : collection ≡ Some (text name)
+  pub fields_are : fields ≡ Some (path_list paths)
+  pub kind_is : kind ≡ Some (text (codes "auto"))
+  pub definition_is : Auto name paths ≡ d
+
+auto_read-IsAuto : (m c fs k : Option Data) (d : Definition) → auto_read m c fs k ≡ Some d → IsAuto m c fs k d
+auto_read-IsAuto m c fs k d h = elim (is_empty_object m && is_kind (codes "auto") k) as (λ b. is_empty_object m && is_kind (codes "auto") k ≡ b
+    → cond b (and_then_some (text_in c) (λ n. option_map (Auto n) (paths_read fs))) None ≡ Some d → IsAuto m c fs k d) [
+      | true ↦ λ e g.
+          let both = both_true (is_empty_object m) (is_kind (codes "auto") k) e in
+          let r = after-some (text_in c) (λ n. option_map (Auto n) (paths_read fs)) d g in
+          let p = mapped-some (Auto r.0) (paths_read fs) d r.2 in
+          record {
+            name = r.0;
+            paths = p.0;
+            metadata_is = empty-is m both.0;
+            collection_is = text_in-is c r.0 r.1;
+            fields_are = paths_read-is fs p.0 p.1;
+            kind_is = kind-is (codes "auto") k both.1;
+            definition_is = p.2;
+          }
       | false ↦ λ e g. absurd cc
     ] refl h
 
-by_field : (c : List ℕ) (x : Data) (inner outer : Items) (k : Option Data) (d : Definition)
-    → auto_read (Some (object no_entries)) (Some (text c)) (Some (array (item (array (item x inner)) outer))) k ≡ Some d
-    → IsAuto (Some (object no_entries)) (Some (text c)) (Some (array (item (array (item x inner)) outer))) k d
-by_field c null inner outer k d h = absurd cc
-by_field c (flag b) inner outer k d h = absurd cc
-by_field c (num n) inner outer k d h = absurd cc
-by_field c (array ds) inner outer k d h = absurd cc
-by_field c (object ms) inner outer k d h = absurd cc
-by_field c (text f) (item y ys) outer k d h = absurd cc
-by_field c (text f) no_items (item y ys) k d h = absurd cc
-by_field c (text f) no_items no_items k d h = by_kind c f k d h
+-- the five members of that of one with groups
+record IsGrouped (metadata collection groups kind sums : Option Data) (d : Definition) : Type 0 where
+  pub name : List ℕ
+  pub paths : List Path
+  pub totals : List Path
+  pub metadata_is : metadata ≡ Some (object no_entries)
+  pub collection_is : collection ≡ Some (text name)
+  pub groups_are : groups ≡ Some (path_list paths)
+  pub kind_is : kind ≡ Some (text (codes "auto-reduce"))
+  pub sums_are : sums ≡ Some (path_list totals)
+  pub definition_is : AutoReduce name paths totals ≡ d
 
-by_fields : (c : List ℕ) (fs k : Option Data) (d : Definition) → auto_read (Some (object no_entries)) (Some (text c)) fs k ≡ Some d → IsAuto (Some (object no_entries)) (Some (text c)) fs k d
-by_fields c None k d h = absurd cc
-by_fields c (Some null) k d h = absurd cc
-by_fields c (Some (flag b)) k d h = absurd cc
-by_fields c (Some (num n)) k d h = absurd cc
-by_fields c (Some (text s)) k d h = absurd cc
-by_fields c (Some (object ms)) k d h = absurd cc
-by_fields c (Some (array no_items)) k d h = absurd cc
-by_fields c (Some (array (item null outer))) k d h = absurd cc
-by_fields c (Some (array (item (flag b) outer))) k d h = absurd cc
-by_fields c (Some (array (item (num n) outer))) k d h = absurd cc
-by_fields c (Some (array (item (text s) outer))) k d h = absurd cc
-by_fields c (Some (array (item (object ms) outer))) k d h = absurd cc
-by_fields c (Some (array (item (array no_items) outer))) k d h = absurd cc
-by_fields c (Some (array (item (array (item x inner)) outer))) k d h = by_field c x inner outer k d h
-
-by_collection : (c fs k : Option Data) (d : Definition) → auto_read (Some (object no_entries)) c fs k ≡ Some d → IsAuto (Some (object no_entries)) c fs k d
-by_collection None fs k d h = absurd cc
-by_collection (Some null) fs k d h = absurd cc
-by_collection (Some (flag b)) fs k d h = absurd cc
-by_collection (Some (num n)) fs k d h = absurd cc
-by_collection (Some (array ds)) fs k d h = absurd cc
-by_collection (Some (object ms)) fs k d h = absurd cc
-by_collection (Some (text c)) fs k d h = by_fields c fs k d h
-
-auto_read-IsAuto : (m c fs k : Option Data) (d : Definition) → auto_read m c fs k ≡ Some d → IsAuto m c fs k d
-auto_read-IsAuto None c fs k d h = absurd cc
-auto_read-IsAuto (Some null) c fs k d h = absurd cc
-auto_read-IsAuto (Some (flag b)) c fs k d h = absurd cc
-auto_read-IsAuto (Some (num n)) c fs k d h = absurd cc
-auto_read-IsAuto (Some (text s)) c fs k d h = absurd cc
-auto_read-IsAuto (Some (array ds)) c fs k d h = absurd cc
-auto_read-IsAuto (Some (object (entry n v ms))) c fs k d h = absurd cc
-auto_read-IsAuto (Some (object no_entries)) c fs k d h = by_collection c fs k d h
+reduce_read-IsGrouped : (m c gs k ss : Option Data) (d : Definition) → reduce_read m c gs k ss ≡ Some d → IsGrouped m c gs k ss d
+reduce_read-IsGrouped m c gs k ss d h = elim (is_empty_object m && is_kind (codes "auto-reduce") k) as (λ b. is_empty_object m && is_kind (codes "auto-reduce") k ≡ b
+    → cond b (and_then_some (text_in c) (λ n. and_then_some (paths_read gs) (λ g. option_map (AutoReduce n g) (paths_read ss)))) None ≡ Some d → IsGrouped m c gs k ss d) [
+      | true ↦ λ e g.
+          let both = both_true (is_empty_object m) (is_kind (codes "auto-reduce") k) e in
+          let r = after-some (text_in c) (λ n. and_then_some (paths_read gs) (λ x. option_map (AutoReduce n x) (paths_read ss))) d g in
+          let p = after-some (paths_read gs) (λ x. option_map (AutoReduce r.0 x) (paths_read ss)) d r.2 in
+          let q = mapped-some (AutoReduce r.0 p.0) (paths_read ss) d p.2 in
+          record {
+            name = r.0;
+            paths = p.0;
+            totals = q.0;
+            metadata_is = empty-is m both.0;
+            collection_is = text_in-is c r.0 r.1;
+            groups_are = paths_read-is gs p.0 p.1;
+            kind_is = kind-is (codes "auto-reduce") k both.1;
+            sums_are = paths_read-is ss q.0 q.1;
+            definition_is = q.2;
+          }
+      | false ↦ λ e g. absurd cc
+    ] refl h
 
 -- the members of a definition's body, in order
-abbrev four : List ℕ → List ℕ → Pairs
-four c f = (codes "@metadata", object no_entries) ∷ (codes "Collection", text c) ∷ (codes "Fields", one_path f) ∷ (codes "Kind", text (codes "auto")) ∷ []
+abbrev four : List ℕ → List Path → Pairs
+four c fs = (codes "@metadata", object no_entries) ∷ (codes "Collection", text c) ∷ (codes "Fields", path_list fs) ∷ (codes "Kind", text (codes "auto")) ∷ []
 
-four-rise : (c f : List ℕ) → IsRising (four c f)
-four-rise c f = ((refl, (refl, (refl, tt))), ((refl, (refl, tt)), ((refl, tt), (tt, tt))))
+four-rise : (c : List ℕ) (fs : List Path) → IsRising (four c fs)
+four-rise c fs = ((refl, (refl, (refl, tt))), ((refl, (refl, tt)), ((refl, tt), (tt, tt))))
+
+abbrev five : List ℕ → List Path → List Path → Pairs
+five c gs ss =
+    (codes "@metadata", object no_entries)
+    ∷ (codes "Collection", text c)
+    ∷ (codes "Groups", path_list gs)
+    ∷ (codes "Kind", text (codes "auto-reduce"))
+    ∷ (codes "Sums", path_list ss)
+    ∷ []
+
+five-rise : (c : List ℕ) (gs ss : List Path) → IsRising (five c gs ss)
+five-rise c gs ss = ((refl, (refl, (refl, (refl, tt)))), ((refl, (refl, (refl, tt))), ((refl, (refl, tt)), ((refl, tt), (tt, tt)))))
 
 -- the four members of the body of a definition by texts
 record IsStatic (metadata kind map reduce : Option Data) (texts : Texts) : Type 0 where
@@ -375,13 +451,24 @@ members-told : (ms : Entries) (d : Definition) → Rises (object ms) → length 
     → AgreesWithForm (form_of auto read) d → object ms ≡ stored_body (row_body d)
 members-told ms d up n (Some told) e read k h =
     let a = auto_read-IsAuto (member (codes "@metadata") ms) (member (codes "Collection") ms) (member (codes "Fields") ms) (member (codes "Kind") ms) told e in
-    let they = they_are (four a.name a.field) ms (four-rise a.name a.field) up (a.metadata_is, (a.collection_is, (a.fields_are, (a.kind_is, tt)))) (omega arith) in
+    let they = they_are (four a.name a.paths) ms (four-rise a.name a.paths) up (a.metadata_is, (a.collection_is, (a.fields_are, (a.kind_is, tt)))) (omega arith) in
     ap object they ∙ ap (λ x. stored_body (row_body x)) (a.definition_is ∙ sym h)
 members-told ms d up n None e (Some texts) k h =
     let a = texts_read-IsStatic (member (codes "@metadata") ms) (member (codes "Kind") ms) (member (codes "Map") ms) (member (codes "Reduce") ms) texts k in
     let they = they_are (four_of texts) ms (four_of-rise texts) up (a.metadata_is, (a.kind_is, (a.map_is, (a.reduce_is, tt)))) (omega arith) in
     ap object they ∙ ap (λ x. stored_body (row_body x)) (sym h.by_texts)
 members-told ms d up n None e None k h = absurd h
+
+-- the same of one with groups
+five-told : (ms : Entries) (d : Definition) → Rises (object ms) → length (pairs_of ms) ≡ 5
+    → (read : Option Definition) → reduce_read (member (codes "@metadata") ms) (member (codes "Collection") ms) (member (codes "Groups") ms) (member (codes "Kind") ms) (member (codes "Sums") ms) ≡ read
+    → AgreesWithForm (reduce_form read) d → object ms ≡ stored_body (row_body d)
+five-told ms d up n None e h = absurd h
+five-told ms d up n (Some told) e h =
+    let a = reduce_read-IsGrouped (member (codes "@metadata") ms) (member (codes "Collection") ms) (member (codes "Groups") ms) (member (codes "Kind") ms) (member (codes "Sums") ms) told e in
+    let they = they_are (five a.name a.paths a.totals) ms (five-rise a.name a.paths a.totals) up
+    (a.metadata_is, (a.collection_is, (a.groups_are, (a.kind_is, (a.sums_are, tt))))) (omega arith) in
+    ap object they ∙ ap (λ x. stored_body (row_body x)) (a.definition_is ∙ sym h)
 
 told-is : (v : Data) (d : Definition) → Rises v → AgreesWithForm (body_form v) d → v ≡ stored_body (row_body d)
 told-is null d up h = absurd h
@@ -392,9 +479,13 @@ told-is (array ds) d up h = absurd h
 told-is (object ms) d up h =
     let auto = auto_read (member (codes "@metadata") ms) (member (codes "Collection") ms) (member (codes "Fields") ms) (member (codes "Kind") ms) in
     let read = texts_read (member (codes "@metadata") ms) (member (codes "Kind") ms) (member (codes "Map") ms) (member (codes "Reduce") ms) in
-    elim (length (pairs_of ms) == 4) as (λ b. length (pairs_of ms) == 4 ≡ b → AgreesWithForm (cond b (form_of auto read) NoForm) d → object ms ≡ stored_body (row_body d)) [
+    let grouped = reduce_read (member (codes "@metadata") ms) (member (codes "Collection") ms) (member (codes "Groups") ms) (member (codes "Kind") ms) (member (codes "Sums") ms) in
+    elim (length (pairs_of ms) == 4) as (λ b. length (pairs_of ms) == 4 ≡ b → AgreesWithForm (cond b (form_of auto read) (cond (length (pairs_of ms) == 5) (reduce_form grouped) NoForm)) d → object ms ≡ stored_body (row_body d)) [
       | true ↦ λ e g. members-told ms d up (eqb-true (length (pairs_of ms)) 4 e) auto refl read refl g
-      | false ↦ λ e g. absurd g
+      | false ↦ λ e g. elim (length (pairs_of ms) == 5) as (λ b. length (pairs_of ms) == 5 ≡ b → AgreesWithForm (cond b (reduce_form grouped) NoForm) d → object ms ≡ stored_body (row_body d)) [
+        | true ↦ λ f k. five-told ms d up (eqb-true (length (pairs_of ms)) 5 f) grouped refl k
+        | false ↦ λ f k. absurd k
+      ] refl g
     ] refl h
 
 pub toldin-is : (b : Body) (d : Definition) → BodyRises b → AgreesWithBody b d → b ≡ doc (stored_body (row_body d))

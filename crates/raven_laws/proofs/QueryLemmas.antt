@@ -1,5 +1,5 @@
 -- What an index answers to a query.
-use Rattle.std.proofs.Common.{◌≡◌, ℕ, List, Bool, true, false, cond, Some, None, refl, sym, ap, ◌∙◌}
+use Rattle.std.proofs.Common.{◌≡◌, ℕ, List, Bool, true, false, not, ◌&&◌, cond, is_none, Some, None, refl, sym, ap, ◌∙◌}
 use Rattle.std.specs.Option.{option_map, option_or}
 use Rattle.spec_data.specs.Tables.{Table}
 use Rattle.spec_store.specs.Stale.{stale}
@@ -8,23 +8,27 @@ use Rattle.spec_query.specs.Binding as plan
 use Rattle.spec_query.specs.Fields.{not_offered}
 use Rattle.spec_query.specs.Offering.{offered_of}
 use Rattle.spec_query.specs.Printing.{field_text}
-use Rattle.spec_query.specs.Query.{Ask, Origin, OfIndex, OfCollection, Query, is_of_index, is_whole}
+use Rattle.spec_query.specs.Query.{Ask, Origin, OfIndex, OfCollection, Query, is_empty, is_of_index, is_whole}
 use Rattle.spec_index.specs.Index.{documents}
 use Rattle.spec_index.specs.World.{Slot, World, reads, serving}
-use Rattle.spec_server.specs.Asking.{answer_by, answer_from_collection, answer_from_index, answer_if_bound, answer_over, unless_refused}
-use Rattle.spec_server.specs.Machine.{Machine, is_stale}
+use Rattle.spec_index.specs.Optimiser.{pick}
+use Rattle.spec_server.specs.Asking.{Answered, Ready, answer_ask, answer_by, answer_from_collection, answer_from_index, answer_if_bound, answer_over, answer_picked, unless_refused}
+use Rattle.spec_server.specs.Shapes.{shape_asked}
+use Rattle.spec_server.specs.Machine.{Machine, ask_course, is_stale, settled, takes_all}
 use Rattle.spec_server.specs.Replies.{Reply}
-use Rattle.spec_server.specs.Sound.{Sound}
-use Rattle.raven_laws.specs.Queries.{AsksIndex, FitsIndex, IsAnsweredUpTo, query_reply}
+use Rattle.spec_server.specs.Sound.{Has, Sound}
+use Rattle.raven_laws.specs.Queries.{AsksIndex, FitsIndex, IsAnsweredUpTo, by_name, by_shape, query_reply}
 use Rattle.raven_laws.proofs.IndexLemmas.{fresh_exact, fresh_whole}
+use Rattle.raven_laws.proofs.PickLemmas.{picked-has}
 use Rattle.raven_laws.proofs.SlotLemmas.{served}
 
 -- WHERE A QUERY IS ANSWERED FROM
 
-abbrev pub answer_by_origin : World → Ask → Origin → Reply
+abbrev pub answer_by_origin : World → Ask → Origin → Answered
 answer_by_origin W ask origin = elim origin [
-  | OfIndex name ↦ answer_from_index W ask name (serving W.slots name)
-  | OfCollection collection ↦ cond (is_whole ask.query) (answer_from_collection W ask collection) Reply.UnknownLine
+  | OfIndex name ↦ Ready (answer_from_index W ask name (serving W.slots name))
+  | OfCollection collection ↦
+      cond (is_whole ask.query) (Ready (answer_from_collection W ask collection)) (answer_picked W ask (pick (shape_asked collection ask.query) W.store W.slots))
 ]
 
 abbrev is_index : Origin → Bool
@@ -36,22 +40,45 @@ of_index q name is = ap is_index is
 pub of_collection : (q : Query) (collection : List ℕ) → q.origin ≡ OfCollection collection → is_of_index q ≡ false
 of_collection q collection is = ap is_index is
 
+-- a query that an index answers is on no whole collection
+pub not-whole : (W : World) (ask : Ask) (s : Slot) → AsksIndex W ask s → is_whole ask.query ≡ false
+not-whole W ask s (by_name name origin serves) = ap (λ b. not b && is_empty ask.query.groups && is_none ask.query.cond && is_empty ask.query.sorts) (of_index ask.query name origin)
+not-whole W ask s (by_shape collection origin whole picked) = whole
+
 -- THE ANSWER OF AN INDEX
 
 -- what needs no index is refused for the same cause by every index
-refused-alike : (T : Table) (W : World) (ask : Ask) (s : Slot) → unless_refused (answer_by T W ask s) (check ask) ≡ answer_by T W ask s
+refused-alike : (T : Table) (W : World) (ask : Ask) (s : Slot) → unless_refused (Ready (answer_by T W ask s)) (check ask) ≡ Ready (answer_by T W ask s)
 refused-alike T W ask s =
-    elim (check ask) as (λ o. check ask ≡ o → unless_refused (answer_by T W ask s) o ≡ answer_by T W ask s) [
+    elim (check ask) as (λ o. check ask ≡ o → unless_refused (Ready (answer_by T W ask s)) o ≡ Ready (answer_by T W ask s)) [
       | None ↦ λ e. refl
-      | Some refusal ↦ λ e. sym (ap (λ o. answer_if_bound T W ask s (plan.unless_refused (plan_of ask)
-          (option_or o (option_map (λ field. NoField (field_text field)) (not_offered (offered_of s.version.definition) ask.query))))) e)
+      | Some refusal ↦ λ e. sym (ap (λ o. Ready (answer_if_bound T W ask s (plan.unless_refused (plan_of ask)
+          (option_or o (option_map (λ field. NoField (field_text field)) (not_offered (offered_of s.version.definition) ask.query)))))) e)
     ] refl
 
+-- the index that is asked has the answer ready
+pub index-ready : (W : World) (ask : Ask) (s : Slot) → AsksIndex W ask s → answer_ask W ask ≡ Ready (answer_by s.version.table W ask s)
+index-ready W ask s (by_name name origin serves) =
+    ap (λ o. unless_refused (answer_by_origin W ask o) (check ask)) origin
+    ∙ ap (λ there. unless_refused (Ready (answer_from_index W ask name there)) (check ask)) serves
+    ∙ refused-alike s.version.table W ask s
+index-ready W ask s (by_shape collection origin whole picked) =
+    ap (λ o. unless_refused (answer_by_origin W ask o) (check ask)) origin
+    ∙ ap (λ b. unless_refused (cond b (Ready (answer_from_collection W ask collection)) (answer_picked W ask (pick (shape_asked collection ask.query) W.store W.slots))) (check ask)) whole
+    ∙ ap (λ c. unless_refused (answer_picked W ask c) (check ask)) picked
+    ∙ refused-alike s.version.table W ask s
+
+-- the reply to an answer that is ready, or after an index was made
+abbrev pub reply_by : Machine → Ask → Answered → Reply
+reply_by M ask a = (settled M takes_all (ask_course M.world 0 ask a)).reply
+
 pub index-answer : (M : Machine) (ask : Ask) (s : Slot) → AsksIndex M.world ask s → query_reply M ask ≡ answer_by s.version.table M.world ask s
-index-answer M ask s asks =
-    ap (λ origin. unless_refused (answer_by_origin M.world ask origin) (check ask)) asks.origin
-    ∙ ap (λ there. unless_refused (answer_from_index M.world ask asks.name there) (check ask)) asks.serves
-    ∙ refused-alike s.version.table M.world ask s
+index-answer M ask s asks = ap (reply_by M ask) (index-ready M.world ask s asks)
+
+-- it is one of the indexes
+pub asked-has : (W : World) (ask : Ask) (s : Slot) → Sound W → AsksIndex W ask s → Has W.slots s
+asked-has W ask s o (by_name name origin serves) = (served W.slots name s serves).0
+asked-has W ask s o (by_shape collection origin whole picked) = picked-has W.store W.slots (shape_asked collection ask.query) s picked
 
 -- a query that is not refused gets what its plan finds
 pub bound-answer : (T : Table) (W : World) (ask : Ask) (s : Slot) → FitsIndex ask s → answer_by T W ask s ≡ answer_over T W ask s (plan_of ask)
@@ -64,14 +91,14 @@ plan-answer M ask s asks fits = index-answer M ask s asks ∙ bound-answer s.ver
 pub fresh-query : (M : Machine) → Sound M.world → (ask : Ask) (s : Slot) → AsksIndex M.world ask s → is_stale M.world.store s ≡ false
     → query_reply M ask ≡ answer_by (documents (reads s.version) M.world.store) M.world ask s
 fresh-query M o ask s asks is_fresh =
-    let f = o.fits s (served M.world.slots asks.name s asks.serves).0 in
+    let f = o.fits s (asked-has M.world ask s o asks) in
     index-answer M ask s asks
     ∙ ap (λ T. answer_by T M.world ask s) (fresh_whole (reads s.version) s.version.table M.world.store s.version.etag o.store f.agrees is_fresh)
 
 -- one that is not stale up to a cutoff has recorded what there is up to there
 pub cutoff-whole : (M : Machine) → Sound M.world → (ask : Ask) (s : Slot) → AsksIndex M.world ask s → stale M.world.store (reads s.version) s.version.etag ask.cutoff ≡ false → IsAnsweredUpTo M ask s
 cutoff-whole M o ask s asks is_fresh =
-    let f = o.fits s (served M.world.slots asks.name s asks.serves).0 in
+    let f = o.fits s (asked-has M.world ask s o asks) in
     record {
       table = s.version.table;
       answer = index-answer M ask s asks;

@@ -14,7 +14,7 @@ use Rattle.spec_store.specs.Store.{Store, IsStore, row_at}
 use Rattle.index_tree.specs.Definitions.{Definition}
 use Rattle.index_tree.specs.Mapper.{mapper_of, scope_of, is_mapped}
 use Rattle.index_tree.specs.Meaning.{Fields, Entry}
-use Rattle.spec_query.specs.Binding.{NoParameter, NotGrouped, BadPage, check, columns_of, is_in_page, plan_of}
+use Rattle.spec_query.specs.Binding.{NoParameter, NotGrouped, BadPage, check, is_in_page, plan_of}
 use Rattle.spec_query.specs.Condition.{meets}
 use Rattle.spec_query.specs.Fields.{asked_fields, cond_fields, is_ungrouped, not_grouped, selected_fields}
 use Rattle.spec_query.specs.Finding.{document_at, document_in, document_result, documents_of, entries_of_collection, find_entries, is_document_of}
@@ -27,18 +27,19 @@ use Rattle.spec_index.specs.Reduces.{reduce_of}
 use Rattle.spec_index.specs.Index.{documents}
 use Rattle.spec_index.specs.Mapping.{scratch}
 use Rattle.spec_index.specs.World.{Slot, World, reads}
-use Rattle.spec_server.specs.Asking.{answer_from_collection, found_by, unless_refused}
+use Rattle.spec_index.specs.Optimiser.{pick}
+use Rattle.spec_server.specs.Asking.{Ready, answer_from_collection, answer_picked, found_by, unless_refused}
+use Rattle.spec_server.specs.Shapes.{shape_asked}
 use Rattle.spec_server.specs.Machine.{Machine, has_reduce, is_stale}
-use Rattle.spec_server.specs.Replies.{Reply}
 use Rattle.spec_server.specs.Shown.{shown}
 use Rattle.spec_server.specs.Sound.{Has, Sound}
-use Rattle.raven_laws.specs.Queries.{AsksForAll, AsksIndex, FitsIndex, IsFound, IsInCollection, IsShown, query_reply, results_in}
+use Rattle.raven_laws.specs.Queries.{AsksForAll, AsksIndex, FitsIndex, HasNoPage, IsFound, IsInCollection, IsShown, query_reply, results_in}
 use Rattle.spec_store.proofs.KeyedLemmas.{get-table_of}
 use Rattle.spec_store.proofs.StoreLemmas.{both_true, found_key, found_passing, passing_found, same_row}
 use Rattle.raven_laws.proofs.SlotLemmas.{Has-filter, Has-map, Has-mapped, into-filter, passes}
 use Rattle.raven_laws.proofs.AnswerLemmas.{Has-filter_map, value_found}
 use Rattle.raven_laws.proofs.EntryLemmas.{found-Has, given-scratch, into-filter_map, scratch-given}
-use Rattle.raven_laws.proofs.QueryLemmas.{answer_by_origin, bound-answer, fresh-query}
+use Rattle.raven_laws.proofs.QueryLemmas.{answer_by_origin, bound-answer, fresh-query, reply_by}
 
 -- ORDER
 
@@ -73,45 +74,40 @@ Has-sorted cmp (x ∷ xs) z (inr h) = Has-inserted cmp x (sorted cmp xs) z (inr 
 
 -- PLANS
 
--- a result is a whole document, and the page has all rows
-pub record TakesAll (q : Plan) : Type 0 where
-  pub columns : q.columns ≡ []
+-- the page has all rows
+pub record TakesRows (q : Plan) : Type 0 where
   pub start : q.start ≡ 0
   pub size : q.size ≡ None
 
-pub taken-all : (ask : Ask) → AsksForAll ask → TakesAll (plan_of ask)
-taken-all ask all = record {
-  columns = λ i. columns_of (all.groups i) (all.columns i);
-  start = ap nat_abs all.start;
-  size = ap (option_map nat_abs) all.size;
-}
+pub taken-rows : (ask : Ask) → HasNoPage ask → TakesRows (plan_of ask)
+taken-rows ask no_page = record { start = ap nat_abs no_page.start; size = ap (option_map nat_abs) no_page.size }
 
 abbrev ordered : {K : Type 0} → Plan → List (K × Fields) → List (K × Fields)
 ordered q entries = sorted (λ a b. keys_order q.order a.1 b.1) (meeting q entries)
 
-whole-page : {K : Type 0} (q : Plan) (entries : List (K × Fields)) → TakesAll q → page q entries ≡ ordered q entries
+whole-page : {K : Type 0} (q : Plan) (entries : List (K × Fields)) → TakesRows q → page q entries ≡ ordered q entries
 whole-page q entries all = λ i. up_to (all.size i) (drop (all.start i) (ordered q entries))
 
-pub page-Has : {K : Type 0} (q : Plan) (entries : List (K × Fields)) (e : K × Fields) → TakesAll q → Has (page q entries) e → Has entries e × (meets q.condition false e.1 ≡ true)
+pub page-Has : {K : Type 0} (q : Plan) (entries : List (K × Fields)) (e : K × Fields) → TakesRows q → Has (page q entries) e → Has entries e × (meets q.condition false e.1 ≡ true)
 page-Has q entries e all h =
     let there = sorted-Has (λ a b. keys_order q.order a.1 b.1) (meeting q entries) e (subst (λ es. Has es e) (whole-page q entries all) h) in
     (Has-filter (λ r. meets q.condition false r.1) entries e there, passes (λ r. meets q.condition false r.1) entries e there)
 
-pub Has-page : {K : Type 0} (q : Plan) (entries : List (K × Fields)) (e : K × Fields) → TakesAll q → Has entries e → meets q.condition false e.1 ≡ true → Has (page q entries) e
+pub Has-page : {K : Type 0} (q : Plan) (entries : List (K × Fields)) (e : K × Fields) → TakesRows q → Has entries e → meets q.condition false e.1 ≡ true → Has (page q entries) e
 Has-page q entries e all h is =
     subst (λ es. Has es e) (sym (whole-page q entries all))
     (Has-sorted (λ a b. keys_order q.order a.1 b.1) (meeting q entries) e (into-filter (λ r. meets q.condition false r.1) entries e h is))
 
 -- RESULTS
 
--- a row of the store with its document, shown to clients so, is that of an entry which meets the condition
-record IsOfEntry (W : World) (q : Plan) (entries : List (List ℕ × Fields)) (d : Data) : Type 0 where
+-- a row of the store with its document, which the query shows so, is that of an entry which meets the condition
+record IsOfEntry (W : World) (ask : Ask) (entries : List (List ℕ × Fields)) (d : Data) : Type 0 where
   pub entry : List ℕ × Fields
   pub among : Has entries entry
-  pub holds : meets q.condition false entry.1 ≡ true
+  pub holds : meets (bound_where ask.parameters ask.query.cond) false entry.1 ≡ true
   pub row : Row
   pub under : row_at (folded entry.0) W.store.rows ≡ Some row
-  pub document : IsShown W row d
+  pub document : IsShown W ask row d
 
 abbrev results : World → Plan → List (List ℕ × Fields) → List Data
 results W q entries = let found = find_entries (shown W.setting.base) (λ id. row_at id W.store.rows) q entries in found.results
@@ -132,13 +128,14 @@ found-document S q x h = elim (row_at q S.rows) as (λ o. option_and_then docume
   | Some r ↦ λ g. let f = document-of r x g in (ap Some f.0, ap (λ (y : Row). y.body) (sym f.0) ∙ f.1)
 ] h
 
-result-entry : (W : World) (q : Plan) (entries : List (List ℕ × Fields)) (d : Data) → TakesAll q → Has (results W q entries) d → IsOfEntry W q entries d
-result-entry W q entries d all h =
+result-entry : (W : World) (ask : Ask) (entries : List (List ℕ × Fields)) (d : Data) → HasNoPage ask → Has (results W (plan_of ask) entries) d → IsOfEntry W ask entries d
+result-entry W ask entries d no_page h =
+    let q = plan_of ask in
     let show = shown W.setting.base in
     let at = λ (id : List ℕ). row_at id W.store.rows in
     let x = Has-map (document_result show at q.columns) (documents_of show at (page q entries)) d h in
     let e = Has-filter_map (λ y. document_at show at y.0) (page q entries) x.0 x.1 in
-    let m = page-Has q entries e.0 all e.1 in
+    let m = page-Has q entries e.0 (taken-rows ask no_page) e.1 in
     let f = found-document W.store (folded e.0.0) x.0 e.2 in
     record {
       entry = e.0;
@@ -150,20 +147,20 @@ result-entry W q entries d all h =
         found = subst (λ k. row_at k W.store.rows ≡ Some x.0.0) (found_key (folded e.0.0) W.store.rows x.0.0 f.0) f.0;
         body = x.0.1;
         document = f.1;
-        shows = sym (ap (λ columns. document_result show at columns x.0) all.columns) ∙ x.2;
+        shows = x.2;
       };
     }
 
-entry-result : (W : World) (q : Plan) (entries : List (List ℕ × Fields)) (d : Data) → TakesAll q → IsOfEntry W q entries d → Has (results W q entries) d
-entry-result W q entries d all x =
+entry-result : (W : World) (ask : Ask) (entries : List (List ℕ × Fields)) (d : Data) → HasNoPage ask → IsOfEntry W ask entries d → Has (results W (plan_of ask) entries) d
+entry-result W ask entries d no_page x =
+    let q = plan_of ask in
     let show = shown W.setting.base in
     let at = λ (id : List ℕ). row_at id W.store.rows in
     let pair : Row × Data = (x.row, x.document.body) in
     let there : document_at show at x.entry.0 ≡ Some pair =
     ap (option_and_then document_in) x.under ∙ ap (λ (b : Body). elim b [ doc d ↦ Some (x.row, d) | gone ↦ None ]) x.document.document in
-    let listed = into-filter_map (λ y. document_at show at y.0) (page q entries) x.entry pair (Has-page q entries x.entry all x.among x.holds) there in
-    subst (Has (results W q entries)) (ap (λ columns. document_result show at columns pair) all.columns ∙ x.document.shows)
-    (Has-mapped (document_result show at q.columns) (documents_of show at (page q entries)) pair listed)
+    let listed = into-filter_map (λ y. document_at show at y.0) (page q entries) x.entry pair (Has-page q entries x.entry (taken-rows ask no_page) x.among x.holds) there in
+    subst (Has (results W q entries)) x.document.shows (Has-mapped (document_result show at q.columns) (documents_of show at (page q entries)) pair listed)
 
 -- INDEXES
 
@@ -171,7 +168,7 @@ abbrev live : Body → Bool
 live body = elim body [ doc d ↦ true | gone ↦ false ]
 
 entry-IsFound : (W : World) (d : Definition) (ask : Ask) (x : Data) → IsStore W.store
-    → IsOfEntry W (plan_of ask) (scratch (mapper_of d) (documents (scope_of (mapper_of d)) W.store)) x → IsFound W d ask x
+    → IsOfEntry W ask (scratch (mapper_of d) (documents (scope_of (mapper_of d)) W.store)) x → IsFound W d ask x
 entry-IsFound W d ask x s h =
     let m = mapper_of d in
     let g = scratch-given m W.store h.entry s h.among in
@@ -186,7 +183,7 @@ entry-IsFound W d ask x s h =
     }
 
 IsFound-entry : (W : World) (d : Definition) (ask : Ask) (x : Data) → IsStore W.store → IsFound W d ask x
-    → IsOfEntry W (plan_of ask) (scratch (mapper_of d) (documents (scope_of (mapper_of d)) W.store)) x
+    → IsOfEntry W ask (scratch (mapper_of d) (documents (scope_of (mapper_of d)) W.store)) x
 IsFound-entry W d ask x s f = record {
   entry = (f.row.id, f.fields);
   among = given-scratch (mapper_of d) W.store f.row f.fields s (record {
@@ -215,14 +212,13 @@ query-results M o ask s asks fits is_fresh ungrouped =
     ∙ ap (λ reduce. let found = found_by reduce (shown W.setting.base) (plan_of ask) (scratch (mapper_of s.version.definition) U) W.store in found.results)
     (no_reduce s.version.definition ungrouped)
 
-pub query-exact : (M : Machine) → Sound M.world → (ask : Ask) (s : Slot) (d : Data) → AsksIndex M.world ask s → FitsIndex ask s → AsksForAll ask
+pub query-exact : (M : Machine) → Sound M.world → (ask : Ask) (s : Slot) (d : Data) → AsksIndex M.world ask s → FitsIndex ask s → HasNoPage ask
     → is_stale M.world.store s ≡ false → has_reduce s.version.definition ≡ false → Has (results_in (query_reply M ask)) d ↔ IsFound M.world s.version.definition ask d
-query-exact M o ask s d asks fits all is_fresh ungrouped =
+query-exact M o ask s d asks fits no_page is_fresh ungrouped =
     let entries = scratch (mapper_of s.version.definition) (documents (reads s.version) M.world.store) in
-    let same = query-results M o ask s asks fits is_fresh ungrouped in
-    let taken = taken-all ask all in (
-      λ at. entry-IsFound M.world s.version.definition ask d o.store (result-entry M.world (plan_of ask) entries d taken (subst (λ found. Has found d) same at)),
-      λ f. subst (λ found. Has found d) (sym same) (entry-result M.world (plan_of ask) entries d taken (IsFound-entry M.world s.version.definition ask d o.store f)),
+    let same = query-results M o ask s asks fits is_fresh ungrouped in (
+      λ at. entry-IsFound M.world s.version.definition ask d o.store (result-entry M.world ask entries d no_page (subst (λ found. Has found d) same at)),
+      λ f. subst (λ found. Has found d) (sym same) (entry-result M.world ask entries d no_page (IsFound-entry M.world s.version.definition ask d o.store f)),
     )
 
 -- COLLECTIONS
@@ -255,18 +251,21 @@ no-field q bare columns =
       | false ↦ ap (find (is_ungrouped q.groups)) none
     ]
 
-unrefused : (ask : Ask) → IsBare ask.query → AsksForAll ask → check ask ≡ None
-unrefused ask bare all = λ i.
+bare-unrefused : (ask : Ask) → IsBare ask.query → AsksForAll ask → check ask ≡ None
+bare-unrefused ask bare all = λ i.
     option_or (option_map NoParameter (parameter_refused ask.parameters (bare.cond i))) (
     option_or (option_map (λ field. NotGrouped (field_text field)) (no-field ask.query bare all.columns i))
     (cond (is_in_page (all.start i) && is_in_page (unwrap_or (all.size i) (pos 0))) None (Some BadPage)))
 
-collection-results : (M : Machine) (ask : Ask) (name : List ℕ) → ask.query.origin ≡ OfCollection name → is_whole ask.query ≡ true → AsksForAll ask
+pub whole-unrefused : (ask : Ask) → is_whole ask.query ≡ true → AsksForAll ask → check ask ≡ None
+whole-unrefused ask whole all = bare-unrefused ask (whole-bare ask.query whole) all
+
+collection-results : (M : Machine) (ask : Ask) (name : List ℕ) → ask.query.origin ≡ OfCollection name → is_whole ask.query ≡ true → check ask ≡ None
     → results_in (query_reply M ask) ≡ results M.world (plan_of ask) (entries_of_collection name M.world.store)
-collection-results M ask name is whole all =
-    ap (λ o. results_in (unless_refused (answer_by_origin M.world ask ask.query.origin) o)) (unrefused ask (whole-bare ask.query whole) all)
-    ∙ ap (λ o. results_in (answer_by_origin M.world ask o)) is
-    ∙ ap (λ b. results_in (cond b (answer_from_collection M.world ask name) Reply.UnknownLine)) whole
+collection-results M ask name is whole unrefused =
+    ap (λ o. results_in (reply_by M ask (unless_refused (answer_by_origin M.world ask ask.query.origin) o))) unrefused
+    ∙ ap (λ o. results_in (reply_by M ask (answer_by_origin M.world ask o))) is
+    ∙ ap (λ b. results_in (reply_by M ask (cond b (Ready (answer_from_collection M.world ask name)) (answer_picked M.world ask (pick (shape_asked name ask.query) M.world.store M.world.slots))))) whole
 
 -- the entries are those of the documents of the collection
 collection-entry : (S : Store) (name : List ℕ) (e : List ℕ × Fields) → IsStore S → Has (entries_of_collection name S) e
@@ -284,7 +283,7 @@ entry-collection S name r s there is =
     Has-mapped (λ r. (let x : List ℕ × Fields = (r.id, []) in x)) (values (table_of rows)) r
     (found-Has (table_of rows) (key r) r (get-table_of (key r) rows ∙ passing_found (is_document_of name) (key r) S.rows r s.apart there is))
 
-entry-IsInCollection : (W : World) (ask : Ask) (name : List ℕ) (d : Data) → IsStore W.store → IsOfEntry W (plan_of ask) (entries_of_collection name W.store) d → IsInCollection W name d
+entry-IsInCollection : (W : World) (ask : Ask) (name : List ℕ) (d : Data) → IsStore W.store → IsOfEntry W ask (entries_of_collection name W.store) d → IsInCollection W ask name d
 entry-IsInCollection W ask name d s h =
     let r = collection-entry W.store name h.entry s h.among in
     let id : r.0.id ≡ h.entry.0 = ap (λ (x : List ℕ × Fields). x.0) r.3 in
@@ -292,7 +291,7 @@ entry-IsInCollection W ask name d s h =
     let both = both_true (bytes_eq r.0.collection name) (is_document r.0) r.2 in
     record { row = h.row; document = h.document; inside = sym (ap (λ (x : Row). x.collection) same) ∙ (bytes_eq-Decides r.0.collection name).0 both.0 }
 
-IsInCollection-entry : (W : World) (ask : Ask) (name : List ℕ) (d : Data) → IsStore W.store → IsBare ask.query → IsInCollection W name d → IsOfEntry W (plan_of ask) (entries_of_collection name W.store) d
+IsInCollection-entry : (W : World) (ask : Ask) (name : List ℕ) (d : Data) → IsStore W.store → IsBare ask.query → IsInCollection W ask name d → IsOfEntry W ask (entries_of_collection name W.store) d
 IsInCollection-entry W ask name d s bare x = record {
   entry = (x.row.id, []);
   among = entry-collection W.store name x.row s x.document.found (λ i. (bytes_eq-Decides x.row.collection name).1 x.inside i && ap live x.document.document i);
@@ -302,12 +301,11 @@ IsInCollection-entry W ask name d s bare x = record {
   document = x.document;
 }
 
-pub collection-exact : (M : Machine) → Sound M.world → (ask : Ask) (name : List ℕ) (d : Data) → ask.query.origin ≡ OfCollection name → is_whole ask.query ≡ true → AsksForAll ask
-    → Has (results_in (query_reply M ask)) d ↔ IsInCollection M.world name d
-collection-exact M o ask name d is whole all =
+pub collection-exact : (M : Machine) → Sound M.world → (ask : Ask) (name : List ℕ) (d : Data) → ask.query.origin ≡ OfCollection name → is_whole ask.query ≡ true → check ask ≡ None → HasNoPage ask
+    → Has (results_in (query_reply M ask)) d ↔ IsInCollection M.world ask name d
+collection-exact M o ask name d is whole unrefused no_page =
     let entries = entries_of_collection name M.world.store in
-    let same = collection-results M ask name is whole all in
-    let taken = taken-all ask all in (
-      λ at. entry-IsInCollection M.world ask name d o.store (result-entry M.world (plan_of ask) entries d taken (subst (λ found. Has found d) same at)),
-      λ x. subst (λ found. Has found d) (sym same) (entry-result M.world (plan_of ask) entries d taken (IsInCollection-entry M.world ask name d o.store (whole-bare ask.query whole) x)),
+    let same = collection-results M ask name is whole unrefused in (
+      λ at. entry-IsInCollection M.world ask name d o.store (result-entry M.world ask entries d no_page (subst (λ found. Has found d) same at)),
+      λ x. subst (λ found. Has found d) (sym same) (entry-result M.world ask entries d no_page (IsInCollection-entry M.world ask name d o.store (whole-bare ask.query whole) x)),
     )

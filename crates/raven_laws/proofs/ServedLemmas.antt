@@ -8,14 +8,16 @@ use Rattle.spec_data.specs.Folding.{folded, same_key}
 use Rattle.index_tree.specs.Definitions.{Definition, same_definition}
 use Rattle.spec_store.specs.Store.{Store, last}
 use Rattle.spec_store.specs.Commit.{Client, Command, Refused, Server, Written, commit}
-use Rattle.spec_index.specs.Optimiser.{Choice, Make, Merge, Use, is_retired, name_of, pick, retired, retirement}
+use Rattle.spec_index.specs.Optimiser.{Choice, Make, Shape, Use, definition_of, is_retired, pick, retired, retirement}
+use Rattle.spec_query.specs.Query as query
+use Rattle.spec_server.specs.Asking.{Answered, MustMake, Ready, answer_ask}
 use Rattle.spec_index.specs.World.{Slot, SlotChange, SlotRefusal, World, added, added_if_room, added_to, batch, begins_with_replacement, define, define_at, define_beside, define_named, dropped, is_automatic, is_named, is_stale, name_refusal, named_anew, numbered, removed, renamed, serving, switch, taken_out, takes_over, unchanged, unless_refused, without}
 use Rattle.spec_server.specs.Replies.{Reply, Result as Done}
 use Rattle.spec_server.specs.Replies as replies
-use Rattle.spec_server.specs.Machine.{Ask, Auto, Bulk, Change, Course, Define, Delete, Do, Find, Get, Held, Indexes, Keeping, Line, Machine, Passed, Publish, PublishRefusal, Pump, Put, Read, Remove, Replied, Stale, Stats, Switch, Tidy, after_batch, after_batch_if_named, change_of_slots, changed, course_of, held_by, in_world, is_taken, made, one_field, or_as_before, publish_by, publish_to, published, published_in, published_reply, pump_at, pump_for, replaced_names, retire, rewrote, same_machine, settled, single_reply, switch_and, takes_after, tidied, tidy, try_switch, use_or_make, with_slots, with_version, with_world, write, write_refused, wrote}
+use Rattle.spec_server.specs.Machine.{Ask, Auto, Bulk, Change, Course, Define, Delete, Do, Find, Get, Held, Indexes, Keeping, Line, Machine, Passed, Publish, PublishRefusal, Pump, Put, Read, Remove, Replied, Stale, Stats, Switch, Tidy, after_batch, after_batch_if_named, ask_course, change_of_slots, changed, made_name, make, course_of, held_by, in_world, is_taken, made, one_field, or_as_before, publish_by, publish_to, published, published_in, published_reply, pump_at, pump_for, replaced_names, retire, rewrote, same_machine, settled, single_reply, switch_and, takes_after, tidied, tidy, try_switch, use_or_make, with_slots, with_version, with_world, write, write_refused, wrote}
 use Rattle.spec_server.specs.Sound.{Continues, Has, IsHeld, IsMachine, LaterW, NamesApart, Sound}
 use Rattle.raven_laws.specs.Served.{IsSwitch, ServedStays, StaysOrGoes, StillServes}
-use Rattle.raven_laws.proofs.MachineLemmas.{AllDo, AllLeave, AllMove, CourseMoves, Moves, brought-Keeps, chain, made-leaves, read-world, settled-leaves, tidy_from-Moves, tidying-Moves}
+use Rattle.raven_laws.proofs.MachineLemmas.{AllDo, AllLeave, AllMove, CourseMoves, Moves, brought-Keeps, chain, made-leaves, making-changes, read-world, settled-leaves, tidy_from-Moves, tidying-Moves}
 use Rattle.raven_laws.proofs.SlotLemmas.{Has-mapped, batch-Brought, find-Has, into-filter, left_or, replacing, served, serves}
 use Rattle.raven_laws.proofs.WorldLemmas.{LaterW-itself, LaterW-then, Replaces, client-unretired, found-Replaces, one_number, past_test, r_left, same_change, switch-Switches, take-apart, taken}
 
@@ -149,13 +151,16 @@ define_named-has W name d c o = elim (name_refusal name) as (λ r. unless_refuse
   | Some refusal ↦ λ h. absurd cc
 ]
 
+make-Stays : (W : World) (now : ℕ) (shape : Shape) → AllLeave (Stays W) (change_of_slots W now replies.Index (made_name W shape) (make W shape)).changes
+make-Stays W now shape = reslotted-Stays W now replies.Index (made_name W shape) (make W shape) (define-has W (made_name W shape) (definition_of shape))
+
 auto-Stays : (W : World) (now : ℕ) (c : Choice) → AllLeave (Stays W) (use_or_make W now c).changes
 auto-Stays W now (Use s) = tt
-auto-Stays W now (Make shape) =
-    let name = name_of W.slots (last W.store + 1) shape in
-    let d = Definition.Auto shape.collection shape.fields in
-    reslotted-Stays W now replies.Index name (define W name d) (define-has W name d)
-auto-Stays W now Merge = tt
+auto-Stays W now (Make shape) = make-Stays W now shape
+
+ask-Stays : (W : World) (now : ℕ) (ask : query.Ask) (a : Answered) → AllLeave (Stays W) (ask_course W now ask a).changes
+ask-Stays W now ask (Ready reply) = tt
+ask-Stays W now ask (MustMake shape) = subst (AllLeave (Stays W)) (sym (making-changes W now ask (made_name W shape) (make W shape))) (make-Stays W now shape)
 
 -- BATCHES
 
@@ -514,7 +519,7 @@ step-served M k now (Do (Remove given)) i name s plain h = remove-answered M k n
 step-served M k now (Do (Auto collection field)) i name s plain h =
     inl (settled-Stays M k (course_of M.world now (Auto collection field)) (auto-Stays M.world now (pick (one_field collection field) M.world.store M.world.slots)) name s plain h)
 step-served M k now (Do (Find index field ws)) i name s plain h = inl (still M.world name s h)
-step-served M k now (Do (Ask ask)) i name s plain h = inl (still M.world name s h)
+step-served M k now (Do (Ask ask)) i name s plain h = inl (settled-Stays M k (course_of M.world now (Ask ask)) (ask-Stays M.world now ask (answer_ask M.world ask)) name s plain h)
 step-served M k now (Do (Pump max index)) i name s plain h = inl (settled-Stays M k (pump_for M.world max index) (pump_for-Stays M.world max index i.world) name s plain h)
 step-served M k now (Do (Switch given)) i name s plain h = switch-along M k now given (switch M.world given) i.world refl name s plain h
 step-served M k now (Do Tidy) i name s plain h = tidy-along k now (replaced_names M.world) M k.takes [] i.world name s plain h

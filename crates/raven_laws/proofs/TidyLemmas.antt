@@ -8,7 +8,7 @@ use Rattle.spec_index.specs.World.{Note, Slot, SlotChange, SlotRefusal, World, s
 use Rattle.spec_server.specs.Machine.{Keeping, Machine, Replied, changed, is_taken, made, refused_at, replaced_names, retire, rewrote, same_machine, switch_and, takes_after, tidied, tidy, try_switch, with_world, write_refused}
 use Rattle.spec_server.specs.Replies.{Reply}
 use Rattle.spec_server.specs.Sound.{Has, LaterW, Sound}
-use Rattle.raven_laws.specs.Served.{IsPartOf, TidyIsAnswered, WasSwitched}
+use Rattle.raven_laws.specs.Served.{IsPartOf, IsRetirement, TidyIsAnswered, WasSwitched}
 use Rattle.raven_laws.proofs.MachineLemmas.{tidy_from-Moves, tidying-Moves}
 use Rattle.raven_laws.proofs.ServedLemmas.{made-later}
 use Rattle.raven_laws.proofs.SlotLemmas.{Has-filter, Has-map, passes, served, serves}
@@ -25,6 +25,7 @@ record Tells (W : World) (done names : List (List ℕ)) (V : World) (gone told :
   all : told ≡ done ++ names_of noted
   order : IsPartOf (map folded (names_of noted)) (map folded names)
   switches : (name : List ℕ) → Has (names_of noted) name → (s : Slot) × WasSwitched W V name s
+  retirement : IsRetirement W V gone
   retires : (name : List ℕ) → Has gone name → serving V.slots name ≡ None
 
 abbrev Answers : World → List (List ℕ) → List (List ℕ) → Replied → Type 0
@@ -89,6 +90,13 @@ retire-Answers M k takes now done o = by (commit M.world.setting Server now (ret
             all = sym (same_told (map (λ (x : Slot). x.name) (retired M.world.slots)) done gone told e) ∙ no_more done;
             order = refl;
             switches = λ name at. absurd at;
+            retirement = record {
+              before = M.world;
+              earlier = LaterW-itself M.world;
+              notes = refl;
+              all = sym (same_gone (map (λ (x : Slot). x.name) (retired M.world.slots)) done gone told e);
+              left = refl;
+            };
             retires = λ name at. retired-gone M.world name o (subst (λ l. Has l name) (sym (same_gone (map (λ (x : Slot). x.name) (retired M.world.slots)) done gone told e)) at);
           }
           | false ↦ fault-Answers M k done []
@@ -143,6 +151,10 @@ Was-before W V Z name s first was = record {
   later = was.later;
 }
 
+-- a retirement from a world that came later
+retirement-before : (W V Z : World) (gone : List (List ℕ)) → LaterW W V → IsRetirement V Z gone → IsRetirement W Z gone
+retirement-before W V Z gone first r = record { before = r.before; earlier = LaterW-then W V r.before first r.earlier; notes = r.notes; all = r.all; left = r.left }
+
 -- a switch before what comes later
 before-Tells : (W : World) (name : List ℕ) (names done : List (List ℕ)) (c : SlotChange) (S : Store) (Z : World) (gone told : List (List ℕ)) → Noted W name c S → LaterW W (changed W S c) → LaterW (changed W S c) Z
     → Tells (changed W S c) (done ++ c.name ∷ []) names Z gone told → Tells W done (name ∷ names) Z gone told
@@ -155,6 +167,7 @@ before-Tells W name names done c S Z gone told n first later t = record {
     | inl same ↦ subst (λ (x : List ℕ). (s : Slot) × WasSwitched W Z x s) same (n.was Z later)
     | inr more ↦ let was = t.switches q more in (was.0, Was-before W (changed W S c) Z q was.0 first was.1)
   ];
+  retirement = retirement-before W (changed W S c) Z gone first t.retirement;
   retires = t.retires;
 }
 
@@ -166,6 +179,7 @@ passed-Answers W done names name replied a = λ gone told e. let t = a gone told
   all = t.all;
   order = inl t.order;
   switches = t.switches;
+  retirement = t.retirement;
   retires = t.retires;
 }
 
@@ -214,5 +228,6 @@ tidy-answered M k now o = λ gone told e.
       all = t.all;
       order = subst (λ (l : List (List ℕ)). IsPartOf (map folded l) (map folded (replaced_names M.world))) (sym t.all) t.order;
       switches = λ name at. t.switches name (subst (λ (l : List (List ℕ)). Has l name) t.all at);
+      retirement = t.retirement;
       retires = t.retires;
     }

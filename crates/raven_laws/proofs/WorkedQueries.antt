@@ -15,7 +15,7 @@ use Rattle.spec_query.specs.Query.{At, Cond, Compare, CompareOp, Const, OfIndex,
 use Rattle.spec_query.specs.Query as query
 use Rattle.spec_index.specs.Mapping.{entry_of}
 use Rattle.spec_store.specs.Store.{row_at}
-use Rattle.spec_server.specs.Replies.{Answer, BadPlan, Index, NoIndex, Pumped, QueryAnswer, UnknownLine}
+use Rattle.spec_server.specs.Replies.{Answer, BadPlan, Index, NoIndex, Pumped, QueryAnswer}
 use Rattle.spec_server.specs.Machine.{Machine, Request, Do, Ask, Auto, Pump, start, step, takes_all}
 use Rattle.spec_store.specs.Limits.{program}
 use Rattle.spec_server.specs.Shown.{shown}
@@ -23,7 +23,7 @@ use Rattle.spec_store.proofs.KeyedLemmas.{values-table_of}
 use Rattle.raven_laws.proofs.WorkedRows.{ada, moved, put, replies, users_by_name, was_put}
 
 -- from this, where this holds
-abbrev asked : Origin → Option Cond → query.Ask
+abbrev pub asked : Origin → Option Cond → query.Ask
 asked origin cond = record {
   query = record { origin = origin; groups = []; cond = cond; sorts = []; columns = []; includes = [] };
   parameters = [];
@@ -35,7 +35,7 @@ asked origin cond = record {
 }
 
 -- the field is the text
-abbrev is : List ℕ → List ℕ → Cond
+abbrev pub is : List ℕ → List ℕ → Cond
 is field value = Compare (At (field ∷ [])) CompareOp.Is (Const (words value))
 
 abbrev users : query.Ask
@@ -55,10 +55,6 @@ no_field = refl
 -- a page is refused before the index is looked up
 bad_page : replies (Ask (record (named (codes "Name") (codes "x")) { start = negsuc 0 }) ∷ []) ≡ BadPlan BadPage ∷ []
 bad_page = refl
-
--- a condition on a collection asks for an automatic index, which no query makes yet
-no_whole : replies (Ask (asked (OfCollection (codes "Users")) (Some (is (codes "Name") (codes "x")))) ∷ []) ≡ UnknownLine ∷ []
-no_whole = refl
 
 -- ANSWERS, over the rows of a table
 
@@ -123,3 +119,17 @@ not_brought_on : replies (two_requests ++ Ask (until 1) ∷ Ask (until 0) ∷ []
 unfolding digits
 not_brought_on = ap (λ rows. was_put (codes "1") (codes "users/1") ∷ Index (codes "Auto/Users/ByName") ∷ Answer (record (by_name (until 1) 0 rows) { is_stale = true }) ∷ Answer (by_name (until 0) 0 rows) ∷ [])
     (values-table_of [] tt)
+
+-- a query on a collection makes the automatic index that it needs; asked again, or on the index itself, it makes none
+abbrev pub of_users : List ℕ → List ℕ → query.Ask
+of_users field value = asked (OfCollection (codes "Users")) (Some (is field value))
+
+abbrev none_found : QueryAnswer
+none_found = record { includes = []; index_etag = 0; index_name = codes "Auto/Users/ByName"; is_stale = false; results = []; total = 0 }
+
+abbrev after_asking : Machine
+after_asking = left_by (Ask (of_users (codes "Name") (codes "x")) ∷ []) (start program)
+
+index_made : replies (Ask (of_users (codes "Name") (codes "x")) ∷ Auto (codes "Users") (codes "Name") ∷ []) ≡ Answer none_found ∷ Index (codes "Auto/Users/ByName") ∷ []
+unfolding digits
+index_made = ap (λ rows. Answer (record (answer_among (of_users (codes "Name") (codes "x")) after_asking.world.store.rows 0 (codes "Auto/Users/ByName") (entries_by_name rows)) { is_stale = false }) ∷ Index (codes "Auto/Users/ByName") ∷ []) (values-table_of [] tt)

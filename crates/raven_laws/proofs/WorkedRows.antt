@@ -57,9 +57,9 @@ other_collection = refl
 no_index : replies (Pump 64 None ∷ Find (codes "X") (codes "F") (codes "a") ∷ []) ≡ Pumped [] ∷ NoIndex (codes "X") ∷ []
 no_index = refl
 
--- a field that is asked for twice has one index; for another field of the collection none is made yet
+-- a field that is asked for twice has one index; that of another field of the collection takes in the fields of the first
 asked_again : replies (Auto (codes "Users") (codes "Name") ∷ Auto (codes "Users") (codes "Name") ∷ Auto (codes "Users") (codes "Age") ∷ Auto (codes "Teams") (codes "Age") ∷ [])
-    ≡ Index (codes "Auto/Users/ByName") ∷ Index (codes "Auto/Users/ByName") ∷ UnknownLine ∷ Index (codes "Auto/Teams/ByAge") ∷ []
+    ≡ Index (codes "Auto/Users/ByName") ∷ Index (codes "Auto/Users/ByName") ∷ Index (codes "Auto/Users/ByAgeAndName") ∷ Index (codes "Auto/Teams/ByAge") ∷ []
 unfolding digits
 asked_again = refl
 

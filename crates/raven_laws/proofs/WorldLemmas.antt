@@ -6,7 +6,7 @@ use Rattle.spec_data.specs.Faults.{replacement_of}
 use Rattle.spec_data.specs.Folding.{folded}
 use Rattle.spec_store.specs.Store.{Store, last, IsStore}
 use Rattle.spec_store.specs.Later.{Later}
-use Rattle.index_tree.specs.Definitions.{Definition, Static, Auto, same_definition}
+use Rattle.index_tree.specs.Definitions.{Definition, Static, Auto, AutoReduce, same_definition}
 use Rattle.spec_store.specs.Commit.{Command, Put, Delete, AnyVector, after_commands, row_of, with_option}
 use Rattle.spec_index.specs.Optimiser.{Shape, is_retired, is_wider, retired, retirement, shape_of, slot_shape}
 use Rattle.spec_index.specs.World.{Slot, Note, World, new_version, reads, serving, SlotChange, SlotRefusal, NameServes, NotesFull, NotFresh, TooManyIndexes, added, added_if_room, added_to, begins_with_auto, begins_with_replacement, define, define_at, define_beside, define_named, dropped, index_id, is_automatic, is_reserved_name, is_stale, name_refusal, named_anew, newest_read, remove, removed, renamed, row_body, switch, switch_note, switched, switched_to, taken_out, takes_over, unchanged, unless_refused, without}
@@ -657,6 +657,7 @@ client-unretired slots s h = by (slot_shape s) (no_shape s.version.definition h)
     no_shape : (d : Definition) → is_automatic d ≡ false → shape_of d ≡ None
     no_shape (Static map reduce map_text reduce_text) g = refl
     no_shape (Auto collection fields) g = absurd cc
+    no_shape (AutoReduce collection groups sums) g = absurd cc
 
     by : (shape : Option Shape) → shape ≡ None → (more : List Slot) → list_any (λ b. is_wider (slot_shape b) shape && nat_le s.version.etag b.version.etag) more ≡ false
     by None e [] = refl

@@ -1,5 +1,5 @@
 -- What writes leave, and that no row is invented.
-use Rattle.std.proofs.Common.{◌≡◌, ℕ, ◌+◌, List, [], ◌∷◌, ◌++◌, Bool, true, false, cond, length, map, nat_le, nat_eq, codes, is_some, Option, Some, None, Result, Ok, Err, refl, sym, ap, ◌∙◌, subst, ◌⊎◌, inl, inr}
+use Rattle.std.proofs.Common.{◌≡◌, ℕ, ◌+◌, List, [], ◌∷◌, ◌++◌, Bool, true, false, not, ◌&&◌, cond, length, map, nat_le, nat_eq, codes, is_some, Option, Some, None, Result, Ok, Err, refl, sym, ap, ◌∙◌, subst, ◌⊎◌, inl, inr}
 use Rattle.std.specs.List.{starts_with}
 use Rattle.std.specs.Option.{option_map}
 use Rattle.spec_data.specs.Data.{Data}
@@ -12,13 +12,19 @@ use Rattle.spec_store.specs.Commit.{Command, AnyVector, Expect, Client, Server, 
 use Rattle.spec_server.specs.Replies.{Reply, Result as Done}
 use Rattle.spec_server.specs.Replies as replies
 use Rattle.spec_index.specs.World.{Slot, World, SlotChange, SlotRefusal, added, added_if_room, added_to, define, define_at, define_beside, define_named, dropped, index_id, name_refusal, remove, removed, serving, switch, taken_out, unchanged, unless_refused, without}
-use Rattle.spec_index.specs.Optimiser.{Choice, Use, Make, Merge, name_of, pick, retired, retirement}
-use Rattle.spec_server.specs.Machine.{Machine, Course, Event, Keeping, Replied, Line, Do, Put, Delete, Bulk, Get, Define, Remove, Auto, Find, Ask, Pump, Switch, Tidy, Stale, Indexes, Stats, Read, Publish, after, changed, commands_on, course_of, in_world, is_first_taken, is_taken, held_by, one_change, one_field, pump_at, change_of_slots, replaced_names, rewrote, tidy, run, same_machine, settled, single_reply, start, step, use_or_make, with_world, write, wrote, results_of}
+use Rattle.spec_index.specs.Optimiser.{Choice, Shape, Use, Make, definition_of, pick, retired, retirement}
+use Rattle.spec_query.specs.Binding.{PlanRefusal, check}
+use Rattle.spec_query.specs.Query as query
+use Rattle.spec_query.specs.Query.{Origin, OfIndex, OfCollection, is_dynamic, is_of_index, is_whole}
+use Rattle.spec_server.specs.Asking.{Answered, MustMake, Ready, answer_ask, answer_from, answer_from_collection, answer_from_index, answer_picked, unless_refused as unless_refused_ask}
+use Rattle.spec_server.specs.Shapes.{shape_asked}
+use Rattle.raven_laws.proofs.QueryLemmas.{answer_by_origin, of_collection}
+use Rattle.spec_server.specs.Machine.{Machine, Course, Event, Keeping, Replied, Line, Do, Put, Delete, Bulk, Get, Define, Remove, Auto, Find, Ask, Pump, Switch, Tidy, Stale, Indexes, Stats, Read, Publish, after, ask_course, changed, commands_on, made_name, make, course_of, in_world, is_first_taken, is_taken, held_by, one_change, one_field, pump_at, change_of_slots, replaced_names, rewrote, tidy, run, same_machine, settled, single_reply, start, step, use_or_make, with_world, write, wrote, results_of}
 use Rattle.raven_laws.specs.Writes.{row_given, AreWritten, BulkIsAnswered, DeleteIsAnswered, IsCommanded, IsDeleted, IsNotThere, IsPut, IsRefused, IsKeeperFault, IsWritten, OnlyReads, PutIsAnswered}
 use Rattle.spec_store.proofs.StoreLemmas.{found_key, row_at-put, same_itself, same_row}
 use Rattle.spec_store.proofs.CommitLemmas.{document_found, put_key}
 use Rattle.raven_laws.proofs.ListedLemmas.{commit_from-applied}
-use Rattle.raven_laws.proofs.MachineLemmas.{AllLeave, IsTidying, chain, publish-store, read-world, settled-leaves, tidy-do}
+use Rattle.raven_laws.proofs.MachineLemmas.{AllLeave, IsTidying, chain, making-changes, publish-store, read-world, settled-leaves, tidy-do}
 use Rattle.raven_laws.proofs.WorldLemmas.{same_change, past_test, switch-Switches}
 
 -- A FURTHER ROW
@@ -169,6 +175,30 @@ bulk-answered M k now commands = bulk-answered-of M k now commands (commit M.wor
 
 -- QUESTIONS AND BATCHES
 
+-- a query that is not dynamic is answered without an index being made
+still-ready : (W : World) (ask : query.Ask) → is_dynamic ask.query ≡ false → (reply : Reply) × (answer_ask W ask ≡ Ready reply)
+still-ready W ask h = refused-ready (answer_from W ask) (check ask) (by ask.query.origin refl)
+  where
+    refused-ready : (a : Answered) (o : Option PlanRefusal) → (reply : Reply) × (a ≡ Ready reply) → (reply : Reply) × (unless_refused_ask a o ≡ Ready reply)
+    refused-ready a None r = r
+    refused-ready a (Some refusal) r = (Reply.BadPlan refusal, refl)
+
+    not-whole : (q : query.Query) (name : List ℕ) → is_dynamic q ≡ false → q.origin ≡ OfCollection name → is_whole q ≡ true
+    not-whole q name d e = elim (is_whole q) as (λ b. not (is_of_index q) && not b ≡ false → b ≡ true) [
+      | true ↦ λ f. refl
+      | false ↦ λ f. absurd (let g = of_collection q name e in cc)
+    ] d
+
+    by : (origin : Origin) → ask.query.origin ≡ origin → (reply : Reply) × (answer_by_origin W ask origin ≡ Ready reply)
+    by (OfIndex name) e = (answer_from_index W ask name (serving W.slots name), refl)
+    by (OfCollection name) e = (
+      answer_from_collection W ask name,
+      ap (λ b. cond b (Ready (answer_from_collection W ask name)) (answer_picked W ask (pick (shape_asked name ask.query) W.store W.slots))) (not-whole ask.query name h e),
+    )
+
+ask-changes-nothing : (M : Machine) (k : Keeping) (now : ℕ) (ask : query.Ask) → is_dynamic ask.query ≡ false → (step M k now (Do (Ask ask))).machine ≡ M
+ask-changes-nothing M k now ask h = let r = still-ready M.world ask h in ap (λ a. (settled M k (ask_course M.world now ask a)).machine) r.1
+
 pub reads-change-nothing : (M : Machine) (k : Keeping) (now : ℕ) (line : Line) → OnlyReads line → (step M k now line).machine ≡ M
 reads-change-nothing M k now (Do (Put id expected body)) h = absurd h
 reads-change-nothing M k now (Do (Delete id expected)) h = absurd h
@@ -178,7 +208,7 @@ reads-change-nothing M k now (Do (Define name d)) h = absurd h
 reads-change-nothing M k now (Do (Remove name)) h = absurd h
 reads-change-nothing M k now (Do (Auto collection field)) h = absurd h
 reads-change-nothing M k now (Do (Find index field ws)) h = refl
-reads-change-nothing M k now (Do (Ask ask)) h = refl
+reads-change-nothing M k now (Do (Ask ask)) h = ask-changes-nothing M k now ask h
 reads-change-nothing M k now (Do (Pump max index)) h = absurd h
 reads-change-nothing M k now (Do (Switch name)) h = absurd h
 reads-change-nothing M k now (Do Tidy) h = absurd h
@@ -339,13 +369,16 @@ tidy-Stays : (now : ℕ) (W : World) → AllLeave (Stays W) (tidy now (replaced_
 tidy-Stays now W = chain Stays (λ A B C f g q x at not_index. f q x (g q x at not_index) not_index) W W (λ q x at not_index. at) (tidy now (replaced_names W) W []).changes
     (tidy-do now (λ V. Unit {0}) (λ V c. Stays V c.world) (λ V c w i is e. (indexed-Stays now V c w (tidying-indexed V c is) e, tt)) (replaced_names W) W [] tt)
 
+make-Stays : (now : ℕ) (W : World) (shape : Shape) → AllLeave (Stays W) (change_of_slots W now replies.Index (made_name W shape) (make W shape)).changes
+make-Stays now W shape = reslotted-Stays now W replies.Index (made_name W shape) (make W shape) (define-indexed W (made_name W shape) (definition_of shape))
+
 auto-Stays : (now : ℕ) (W : World) (c : Choice) → AllLeave (Stays W) (use_or_make W now c).changes
 auto-Stays now W (Use s) = tt
-auto-Stays now W (Make shape) =
-    let name = name_of W.slots (last W.store + 1) shape in
-    let d = Definition.Auto shape.collection shape.fields in
-    reslotted-Stays now W replies.Index name (define W name d) (define-indexed W name d)
-auto-Stays now W Merge = tt
+auto-Stays now W (Make shape) = make-Stays now W shape
+
+ask-Stays : (now : ℕ) (W : World) (ask : query.Ask) (a : Answered) → AllLeave (Stays W) (ask_course W now ask a).changes
+ask-Stays now W ask (Ready reply) = tt
+ask-Stays now W ask (MustMake shape) = subst (AllLeave (Stays W)) (sym (making-changes W now ask (made_name W shape) (make W shape))) (make-Stays now W shape)
 
 -- a row of the store that a request leaves was there, or the request wrote it
 abbrev Comes : World → ℕ → List Command → World → Type 0
@@ -399,7 +432,7 @@ step-given M k now (Do (Remove name)) more q x h not_index =
 step-given M k now (Do (Auto collection field)) more q x h not_index =
     inl (settled-Stays M k (course_of M.world now (Auto collection field)) (auto-Stays now M.world (pick (one_field collection field) M.world.store M.world.slots)) q x h not_index)
 step-given M k now (Do (Find index field ws)) more q x h not_index = inl h
-step-given M k now (Do (Ask ask)) more q x h not_index = inl h
+step-given M k now (Do (Ask ask)) more q x h not_index = inl (settled-Stays M k (course_of M.world now (Ask ask)) (ask-Stays now M.world ask (answer_ask M.world ask)) q x h not_index)
 step-given M k now (Do (Pump max index)) more q x h not_index = inl (subst (λ (S : Store). row_at q S.rows ≡ Some x) (batches-change-no-row M k now max index) h)
 step-given M k now (Do (Switch name)) more q x h not_index =
     inl (settled-Stays M k (course_of M.world now (Switch name)) (reslotted-Stays now M.world (Reply.Switched (last M.world.store + 1)) name (switch M.world name) (switch-indexed M.world name)) q x h not_index)

@@ -1,10 +1,11 @@
 -- What the laws claim of the answers of a machine.
-use Rattle.std.specs.Prelude.{◌≡◌, ℕ, List, [], true, false, Some, IsTrue, ◌↔◌}
+use Rattle.std.specs.Prelude.{◌≡◌, ℕ, List, [], true, false, Some, None, IsTrue, ◌↔◌}
 use Rattle.spec_data.specs.Data.{Data}
 use Rattle.spec_data.specs.Folding.{folded}
 use Rattle.spec_data.specs.Rows.{Row, is_document}
 use Rattle.spec_store.specs.Stale.{stale}
 use Rattle.spec_store.specs.Store.{row_at, Store}
+use Rattle.spec_query.specs.Binding.{check}
 use Rattle.spec_query.specs.Query as query
 use Rattle.spec_query.specs.Query.{OfCollection, is_whole}
 use Rattle.spec_index.specs.Index.{documents}
@@ -19,7 +20,7 @@ use Rattle.spec_server.specs.Replies.{Reply, Found}
 use Rattle.spec_server.specs.Machine.{Machine, Do, Find, step, takes_all, has_reduce, ids_found, is_stale}
 use Rattle.spec_index.specs.Find.{field_is_text}
 use Rattle.spec_server.specs.Sound.{Has}
-use Rattle.raven_laws.specs.Queries.{AsksForAll, AsksIndex, FitsIndex, IsAnsweredUpTo, IsFound, IsInCollection, IsRowOfKey, query_reply, results_in}
+use Rattle.raven_laws.specs.Queries.{AsksForAll, AsksIndex, FitsIndex, HasNoPage, IsAnsweredUpTo, IsFound, IsInCollection, IsRowOfKey, query_reply, results_in}
 
 -- IDS OF A FIND
 
@@ -64,20 +65,21 @@ pub record FreshIsFromScratch (M : Machine) : Type 0 where
   pub asked : (ask : query.Ask) (s : Slot) → AsksIndex M.world ask s → is_stale M.world.store s ≡ false
       → query_reply M ask ≡ answer_by (documents (reads s.version) M.world.store) M.world ask s
 
--- So a FIND has exactly the ids of the documents that match, and a query that asks for all has exactly the documents that it finds. If the index has
--- a reduce, the query has exactly the rows of the keys that the entries of the store's documents have. An index that is not stale up to the cutoff of a
+-- So a FIND has exactly the ids of the documents that match, and a query without a page has exactly the documents that it finds. If the index has
+-- a reduce, it has exactly the rows of the keys that the entries of the store's documents have, also if it groups by them. An index that is not stale up to the cutoff of a
 -- query answers it from exactly the documents up to the cutoff, and from what it has recorded of newer rows. A query on a whole collection reads no
--- index: it has exactly the documents of the collection.
+-- index: it has exactly the documents of the collection, and is not refused if it asks for all.
 pub record FreshIsExact (M : Machine) : Type 0 where
   pub find : (index field words id : List ℕ) (s : Slot) → serving M.world.slots index ≡ Some s → is_stale M.world.store s ≡ false
       → Has (ids_in (find_reply M index field words)) id ↔ IsMatch M.world.store s.version.definition field words id
-  pub asked : (ask : query.Ask) (s : Slot) (d : Data) → AsksIndex M.world ask s → FitsIndex ask s → AsksForAll ask
+  pub asked : (ask : query.Ask) (s : Slot) (d : Data) → AsksIndex M.world ask s → FitsIndex ask s → HasNoPage ask
       → is_stale M.world.store s ≡ false → has_reduce s.version.definition ≡ false
       → Has (results_in (query_reply M ask)) d ↔ IsFound M.world s.version.definition ask d
-  pub grouped : (ask : query.Ask) (s : Slot) (reduce : ReduceQuery) (d : Data) → AsksIndex M.world ask s → FitsIndex ask s → AsksForAll ask
+  pub grouped : (ask : query.Ask) (s : Slot) (reduce : ReduceQuery) (d : Data) → AsksIndex M.world ask s → FitsIndex ask s → HasNoPage ask
       → is_stale M.world.store s ≡ false → reduce_of s.version.definition ≡ Some reduce
       → Has (results_in (query_reply M ask)) d ↔ IsRowOfKey M.world s.version.definition reduce ask d
   pub cutoff : (ask : query.Ask) (s : Slot) → AsksIndex M.world ask s → stale M.world.store (reads s.version) s.version.etag ask.cutoff ≡ false
       → IsAnsweredUpTo M ask s
-  pub collection : (ask : query.Ask) (name : List ℕ) (d : Data) → ask.query.origin ≡ OfCollection name → is_whole ask.query ≡ true → AsksForAll ask
-      → Has (results_in (query_reply M ask)) d ↔ IsInCollection M.world name d
+  pub collection : (ask : query.Ask) (name : List ℕ) (d : Data) → ask.query.origin ≡ OfCollection name → is_whole ask.query ≡ true → check ask ≡ None → HasNoPage ask
+      → Has (results_in (query_reply M ask)) d ↔ IsInCollection M.world ask name d
+  pub unrefused : (ask : query.Ask) → is_whole ask.query ≡ true → AsksForAll ask → check ask ≡ None

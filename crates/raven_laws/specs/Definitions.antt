@@ -8,7 +8,7 @@ use Rattle.spec_data.specs.Rows.{Row}
 use Rattle.index_tree.specs.declared.map_query.MapQuery.{MapQuery}
 use Rattle.index_tree.specs.declared.reduce_query.ReduceQuery.{ReduceQuery}
 use Rattle.spec_store.specs.Store.{row_at, last}
-use Rattle.index_tree.specs.Definitions.{Definition, Static, Auto}
+use Rattle.index_tree.specs.Definitions.{Definition, Static, Auto, AutoReduce}
 use Rattle.spec_store.specs.Commit.{Command, AnyVector, Server, Refused, Written, commit, document_at, tombstone}
 use Rattle.spec_index.specs.World.{Slot, SlotChange, define_named, index_id, is_named, is_reserved_name, is_stale, max_index_name, named_anew, newest_read, row_body, serving, taken_out, takes_over}
 use Rattle.spec_server.specs.Sound.{Has, IsListed}
@@ -27,10 +27,16 @@ pub record SameAuto (c d : List ℕ) (ps qs : List Path) : Type 0 where
   pub collection : c ≡ d
   pub fields : ps ≡ qs
 
+pub record SameGrouped (c d : List ℕ) (gs hs ps qs : List Path) : Type 0 where
+  pub collection : c ≡ d
+  pub groups : gs ≡ hs
+  pub sums : ps ≡ qs
+
 -- the texts of the definitions do not matter
 abbrev pub SaysTheSame : Definition → Definition → Type 0
 SaysTheSame (Static m r t u) (Static n s v w) = SameStatic m n r s
 SaysTheSame (Auto c fields) (Auto d others) = SameAuto c d fields others
+SaysTheSame (AutoReduce c groups sums) (AutoReduce d others more) = SameGrouped c d groups others sums more
 SaysTheSame d e = ⊥
 
 -- CASES OF SEVERAL ANSWERS

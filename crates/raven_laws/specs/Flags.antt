@@ -2,7 +2,7 @@
 use Rattle.std.specs.Prelude.{◌≡◌, ℕ, List, [], ◌∷◌, Bool, true, false, if◌then◌else◌, Option, Some, None, ◌↔◌, map}
 use Rattle.spec_store.specs.Stale.{Unseen}
 use Rattle.spec_query.specs.Query as query
-use Rattle.spec_query.specs.Query.{is_of_index}
+use Rattle.spec_query.specs.Query.{is_whole}
 use Rattle.spec_index.specs.World.{Slot, reads, serving}
 use Rattle.spec_server.specs.Replies.{Reply, Listing, QueryAnswer, Found, Answer}
 use Rattle.spec_server.specs.Replies as replies
@@ -24,7 +24,7 @@ listed_flag l = flag l.name None l.is_stale
 
 -- a whole collection is answered by no index
 abbrev pub answer_flags : query.Ask → QueryAnswer → List Flag
-answer_flags ask answer = if is_of_index ask.query then flag answer.index_name ask.cutoff answer.is_stale ∷ [] else []
+answer_flags ask answer = if is_whole ask.query then [] else flag answer.index_name ask.cutoff answer.is_stale ∷ []
 
 -- all flags that the reply to a line shows: everything that reads an index is here
 abbrev pub flags_in : Line → Reply → List Flag
@@ -45,9 +45,10 @@ pub record FlagIsExact (M : Machine) (f : Flag) : Type 0 where
 abbrev pub ShowsFlag : Machine → Line → List ℕ → Option ℕ → Type 0
 ShowsFlag M line index cutoff = (is_stale : Bool) × Has (flags_in line (step M takes_all 0 line).reply) (flag index cutoff is_stale)
 
--- each flag that a reply shows is exact, and each question about an index shows one, unless it is refused
+-- Each flag that a reply shows is exact in the state after the line, and each question about an index shows one, unless it is refused. Only a query
+-- that makes its index changes the state and shows a flag.
 pub record FlagsAreExact (M : Machine) : Type 0 where
-  pub exact : (k : Keeping) (now : ℕ) (line : Line) (f : Flag) → Has (flags_in line (step M k now line).reply) f → FlagIsExact M f
+  pub exact : (k : Keeping) (now : ℕ) (line : Line) (f : Flag) → Has (flags_in line (step M k now line).reply) f → FlagIsExact (step M k now line).machine f
   pub find : (index field words : List ℕ) (s : Slot) → serving M.world.slots index ≡ Some s → ShowsFlag M (Do (Find index field words)) index None
   pub asked : (ask : query.Ask) (s : Slot) → AsksIndex M.world ask s → FitsIndex ask s → ShowsFlag M (Do (Ask ask)) s.name ask.cutoff
   pub cutoff : (name : List ℕ) (cutoff : Option ℕ) (s : Slot) → serving M.world.slots name ≡ Some s → ShowsFlag M (Do (Stale name cutoff)) name cutoff

@@ -8,4 +8,5 @@ pub mod Opened
 pub mod Served
 pub mod Workers
 pub mod Choices
+pub mod Asked
 pub mod Words

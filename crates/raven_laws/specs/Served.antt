@@ -1,8 +1,9 @@
 -- What a step does to the index that serves a name.
-use Rattle.std.specs.Prelude.{◌≡◌, ℕ, ◌+◌, List, [], ◌∷◌, ◌++◌, true, false, Some, None, ◌⊎◌, map}
+use Rattle.std.specs.Prelude.{◌≡◌, ℕ, ◌+◌, List, [], ◌∷◌, ◌++◌, true, false, Some, None, ◌⊎◌, filter, map, not}
 use Rattle.spec_data.specs.Faults.{replacement_of}
 use Rattle.spec_data.specs.Folding.{folded}
 use Rattle.spec_store.specs.Store.{last}
+use Rattle.spec_index.specs.Optimiser as optimiser
 use Rattle.spec_index.specs.World.{Note, Slot, World, begins_with_replacement, is_automatic, is_stale, named_anew, serving, switch_note}
 use Rattle.spec_server.specs.Machine.{Do, Keeping, Line, Machine, Replied, Remove, Tidy, replaced_names, step}
 use Rattle.spec_server.specs.Replies.{Reply}
@@ -68,16 +69,26 @@ abbrev pub IsPartOf : {X : Type 0} → List X → List X → Type 0
 IsPartOf xs [] = xs ≡ []
 IsPartOf {X} xs (y ∷ ys) = IsPartOf xs ys ⊎ ((more : List X) × (xs ≡ y ∷ more) × IsPartOf more ys)
 
+-- In a world on the way, after which no name was switched, these are the names of all indexes that others outdo, in order. All others are left.
+pub record IsRetirement (W V : World) (gone : List (List ℕ)) : Type 0 where
+  pub before : World
+  pub earlier : LaterW W before
+  pub notes : V.notes ≡ before.notes
+  pub all : gone ≡ map (λ s. s.name) (optimiser.retired before.slots)
+  pub left : V.slots ≡ filter (λ s. not (optimiser.is_retired before.slots s)) before.slots
+
 -- The names that the reply has as switched are those of the notes that the TIDY added, in order: all that it switched, and nothing else. They come in
--- the order in which the names are tried. Each was switched on the way. None of the names that the reply has as retired is served any more.
-pub record TidyTells (W V : World) (retired switched : List (List ℕ)) : Type 0 where
+-- the order in which the names are tried. Each was switched on the way. The names that the reply has as retired are those of all indexes that others
+-- outdo once the switches are made. None of them is served any more.
+pub record TidyTells (W V : World) (gone told : List (List ℕ)) : Type 0 where
   pub noted : List Note
   pub notes : V.notes ≡ W.notes ++ noted
-  pub all : switched ≡ map (λ n. n.name) noted
-  pub order : IsPartOf (map folded switched) (map folded (replaced_names W))
-  pub switches : (name : List ℕ) → Has switched name → (s : Slot) × WasSwitched W V name s
-  pub retires : (name : List ℕ) → Has retired name → serving V.slots name ≡ None
+  pub all : told ≡ map (λ n. n.name) noted
+  pub order : IsPartOf (map folded told) (map folded (replaced_names W))
+  pub switches : (name : List ℕ) → Has told name → (s : Slot) × WasSwitched W V name s
+  pub retirement : IsRetirement W V gone
+  pub retires : (name : List ℕ) → Has gone name → serving V.slots name ≡ None
 
 abbrev pub TidyIsAnswered : Machine → Keeping → ℕ → Type 0
-TidyIsAnswered M k now = (retired switched : List (List ℕ)) → (step M k now (Do Tidy)).reply ≡ Reply.Tidied retired switched
-    → TidyTells M.world (step M k now (Do Tidy)).machine.world retired switched
+TidyIsAnswered M k now = (gone told : List (List ℕ)) → (step M k now (Do Tidy)).reply ≡ Reply.Tidied gone told
+    → TidyTells M.world (step M k now (Do Tidy)).machine.world gone told

@@ -5,6 +5,7 @@ use Rattle.spec_data.specs.Folding.{folded, same_key}
 use Rattle.spec_data.specs.Rows.{Row, doc}
 use Rattle.spec_store.specs.Store.{Store, row_at, last}
 use Rattle.spec_store.specs.Commit.{Command, Expect, Client, Refused, Written, after_commands, collection_of, commit, document_at, etags_taken, refusal_of, row_of, stored_body, tombstone, vector_of}
+use Rattle.spec_query.specs.Query.{is_dynamic}
 use Rattle.spec_server.specs.Replies.{Reply}
 use Rattle.spec_server.specs.Machine.{Machine, Event, Keeping, Replied, Line, Do, Put, Delete, Bulk, Get, Find, Ask, Stale, Indexes, Stats, after, commands_on, is_first_taken, is_taken, results_of, run, same_machine, spelling, step, write_refused}
 
@@ -98,11 +99,11 @@ pub record IsWritten (M : Machine) (events : List Event) (r : Row) : Type 0 wher
   pub given : IsCommanded event.now (commands_on event.line) (run before M).world.store r
   pub taken : (after (run before M) event).world.store ≡ after_commands event.now (commands_on event.line) (run before M).world.store
 
--- the line asks, and writes nothing
+-- the line asks, and writes nothing; a query on a collection that needs an automatic index may make it
 abbrev pub OnlyReads : Line → Type 0
 OnlyReads (Do (Get id)) = Unit {0}
 OnlyReads (Do (Find index field words)) = Unit {0}
-OnlyReads (Do (Ask ask)) = Unit {0}
+OnlyReads (Do (Ask ask)) = is_dynamic ask.query ≡ false
 OnlyReads (Do (Stale name cutoff)) = Unit {0}
 OnlyReads (Do Indexes) = Unit {0}
 OnlyReads (Do Stats) = Unit {0}

@@ -8,8 +8,8 @@ ghost use Rattle.raven_laws.specs.Choices.{AutoIsAnswered};
 ghost use Rattle.raven_laws.specs.Definitions.{BatchIsAnswered, DefineIsAnswered, OtherSlotsStay, RemoveIsAnswered, SaysTheSame, SwitchIsAnswered};
 ghost use Rattle.raven_laws.specs.Served.{TidyIsAnswered};
 
-/// Two definitions are found to be the same exactly if their maps and reduces are equal, or their collections and fields are. Their
-/// texts do not matter.
+/// Two definitions are found to be the same exactly if their maps and reduces are equal, or their collections and fields are, or with groups
+/// their collections, groups and sums. Their texts do not matter.
 pub fn same_definition_is_exact()
     ensures { (d e : Definition) → (same_definition d e ≡ true) ↔ SaysTheSame d e }
 {}
@@ -40,14 +40,15 @@ pub fn switches_are_answered()
 
 /// In a sound state the reply to a TIDY, if the keeper and the store take its rows, tells what was done. It names all that was switched and
 /// nothing else, in the order of the notes of the switches, which is that of the folded names. Each replacement was not stale on the very
-/// store at which it took the name. None of the indexes that it tells as retired is served any more.
+/// store at which it took the name. It names as retired exactly the indexes that others outdo once the switches are made, and all others are
+/// left. None of those that it names is served any more.
 pub fn tidies_are_answered()
     ensures { (M : Machine) (k : Keeping) (now : ℕ) → Sound M.world → TidyIsAnswered M k now }
 {}
 
 /// In a sound state with room for less than 2^32 indexes, an Auto uses the best index, and changes nothing. Or it makes a new one: that is
 /// refused for one index too many or for its row, and changes nothing; or the keeper failed and nothing changes; or the new index follows the
-/// others, and all other slots and rows stay as they were. To merge indexes is not built yet.
+/// others, and all other slots and rows stay as they were.
 pub fn autos_are_answered()
     ensures { (M : Machine) (k : Keeping) (now : ℕ) (collection field : List ℕ) → Sound M.world → M.world.setting.max_slots < 2 ^ 32 →
         AutoIsAnswered M k now collection field }

@@ -6,6 +6,7 @@ mod definitions;
 mod indexes;
 mod keeping;
 mod opening;
+mod queries;
 mod runs;
 mod scripts;
 mod stores;
@@ -24,6 +25,10 @@ pub use keeping::{changes_are_their_rows, keepers_follow_stores, keepers_store_e
 pub use opening::{
     changes_go_on, every_run_from_stored_rows_is_sound, every_script_from_stored_rows_is_sound,
     opened_is_sound, rows_were_there_or_written, sound_states_answer_truly, sound_states_go_on,
+};
+pub use queries::{
+    covering_is_exact, queries_are_answered, retired_indexes_are_outdone, shapes_are_asked,
+    suitable_indexes_find_alike,
 };
 pub use runs::{
     batches_may_wait, batches_move_what_is_stale, every_index_serves_its_name, every_run_goes_on,

@@ -52,9 +52,9 @@ pub fn fresh_answers_are_from_scratch()
 {}
 
 /// A FIND of an index that is not stale has exactly the ids of the documents that the store has, that the index maps, and whose field is the
-/// text. A query that asks for all has exactly the documents that the index maps and that meet its condition, or those of a whole collection.
-/// If the index has a reduce, the query has exactly the rows that meet its condition among those of the keys that entries of the store's
-/// documents have, each made of all entries with its key. A query with a cutoff, of an index that is not stale up to there, is answered from
+/// text. A query without a page has exactly the documents that the index maps and that meet its condition, or those of a whole collection, with
+/// the columns that it selects. If the index has a reduce, as for a query that groups, it has exactly the rows that meet its condition among
+/// those of the keys that entries of the store's documents have, each made of all entries with its key. A query with a cutoff, of an index that is not stale up to there, is answered from
 /// exactly the documents up to the cutoff, and from what the index has recorded of newer rows.
 pub fn fresh_answers_are_exact()
     ensures { (setting : Setting) (events : List Event) → AreFromClients events → FreshIsExact (run events (start setting)) }
@@ -88,7 +88,8 @@ pub fn new_names_are_free()
 {}
 
 /// The index that is picked for a query is the best of those that cover it: fresh before stale, then with fewer fields, then the earlier one.
-/// A new one is made only if the collection has no automatic index. There is only one such choice.
+/// If none does, a new one is made, which takes in the fields of all automatic indexes of its collection and groups, unless those are too many.
+/// There is only one such choice.
 pub fn picks_are_best()
     ensures picked { (S : Store) (slots : List Slot) (shape : Shape) → NumbersRise 0 slots → IsChosen S slots shape (pick shape S slots) }
     ensures one { (S : Store) (slots : List Slot) (shape : Shape) (c d : Choice) →

@@ -6,7 +6,7 @@ use Rattle.spec_index.specs.World.{is_automatic}
 use Rattle.spec_query.specs.Query.{Query}
 use Rattle.spec_query.specs.Refusals.{QueryRefusal}
 use Rattle.spec_server.specs.Machine.{AreFromClients}
-use Rattle.spec_server.specs.Script.{Asking, Given, LineRead, asked_by_text, defined_by, events_of}
+use Rattle.spec_server.specs.Script.{Asking, Given, LineRead, asked_by_text, defined_by, events_of, plain_asking}
 use Rattle.raven_lines.specs.Lines.{AreLines, IsLine}
 use Rattle.index_lang.specs.Says.{Says}
 use Rattle.raven_laws.proofs.ClientLemmas.{IsReadFromClient, event-clients, line_of-client}
@@ -26,7 +26,8 @@ line-client line read is = holds-by-kind IsReadFromClient line (record {
   plain = line_of-client line;
   refused = λ refusal. tt;
   defined = λ rest given answer e says. defined-client given.0 given.1 answer says;
-  queried = queried-client;
+  queried = λ parts answer u e says. queried-client plain_asking answer;
+  asked = λ rest given answer e says. queried-client given.1 answer;
 }) read is
 
 pub lines-client : (lines : List Given) → AreLines lines → AreFromClients (events_of lines)

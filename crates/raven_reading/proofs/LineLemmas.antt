@@ -15,13 +15,15 @@ use Rattle.index_tree.specs.Language.{LangRefusal}
 use Rattle.index_tree.specs.Definitions.{Definition, Texts}
 use Rattle.spec_query.specs.Query.{Query}
 use Rattle.spec_query.specs.Refusals.{QueryRefusal}
-use Rattle.spec_server.specs.Machine.{Do, Request, Put, Delete, Bulk, Get, Remove, Auto, Find, Pump, Switch, Tidy, Stale, Indexes, Stats, Line}
+use Rattle.spec_server.specs.Machine.{Request, Put, Delete, Bulk, Get, Remove, Auto, Find, Pump, Switch, Tidy, Stale, Indexes, Stats, Line}
 use Rattle.spec_server.specs.Opening.{is_part}
-use Rattle.spec_server.specs.Script.{Asking, LineRead, ReadRefusal, asked_by_text, defined_by, index_of, map_member, name_member, reduce_member, texts_in, texts_of_body, unless_name_fault, UnknownLine, BadMember, then_read, before_space, after_space, both_parts, argument_and_rest, has_byte, unless_fault, id_read, json_read, object_read, put_read, delete_read, id_member, vector_member, put_command, delete_command, typed_command, command_read, commands_read, list_member, commands_of, bulk_read, or_unknown, parts_read, put_of, put_if_of, delete_if_of, get_of, is_collection, is_field, auto_of, drop_of, max_read, pump_of, pump_read, name_read, find_of, switch_of, stale_of, by_command, do_read, publish_of, read_of, request_of, told_of, worker_read, line_of}
+use Rattle.spec_server.specs.Script.{Asking, LineRead, ReadRefusal, asked_by_text, asking_in, asking_of, asking_of_body, beside_in, plain_asking, query_member, defined_by, index_of, map_member, name_member, reduce_member, texts_in, texts_of_body, unless_name_fault, UnknownLine, BadMember, then_read, before_space, after_space, both_parts, argument_and_rest, has_byte, unless_fault, id_read, json_read, object_read, put_read, delete_read, id_member, vector_member, put_command, delete_command, typed_command, command_read, commands_read, list_member, commands_of, bulk_read, or_unknown, parts_read, put_of, put_if_of, delete_if_of, get_of, is_collection, is_field, auto_of, drop_of, max_read, pump_of, pump_read, name_read, find_of, switch_of, stale_of, by_command, do_read, publish_of, read_of, request_of, told_of, worker_read, line_of}
 use Rattle.spec_store.proofs.StoreLemmas.{both_true, either_false}
 use Rattle.raven_reading.specs.Requests.{IsRequestBody, IsCommand, AreCommands, IsValidLine, IsValidRequest}
 use Rattle.raven_lines.specs.Lines.{IsLine}
+use Rattle.raven_lines.specs.SaysQuery.{SaysQuery}
 use Rattle.index_lang.specs.Says.{Says}
+use Rattle.raven_reading.proofs.AskedLemmas.{query-asked}
 use Rattle.raven_reading.proofs.ByKind.{holds-by-kind}
 use Rattle.raven_reading.proofs.TextLemmas.{said-by}
 use Rattle.raven_reading.proofs.PairLemmas.{member-sound, member-depth}
@@ -480,10 +482,38 @@ defined-asked name texts (Err refusal) t says = tt
 defined-asked name texts (Ok d) t says =
     record { commands = tt; indexing = record { fit = t.fit; texts = texts; utf8 = t.utf8; reduce_utf8 = t.reduce_utf8; by_texts = said-by texts d says; says = says } }
 
--- a query writes nothing
-queried-asked : (asking : Asking) (answer : Result Query QueryRefusal) → CanBeKept (asked_by_text asking answer)
-queried-asked asking (Err refusal) = tt
-queried-asked asking (Ok q) = record { commands = tt; indexing = tt }
+-- the text of a query in a line
+query-text : (o : Option Data) (query : List ℕ) → ((d : Data) → o ≡ Some d → IsFine 100 d) → query_member o ≡ Ok query → IsUtf8 query
+query-text None query f h = absurd cc
+query-text (Some null) query f h = absurd cc
+query-text (Some (flag b)) query f h = absurd cc
+query-text (Some (num n)) query f h = absurd cc
+query-text (Some (array ds)) query f h = absurd cc
+query-text (Some (object ms)) query f h = absurd cc
+query-text (Some (text s)) query f h = subst IsUtf8 (same_ok s query h) (f (text s) refl).0
+
+asking-in : (ms : Entries) (given : List ℕ × Asking) → IsFine 100 (object ms) → asking_in ms ≡ Ok given → IsUtf8 given.0
+asking-in ms given f h =
+    let t = then-ok (query_member (member (codes "Query") ms)) (λ words. then_read (beside_in ms) (λ asking. Ok (words, asking))) given h in
+    let a = then-ok (beside_in ms) (λ asking. Ok (t.0, asking)) given t.2 in
+    subst (λ (x : List ℕ × Asking). IsUtf8 x.0) (same_ok {A = List ℕ × Asking} (t.0, a.0) given a.2) (query-text (member (codes "Query") ms) t.0 (λ d e. member-fine (codes "Query") ms d f e) t.1)
+
+body-asking : (d : Data) (given : List ℕ × Asking) → IsFine 100 d → asking_of_body d ≡ Ok given → IsUtf8 given.0
+body-asking null given f h = absurd cc
+body-asking (flag b) given f h = absurd cc
+body-asking (num n) given f h = absurd cc
+body-asking (text s) given f h = absurd cc
+body-asking (array ds) given f h = absurd cc
+body-asking (object ms) given f h = asking-in ms given f h
+
+asking-text : (words : List ℕ) (given : List ℕ × Asking) → asking_of words ≡ Ok given → IsUtf8 given.0
+asking-text words given h =
+    let v = then-ok (json_read (reading words)) asking_of_body given h in body-asking v.0 given (reading-fine words v.0 (json-ok (reading words) v.0 v.1)) v.2
+
+-- a query writes nothing, but an index of the paths that it names may be made for it
+queried-asked : (words : List ℕ) (asking : Asking) (answer : Result Query QueryRefusal) → IsUtf8 words → SaysQuery words answer → CanBeKept (asked_by_text asking answer)
+queried-asked words asking (Err refusal) u says = tt
+queried-asked words asking (Ok q) u says = record { commands = tt; indexing = query-asked words q u says }
 
 -- what a line asks to write can be stored
 pub line-asked : (line : List ℕ) (read : LineRead) → IsLine line read → CanBeKept read
@@ -491,5 +521,6 @@ line-asked line read is = holds-by-kind CanBeKept line (record {
   plain = plain-asked line;
   refused = λ refusal. tt;
   defined = λ rest given answer e says. defined-asked given.0 given.1 answer (index-texts rest given e) says;
-  queried = queried-asked;
+  queried = λ parts answer u e says. queried-asked parts.1 plain_asking answer (let w = words-of line (IsUtf8-from_is_utf8 line u) in both-parts (before_space line) (after_space line) parts w.front w.rest e).second says;
+  asked = λ rest given answer e says. queried-asked given.0 given.1 answer (asking-text rest given e) says;
 }) read is

@@ -20,7 +20,8 @@ use Rattle.index_lang.specs.declared.reading.Trees.{Trees}
 use Rattle.index_lang.specs.Parse.{AreRead, IsParsed, causes, definition, first_cause, is_long, judged_if, lengths, unless}
 use Rattle.index_lang.proofs.Once.{parsed_once}
 use Rattle.raven_lines.specs.Lines.{Comes, IsLine}
-use Rattle.raven_lines.specs.SaysQuery.{SaysQuery, query_refusal}
+use Rattle.raven_lines.specs.SaysQuery.{SaysQuery}
+use Rattle.rql_grammar.specs.Kinds.{query_refusal}
 use Rattle.rql_parser.specs.declared.refusal.RqlRefusal.{RqlRefusal}
 use Rattle.rql_parser.specs.declared.refusal.RqlRefusal.TheVariants as rql
 use Rattle.rql_parser.proofs.Answering.{one_of}

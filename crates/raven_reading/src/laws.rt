@@ -1,6 +1,6 @@
 //! The laws of what is read, each the contract of a function without a body.
 
-ghost use Rattle.std.specs.Prelude.{◌≡◌, ℕ, List, Ok, Result, Some};
+ghost use Rattle.std.specs.Prelude.{◌≡◌, ℕ, IsUtf8, List, Ok, Result, Some, true};
 ghost use Rattle.spec_data.specs.Kept.{KeptRow};
 ghost use Rattle.spec_data.specs.Rows.{Row};
 ghost use Rattle.spec_store.specs.Commit.{Setting};
@@ -9,13 +9,14 @@ ghost use Rattle.index_tree.specs.Language.{LangRefusal};
 ghost use Rattle.spec_server.specs.Machine.{AreFromClients, Line, Machine};
 ghost use Rattle.index_tree.specs.Definitions.{Definition, Texts};
 ghost use Rattle.spec_server.specs.Script.{Given, LineRead, events_of};
-ghost use Rattle.spec_server.specs.WellFormed.{IsWellFormed};
+ghost use Rattle.spec_server.specs.WellFormed.{IsWellFormed, has_valid_paths};
 ghost use Rattle.spec_query.specs.Query.{Query};
 ghost use Rattle.spec_query.specs.Refusals.{QueryRefusal};
 ghost use Rattle.raven_lines.specs.Lines.{AreLines, IsLine};
 ghost use Rattle.raven_lines.specs.SaysQuery.{SaysQuery};
 ghost use Rattle.index_lang.specs.Openings.{IsOpened, Opens};
 ghost use Rattle.index_lang.specs.Says.{Says};
+ghost use Rattle.raven_reading.specs.Requests.{IsAsked};
 
 /// The texts of a map and of a reduce, if there is one, say one definition, or are refused for one cause, and not both.
 pub fn texts_are_read_one_way()
@@ -25,6 +26,13 @@ pub fn texts_are_read_one_way()
 /// The text of a query says one query, or is refused for one cause, and not both.
 pub fn queries_are_read_one_way()
     ensures { (text : List ℕ) (a b : Result Query QueryRefusal) → SaysQuery text a → SaysQuery text b → a ≡ b }
+{}
+
+/// The paths that a query names by a UTF-8 text can be those of an index, and its collection is UTF-8: so the index that is made for it opens
+/// again, and to ask the query is well formed.
+pub fn queries_name_paths()
+    ensures asked { (text : List ℕ) (q : Query) → IsUtf8 text → SaysQuery text (Ok q) → IsAsked q }
+    ensures formed { (text : List ℕ) (q : Query) → IsUtf8 text → SaysQuery text (Ok q) → has_valid_paths q ≡ true }
 {}
 
 /// A line is read as one thing.

@@ -1,26 +1,32 @@
 -- A world whose rows open again leaves such a world, whatever is asked.
 use Rattle.std.proofs.Common.{◌≡◌, ℕ, ◌+◌, ◌<◌, List, [], ◌∷◌, true, false, not, ◌==◌, cond, nat_lt, nat_le, is_some, length, filter, map, Option, Some, None, Result, Ok, Err, refl, sym, ap, ◌∙◌, subst, arith, inl, inr}
 use Rattle.std.proofs.lemmas.Bool.{eqb-true, ltb-false}
-use Rattle.std.specs.List.{list_any}
 use Rattle.spec_data.specs.Faults.{replacement_of}
 use Rattle.spec_data.specs.Moments.{moments_end}
 use Rattle.spec_store.specs.Store.{last}
-use Rattle.index_tree.specs.Definitions.{Definition, Auto, same_definition}
+use Rattle.index_tree.specs.Definitions.{Definition, same_definition}
 use Rattle.spec_server.specs.Opening.{is_auto_name, is_static_name}
 use Rattle.spec_store.specs.Commit.{Command, AnyVector, Client, Server, Refused, Written, commit}
-use Rattle.spec_index.specs.Optimiser.{Shape, Make, Merge, best, chosen, covers, is_of, is_retired, name_of, retired, retirement, slot_shape}
+use Rattle.spec_query.specs.Binding.{PlanRefusal, check}
+use Rattle.spec_query.specs.Query.{Ask as AskOf, OfCollection, OfIndex, Origin, is_whole}
+use Rattle.spec_index.specs.Optimiser.{Shape, best, chosen, covers, definition_of, is_retired, name_of, pick, retired, retirement, slot_shape, widened}
+use Rattle.spec_server.specs.Asking.{Answered, MustMake, Ready, answer_ask, answer_from_collection, answer_picked}
+use Rattle.spec_server.specs.Asking.{unless_refused as answered_unless}
+use Rattle.spec_server.specs.Shapes.{shape_asked}
 use Rattle.spec_server.specs.Replies as replies
-use Rattle.spec_index.specs.World.{Slot, SlotChange, World, is_automatic, index_id, numbered, row_body, serving, SlotRefusal, added, added_if_room, added_to, define, define_at, define_beside, dropped, is_reserved_name, remove, removed, switch, taken_out, unchanged, unless_refused, without}
-use Rattle.spec_server.specs.Machine.{Machine, Request, Put as PutOne, Delete as DeleteOne, Bulk, Get, Define, Remove, Auto as AutoOne, Find, Ask, Pump, Switch, Tidy, Stale, Indexes, Stats, Line, Do, Read, Publish, IsFromClient, AreFromClients, Change, Event, Held, Keeping, Course, Passed, PublishRefusal, after, changed, course_of, commands_in, held_by, pump_at, pump_for, change_of_slots, one_field, publish_by, publish_to, published, published_in, published_reply, replaced_names, rewrote, run, settled, single_reply, step, tidy, use_or_make, with_slots, with_version, write, wrote}
+use Rattle.spec_index.specs.World.{Slot, SlotChange, World, is_automatic, index_id, numbered, serving, SlotRefusal, added, added_if_room, added_to, define, define_at, define_beside, dropped, is_reserved_name, remove, removed, switch, taken_out, unchanged, unless_refused, without}
+use Rattle.spec_server.specs.Machine.{Machine, Request, Put as PutOne, Delete as DeleteOne, Bulk, Get, Define, Remove, Auto as AutoOne, Find, Ask, Pump, Switch, Tidy, Stale, Indexes, Stats, Line, Do, Read, Publish, IsFromClient, AreFromClients, Change, Event, Held, Keeping, Course, Passed, PublishRefusal, after, answer_made, answer_making, ask_course, changed, course_of, commands_in, held_by, made_name, make, pump_at, pump_for, change_of_slots, one_field, publish_by, publish_to, published, published_in, published_reply, replaced_names, rewrote, run, settled, single_reply, step, tidy, use_or_make, with_slots, with_version, write, wrote}
 use Rattle.spec_server.specs.Sound.{Has, IsHeld, IsMachine, Sound}
 use Rattle.raven_laws.proofs.MachineLemmas.{AllDo, AllLeave, IsTidying, Keeps, read-world, settled-leaves, step-Steps, tidy-do, tidying-Moves}
+use Rattle.raven_laws.proofs.QueryLemmas.{answer_by_origin}
 use Rattle.raven_laws.proofs.SlotLemmas.{Has-map, Has-without, find-Has, replacing-no-auto, served}
 use Rattle.raven_laws.proofs.WorldLemmas.{found-Replaces, one_number, past_test, reserved-other, same_change, switch-Switches}
-use Rattle.raven_reading.specs.Requests.{IsByText, AreCommands, IsIndexing, IsValidLine}
-use Rattle.raven_reopening.specs.Form.{AreEvents}
+use Rattle.raven_reading.specs.Requests.{IsAsked, IsByText, AreCommands, IsIndexing, IsOrigin, IsValidLine}
+use Rattle.raven_reopening.specs.Form.{AreEvents, IsKept}
 use Rattle.raven_reopening.proofs.FitLemmas.{few_slots, given-static, name_of-auto, named-fit, static-fit}
 use Rattle.raven_reopening.proofs.LastLemmas.{AllLast, AreServed, Stays, clients-Stay, deletes, puts, servers-Stay}
-use Rattle.raven_reopening.proofs.RightLemmas.{AllRight, IsNew, IsRight, added-right, auto-new, filter-right, kept-right, pumped-right, pumped_at-right, renamed-right, replacement-new, static-new}
+use Rattle.raven_reopening.proofs.RightLemmas.{AllRight, IsNew, IsRight, added-right, filter-right, kept-right, made-new, pumped-right, pumped_at-right, renamed-right, replacement-new, static-new}
+use Rattle.raven_reopening.proofs.ShapeLemmas.{IsKeptShape, asked-kept, one-kept, widened-kept}
 
 -- its rows can be read again, and those of its indexes are read as their definitions
 pub record Again (W : World) : Type 0 where
@@ -82,25 +88,66 @@ new-name W shape o =
     let most = o.limits.etags in
     name_of-auto W.slots (last W.store + 1) shape (omega arith) (omega arith)
 
-made-Again : (W : World) (now : ℕ) (c f : List ℕ) → IsIndexing (AutoOne c f) → now < moments_end → Sound W → Again W → AllLeave Again (use_or_make W now (Make (one_field c f))).changes
-made-Again W now c f fits soon o a =
-    let name = name_of W.slots (last W.store + 1) (one_field c f) in
-    let d = Auto c ((f ∷ []) ∷ []) in
-    let new = auto-new name c f fits (new-name W (one_field c f) o) in
-    reslotted-Again W now replies.Index name (define W name d) (λ x e. by name d x new e) soon o a
-  where
-    by : (name : List ℕ) (d : Definition) (x : SlotChange) → IsNew name d → define W name d ≡ Ok x → IsFitChange x
-    by name d x new e =
-        let room = past_test (nat_le W.setting.max_slots (length W.slots)) SlotRefusal.TooManyIndexes (cond (is_some (serving W.slots name)) (Err SlotRefusal.NameServes) (Ok (added W name d))) x e in
-        let free = past_test (is_some (serving W.slots name)) SlotRefusal.NameServes (Ok (added W name d)) x room.1 in
-        subst IsFitChange (same_change (added W name d) x free.1) (added-fit W W.slots name d new a.slots)
+all-kept : (W : World) → Again W → (s : Slot) → Has W.slots s → IsKept s.version.definition
+all-kept W a s h = (a.slots s h).kept
 
-auto-Again : (W : World) (now : ℕ) (c f : List ℕ) (found : Option Slot) → IsIndexing (AutoOne c f) → now < moments_end → Sound W → Again W → AllLeave Again (use_or_make W now (chosen (one_field c f) W.slots found)).changes
-auto-Again W now c f (Some s) fits soon o a = tt
-auto-Again W now c f None fits soon o a = elim (list_any (is_of c) W.slots) as (λ b. AllLeave Again (use_or_make W now (cond b Merge (Make (one_field c f)))).changes) [
-  | true ↦ tt
-  | false ↦ made-Again W now c f fits soon o a
-]
+-- an index of a shape whose paths can be kept
+made-fit : (W : World) (shape : Shape) (c : SlotChange) → IsKeptShape shape → Sound W → Again W → make W shape ≡ Ok c → IsFitChange c
+made-fit W shape c k o a e = by (made_name W shape) (definition_of shape) (made-new (made_name W shape) shape k (new-name W shape o)) e
+  where
+    by : (name : List ℕ) (d : Definition) → IsNew name d → define W name d ≡ Ok c → IsFitChange c
+    by name d new e =
+        let room = past_test (nat_le W.setting.max_slots (length W.slots)) SlotRefusal.TooManyIndexes (cond (is_some (serving W.slots name)) (Err SlotRefusal.NameServes) (Ok (added W name d))) c e in
+        let free = past_test (is_some (serving W.slots name)) SlotRefusal.NameServes (Ok (added W name d)) c room.1 in
+        subst IsFitChange (same_change (added W name d) c free.1) (added-fit W W.slots name d new a.slots)
+
+auto-Again : (W : World) (now : ℕ) (shape : Shape) (found : Option Slot) → IsKeptShape shape → now < moments_end → Sound W → Again W → AllLeave Again (use_or_make W now (chosen shape W.slots found)).changes
+auto-Again W now shape (Some s) k soon o a = tt
+auto-Again W now shape None k soon o a =
+    let wide = widened shape W.slots in
+    reslotted-Again W now replies.Index (made_name W wide) (make W wide) (λ c e. made-fit W wide c (widened-kept shape W.slots (all-kept W a) k) o a e) soon o a
+
+-- QUERIES
+
+-- an index that must be made has paths that can be kept
+abbrev MakesKept : Answered → Type 0
+MakesKept (Ready reply) = Unit {0}
+MakesKept (MustMake shape) = IsKeptShape shape
+
+picked-kept : (W : World) (ask : AskOf) (shape : Shape) (found : Option Slot) → IsKeptShape shape → Again W → MakesKept (answer_picked W ask (chosen shape W.slots found))
+picked-kept W ask shape (Some s) k a = tt
+picked-kept W ask shape None k a = widened-kept shape W.slots (all-kept W a) k
+
+origin-kept : (W : World) (ask : AskOf) (origin : Origin) → IsOrigin origin → IsAsked ask.query → Again W → MakesKept (answer_by_origin W ask origin)
+origin-kept W ask (OfIndex name) from asked a = tt
+origin-kept W ask (OfCollection collection) from asked a =
+    let shape = shape_asked collection ask.query in
+    elim (is_whole ask.query) as (λ b. MakesKept (cond b (Ready (answer_from_collection W ask collection)) (answer_picked W ask (pick shape W.store W.slots)))) [
+      | true ↦ tt
+      | false ↦ picked-kept W ask shape (best W.store (filter (λ s. covers (slot_shape s) shape) W.slots)) (asked-kept collection ask.query from asked) a
+    ]
+
+refused-kept : (answered : Answered) (o : Option PlanRefusal) → MakesKept answered → MakesKept (answered_unless answered o)
+refused-kept answered None k = k
+refused-kept answered (Some refusal) k = tt
+
+answered-Again : (W : World) (now : ℕ) (ask : AskOf) (answered : Answered) → MakesKept answered → now < moments_end → Sound W → Again W → AllLeave Again (ask_course W now ask answered).changes
+answered-Again W now ask (Ready reply) k soon o a = tt
+answered-Again W now ask (MustMake shape) k soon o a = by (make W shape) refl
+  where
+    written : (c : SlotChange) → IsFitChange c → (r : Result Written Refused) → commit W.setting Server now c.commands W.store ≡ r → AllLeave Again (answer_made W ask c r).changes
+    written c fit (Err refused) is = tt
+    written c fit (Ok w) is = (changed-Again W now c w is fit soon o a, tt)
+
+    by : (r : Result SlotChange SlotRefusal) → make W shape ≡ r → AllLeave Again (answer_making W now ask (made_name W shape) r).changes
+    by (Err refusal) e = tt
+    by (Ok c) e = written c (made-fit W shape c k o a e) (commit W.setting Server now c.commands W.store) refl
+
+ask-Again : (W : World) (now : ℕ) (ask : AskOf) → IsAsked ask.query → now < moments_end → Sound W → Again W → AllLeave Again (ask_course W now ask (answer_ask W ask)).changes
+ask-Again W now ask asked soon o a =
+    answered-Again W now ask (answer_ask W ask) (refused-kept (answer_by_origin W ask ask.query.origin) (check ask) (origin-kept W ask ask.query.origin asked.origin asked a)) soon o a
+
+-- DEFINITIONS BY TEXTS
 
 -- a valid line defines an index by a text, and so no automatic one
 by_text-static : (name : List ℕ) (d : Definition) → IsByText name d → is_automatic d ≡ false
@@ -233,9 +280,9 @@ course-Again W now (Bulk commands) fits index soon o a = write-Again W replies.B
 course-Again W now (Get id) fits index soon o a = tt
 course-Again W now (Define name d) fits index soon o a = defined-Again W now name d index soon o a
 course-Again W now (Remove name) fits index soon o a = reslotted-Again W now replies.Removed name (remove W name) (λ c e. remove-fit W (serving W.slots name) c a e) soon o a
-course-Again W now (AutoOne c f) fits index soon o a = auto-Again W now c f (best W.store (filter (λ s. covers (slot_shape s) (one_field c f)) W.slots)) index soon o a
+course-Again W now (AutoOne c f) fits index soon o a = auto-Again W now (one_field c f) (best W.store (filter (λ s. covers (slot_shape s) (one_field c f)) W.slots)) (one-kept c f index) soon o a
 course-Again W now (Find index field ws) fits indexing soon o a = tt
-course-Again W now (Ask ask) fits indexing soon o a = tt
+course-Again W now (Ask ask) fits asked soon o a = ask-Again W now ask asked soon o a
 course-Again W now (Pump max index) fits indexing soon o a = pump_for-Again W max index a
 course-Again W now (Switch name) fits index soon o a = reslotted-Again W now (replies.Switched (last W.store + 1)) name (switch W name) (λ c e. switch-fit W name c o a e) soon o a
 course-Again W now Tidy fits index soon o a = tidy-Again W now soon o a

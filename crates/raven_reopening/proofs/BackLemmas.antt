@@ -24,7 +24,7 @@ use Rattle.raven_laws.proofs.OpenLemmas.{Has-found, folded-drop, opened_from-row
 use Rattle.raven_laws.proofs.SlotLemmas.{Has-map, Has-mapped, find-Has}
 use Rattle.index_lang.specs.Openings.{AreReadRows, IsInBody, IsOpened, IsOpenedBy, IsReadIf, IsReadRow}
 use Rattle.raven_reading.proofs.Once.{body_once}
-use Rattle.raven_reopening.specs.Form.{AreEvents}
+use Rattle.raven_reopening.specs.Form.{AreEvents, IsKept}
 use Rattle.raven_reopening.specs.Reopened.{IsThereAgain, WasThere, OpensAgain}
 use Rattle.raven_reopening.proofs.ReadLemmas.{AreBack, rows_in-kept}
 use Rattle.raven_reopening.proofs.FitLemmas.{named-other}
@@ -305,3 +305,7 @@ run-opens s held M es h fits =
     let clients = events-clients es fits in
     again-opens s (run es M) ((go-LaterW M es i clients).setting ∙ (opened_from-rows s held M from.opened).setting) (go-IsMachine M es i clients).world
     (run-Again es M fits i (opened-Again s held M h))
+
+-- each automatic index has paths that can be kept
+pub run-kept : (s : Setting) (held : List KeptRow) (M : Machine) (es : List Event) → IsOpened s held (Ok M) → AreEvents es → (x : Slot) → Has (run es M).world.slots x → IsKept x.version.definition
+run-kept s held M es h fits x at = ((run-Again es M fits (opened_from-IsMachine s held M (opened-told s held M h)) (opened-Again s held M h)).slots x at).kept

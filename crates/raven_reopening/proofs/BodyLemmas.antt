@@ -1,27 +1,30 @@
 -- A stored body is read back.
-use Rattle.std.proofs.Common.{◌≡◌, ℕ, ◌≤◌, List, [], ◌∷◌, Bool, true, false, not, ◌||◌, cond, filter, length, codes, Option, Some, None, IfSome, IsUtf8, Less, Equal, Greater, refl, sym, ap, ◌∙◌, subst, arith}
+use Rattle.std.proofs.Common.{◌≡◌, ℕ, ◌≤◌, List, [], ◌∷◌, Bool, true, false, not, ◌&&◌, ◌||◌, cond, filter, length, map, nat_lt, codes, Option, Some, None, option_map, IfSome, IsUtf8, Less, Equal, Greater, refl, sym, ap, ◌∙◌, subst, arith}
+use Rattle.std.proofs.lemmas.Bool.{lt-ltb, ltb-true}
 use Rattle.std.proofs.lemmas.Slice.Eq.{bytes_eq-Decides}
-use Rattle.std.specs.List.{list_any}
+use Rattle.std.specs.List.{list_all, list_any}
 use Rattle.std.specs.Ordering.{match_ordering}
 use Rattle.json.proofs.Printed.Utf8.{IsUtf8-are_ascii}
-use Rattle.spec_data.specs.Data.{Data, null, flag, num, text, array, object, Entries, no_entries, entry, depth, entries_depth, entries_of, pairs_of}
+use Rattle.spec_data.specs.Data.{Data, null, flag, num, text, array, object, Entries, no_entries, entry, depth, entries_depth, entries_of, items_depth, items_of, pairs_of}
 use Rattle.spec_data.specs.Folding.{key_cmp}
-use Rattle.spec_data.specs.Members.{member}
+use Rattle.spec_data.specs.Members.{Path, member}
 use Rattle.spec_data.specs.Rising.{Pairs, IsBelowAll, IsRising, put}
-use Rattle.spec_data.specs.Sound.{IsSound, HasSound}
+use Rattle.spec_data.specs.Sound.{AreSound, IsSound, HasSound}
 use Rattle.spec_data.specs.Written.{text_of}
 use Rattle.spec_store.specs.Commit.{clean_metadata, is_server_member, stored_body}
 use Rattle.spec_store.specs.Kept.{is_clean, max_body}
 use Rattle.index_tree.specs.declared.map_query.MapQuery.{MapQuery}
 use Rattle.index_tree.specs.declared.reduce_query.ReduceQuery.{ReduceQuery}
-use Rattle.index_tree.specs.Definitions.{Auto, Static}
-use Rattle.spec_server.specs.Opening.{AutoForm, StaticForm, body_form, form_of, is_part}
-use Rattle.spec_index.specs.World.{row_body, text_or_null}
+use Rattle.index_tree.specs.Definitions.{Auto, AutoReduce, Definition, Static}
+use Rattle.spec_server.specs.Opening.{AutoForm, BodyForm, StaticForm, and_then_some, are_rising, body_form, form_of, is_part, is_path, path_of, paths_of, paths_read, reduce_form, words_of}
+use Rattle.spec_index.specs.World.{path_list, row_body, text_list, text_or_null}
 use Rattle.spec_store.proofs.KeyedLemmas.{differ_greater}
+use Rattle.spec_store.proofs.StoreLemmas.{both_true}
 use Rattle.spec_data.proofs.MemberLemmas.{IsRising-put, pairs_of-entries_of}
-use Rattle.raven_reading.specs.Requests.{IsRequestBody}
+use Rattle.index_lang.specs.Openings.{IsOfForm}
+use Rattle.raven_reading.specs.Requests.{AreAll, ArePaths, IsPart, IsPath, IsRequestBody}
 use Rattle.raven_reading.proofs.PairLemmas.{ArePairsSound, member-depth, member-sound, object-sound, put-depth, put-sound}
-use Rattle.raven_reopening.specs.Form.{IsStorable}
+use Rattle.raven_reopening.specs.Form.{IsStorable, AreKept, IsKept}
 use Rattle.raven_reopening.proofs.ReadLemmas.{IsReadBack, document-back}
 
 entries-pairs : (ms : Entries) → entries_of (pairs_of ms) ≡ ms
@@ -137,9 +140,27 @@ stored-back d b small =
     (document-back (stored_body (object b.members))
     (stored-document b.members (subst IsSound same b.sound) (subst (λ x. depth x ≤ 100) same b.shallow) (subst (λ x. length (text_of (stored_body x)) ≤ max_body) same small)))
 
+-- PATHS
+
+parts-sound : (path : Path) → AreAll IsPart path → AreSound (items_of (map text path))
+parts-sound [] h = tt
+parts-sound (part ∷ path) h = (h.0.0, parts-sound path h.1)
+
+paths-sound : (fs : List Path) → ArePaths fs → AreSound (items_of (map text_list fs))
+paths-sound [] h = tt
+paths-sound (p ∷ fs) h = (parts-sound p h.0.1, paths-sound fs h.1)
+
+parts-flat : (path : Path) → items_depth (items_of (map text path)) ≤ 0
+parts-flat [] = omega arith
+parts-flat (part ∷ path) = let more = parts-flat path in omega arith
+
+paths-flat : (fs : List Path) → items_depth (items_of (map text_list fs)) ≤ 1
+paths-flat [] = omega arith
+paths-flat (p ∷ fs) = let one = parts-flat p in let more = paths-flat fs in omega arith
+
 -- the body of an automatic index's definition is a valid one
-pub definition-body : (c f : List ℕ) → IsUtf8 c → IsUtf8 f → IsRequestBody (row_body (Auto c ((f ∷ []) ∷ [])))
-definition-body c f u v = record {
+pub auto-body : (c : List ℕ) (fs : List Path) → IsUtf8 c → ArePaths fs → IsRequestBody (row_body (Auto c fs))
+auto-body c fs u v = record {
   sound = (
     ((refl, (refl, (refl, tt))), ((refl, (refl, tt)), ((refl, tt), (tt, tt)))),
     (
@@ -153,7 +174,7 @@ definition-body c f u v = record {
             (
               IsUtf8-are_ascii _ refl,
               (
-                ((v, tt), tt),
+                paths-sound fs v,
                 (IsUtf8-are_ascii _ refl, (IsUtf8-are_ascii _ refl, tt)),
               ),
             ),
@@ -162,7 +183,43 @@ definition-body c f u v = record {
       ),
     ),
   );
-  shallow = omega arith;
+  shallow = let flat = paths-flat fs in omega arith;
+  members = _;
+  an_object = refl;
+}
+
+-- and so is that of one with groups
+pub reduce-body : (c : List ℕ) (gs ss : List Path) → IsUtf8 c → ArePaths gs → ArePaths ss → IsRequestBody (row_body (AutoReduce c gs ss))
+reduce-body c gs ss u v w = record {
+  sound = (
+    ((refl, (refl, (refl, (refl, tt)))), ((refl, (refl, (refl, tt))), ((refl, (refl, tt)), ((refl, tt), (tt, tt))))),
+    (
+      IsUtf8-are_ascii _ refl,
+      (
+        ((tt, tt), (IsUtf8-are_ascii _ refl, (IsUtf8-are_ascii _ refl, tt))),
+        (
+          IsUtf8-are_ascii _ refl,
+          (
+            u,
+            (
+              IsUtf8-are_ascii _ refl,
+              (
+                paths-sound gs v,
+                (
+                  IsUtf8-are_ascii _ refl,
+                  (
+                    IsUtf8-are_ascii _ refl,
+                    (IsUtf8-are_ascii _ refl, (paths-sound ss w, tt)),
+                  ),
+                ),
+              ),
+            ),
+          ),
+        ),
+      ),
+    ),
+  );
+  shallow = let flat = paths-flat gs in let other = paths-flat ss in omega arith;
   members = _;
   an_object = refl;
 }
@@ -212,8 +269,107 @@ static-stored query reduce words (Some other) h = static-body query reduce words
 
 -- WHAT IS READ OF A DEFINITION'S BODY
 
-pub auto-back : (c f : List ℕ) → is_part f ≡ true → body_form (stored_body (row_body (Auto c ((f ∷ []) ∷ [])))) ≡ AutoForm (Auto c ((f ∷ []) ∷ []))
-auto-back c f h = ap (λ b. form_of (cond b (Some (Auto c ((f ∷ []) ∷ []))) None) None) h
+-- the texts of a list of texts
+words-back : (path : Path) → words_of (items_of (map text path)) ≡ Some path
+words-back [] = refl
+words-back (part ∷ path) = ap (option_map (λ ts. part ∷ ts)) (words-back path)
+
+path-read : (p : Path) → path_of (text_list p) ≡ cond (is_path p) (Some p) None
+path-read p = ap (λ o. and_then_some o (λ path. cond (is_path path) (Some path) None)) (words-back p)
+
+-- all are paths, or the list is none
+all-read : (fs : List Path) → paths_of (items_of (map text_list fs)) ≡ cond (list_all is_path fs) (Some fs) None
+all-read [] = refl
+all-read (p ∷ fs) =
+    ap (λ o. and_then_some o (λ path. option_map (λ paths. path ∷ paths) (paths_of (items_of (map text_list fs))))) (path-read p)
+    ∙ elim (is_path p) as (λ b. and_then_some (cond b (Some p) None) (λ path. option_map (λ paths. path ∷ paths) (paths_of (items_of (map text_list fs)))) ≡ cond (b && list_all is_path fs) (Some (p ∷ fs)) None) [
+      | true ↦ ap (option_map (λ paths. p ∷ paths)) (all-read fs)
+          ∙ elim (list_all is_path fs) as (λ b. option_map (λ paths. p ∷ paths) (cond b (Some fs) None) ≡ cond b (Some (p ∷ fs)) None) [ true ↦ refl | false ↦ refl ]
+      | false ↦ refl
+    ]
+
+abbrev are_paths : List Path → Bool
+are_paths fs = list_all is_path fs && are_rising fs
+
+-- a list is read back exactly if it is one of paths in order
+list-read : (fs : List Path) → paths_read (Some (path_list fs)) ≡ cond (are_paths fs) (Some fs) None
+list-read fs =
+    ap (λ o. and_then_some o (λ paths. cond (are_rising paths) (Some paths) None)) (all-read fs)
+    ∙ elim (list_all is_path fs) as (λ b. and_then_some (cond b (Some fs) None) (λ paths. cond (are_rising paths) (Some paths) None) ≡ cond (b && are_rising fs) (Some fs) None) [ true ↦ refl | false ↦ refl ]
+
+list-back : (fs : List Path) → list_all is_path fs ≡ true → are_rising fs ≡ true → paths_read (Some (path_list fs)) ≡ Some fs
+list-back fs all up = list-read fs ∙ (λ i. cond (all i && up i) (Some fs) None)
+
+-- what is read of the body of an automatic index's definition, by what its lists are read as
+abbrev auto_form : List ℕ → Option (List Path) → BodyForm
+auto_form c o = form_of (option_map (Auto c) o) None
+
+abbrev grouped_form : List ℕ → Option (List Path) → Option (List Path) → BodyForm
+grouped_form c o p = reduce_form (and_then_some o (λ gs. option_map (AutoReduce c gs) p))
+
+auto-form : (c : List ℕ) (fs : List Path) → body_form (stored_body (row_body (Auto c fs))) ≡ auto_form c (paths_read (Some (path_list fs)))
+auto-form c fs = refl
+
+grouped-form : (c : List ℕ) (gs ss : List Path) → body_form (stored_body (row_body (AutoReduce c gs ss))) ≡ grouped_form c (paths_read (Some (path_list gs))) (paths_read (Some (path_list ss)))
+grouped-form c gs ss = refl
+
+pub auto-back : (c : List ℕ) (fs : List Path) → list_all is_path fs ≡ true → are_rising fs ≡ true → body_form (stored_body (row_body (Auto c fs))) ≡ AutoForm (Auto c fs)
+auto-back c fs all up = auto-form c fs ∙ ap (auto_form c) (list-back fs all up)
+
+pub reduce-back : (c : List ℕ) (gs ss : List Path) → list_all is_path gs ≡ true → are_rising gs ≡ true → list_all is_path ss ≡ true → are_rising ss ≡ true
+    → body_form (stored_body (row_body (AutoReduce c gs ss))) ≡ AutoForm (AutoReduce c gs ss)
+reduce-back c gs ss all up each over = grouped-form c gs ss ∙ (λ i. grouped_form c (list-back gs all up i) (list-back ss each over i))
+
+-- PATHS THAT CAN BE KEPT are read back, and what is read back can be kept
+
+path-true : (p : Path) → IsPath p → is_path p ≡ true
+path-true p h = λ i. lt-ltb 0 (length p) h.0 i && parts-true p h.1 i
+  where
+    parts-true : (q : Path) → AreAll IsPart q → list_all is_part q ≡ true
+    parts-true [] k = refl
+    parts-true (part ∷ q) k = λ i. k.0.1 i && parts-true q k.1 i
+
+pub paths-true : (fs : List Path) → ArePaths fs → list_all is_path fs ≡ true
+paths-true [] h = refl
+paths-true (p ∷ fs) h = λ i. path-true p h.0 i && paths-true fs h.1 i
+
+parts-told : (q : Path) → list_all is_part q ≡ true → AreSound (items_of (map text q)) → AreAll IsPart q
+parts-told [] h s = tt
+parts-told (part ∷ q) h s = let both = both_true (is_part part) (list_all is_part q) h in ((s.0, both.0), parts-told q both.1 s.1)
+
+paths-told : (fs : List Path) → list_all is_path fs ≡ true → AreSound (items_of (map text_list fs)) → ArePaths fs
+paths-told [] h s = tt
+paths-told (p ∷ fs) h s =
+    let both = both_true (is_path p) (list_all is_path fs) h in
+    let path = both_true (nat_lt 0 (length p)) (list_all is_part p) both.0 in ((ltb-true 0 (length p) path.0, parts-told p path.1 s.0), paths-told fs both.1 s.1)
+
+list-told : (fs : List Path) → are_paths fs ≡ true → AreSound (items_of (map text_list fs)) → AreKept fs
+list-told fs h s = let both = both_true (list_all is_path fs) (are_rising fs) h in record { paths = paths-told fs both.0 s; rising = both.1 }
+
+auto-told : (c : List ℕ) (fs : List Path) (d : Definition) → IsOfForm (auto_form c (paths_read (Some (path_list fs)))) (Some d) → are_paths fs ≡ true
+auto-told c fs d h = elim (are_paths fs) as (λ b. IsOfForm (auto_form c (cond b (Some fs) None)) (Some d) → b ≡ true) [
+  | true ↦ λ g. refl
+  | false ↦ λ g. absurd cc
+] (subst (λ o. IsOfForm (auto_form c o) (Some d)) (list-read fs) h)
+
+reduce-told : (c : List ℕ) (gs ss : List Path) (d : Definition) → IsOfForm (grouped_form c (paths_read (Some (path_list gs))) (paths_read (Some (path_list ss)))) (Some d) → (are_paths gs ≡ true) × (are_paths ss ≡ true)
+reduce-told c gs ss d h = elim (are_paths gs) as (λ b. IsOfForm (grouped_form c (cond b (Some gs) None) (paths_read (Some (path_list ss)))) (Some d) → (b ≡ true) × (are_paths ss ≡ true)) [
+  | true ↦ λ g. (
+    refl,
+    elim (are_paths ss) as (λ b. IsOfForm (grouped_form c (Some gs) (cond b (Some ss) None)) (Some d) → b ≡ true) [
+      | true ↦ λ k. refl
+      | false ↦ λ k. absurd cc
+    ] (subst (λ o. IsOfForm (grouped_form c (Some gs) o) (Some d)) (list-read ss) g),
+  )
+  | false ↦ λ g. absurd cc
+] (subst (λ o. IsOfForm (grouped_form c o (paths_read (Some (path_list ss)))) (Some d)) (list-read gs) h)
+
+-- the paths of a definition that was stored, and is read of its body, can be kept
+pub stored-kept : (d : Definition) → IsSound (stored_body (row_body d)) → IsOfForm (body_form (stored_body (row_body d))) (Some d) → IsKept d
+stored-kept (Static query reduce words reduce_words) s h = tt
+stored-kept (Auto c fs) s h = (s.1.1.1.1.0, list-told fs (auto-told c fs (Auto c fs) h) s.1.1.1.1.1.1.0)
+stored-kept (AutoReduce c gs ss) s h =
+    let told = reduce-told c gs ss (AutoReduce c gs ss) h in (s.1.1.1.1.0, (list-told gs told.0 s.1.1.1.1.1.1.0, list-told ss told.1 s.1.1.1.1.1.1.1.1.1.1.0))
 
 pub static-back : (query : MapQuery) (reduce : Option ReduceQuery) (words : List ℕ) (reduce_words : Option (List ℕ))
     → body_form (stored_body (row_body (Static query reduce words reduce_words))) ≡ StaticForm (words, reduce_words)

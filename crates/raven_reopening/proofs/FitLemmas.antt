@@ -10,7 +10,7 @@ use Rattle.std.specs.List.{position_from, starts_with}
 use Rattle.std.specs.Str.Parse.{AllDigits}
 use Rattle.spec_data.specs.Faults.{empty, too_long, control, is_control, is_fit, replacement_of}
 use Rattle.spec_data.specs.Folding.{folded}
-use Rattle.index_tree.specs.Definitions.{Definition, Static, Auto}
+use Rattle.index_tree.specs.Definitions.{Definition, Static, Auto, AutoReduce}
 use Rattle.spec_server.specs.Opening.{is_auto_name, is_static_name, may_be_named, replaced_name}
 use Rattle.spec_index.specs.Optimiser.{Shape, plain_name, free_name, first_free, name_of}
 use Rattle.spec_server.specs.Sound.{Has, NumbersRise}
@@ -131,6 +131,7 @@ replaced-other a b same =
 pub named-other : (d : Definition) (a b : List ℕ) → folded a ≡ folded b → may_be_named d b ≡ true → may_be_named d a ≡ true
 named-other (Static map reduce map_text reduce_text) a b same h = static_name-other (replaced_name a) (replaced_name b) (replaced-other a b same) h
 named-other (Auto collection fields) a b same h = auto_name-other a b same h
+named-other (AutoReduce collection groups sums) a b same h = auto_name-other a b same h
 
 -- a name that a client may give
 pub static_name-fit : (limit : ℕ) (name : List ℕ) → is_fit limit name ≡ true → is_reserved_name name ≡ false → length name ≤ 200 → is_static_name name ≡ true
@@ -244,32 +245,43 @@ static-text name h = fit-text 200 name (first-true (is_fit 200 name) (not (is_re
 pub static-fit : (name : List ℕ) → is_static_name name ≡ true → is_fit 214 name ≡ true
 static-fit name h = text-fit 214 name (longer-text 200 214 name (omega arith) (static-text name h))
 
+auto-fit : (name : List ℕ) → is_auto_name name ≡ true → is_fit 214 name ≡ true
+auto-fit name h = text-fit 214 name (longer-text 200 214 name (omega arith) (fit-text 200 name (first-true (is_fit 200 name) (begins_with_auto name) h)))
+
 pub named-fit : (d : Definition) (name : List ℕ) → may_be_named d name ≡ true → is_fit 214 name ≡ true
 named-fit (Static map reduce map_text reduce_text) name h =
     elim (begins_with_replacement name) as (λ b. begins_with_replacement name ≡ b → is_static_name (cond b (drop 14 name) name) ≡ true → is_fit 214 name ≡ true) [
       | true ↦ λ e g. text-fit 214 name (replacement-text name e (static-text (drop 14 name) g))
       | false ↦ λ e g. text-fit 214 name (longer-text 200 214 name (omega arith) (static-text name g))
     ] refl h
-named-fit (Auto collection fields) name h = text-fit 214 name (longer-text 200 214 name (omega arith) (fit-text 200 name (first-true (is_fit 200 name) (begins_with_auto name) h)))
+named-fit (Auto collection fields) name h = auto-fit name h
+named-fit (AutoReduce collection groups sums) name h = auto-fit name h
+
+-- the name of an automatic index is reserved
+not-given : (name : List ℕ) → is_auto_name name ≡ true → is_reserved_name name ≡ false → ⊥
+not-given name h free =
+    let f = either_false (begins_with_auto name) (begins_with_replacement name) free in
+    let g = both_true (is_fit 200 name) (begins_with_auto name) h in
+    let e = sym g.1 ∙ f.0 in cc
 
 -- an index whose name a client gave has a valid name
 pub given-static : (d : Definition) (name : List ℕ) → may_be_named d name ≡ true → is_reserved_name name ≡ false → is_static_name name ≡ true
 given-static (Static map reduce map_text reduce_text) name h free =
     let f = either_false (begins_with_auto name) (begins_with_replacement name) free in ap (λ b. is_static_name (cond b (drop 14 name) name)) (sym f.1) ∙ h
-given-static (Auto collection fields) name h free = absurd (
-    let f = either_false (begins_with_auto name) (begins_with_replacement name) free in
-    let g = both_true (is_fit 200 name) (begins_with_auto name) h in
-    let e = sym g.1 ∙ f.0 in cc)
+given-static (Auto collection fields) name h free = absurd (not-given name h free)
+given-static (AutoReduce collection groups sums) name h free = absurd (not-given name h free)
 
 -- and a definition by texts may have it, also behind the prefix of replacements
 pub static-named : (d : Definition) (name : List ℕ) → is_automatic d ≡ false → is_reserved_name name ≡ false → is_static_name name ≡ true → may_be_named d name ≡ true
 static-named (Static map reduce map_text reduce_text) name is free h =
     let f = either_false (begins_with_auto name) (begins_with_replacement name) free in ap (λ b. is_static_name (cond b (drop 14 name) name)) f.1 ∙ h
 static-named (Auto collection fields) name is free h = absurd cc
+static-named (AutoReduce collection groups sums) name is free h = absurd cc
 
 pub replacement-named : (d : Definition) (name : List ℕ) → is_automatic d ≡ false → is_static_name name ≡ true → may_be_named d (replacement_of name) ≡ true
 replacement-named (Static map reduce map_text reduce_text) name is h = h
 replacement-named (Auto collection fields) name is h = absurd cc
+replacement-named (AutoReduce collection groups sums) name is h = absurd cc
 
 -- HOW MANY SLOTS THERE CAN BE
 

@@ -14,7 +14,7 @@ use Rattle.spec_store.specs.Store.{row_at, put, Store, last, with_row}
 use Rattle.spec_store.specs.Kept.{max_body, is_etag}
 use Rattle.index_tree.specs.Definitions.{Definition}
 use Rattle.spec_server.specs.Opening.{name_in, is_filed}
-use Rattle.spec_store.specs.Commit.{Command, Expect, Put, Delete, AnyVector, Writer, Client, Server, Setting, Refusal, Written, Refused, collection_of, named_collection, is_index_id, stored_body, row_spelling, document_at, refusal_of, reserved, too_large, collection_changed, conflict, store_full, etags_spent, row_of, tombstone, with_written, or_refused, commit_from, commit}
+use Rattle.spec_store.specs.Commit.{Command, Expect, Put, Delete, AnyVector, Writer, Client, Server, Setting, Refusal, Written, Refused, collection_of, named_collection, is_index_id, stored_body, row_spelling, document_at, refusal_of, reserved, too_large, collection_changed, conflict, store_full, etags_spent, row_of, tombstone, with_written, or_refused, commit_from}
 use Rattle.spec_index.specs.World.{index_id, row_body}
 use Rattle.spec_server.specs.Sound.{Has}
 use Rattle.spec_store.proofs.StoreLemmas.{same_row, either_false, both_true}

@@ -1,4 +1,5 @@
 pub mod ReadLemmas
+pub mod ShapeLemmas
 pub mod BodyLemmas
 pub mod FitLemmas
 pub mod CountLemmas

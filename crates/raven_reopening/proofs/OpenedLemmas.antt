@@ -11,7 +11,7 @@ use Rattle.spec_data.specs.Moments.{moments_end}
 use Rattle.spec_data.specs.Rows.{Row, Body, doc, gone}
 use Rattle.spec_data.specs.Written.{text_of}
 use Rattle.spec_store.specs.Commit.{Setting, stored_body}
-use Rattle.index_tree.specs.Definitions.{Definition, Static, Auto}
+use Rattle.index_tree.specs.Definitions.{Definition, Static, Auto, AutoReduce}
 use Rattle.spec_store.specs.Kept.{max_body, is_stored, document_of, body_in, is_etag, row_in, row_if_it_follows, or_bad_row, rows_after, rows_in}
 use Rattle.spec_server.specs.Machine.{Machine}
 use Rattle.spec_server.specs.Opening.{ReadRow, is_defining, is_filed, may_be_named, slot_of, with_slot, slots_after, or_bad, and_then, slots_from, opened, opened_with, rows_of}
@@ -26,7 +26,7 @@ use Rattle.raven_reopening.proofs.RightLemmas.{IsRight}
 use Rattle.raven_reading.proofs.SoundLemmas.{reading-fine}
 use Rattle.raven_reading.proofs.TextLemmas.{body-told}
 use Rattle.raven_reading.specs.Requests.{IsRequestBody}
-use Rattle.raven_reopening.proofs.BodyLemmas.{static-stored}
+use Rattle.raven_reopening.proofs.BodyLemmas.{static-stored, stored-kept}
 use Rattle.raven_reopening.proofs.AgainLemmas.{Again}
 
 -- ROWS
@@ -176,16 +176,20 @@ body-sound : (d : Definition) → IsReadBack (stored_body (row_body d)) → is_a
 body-sound (Static query reduce words reduce_words) f is =
     static-stored query reduce words reduce_words (reading-fine (text_of (stored_body (row_body (Static query reduce words reduce_words)))) (stored_body (row_body (Static query reduce words reduce_words))) f.read).0
 body-sound (Auto collection fields) f is = absurd cc
+body-sound (AutoReduce collection groups sums) f is = absurd cc
 
 -- such a slot is right
 from-right : (rows : List Row) (y : Slot) → ((r : Row) → Has rows r → BodyRises r.body) → ((r : Row) → Has rows r → IsBack r) → IsReadFrom rows y → IsRight y
 from-right rows y rises back f =
     let d = y.version.definition in
     let kept = toldin-is f.from.body d (rises f.from f.there) (body-told f.from.body d f.read) in
+    let own = subst IsBodyBack kept (back f.from f.there).body in
+    let read = subst (λ b. IsInBody b (Some d)) kept f.read in
     record {
-      body = body-sound d (subst IsBodyBack kept (back f.from f.there).body);
-      read = subst (λ b. IsInBody b (Some d)) kept f.read;
+      body = body-sound d own;
+      read = read;
       named = f.named;
+      kept = stored-kept d (reading-fine (text_of (stored_body (row_body d))) (stored_body (row_body d)) own.read).0 read;
     }
 
 same_opened : (a b : Machine) → (let r : Result Machine ℕ = Ok a in r) ≡ Ok b → a ≡ b

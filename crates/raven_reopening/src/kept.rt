@@ -1,17 +1,19 @@
 //! Rows and definitions are read back as they were stored.
 
-ghost use Rattle.std.specs.Prelude.{◌≡◌, ◌≤◌, ℕ, List, [], ◌∷◌, IsTrue, Ok, Option, Some, length};
+ghost use Rattle.std.specs.Prelude.{◌≡◌, ◌≤◌, ℕ, List, IsTrue, Ok, Option, Some, length};
+ghost use Rattle.std.specs.List.{list_all};
 ghost use Rattle.index_tree.specs.declared.map_query.MapQuery.{MapQuery};
 ghost use Rattle.index_tree.specs.declared.reduce_query.ReduceQuery.{ReduceQuery};
 ghost use Rattle.spec_data.specs.Data.{Data, depth};
 ghost use Rattle.spec_data.specs.Json.{reading};
 ghost use Rattle.spec_data.specs.Kept.{all_kept, kept};
+ghost use Rattle.spec_data.specs.Members.{Path};
 ghost use Rattle.spec_data.specs.Rows.{Row};
 ghost use Rattle.spec_data.specs.Sound.{IsSound};
 ghost use Rattle.spec_store.specs.Commit.{stored_body};
 ghost use Rattle.spec_store.specs.Kept.{row_in, rows_in};
-ghost use Rattle.index_tree.specs.Definitions.{Auto, Static, Texts};
-ghost use Rattle.spec_server.specs.Opening.{AutoForm, StaticForm, body_form, is_part};
+ghost use Rattle.index_tree.specs.Definitions.{Auto, AutoReduce, Static, Texts};
+ghost use Rattle.spec_server.specs.Opening.{AutoForm, StaticForm, are_rising, body_form, is_path};
 ghost use Rattle.spec_store.specs.Store.{IsStore, Store};
 ghost use Rattle.spec_index.specs.World.{row_body};
 ghost use Rattle.raven_reopening.specs.Form.{AreValidRows, IsValidRow};
@@ -26,11 +28,14 @@ pub fn stores_open_again()
     ensures { (S : Store) (max : ℕ) → IsStore S → AreValidRows S.rows → length S.rows ≤ max → rows_in max (all_kept S.rows) ≡ Ok S.rows }
 {}
 
-/// The definition of an automatic index of one field is read back from the body that the server stores for it, and so are the texts of a
-/// definition by texts, that of its reduce if it has one.
+/// The definition of an automatic index is read back from the body that the server stores for it, if its lists are of paths in order, and so
+/// are the texts of a definition by texts, that of its reduce if it has one.
 pub fn definitions_are_read_back()
-    ensures automatic { (collection field : List ℕ) → IsTrue (is_part field) →
-        body_form (stored_body (row_body (Auto collection ((field ∷ []) ∷ [])))) ≡ AutoForm (Auto collection ((field ∷ []) ∷ [])) }
+    ensures automatic { (collection : List ℕ) (fields : List Path) → IsTrue (list_all is_path fields) → IsTrue (are_rising fields) →
+        body_form (stored_body (row_body (Auto collection fields))) ≡ AutoForm (Auto collection fields) }
+    ensures grouped { (collection : List ℕ) (groups sums : List Path) → IsTrue (list_all is_path groups) → IsTrue (are_rising groups) →
+        IsTrue (list_all is_path sums) → IsTrue (are_rising sums) →
+        body_form (stored_body (row_body (AutoReduce collection groups sums))) ≡ AutoForm (AutoReduce collection groups sums) }
     ensures by_text { (query : MapQuery) (reduce : Option ReduceQuery) (texts : Texts) →
         body_form (stored_body (row_body (Static query reduce texts.0 texts.1))) ≡ StaticForm texts }
 {}

@@ -7,4 +7,7 @@ mod runs;
 pub use kept::{
     definitions_are_read_back, stored_rows_are_read_back, stores_open_again, what_is_read_is_sound,
 };
-pub use runs::{a_run_opens_again, a_script_opens_again, definitions_agree_with_bodies};
+pub use runs::{
+    a_run_opens_again, a_script_opens_again, automatic_indexes_have_paths,
+    definitions_agree_with_bodies,
+};

@@ -1,14 +1,19 @@
 //! What is stored after a run opens again.
 
-ghost use Rattle.std.specs.Prelude.{List, Ok};
+ghost use Rattle.std.specs.Prelude.{◌≡◌, List, Ok};
 ghost use Rattle.spec_data.specs.Kept.{KeptRow};
+ghost use Rattle.spec_data.specs.Members.{Path};
 ghost use Rattle.spec_store.specs.Commit.{Setting};
+ghost use Rattle.index_tree.specs.Mapper.{joined};
+ghost use Rattle.spec_index.specs.World.{Slot};
 ghost use Rattle.spec_server.specs.Machine.{Event, Machine, run};
 ghost use Rattle.spec_server.specs.Script.{Given, after_lines};
+ghost use Rattle.spec_server.specs.Sound.{Has};
+ghost use Rattle.raven_laws.specs.Asked.{AreTold};
 ghost use Rattle.raven_laws.specs.Opened.{OpenedFaithfully};
 ghost use Rattle.raven_lines.specs.Lines.{AreLines};
 ghost use Rattle.index_lang.specs.Openings.{IsOpened};
-ghost use Rattle.raven_reopening.specs.Form.{AreEvents, AreTimely};
+ghost use Rattle.raven_reopening.specs.Form.{AreEvents, AreKept, AreTimely, IsKept};
 ghost use Rattle.raven_reopening.specs.Reopened.{OpensAgain};
 
 /// The laws of what stored rows open hold of what they open as they are read: each definition that is read of a row agrees with its
@@ -28,4 +33,13 @@ pub fn a_run_opens_again()
 pub fn a_script_opens_again()
     ensures { (setting : Setting) (held : List KeptRow) (M : Machine) (lines : List Given) → IsOpened setting held (Ok M) → AreLines lines → AreTimely lines →
         OpensAgain setting (after_lines lines M).world }
+{}
+
+/// After every run from stored rows, if the program can hold its requests, the lists of each automatic index are of valid paths. Joined forms
+/// tell the paths of such a list apart, and the names of its fields those of an index with groups.
+pub fn automatic_indexes_have_paths()
+    ensures paths { (setting : Setting) (held : List KeptRow) (M : Machine) (events : List Event) → IsOpened setting held (Ok M) → AreEvents events →
+        (s : Slot) → Has (run events M).world.slots s → IsKept s.version.definition }
+    ensures told { (fields : List Path) (p q : Path) → AreKept fields → Has fields p → Has fields q → joined p ≡ joined q → p ≡ q }
+    ensures named { (groups sums : List Path) → AreKept groups → AreKept sums → AreTold groups sums }
 {}

@@ -1,11 +1,10 @@
 -- A desk that is being asked.
-use Rattle.std.proofs.Common.{◌≡◌, ℕ, ◌+◌, ◌-◌, ◌≤◌, ◌++◌, List, [], ◌∷◌, length, refl, sym, ◌∙◌, ap, subst, arith, length-append}
+use Rattle.std.proofs.Common.{◌≡◌, ℕ, ◌+◌, ◌-◌, ◌≤◌, ◌++◌, List, [], ◌∷◌, length, refl, subst, arith}
 use Rattle.std.specs.Prelude.{IsTrue, Option}
 use Rattle.spec_server.specs.Machine.{Request}
 use Rattle.spec_server.specs.Replies.{Reply}
-use Rattle.spec_desk.specs.Lived.{Follows, Lived, Seen, etags, seen_of}
-use Rattle.spec_desk.specs.Stepped.{IsStepAt}
-use Rattle.spec_desk.specs.Receipts.{AllLink, IsAsked, IsTrueReceipt, Look, LooksOnce, HasCaughtUp, Receipt, Waits, looks_of, says_stale}
+use Rattle.spec_desk.specs.Lived.{Lived, Seen, etags}
+use Rattle.spec_desk.specs.Receipts.{AllLink, IsAsked, Look, LooksOnce, HasCaughtUp, Receipt, Waits, looks_of, says_stale}
 use Rattle.spec_desk.proofs.Onwards.{head}
 
 module _ (Link : Lived → Lived → Type 0) (clock : Option ℕ) (q : Request) where

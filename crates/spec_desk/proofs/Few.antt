@@ -1,11 +1,12 @@
 -- A request makes one change at most, unless it is a TIDY.
 use Rattle.std.proofs.Common.{◌≡◌, ◌≢◌, ℕ, ◌+◌, ◌≤◌, List, [], ◌∷◌, Option, Some, None, Result, Ok, Err, length, refl, sym, subst, arith}
-use Rattle.index_tree.specs.Definitions.{Definition}
 use Rattle.spec_store.specs.Commit.{Client, Command, Refused, Server, Written, commit}
 use Rattle.spec_store.specs.Store.{last}
-use Rattle.spec_index.specs.Optimiser.{Choice, Make, Merge, Use, name_of, pick}
-use Rattle.spec_index.specs.World.{Slot, SlotChange, SlotRefusal, World, define, define_named, remove, serving, switch}
-use Rattle.spec_server.specs.Machine.{Ask, Auto, Bulk, Course, Define, Delete, Find, Get, Indexes, Pump, Put, Remove, Request, Stale, Stats, Switch, Tidy, change_of_slots, course_of, one_field, pump_at, pump_for, rewrote, single_reply, use_or_make, wrote}
+use Rattle.spec_query.specs.Query as query
+use Rattle.spec_index.specs.Optimiser.{Choice, Make, Use, pick}
+use Rattle.spec_index.specs.World.{Slot, SlotChange, SlotRefusal, World, define_named, remove, serving, switch}
+use Rattle.spec_server.specs.Asking.{Answered, MustMake, Ready, answer_ask}
+use Rattle.spec_server.specs.Machine.{Ask, Auto, Bulk, Course, Define, Delete, Find, Get, Indexes, Pump, Put, Remove, Request, Stale, Stats, Switch, Tidy, answer_made, answer_making, ask_course, change_of_slots, course_of, made_name, make, one_field, pump_at, pump_for, rewrote, single_reply, use_or_make, wrote}
 use Rattle.spec_server.specs.Replies as replies
 use Rattle.spec_server.specs.Replies.{Reply}
 
@@ -26,9 +27,19 @@ reslotted_few W now reply name (Ok c) = rewrote_few W (reply c.name) c (commit W
 
 auto_few : (W : World) (now : ℕ) (c : Choice) → Few (use_or_make W now c)
 auto_few W now (Use s) = omega arith
-auto_few W now (Make shape) =
-    let name = name_of W.slots (last W.store + 1) shape in reslotted_few W now replies.Index name (define W name (Definition.Auto shape.collection shape.fields))
-auto_few W now Merge = omega arith
+auto_few W now (Make shape) = reslotted_few W now replies.Index (made_name W shape) (make W shape)
+
+made_few : (W : World) (ask : query.Ask) (c : SlotChange) (o : Result Written Refused) → Few (answer_made W ask c o)
+made_few W ask c (Err refused) = omega arith
+made_few W ask c (Ok w) = omega arith
+
+making_few : (W : World) (now : ℕ) (ask : query.Ask) (name : List ℕ) (r : Result SlotChange SlotRefusal) → Few (answer_making W now ask name r)
+making_few W now ask name (Err refusal) = omega arith
+making_few W now ask name (Ok c) = made_few W ask c (commit W.setting Server now c.commands W.store)
+
+ask_few : (W : World) (now : ℕ) (ask : query.Ask) (answered : Answered) → Few (ask_course W now ask answered)
+ask_few W now ask (Ready reply) = omega arith
+ask_few W now ask (MustMake shape) = making_few W now ask (made_name W shape) (make W shape)
 
 pump_at_few : (W : World) (max : ℕ) (name : List ℕ) (there : Option Slot) → Few (pump_at W max name there)
 pump_at_few W max name None = omega arith
@@ -47,7 +58,7 @@ one_at_most W now (Define name d) other = reslotted_few W now replies.Index name
 one_at_most W now (Remove name) other = reslotted_few W now replies.Removed name (remove W name)
 one_at_most W now (Auto collection field) other = auto_few W now (pick (one_field collection field) W.store W.slots)
 one_at_most W now (Find index field ws) other = omega arith
-one_at_most W now (Ask ask) other = omega arith
+one_at_most W now (Ask ask) other = ask_few W now ask (answer_ask W ask)
 one_at_most W now (Pump max index) other = pump_for_few W max index
 one_at_most W now (Switch name) other = reslotted_few W now (replies.Switched (last W.store + 1)) name (switch W name)
 one_at_most W now Tidy other = absurd (other refl)

@@ -1,5 +1,5 @@
 -- The keeper holds the rows of the world while changes are made.
-use Rattle.std.proofs.Common.{◌≡◌, ℕ, List, [], ◌∷◌, Bool, true, false, Option, Some, None, option_map, IfSome, refl, sym, ap, ◌∙◌, subst}
+use Rattle.std.proofs.Common.{◌≡◌, List, [], ◌∷◌, Bool, true, false, Option, Some, None, option_map, IfSome, refl, sym, ap, ◌∙◌, subst}
 use Rattle.spec_data.specs.Kept.{KeptRow, EtagsRise, all_kept, keep_all, last_kept}
 use Rattle.spec_data.specs.Rows.{Row}
 use Rattle.spec_index.specs.World.{World}

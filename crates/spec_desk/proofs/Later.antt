@@ -1,5 +1,5 @@
 -- To follow is an order, and a later value has no fewer etags.
-use Rattle.std.proofs.Common.{◌≡◌, ℕ, ◌≤◌, sym, subst, arith}
+use Rattle.std.proofs.Common.{◌≡◌, ◌≤◌, sym, subst, arith}
 use Rattle.raven_laws.proofs.WorldLemmas.{LaterW-itself, LaterW-then}
 use Rattle.spec_server.specs.Sound.{LaterW}
 use Rattle.spec_desk.specs.Lived.{Follows, Lived, etags}

@@ -1,5 +1,5 @@
 -- Changes that are made one after another.
-use Rattle.std.proofs.Common.{◌≡◌, ◌≢◌, ℕ, ◌≤◌, List, [], ◌∷◌, Bool, true, false, map, refl, sym, ap, ◌∙◌, subst, arith, ◌⊎◌, inl, inr}
+use Rattle.std.proofs.Common.{◌≡◌, ◌≢◌, ℕ, ◌≤◌, List, [], ◌∷◌, Bool, true, false, map, refl, sym, ap, ◌∙◌, subst, arith, inl, inr}
 use Rattle.spec_data.specs.Rows.{Row}
 use Rattle.spec_index.specs.World.{World}
 use Rattle.spec_server.specs.Machine.{Auto, Ask, Bulk, Change, Define, Delete, Do, Find, Get, Indexes, IsFromClient, Pump, Put, Remove, Replied, Request, Stale, Stats, Switch, Tidy, course_of, is_taken, machine_of, made}

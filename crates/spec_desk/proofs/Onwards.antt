@@ -1,12 +1,12 @@
 -- What a desk has seen goes on.
-use Rattle.std.proofs.Common.{◌≡◌, ℕ, ◌+◌, ◌-◌, ◌==◌, List, [], ◌∷◌, Bool, true, false, Option, refl, sym, ◌∙◌, ap, subst, arith}
-use Rattle.std.specs.Prelude.{All, MatchBool, None}
+use Rattle.std.proofs.Common.{◌≡◌, ℕ, ◌==◌, List, [], ◌∷◌, Bool, true, false, Option, refl, ◌∙◌, subst, arith}
+use Rattle.std.specs.Prelude.{MatchBool, None}
 use Rattle.std.proofs.lemmas.List.Elements.{All-cons, All-nil, All-head, All-tail}
 use Rattle.spec_server.specs.Machine.{Pump, Request, Tidy}
 use Rattle.spec_server.specs.Replies.{Reply}
 use Rattle.spec_desk.specs.Keepers.{MayGive}
 use Rattle.spec_desk.specs.Lived.{Follows, Lived, Seen, etags, seen_of}
-use Rattle.spec_desk.specs.Stepped.{IsStep, IsStepAt}
+use Rattle.spec_desk.specs.Stepped.{IsStep}
 use Rattle.spec_desk.specs.Receipts.{AllLink, MakesBatches, LooksOnce, HasCaughtUp, Onward}
 use Rattle.spec_desk.specs.Receipts.Onward.{same, on}
 use Rattle.spec_desk.proofs.Later.{Follows-itself, Follows-then, etags-more}

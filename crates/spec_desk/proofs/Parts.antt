@@ -1,11 +1,11 @@
 -- Courses that were made in part.
-use Rattle.std.proofs.Common.{◌≡◌, ◌≢◌, ℕ, ◌+◌, ◌≤◌, List, [], ◌∷◌, ◌++◌, Bool, true, false, Option, Result, Ok, Err, Some, None, length, map, refl, sym, ap, ◌∙◌, subst, arith, length-append, nat_lt, cond, inl, inr}
+use Rattle.std.proofs.Common.{◌≡◌, ◌≢◌, ℕ, ◌≤◌, List, [], ◌∷◌, ◌++◌, Bool, true, false, Option, Result, Ok, Err, Some, None, length, map, refl, sym, ap, ◌∙◌, subst, arith, length-append, nat_lt, cond, inl, inr}
 use Rattle.spec_data.specs.Kept.{KeptRow}
 use Rattle.spec_data.specs.Rows.{Row}
 use Rattle.spec_index.specs.World.{Slot, Version, World, numbered, with_version}
 use Rattle.spec_server.specs.Machine.{Change, Do, Held, Keeping, Machine, Publish, Passed, PublishRefusal, Replied, Request, course_of, held_by, is_taken, let_go, machine_of, made, publish_by, publish_to, published, published_in, published_reply, settled, step, with_slots, with_world}
 use Rattle.spec_server.specs.Replies.{KeeperFault, Reply}
-use Rattle.spec_server.specs.Sound.{Has, IsHeld, LaterW, Sound}
+use Rattle.spec_server.specs.Sound.{IsHeld, LaterW, Sound}
 use Rattle.raven_laws.proofs.MachineLemmas.{published-Moves}
 use Rattle.raven_ports.specs.Asking.{Asked, AskedOnce}
 use Rattle.raven_ports.specs.States.{KeeperState}

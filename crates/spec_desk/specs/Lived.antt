@@ -1,5 +1,5 @@
 -- The value on which requests are answered, what a look takes away of it, and which of two is later.
-use Rattle.std.specs.Prelude.{◌≡◌, ℕ, ◌≤◌, List}
+use Rattle.std.specs.Prelude.{ℕ, ◌≤◌, List}
 use Rattle.raven_ports.specs.States.{KeeperState}
 use Rattle.spec_index.specs.World.{World}
 use Rattle.spec_server.specs.Machine.{Held, Machine, machine_of}
