@@ -106,10 +106,11 @@ impl Store {
         }
     }
 
-    /// The greatest etag, or 0.
+    /// The greatest etag, or 0. The etags of every store rise, and no two of its rows have one id.
     pub fn last(&self) -> u64
         ensures last { result ≡ last self.now }
         ensures bound { result ≤ max_etag }
+        ensures store { IsStore self.now }
     {
         self.by_etag.last()
     }
@@ -205,6 +206,14 @@ impl Store {
         ensures stale { (etag : ℕ) → stale self.now scope.now etag upto ≡ nat_lt etag result }
     {
         self.newest_in_scope(scope.as_slice(), upto)
+    }
+
+    /// Whether an index of this scope is stale at an etag: whether there is a row in scope past it, up to the cutoff. It takes no memory,
+    /// and counts no row as read.
+    pub fn stale(&self, scope: &Scope, etag: u64, cutoff: Option<u64>) -> bool
+        ensures { result ≡ stale self.now scope.now etag cutoff }
+    {
+        etag < self.newest(scope, cutoff)
     }
 
     fn newest_in_scope(&self, scope: &[Text], upto: Option<u64>) -> u64
