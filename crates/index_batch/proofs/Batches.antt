@@ -1,7 +1,6 @@
 -- What a batch makes of the rows that it takes.
 use Rattle.std.proofs.Common.{◌≡◌, ◌+◌, ◌*◌, ◌<◌, ◌≤◌, ◌↔◌, ◌&&◌, ◌||◌, ℕ, List, [], ◌∷◌, length, take, drop, filter, Bool, true, false, cond, nat_lt, IsTrue, Some, None, Option, refl, sym, ap, ◌∙◌, subst, arith}
 use Rattle.std.specs.List.{list_any}
-use Rattle.std.proofs.lemmas.Bool.{le-ltb, lt-ltb}
 use Rattle.std.proofs.lemmas.Grind.{common_steps}
 use Rattle.std.proofs.lemmas.List.{take_all}
 use Rattle.spec_data.specs.Rows.{Row}
@@ -30,11 +29,9 @@ none_past scope e (r ∷ rows) h =
 pub batch-fresh : (v : Version) (S : Store) (max : ℕ) → stale S (reads v) v.etag None ≡ false → (let x : Option Version = None in x) ≡ batch v S max
 batch-fresh v S max fresh = batch-none v S max [] (sym (ap (take max) (none_past (reads v) v.etag S.rows fresh) ∙ take_all max [] (omega arith))) refl
 
-pub is_fresh : (v : Version) (S : Store) (scope : Scope) (e n : ℕ) → scope ≡ reads v → e ≡ v.etag → ((etag : ℕ) → stale S scope etag None ≡ nat_lt etag n) → n ≤ e → stale S (reads v) v.etag None ≡ false
-is_fresh v S scope e n of_v at_v tells le = (λ i. stale S (sym of_v i) (sym at_v i) None) ∙ tells e ∙ le-ltb e n le
-
-pub is_behind : (v : Version) (S : Store) (scope : Scope) (e n : ℕ) → scope ≡ reads v → e ≡ v.etag → ((etag : ℕ) → stale S scope etag None ≡ nat_lt etag n) → e < n → stale S (reads v) v.etag None ≡ true
-is_behind v S scope e n of_v at_v tells lt = (λ i. stale S (sym of_v i) (sym at_v i) None) ∙ tells e ∙ lt-ltb e n lt
+-- what the store says of the scope that the version keeps
+pub told : (v : Version) (S : Store) (scope : Scope) (e : ℕ) (says is : Bool) → scope ≡ reads v → e ≡ v.etag → says ≡ stale S scope e None → says ≡ is → stale S (reads v) v.etag None ≡ is
+told v S scope e says is of_v at_v tells seen = (λ i. stale S (sym of_v i) (sym at_v i) None) ∙ sym tells ∙ seen
 
 -- HOW MANY ROWS ARE READ
 

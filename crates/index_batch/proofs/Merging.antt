@@ -1,15 +1,13 @@
 -- A batch of a store's rows leaves no document in another collection.
-use Rattle.std.proofs.Common.{◌≡◌, ◌∙◌, ℕ, List, Option, Some, ◌++◌, take, drop, sym, ap, subst}
-use Rattle.std.specs.FinMap.{get}
+use Rattle.std.proofs.Common.{◌≡◌, ◌∙◌, ℕ, List, Some, take, drop, sym, ap}
 use Rattle.std.specs.Option.{option_or}
 use Rattle.std.specs.Str.{bytes_eq}
 use Rattle.std.proofs.lemmas.List.{take-append-drop}
 use Rattle.spec_data.specs.Rows.{Row}
-use Rattle.spec_store.specs.Later.{StillHas}
 use Rattle.spec_store.specs.Store.{IsStore, Store, row_at}
 use Rattle.spec_store.specs.Stale.{batch_rows, past}
 use Rattle.spec_store.proofs.StoreLemmas.{found_passing, row_at-append}
-use Rattle.index_tree.specs.Mapper.{Mapper, mapper_of}
+use Rattle.index_tree.specs.Mapper.{mapper_of}
 use Rattle.spec_index.specs.Index.{Agrees}
 use Rattle.spec_index.specs.World.{Version, reads}
 use Rattle.index_version.specs.Reduced.{KeepCollections}

@@ -52,12 +52,12 @@ pub fn next<R: Threads, M: Mapper + Sync, L: Ledger>(
     ensures reads { let v = index.now.version in steps.new.reads ≤ steps.old.reads + (length (batch_rows (reads v) v.etag store.now max) + 1) * length (reads v) }
     ensures idle { let v = index.now.version in stale store.now (reads v) v.etag None ≡ false → steps.new ≡ steps.old }
 {
-    let scope = index.scope(alloc)?;
+    let scope = index.scope();
     let seen = index.etag();
-    if store.newest(&scope, None) <= seen {
+    if !store.stale(scope, seen, None) {
         return Ok(None);
     }
-    let (taken, more) = store.rows_after(alloc, seen, &scope, max, steps)?;
+    let (taken, more) = store.rows_after(alloc, seen, scope, max, steps)?;
     if taken.is_empty() {
         return Ok(None);
     }

@@ -1,3 +1,4 @@
 pub mod Adding
 pub mod Sameness
 pub mod Joins
+pub mod Placing

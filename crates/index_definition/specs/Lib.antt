@@ -1,4 +1,7 @@
-pub mod Adding
+pub mod ShapeView
 pub mod DefinitionView
 pub mod RefusalView
-pub mod Shape
+pub mod Adding
+pub mod Order
+pub mod Reading
+pub mod Rows

@@ -1,12 +1,12 @@
 //! Definitions of indexes.
-ghost use Rattle.std.specs.Prelude.{◌≡◌, ◌∷◌, [], IfOk};
-ghost use Rattle.index_tree.specs.Definitions.{Auto as AutoOf};
+ghost use Rattle.std.specs.Prelude.{◌≡◌, MatchOption, None, Some};
+ghost use Rattle.spec_index.specs.Optimiser.{definition_of, shape_of};
 ghost use Rattle.index_definition.specs.DefinitionView.{definition_view};
+ghost use Rattle.index_definition.specs.ShapeView.{shape_view};
 
+use crate::shape::Shape;
 use index_tree::{MapQuery, ReduceQuery};
-use raven_base::NoMemory;
-use raven_value::{Name, Path, Paths, Text};
-use std::alloc::Global;
+use raven_value::{Name, Text};
 
 /// An index under a name.
 #[derive(Drop)]
@@ -24,11 +24,10 @@ pub enum DefBody {
         map_text: Text,
         reduce_text: Option<Text>,
     },
-    /// The fields of an automatic index, each the value at a path of the documents of a collection.
-    Auto {
-        collection: Text,
-        fields: Paths,
-    },
+
+    /// What an automatic index keeps: the values at its paths for each document of the collection or, with groups, their sums for each group
+    /// and how many documents it has.
+    Auto(Shape),
 }
 
 // By hand, so that a proof about what drops a definition need not go through its parts.
@@ -41,36 +40,30 @@ impl Drop for DefBody {
                 map_text: _map_text,
                 reduce_text: _reduce_text,
             } => {}
-            DefBody::Auto {
-                collection: _collection,
-                fields: _fields,
-            } => {}
+            DefBody::Auto(_shape) => {}
         }
     }
 }
 
-/// The body of the definition of an automatic index of one field.
-pub fn auto_body(alloc: Global, collection: &Text, field: &Text) -> Result<DefBody, NoMemory>
-    ensures { IfOk result (λ body. definition_view body ≡ AutoOf collection.now ((field.now ∷ []) ∷ [])) }
-{
-    let mut fields = Paths::new(alloc);
-    fields.push(Path::of(alloc, field.clone()?)?)?;
-    Ok(DefBody::Auto {
-        collection: collection.clone()?,
-        fields,
-    })
+impl DefBody {
+    /// The shape of an automatic index; another has none.
+    pub fn shape(&self) -> Option<&Shape>
+        ensures { MatchOption result (shape_of (definition_view self.now) ≡ None) (λ shape. shape_of (definition_view self.now) ≡ Some (shape_view shape.now)) }
+    {
+        match self {
+            DefBody::Static { .. } => None,
+            DefBody::Auto(shape) => Some(shape),
+        }
+    }
 }
 
-/// The definition of the automatic index of one field.
-pub fn auto_definition(
-    alloc: Global,
-    name: Name,
-    collection: &Text,
-    field: &Text,
-) -> Result<Definition, NoMemory>
-    ensures name { IfOk result (λ definition. definition.name ≡ name) }
-    ensures body { IfOk result (λ definition. definition_view definition.body ≡ AutoOf collection.now ((field.now ∷ []) ∷ [])) }
+/// The definition of an automatic index of this shape.
+pub fn auto_definition(name: Name, shape: Shape) -> Definition
+    ensures name { result.name ≡ name }
+    ensures body { definition_view result.body ≡ definition_of (shape_view shape) }
 {
-    let body = auto_body(alloc, collection, field)?;
-    Ok(Definition { name, body })
+    Definition {
+        name,
+        body: DefBody::Auto(shape),
+    }
 }

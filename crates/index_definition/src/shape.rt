@@ -1,215 +1,24 @@
-//! What is known of a definition: whether another one is the same, and what it reads.
-ghost use Rattle.std.specs.Prelude.{◌≡◌, ◌↔◌, ◌++◌, ◌∷◌, [], IsTrue, IfOk, OnOk, flat_map, map};
-ghost use Rattle.index_tree.specs.Scope as meaning;
-ghost use Rattle.index_tree.specs.Definitions.{same_definition};
-ghost use Rattle.index_tree.specs.Mapper.{mapper_of, scope_of as model_scope_of};
-ghost use Rattle.index_definition.specs.Adding as adding;
-ghost use Rattle.index_definition.specs.DefinitionView.{definition_view};
-ghost use Rattle.index_definition.specs.Shape as spec;
+//! Shapes of automatic indexes.
+use raven_value::{Paths, Text};
 
-use crate::among::is_among;
-use crate::definition::{DefBody, Definition};
-use crate::paths::joined_names;
-use index_tree::{
-    Clause, Expr, ExprKind, MapMember, MapQuery, ReduceQuery, SameAs, Texts, same_map, same_reduce,
-};
-use raven_base::NoMemory;
-use raven_value::{Members, Scope, Text, Value};
-use std::alloc::Global;
+/// What a query asks of an automatic index, and what an automatic index keeps.
+pub struct Shape {
+    pub collection: Text,
 
-fn same_reduces(a: &Option<ReduceQuery>, b: &Option<ReduceQuery>) -> bool
-    ensures { IsTrue result ↔ (a.now ≡ b.now) }
-{
-    match (a, b) {
-        (Some(reduce), Some(other)) => same_reduce(reduce, other),
-        (None, None) => true,
-        _ => false,
+    /// The paths by which it groups, if it does, in the order of their joined forms.
+    pub groups: Option<Paths>,
+
+    /// The paths whose values it keeps; with groups those whose sums it keeps. They are in the same order.
+    pub fields: Paths,
+}
+
+// Opaque drop: see raven_base.
+impl Drop for Shape {
+    fn drop(self) {
+        let Shape {
+            collection: _collection,
+            groups: _groups,
+            fields: _fields,
+        } = self;
     }
-}
-
-fn same_bodies(a: &DefBody, b: &DefBody) -> bool
-    ensures { IsTrue result ↔ spec.Same a.now b.now }
-{
-    match (a, b) {
-        (
-            DefBody::Static { map, reduce, .. },
-            DefBody::Static {
-                map: other,
-                reduce: other_reduce,
-                ..
-            },
-        ) => same_map(map, other) && same_reduces(reduce, other_reduce),
-        (
-            DefBody::Auto { collection, fields },
-            DefBody::Auto {
-                collection: other,
-                fields: other_fields,
-            },
-        ) => collection.same_as(other) && fields.same_as(other_fields),
-        (DefBody::Static { .. }, DefBody::Auto { .. }) => false,
-        (DefBody::Auto { .. }, DefBody::Static { .. }) => false,
-    }
-}
-
-/// Whether two definitions are the same, whatever their names and their texts.
-pub fn same(a: &Definition, b: &Definition) -> bool
-    ensures says { IsTrue result ↔ spec.Same a.now.body b.now.body }
-    ensures definition { result ≡ same_definition (definition_view a.now.body) (definition_view b.now.body) }
-{
-    same_bodies(&a.body, &b.body)
-}
-
-#[cycle(named)]
-fn add_named(expr: &Expr, names: &mut Texts) -> Result<(), NoMemory>
-    ensures { OnOk result (names.new ≡ names.old ++ meaning.named_in expr.now) }
-{
-    match expr.kind() {
-        ExprKind::If(test, value, other) => {
-            add_named(test, names)?;
-            add_named(value, names)?;
-            add_named(other, names)
-        }
-        ExprKind::Binary(_, left, right) => {
-            add_named(left, names)?;
-            add_named(right, names)
-        }
-        ExprKind::Unary(_, operand) => add_named(operand, names),
-        ExprKind::Dot(holder, _) => add_named(holder, names),
-        ExprKind::Load(id, collection) => {
-            add_named(id, names)?;
-            names.push(collection.clone()?)
-        }
-        _ => Ok(()),
-    }
-}
-
-fn add_clause(clause: &Clause, names: &mut Texts) -> Result<(), NoMemory>
-    ensures { OnOk result (names.new ≡ names.old ++ meaning.clause_names clause.now) }
-{
-    match clause {
-        Clause::Where(test) => add_named(test, names),
-        Clause::Let { value, .. } => add_named(value, names),
-    }
-}
-
-fn add_clauses(clauses: &[Clause], names: &mut Texts) -> Result<(), NoMemory>
-    ensures { OnOk result (names.new ≡ names.old ++ flat_map meaning.clause_names clauses.now) }
-{
-    for clause in clauses {
-        add_clause(clause, names)?;
-    }
-    Ok(())
-}
-
-fn add_members(members: &[MapMember], names: &mut Texts) -> Result<(), NoMemory>
-    ensures { OnOk result (names.new ≡ names.old ++ flat_map (λ m. meaning.named_in m.value) members.now) }
-{
-    for member in members {
-        add_named(&member.value, names)?;
-    }
-    Ok(())
-}
-
-fn all_named(alloc: Global, query: &MapQuery) -> Result<Texts, NoMemory>
-    ensures { IfOk result (λ names. names ≡ meaning.all_named query.now) }
-{
-    let mut names = Texts::new(alloc);
-    add_clauses(query.clauses.as_slice(), &mut names)?;
-    add_members(query.members.as_slice(), &mut names)?;
-    Ok(names)
-}
-
-// Adds each name that is not there.
-fn add_new(scope: &mut Scope, names: &[Text]) -> Result<(), NoMemory>
-    ensures { OnOk result (scope.new ≡ adding.with_new scope.old names.now) }
-{
-    for name in names {
-        if !is_among(scope.as_slice(), name) {
-            scope.push(name.clone()?)?;
-        }
-    }
-    Ok(())
-}
-
-#[tactic(auto, using(crate::proofs::Adding::reads_by))]
-fn scope_of(alloc: Global, query: &MapQuery) -> Result<Scope, NoMemory>
-    ensures { IfOk result (λ scope. scope ≡ meaning.scope_of query.now) }
-{
-    let mut scope = scope_alone(alloc, &query.collection)?;
-    let names = all_named(alloc, query)?;
-    add_new(&mut scope, names.as_slice())?;
-    Ok(scope)
-}
-
-fn scope_alone(alloc: Global, collection: &Text) -> Result<Scope, NoMemory>
-    ensures { IfOk result (λ scope. scope ≡ collection.now ∷ []) }
-{
-    let mut scope = Scope::new(alloc);
-    scope.push(collection.clone()?)?;
-    Ok(scope)
-}
-
-/// The collections that a definition reads: the mapped one first, and then those that it loads from, each once.
-pub fn scope(alloc: Global, definition: &Definition) -> Result<Scope, NoMemory>
-    ensures { IfOk result (λ scope. scope ≡ model_scope_of (mapper_of (definition_view definition.now.body))) }
-{
-    match &definition.body {
-        DefBody::Static { map, .. } => scope_of(alloc, map),
-        DefBody::Auto { collection, .. } => scope_alone(alloc, collection),
-    }
-}
-
-fn map_names(alloc: Global, members: &[MapMember]) -> Result<Texts, NoMemory>
-    ensures { IfOk result (λ names. names ≡ map (λ m. m.name) members.now) }
-{
-    let mut names = Texts::new(alloc);
-    for member in members {
-        names.push(member.name.clone()?)?;
-    }
-    Ok(names)
-}
-
-fn put_all(alloc: Global, names: &[Text]) -> Result<Members, NoMemory>
-    ensures { IfOk result (λ members. members ≡ spec.put_all names.now []) }
-{
-    let mut members = Members::new(alloc);
-    for name in names {
-        members.put(name.clone()?, Value::Null)?;
-    }
-    Ok(members)
-}
-
-fn names_of(alloc: Global, members: &[(Text, Value)]) -> Result<Texts, NoMemory>
-    ensures { IfOk result (λ names. names ≡ map (λ m. m.0) members.now) }
-{
-    let mut names = Texts::new(alloc);
-    for member in members {
-        names.push(member.0.clone()?)?;
-    }
-    Ok(names)
-}
-
-fn in_order(alloc: Global, names: &[Text]) -> Result<Texts, NoMemory>
-    ensures { IfOk result (λ sorted. sorted ≡ spec.in_order names.now) }
-{
-    let members = put_all(alloc, names)?;
-    let sorted = names_of(alloc, members.as_slice())?;
-    Ok(sorted)
-}
-
-fn all_fields(alloc: Global, body: &DefBody) -> Result<Texts, NoMemory>
-    ensures { IfOk result (λ names. names ≡ spec.names body.now) }
-{
-    match body {
-        DefBody::Static { map, .. } => map_names(alloc, map.members.as_slice()),
-        DefBody::Auto { fields, .. } => joined_names(alloc, fields.as_slice()),
-    }
-}
-
-/// The names of the fields of a definition's entries, in the order of their bytes, each once.
-pub fn fields(alloc: Global, definition: &Definition) -> Result<Texts, NoMemory>
-    ensures { IfOk result (λ fields. fields ≡ spec.fields definition.now.body) }
-{
-    let names = all_fields(alloc, &definition.body)?;
-    in_order(alloc, names.as_slice())
 }

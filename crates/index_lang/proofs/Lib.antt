@@ -4,3 +4,4 @@ pub mod GroupScans
 pub mod Once
 pub mod Forms
 pub mod Texts
+mod ReadPaths

@@ -1,6 +1,6 @@
 -- What is read of texts: it has the name that it is given, and is a definition by texts.
 use Rattle.std.proofs.Common.{◌≡◌, ℕ, List, false, Option, Some, None, IfSome, IsUtf8, Result, Ok, Err, refl, sym, ap, ◌∙◌, subst}
-use Rattle.index_tree.specs.Definitions.{Definition, Texts}
+use Rattle.index_tree.specs.Definitions.{Definition}
 use Rattle.spec_index.specs.World.{is_automatic}
 use Rattle.index_definition.specs.DefinitionView.{definition_view}
 use Rattle.index_definition.specs.RefusalView.{refusal_view}

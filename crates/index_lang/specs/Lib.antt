@@ -4,7 +4,6 @@ pub mod Fields
 pub mod BoundGroups
 pub mod ScanGroups
 pub mod Parse
-pub mod Rows
 pub mod Says
 pub mod Openings
 pub mod Bodies

@@ -1,42 +1,23 @@
 //! The definition in the body of its row.
-ghost use Rattle.std.specs.Prelude.{◌≡◌, ◌==◌, ◌||◌, IfOk, option_map};
-ghost use Rattle.std.specs.List.{list_any};
+ghost use Rattle.std.specs.Prelude.{◌≡◌, IfOk, option_map};
 ghost use Rattle.spec_data.specs.Data.{entries_of};
 ghost use Rattle.raven_value.specs.View.{data_of};
-ghost use Rattle.spec_server.specs.Opening.{auto_read, body_form, is_part as spec_is_part, texts_read};
+ghost use Rattle.spec_server.specs.Opening.{auto_read, body_form, is_empty_object as spec_is_empty_object, is_kind as spec_is_kind, reduce_read, text_in as spec_text_in, texts_read};
 ghost use Rattle.index_lang.specs.Openings.{IsOfForm, IsSaid};
 ghost use Rattle.index_definition.specs.DefinitionView.{definition_view};
-ghost use Rattle.index_lang.specs.Bodies.{form_in, is_bare as spec_is_bare, only_item as spec_only_item, text_in as spec_text_in, texts_behind};
+ghost use Rattle.index_lang.specs.Bodies.{form_in, reduce_form_in, texts_behind};
 
 use crate::parsing::parse;
-use index_definition::{DefBody, LangRefusal, auto_body};
+use crate::paths::paths_in;
+use index_definition::{DefBody, LangRefusal, Shape};
 use raven_base::NoMemory;
 use raven_value::{Members, Name, Text, Value};
 use std::alloc::Global;
 
-// Whether the byte cannot be in a part of a path.
-fn is_break(byte: u8) -> bool
-    ensures { result ≡ ((byte == 46) || (byte == 40) || (byte == 41)) }
-{
-    byte == b'.' || byte == b'(' || byte == b')'
-}
-
-fn has_break(text: &str) -> bool
-    ensures { result ≡ list_any (λ b. (b == 46) || (b == 40) || (b == 41)) text.now }
-{
-    text.as_bytes().iter().any(|byte| is_break(*byte))
-}
-
-fn is_part(text: &str) -> bool
-    ensures { result ≡ spec_is_part text.now }
-{
-    !text.is_empty() && !has_break(text)
-}
-
 // Whether the value is an object without members.
 #[tactic(auto, using(crate::proofs::Forms::bodies))]
-fn is_bare(value: Option<&Value>) -> bool
-    ensures { result ≡ spec_is_bare (option_map (λ v. data_of v.now) value.entry) }
+fn is_empty_object(value: Option<&Value>) -> bool
+    ensures { result ≡ spec_is_empty_object (option_map (λ v. data_of v.now) value.entry) }
 {
     match value {
         Some(Value::Map(members)) => members.as_slice().is_empty(),
@@ -44,8 +25,18 @@ fn is_bare(value: Option<&Value>) -> bool
     }
 }
 
-/// The text, if the value is one.
-pub fn text_in(value: Option<&Value>) -> Option<&Text>
+// Whether the value is this text.
+fn is_kind(value: Option<&Value>, kind: &str) -> bool
+    ensures { result ≡ spec_is_kind kind.now (option_map (λ v. data_of v.now) value.entry) }
+{
+    match value {
+        Some(Value::Text(text)) => text.as_str() == kind,
+        _ => false,
+    }
+}
+
+// The text, if the value is one.
+fn text_in(value: Option<&Value>) -> Option<&Text>
     ensures { option_map (λ t. t.now) result ≡ spec_text_in (option_map (λ v. data_of v.now) value.entry) }
 {
     match value {
@@ -54,21 +45,7 @@ pub fn text_in(value: Option<&Value>) -> Option<&Text>
     }
 }
 
-/// The item of a list that has one.
-#[tactic(auto, using(crate::proofs::Forms::bodies))]
-pub fn only_item(value: Option<&Value>) -> Option<&Value>
-    ensures { option_map (λ v. data_of v.now) result ≡ spec_only_item (option_map (λ v. data_of v.now) value.entry) }
-{
-    let Some(Value::List(items)) = value else {
-        return None;
-    };
-    match items.as_slice() {
-        [item] => Some(item),
-        _ => None,
-    }
-}
-
-// The automatic definition that these four members make, if they make one.
+// The automatic definition without groups that these four members make, if they make one.
 fn auto_of(
     alloc: Global,
     metadata: Option<&Value>,
@@ -78,22 +55,50 @@ fn auto_of(
 ) -> Result<Option<DefBody>, NoMemory>
     ensures { IfOk result (λ body. option_map definition_view body ≡ auto_read (option_map (λ v. data_of v.now) metadata.entry) (option_map (λ v. data_of v.now) collection.entry) (option_map (λ v. data_of v.now) fields.entry) (option_map (λ v. data_of v.now) kind.entry)) }
 {
-    if !is_bare(metadata) {
+    if !is_empty_object(metadata) || !is_kind(kind, "auto") {
         return Ok(None);
     }
     let Some(collection) = text_in(collection) else {
         return Ok(None);
     };
-    let Some(field) = text_in(only_item(only_item(fields))) else {
+    let Some(fields) = paths_in(alloc, fields)? else {
         return Ok(None);
     };
-    let Some(kind) = text_in(kind) else {
-        return Ok(None);
-    };
-    if kind.as_str() != "auto" || !is_part(field.as_str()) {
+    Ok(Some(DefBody::Auto(Shape {
+        collection: collection.clone()?,
+        groups: None,
+        fields,
+    })))
+}
+
+// The automatic definition with groups that these five members make, if they make one.
+fn grouped_of(
+    alloc: Global,
+    metadata: Option<&Value>,
+    collection: Option<&Value>,
+    groups: Option<&Value>,
+    kind: Option<&Value>,
+    sums: Option<&Value>,
+) -> Result<Option<DefBody>, NoMemory>
+    ensures { IfOk result (λ body. option_map definition_view body ≡ reduce_read (option_map (λ v. data_of v.now) metadata.entry) (option_map (λ v. data_of v.now) collection.entry) (option_map (λ v. data_of v.now) groups.entry) (option_map (λ v. data_of v.now) kind.entry) (option_map (λ v. data_of v.now) sums.entry)) }
+{
+    if !is_empty_object(metadata) || !is_kind(kind, "auto-reduce") {
         return Ok(None);
     }
-    Ok(Some(auto_body(alloc, collection, field)?))
+    let Some(collection) = text_in(collection) else {
+        return Ok(None);
+    };
+    let Some(groups) = paths_in(alloc, groups)? else {
+        return Ok(None);
+    };
+    let Some(sums) = paths_in(alloc, sums)? else {
+        return Ok(None);
+    };
+    Ok(Some(DefBody::Auto(Shape {
+        collection: collection.clone()?,
+        groups: Some(groups),
+        fields: sums,
+    })))
 }
 
 // The texts of a map and of a reduce, if there is one, that these four members hold, if they do.
@@ -105,7 +110,7 @@ fn texts_of<'a>(
 ) -> Option<(&'a str, Option<&'a str>)>
     ensures { option_map texts_behind result ≡ texts_read (option_map (λ v. data_of v.now) metadata.entry) (option_map (λ v. data_of v.now) kind.entry) (option_map (λ v. data_of v.now) map.entry) (option_map (λ v. data_of v.now) reduce.entry) }
 {
-    if !is_bare(metadata) {
+    if !is_empty_object(metadata) {
         return None;
     }
     let Some(kind) = text_in(kind) else {
@@ -138,6 +143,7 @@ fn said(alloc: Global, map: &str, reduce: Option<&str>) -> Result<Option<DefBody
     }
 }
 
+// The definition in an object of four members.
 #[tactic(auto, using(crate::proofs::Forms::forms))]
 fn definition_in(alloc: Global, members: &Members) -> Result<Option<DefBody>, NoMemory>
     ensures { IfOk result (λ body. IsOfForm (form_in (entries_of members.now)) (option_map definition_view body)) }
@@ -157,17 +163,31 @@ fn definition_in(alloc: Global, members: &Members) -> Result<Option<DefBody>, No
     }
 }
 
-/// The definition that the body of a row says: an automatic one of one field, or a map by its text. Nothing if it says none, or if it has
-/// something else.
+// The definition in an object of five members.
 #[tactic(auto, using(crate::proofs::Forms::forms))]
+fn grouped_in(alloc: Global, members: &Members) -> Result<Option<DefBody>, NoMemory>
+    ensures { IfOk result (λ body. IsOfForm (reduce_form_in (entries_of members.now)) (option_map definition_view body)) }
+{
+    let metadata = members.get("@metadata");
+    let collection = members.get("Collection");
+    let groups = members.get("Groups");
+    let kind = members.get("Kind");
+    let sums = members.get("Sums");
+    grouped_of(alloc, metadata, collection, groups, kind, sums)
+}
+
+/// The definition that the body of a row says: an automatic one by its paths, with groups or without, or a map by its text. Nothing if it
+/// says none, or if it has something else.
+#[tactic(auto, using(crate::proofs::Forms::counts))]
 pub fn of_row_body(alloc: Global, body: &Value) -> Result<Option<DefBody>, NoMemory>
     ensures { IfOk result (λ found. IsOfForm (body_form (data_of body.now)) (option_map definition_view found)) }
 {
     let Value::Map(members) = body else {
         return Ok(None);
     };
-    if members.as_slice().len() != 4 {
-        return Ok(None);
+    match members.as_slice().len() {
+        4 => definition_in(alloc, members),
+        5 => grouped_in(alloc, members),
+        _ => Ok(None),
     }
-    definition_in(alloc, members)
 }

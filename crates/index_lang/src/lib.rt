@@ -8,15 +8,15 @@ mod laws;
 mod members;
 mod names;
 mod parsing;
+mod paths;
 mod reading;
-mod rows;
 
-pub use body::{of_row_body, only_item, text_in};
+pub use body::of_row_body;
 pub use by_texts::{TextDefinition, parse_texts};
 pub use groups::unbound_in_reduce;
 pub use index_definition::{
-    DefBody, Definition, LangKind, LangRefusal, Part, auto_body, auto_definition, fields,
-    joined_name, same, scope,
+    DefBody, Definition, LangKind, LangRefusal, Part, Shape, auto_definition, definition_value,
+    fields, joined_name, row_body, same, scope,
 };
 pub use index_tree::{
     BinaryOp, Clause, Clauses, Expr, ExprKind, FoldKind, FoldMember, FoldMembers, FoldValue,
@@ -27,4 +27,3 @@ pub use members::{Field, duplicate, fields_agree, irreducible};
 pub use names::unbound_name;
 pub use parsing::{MAX_TEXT, parse};
 pub use reading::{ReadMap, ReadReduce, Trees};
-pub use rows::{definition_value, row_body};

@@ -16,7 +16,7 @@ use Rattle.spec_store.proofs.TableLemmas.{tied}
 use Rattle.index_tree.specs.Mapper.{Mapper, is_mapped, mapper_of}
 use Rattle.index_tree.specs.Meaning.{Fields, Outcome, Entry, NoEntry, Failed, field_named}
 use Rattle.index_definition.specs.DefinitionView.{definition_view}
-use Rattle.index_definition.specs.Shape.{fields}
+use Rattle.index_definition.specs.Reading.{fields}
 use Rattle.index_definition.specs.declared.definition.DefBody.{DefBody}
 use Rattle.spec_index.specs.Mapping.{entry_of, scratch}
 use Rattle.paged_map.specs.Pairs.{AllAnswer, IsRising}

@@ -1,5 +1,5 @@
 -- An entry has no fields but those of its definition.
-use Rattle.std.proofs.Common.{◌≡◌, ℕ, List, [], ◌∷◌, Bool, true, false, cond, ◌||◌, Option, Some, None, map, refl, sym, ap, ◌∙◌, subst}
+use Rattle.std.proofs.Common.{◌≡◌, ℕ, pos, List, [], ◌∷◌, ◌++◌, Bool, true, false, cond, ◌||◌, Option, Some, None, map, refl, sym, ap, ◌∙◌, subst}
 use Rattle.std.specs.declared.cmp.Ordering.TheVariants.{Less, Equal, Greater}
 use Rattle.std.specs.FinMap.{get}
 use Rattle.std.specs.List.{list_any}
@@ -10,19 +10,20 @@ use Rattle.spec_data.specs.Folding.{key_cmp}
 use Rattle.spec_data.specs.Members.{Path}
 use Rattle.spec_data.specs.Rising.{Pairs, put}
 use Rattle.spec_data.specs.Rows.{Row, Body}
-use Rattle.spec_data.specs.Scalars.{scalar_of}
+use Rattle.spec_data.specs.Scalars.{number, scalar_of}
 use Rattle.spec_data.specs.Tables.{Table}
 use Rattle.spec_store.proofs.KeyedLemmas.{key_ties}
 use Rattle.index_tree.specs.declared.map_query.MapMember.{MapMember}
 use Rattle.index_tree.specs.declared.map_query.MapQuery.{MapQuery}
 use Rattle.index_tree.specs.Asking.{Lookup, Asking, gives, goes_on}
 use Rattle.index_tree.specs.Evaluate.{Bindings, document_of, evaluate}
-use Rattle.index_tree.specs.Mapper.{field_of, fields_at, joined, mapper_of}
+use Rattle.index_tree.specs.Mapper.{count_name, field_of, fields_at, joined, mapper_of, sum_name, sums_at}
 use Rattle.index_tree.specs.Meaning.{Fields, Entry, field_named, where_some, bound_after, fields_with, fields_under, entry_of, outcome_of, meaning}
-use Rattle.index_definition.specs.DefinitionView.{definition_view}
-use Rattle.index_definition.specs.Shape.{fields, names, put_all}
+use Rattle.index_definition.specs.DefinitionView.{automatic, definition_view}
+use Rattle.index_definition.specs.Reading.{fields, names, put_all, shape_names}
 use Rattle.index_definition.specs.declared.definition.DefBody.{DefBody}
 use Rattle.index_definition.specs.declared.definition.DefBody.TheVariants.{Static, Auto}
+use Rattle.index_version.specs.Meaning.{grouped_fields}
 
 -- NAMES
 
@@ -122,9 +123,37 @@ at_none name body (path ∷ more) found none before =
 same_outcome : (a b : Fields) → Entry a ≡ Entry b → a ≡ b
 same_outcome a b h = cc
 
+none_in : (name : List ℕ) (some more : List (List ℕ)) → list_any (bytes_eq name) (some ++ more) ≡ false → (list_any (bytes_eq name) some ≡ false) × (list_any (bytes_eq name) more ≡ false)
+none_in name [] more none = (refl, none)
+none_in name (x ∷ some) more none =
+    let two = neither (bytes_eq name x) (list_any (bytes_eq name) (some ++ more)) none in
+    let rest = none_in name some more two.1 in
+    (both_false (bytes_eq name x) (list_any (bytes_eq name) some) two.0 rest.0, rest.1)
+
+sums_none : (name : List ℕ) (body : Body) (paths : List Path) (found : Fields) → list_any (bytes_eq name) (map sum_name paths) ≡ false → has_name name found ≡ false → has_name name (sums_at body found paths) ≡ false
+sums_none name body [] found none before = before
+sums_none name body (path ∷ more) found none before =
+    let two = neither (bytes_eq name (sum_name path)) (list_any (bytes_eq name) (map sum_name more)) none in
+    sums_none name body more (put (sum_name path) (field_of body path) found) two.1
+    (name_put name (sum_name path) (field_of body path) found ∙ both_false (bytes_eq name (sum_name path)) (has_name name found) two.0 before)
+
+grouped_none : (name : List ℕ) (body : Body) (groups sums : List Path) → list_any (bytes_eq name) (map joined groups ++ count_name ∷ map sum_name sums) ≡ false → has_name name (grouped_fields groups sums body) ≡ false
+grouped_none name body groups sums none =
+    let two = none_in name (map joined groups) (count_name ∷ map sum_name sums) none in
+    let more = neither (bytes_eq name count_name) (list_any (bytes_eq name) (map sum_name sums)) two.1 in
+    let keys = fields_at body [] groups in
+    sums_none name body sums (put count_name (number (pos 1)) keys) more.1
+    (name_put name count_name (number (pos 1)) keys ∙ both_false (bytes_eq name count_name) (has_name name keys) more.0 (at_none name body groups [] two.0 refl))
+
+shape_none : (name collection : List ℕ) (groups : Option (List Path)) (fields : List Path) (d : Row) (T : Table) (fs : Fields) → list_any (bytes_eq name) (shape_names groups fields) ≡ false
+    → ((mapper_of (automatic collection groups fields)).meaning d T).outcome ≡ Entry fs → has_name name fs ≡ false
+shape_none name collection None fields d T fs none h = subst (λ x. has_name name x ≡ false) (same_outcome (fields_at d.body [] fields) fs h) (at_none name d.body fields [] none refl)
+shape_none name collection (Some groups) sums d T fs none h =
+    subst (λ x. has_name name x ≡ false) (same_outcome (grouped_fields groups sums d.body) fs h) (grouped_none name d.body groups sums none)
+
 gives_none : (name : List ℕ) (body : DefBody) (d : Row) (T : Table) (fs : Fields) → list_any (bytes_eq name) (names body) ≡ false → ((mapper_of (definition_view body)).meaning d T).outcome ≡ Entry fs → has_name name fs ≡ false
 gives_none name (Static query reduce text reduce_text) d T fs none h = map_none name query d (get T) fs none h
-gives_none name (Auto collection paths) d T fs none h = subst (λ x. has_name name x ≡ false) (same_outcome (fields_at d.body [] paths) fs h) (at_none name d.body paths [] none refl)
+gives_none name (Auto shape) d T fs none h = shape_none name shape.collection shape.groups shape.fields d T fs none h
 
 -- a name that no field of the definition has is no name in an entry
 pub not_in_entry : (name : List ℕ) (body : DefBody) (d : Row) (T : Table) (fs : Fields) → list_any (bytes_eq name) (fields body) ≡ false

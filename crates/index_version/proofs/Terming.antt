@@ -4,7 +4,7 @@ use Rattle.std.specs.FinMap.{FinMap, empty, get, get-empty, get-insert, get-remo
 use Rattle.spec_data.specs.Folding.{folded, key_cmp, same_key}
 use Rattle.spec_data.specs.Scalars.{Scalar}
 use Rattle.index_tree.specs.Meaning.{Fields}
-use Rattle.index_definition.specs.Shape.{fields}
+use Rattle.index_definition.specs.Reading.{fields}
 use Rattle.index_definition.specs.declared.definition.DefBody.{DefBody}
 use Rattle.spec_store.proofs.TableLemmas.{tied}
 use Rattle.spec_store.proofs.StoreLemmas.{same_itself, same_means}

@@ -3,7 +3,7 @@ use Rattle.std.specs.Prelude.{◌≡◌, ℕ, List, [], Option, Some, None, map}
 use Rattle.std.specs.FinMap.{FinMap, get}
 use Rattle.spec_data.specs.Folding.{key_cmp}
 use Rattle.index_tree.specs.Meaning.{Fields}
-use Rattle.index_definition.specs.Shape.{fields}
+use Rattle.index_definition.specs.Reading.{fields}
 use Rattle.index_definition.specs.declared.definition.DefBody.{DefBody}
 use Rattle.term_index.specs.Columns.{Columns, HasFields}
 use Rattle.index_version.specs.Kept.{Given, outcome_fields}

@@ -2,6 +2,7 @@
 #![tactic(auto)]
 
 mod asking;
+mod auto_reduce;
 mod given;
 mod kept;
 mod mapping;

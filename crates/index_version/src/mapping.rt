@@ -1,15 +1,14 @@
 //! The map of a definition.
 ghost use Rattle.std.specs.Prelude.{◌≡◌, IfOk, []};
-ghost use Rattle.std.specs.FinMap.{empty};
 ghost use Rattle.map_stage.specs.MappedView.{mapped_view};
 ghost use Rattle.map_stage.specs.Words.{HasWords, IsWord, OutcomeHasWords};
 ghost use Rattle.raven_value.specs.RowView.{body_of};
 ghost use Rattle.raven_value.specs.ScalarView.{scalar_view};
-ghost use Rattle.index_tree.specs.Mapper.{auto_meaning, field_of, fields_at, mapper_of};
+ghost use Rattle.index_tree.specs.Mapper.{field_of, fields_at, mapper_of};
 ghost use Rattle.index_definition.specs.DefinitionView.{definition_view};
-ghost use Rattle.index_version.specs.Meaning.{found_local, found_meaning};
+ghost use Rattle.index_version.specs.Meaning.{found_local, found_meaning, grouped_fields, shape_fields, shape_meaning};
 
-use index_definition::{DefBody, Definition, joined_name};
+use index_definition::{COUNT_NAME, DefBody, Definition, Shape, joined_name, sum_name};
 use map_stage::{Entry, LangMapper, Lookup, Mapped, Mapper, Outcome, Ticket, scalar_of};
 use raven_base::NoMemory;
 use raven_value::{Body, Ids, Path, Row, Scalar, Text};
@@ -36,7 +35,7 @@ impl<'d> Mapper for DefinitionMapper<'d> {
                 let mapper = LangMapper { query: map };
                 mapper.map(alloc, doc, rows, ticket)
             }
-            DefBody::Auto { fields, .. } => auto_mapped(alloc, fields.as_slice(), doc),
+            DefBody::Auto(shape) => shape_mapped(alloc, shape, doc),
         }
     }
 
@@ -49,19 +48,48 @@ pub fn mapped_collection(definition: &Definition) -> &Text
 {
     match &definition.body {
         DefBody::Static { map, .. } => &map.collection,
-        DefBody::Auto { collection, .. } => collection,
+        DefBody::Auto(shape) => &shape.collection,
     }
 }
 
-fn auto_mapped(alloc: Global, paths: &[Path], row: &Row) -> Result<Mapped, NoMemory>
-    ensures mapped { IfOk result (λ mapped. mapped_view mapped ≡ auto_meaning paths.now row.now empty) }
+fn shape_mapped(alloc: Global, shape: &Shape, row: &Row) -> Result<Mapped, NoMemory>
+    ensures mapped { IfOk result (λ mapped. mapped_view mapped ≡ shape_meaning shape.now.groups shape.now.fields row.now) }
     ensures words { IfOk result (λ mapped. OutcomeHasWords (mapped_view mapped).outcome) }
 {
-    let entry = auto_entry(alloc, paths, &row.body)?;
+    let entry = shape_entry(alloc, shape, &row.body)?;
     Ok(Mapped {
         outcome: Outcome::Entry(entry),
         loads: Ids::new(alloc),
     })
+}
+
+fn shape_entry(alloc: Global, shape: &Shape, body: &Body) -> Result<Entry, NoMemory>
+    ensures fields { IfOk result (λ entry. entry ≡ shape_fields shape.now.groups shape.now.fields (body_of body.now)) }
+    ensures words { IfOk result HasWords }
+{
+    let paths = shape.fields.as_slice();
+    match &shape.groups {
+        None => auto_entry(alloc, paths, body),
+        Some(groups) => grouped_entry(alloc, groups.as_slice(), paths, body),
+    }
+}
+
+// The fields by which it is grouped, a one, and those that are summed.
+fn grouped_entry(
+    alloc: Global,
+    groups: &[Path],
+    sums: &[Path],
+    body: &Body,
+) -> Result<Entry, NoMemory>
+    ensures fields { IfOk result (λ entry. entry ≡ grouped_fields groups.now sums.now (body_of body.now)) }
+    ensures words { IfOk result HasWords }
+{
+    let mut entry = auto_entry(alloc, groups, body)?;
+    entry.put(Text::of(alloc, COUNT_NAME)?, Scalar::Num(1))?;
+    for sum in sums {
+        entry.put(sum_name(alloc, sum)?, field_at(body, sum)?)?;
+    }
+    Ok(entry)
 }
 
 fn auto_entry(alloc: Global, paths: &[Path], body: &Body) -> Result<Entry, NoMemory>

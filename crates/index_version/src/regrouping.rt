@@ -6,7 +6,7 @@ ghost use Rattle.std.specs.List.{list_any};
 ghost use Rattle.std.specs.Map.{lookup};
 ghost use Rattle.std.specs.Option.{option_copied};
 ghost use Rattle.spec_data.specs.Folding.{folded, same_key};
-ghost use Rattle.index_definition.specs.DefinitionView.{definition_view};
+ghost use Rattle.index_definition.specs.DefinitionView.{automatic, definition_view};
 ghost use Rattle.map_stage.specs.Words.{OutcomeHasWords};
 ghost use Rattle.paged_map.specs.Merges.{MergesAtMost};
 ghost use Rattle.reference_track.specs.Sets.{AreInOrder, id_cmp};
@@ -14,10 +14,11 @@ ghost use Rattle.index_groups.specs.Groups.{AreSmall, HaveWords, fields_of};
 ghost use Rattle.reference_track.specs.Folded.{by_folded};
 ghost use Rattle.index_version.specs.Reduced.{HasEntries, entries_at, fields_given, no_entries, reduce_of, with_entry};
 
+use crate::auto_reduce::auto_reduce;
 use crate::given::Given;
 use crate::kept::Kept;
 use crate::results::Results;
-use index_definition::{DefBody, Definition};
+use index_definition::{DefBody, Definition, Shape};
 use index_groups::IndexGroups;
 use raven_base::{NoMemory, Shared, Steps};
 use raven_value::Id;
@@ -36,7 +37,19 @@ pub fn no_groups(alloc: Global, definition: &Definition) -> Result<Option<GivenG
             Some(query) => Ok(Some(IndexGroups::new(alloc, query)?)),
             None => Ok(None),
         },
-        DefBody::Auto { .. } => Ok(None),
+        DefBody::Auto(shape) => groups_by(alloc, shape),
+    }
+}
+
+fn groups_by(alloc: Global, shape: &Shape) -> Result<Option<GivenGroups>, NoMemory>
+    ensures { IfOk result (λ groups. groups ≡ option_map no_entries (reduce_of (automatic shape.now.collection shape.now.groups shape.now.fields))) }
+{
+    match &shape.groups {
+        None => Ok(None),
+        Some(groups) => {
+            let query = auto_reduce(alloc, groups.as_slice(), shape.fields.as_slice())?;
+            Ok(Some(IndexGroups::new(alloc, &query)?))
+        }
     }
 }
 

@@ -5,7 +5,7 @@ ghost use Rattle.std.specs.FinMap.{get};
 ghost use Rattle.std.specs.List.{list_any};
 ghost use Rattle.std.specs.Map.{lookup};
 ghost use Rattle.spec_data.specs.Folding.{folded, same_key};
-ghost use Rattle.index_definition.specs.Shape.{fields as spec_fields};
+ghost use Rattle.index_definition.specs.Reading.{fields as spec_fields};
 ghost use Rattle.map_stage.specs.FieldView.{field_view};
 ghost use Rattle.term_index.specs.Columns.{no_values};
 ghost use Rattle.reference_track.specs.Folded.{by_folded};

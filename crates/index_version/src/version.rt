@@ -47,6 +47,7 @@ fn share(definition: &Arc<Definition>) -> Result<Arc<Definition>, NoMemory>
 /// definition has a reduce, its rows are those that the reduce gives for these entries.
 pub struct IndexVersion {
     definition: Arc<Definition>,
+    scope: Scope,
     etag: u64,
     table: Table,
     kept: Kept,
@@ -59,6 +60,7 @@ impl Drop for IndexVersion {
     fn drop(self) {
         let IndexVersion {
             definition: _definition,
+            scope: _scope,
             etag: _etag,
             table: _table,
             kept: _kept,
@@ -70,7 +72,8 @@ impl Drop for IndexVersion {
 
 impl Model for IndexVersion {
     ghost use Rattle.index_version.specs.Named.{NamedVersion, named_version_code};
-    ghost use Rattle.index_tree.specs.Mapper.{mapper_of};
+    ghost use Rattle.std.specs.Prelude.{◌≡◌};
+    ghost use Rattle.index_tree.specs.Mapper.{mapper_of, scope_of};
     ghost use Rattle.reference_track.specs.Folded.{by_folded};
     ghost use Rattle.index_version.specs.Kept.{AreKept};
     ghost use Rattle.index_version.specs.Reduced.{AreReduced, reduce_of};
@@ -87,7 +90,7 @@ impl Model for IndexVersion {
       version = record { definition = definition_view a.definition.value.body; etag = a.etag; table = a.table };
     } };
 
-    ghost invariant = { λ a. AreKept (mapper_of (definition_view a.definition.value.body)) a.table (by_folded a.kept.given) a.kept.referrers × AreReduced (reduce_of (definition_view a.definition.value.body)) (by_folded a.kept.given) a.groups × AreTermed a.definition.value.body (by_folded a.kept.given) a.terms };
+    ghost invariant = { λ a. AreKept (mapper_of (definition_view a.definition.value.body)) a.table (by_folded a.kept.given) a.kept.referrers × AreReduced (reduce_of (definition_view a.definition.value.body)) (by_folded a.kept.given) a.groups × AreTermed a.definition.value.body (by_folded a.kept.given) a.terms × (a.scope ≡ scope_of (mapper_of (definition_view a.definition.value.body))) };
 }
 
 impl IndexVersion {
@@ -98,8 +101,10 @@ impl IndexVersion {
     {
         let groups = no_groups(alloc, &definition)?;
         let terms = no_terms(alloc, &definition)?;
+        let scope = scope(alloc, &definition)?;
         Ok(IndexVersion {
             definition,
+            scope,
             etag: 0,
             table: Table::new(alloc)?,
             kept: Kept::new(alloc)?,
@@ -133,6 +138,7 @@ impl IndexVersion {
         ensures merges { IfOk result (λ index. (h : ℕ) → 1 ≤ h → KeepCollections (mapper_of self.now.version.definition) self.now.version.table taken.now → HasSmallGroups h self.now.version → HasSmallGroups h index.version →
             steps.new.merges ≤ steps.old.merges + 128 * length (touched (mapper_of self.now.version.definition) self.now.version.table taken.now) * (h + 1)) }
     {
+        let scope = self.scope.clone()?;
         let definition = &self.definition;
         let ids = touched_ids(alloc, &self.kept.referrers, taken)?;
         let table = self.table.after(alloc, taken)?;
@@ -144,6 +150,7 @@ impl IndexVersion {
         let terms = retermed(alloc, &self.terms, &self.kept.given, &kept.given, ids)?;
         Ok(IndexVersion {
             definition: share(definition)?,
+            scope,
             etag,
             table,
             kept,
@@ -175,10 +182,10 @@ impl IndexVersion {
     }
 
     /// The collections that it reads.
-    pub fn scope(&self, alloc: Global) -> Result<Scope, NoMemory>
-        ensures { IfOk result (λ scope. scope ≡ reads self.now.version) }
+    pub fn scope(&self) -> &Scope
+        ensures { result.now ≡ reads self.now.version }
     {
-        scope(alloc, &self.definition)
+        &self.scope
     }
 
     /// How many entries it has. The number is kept.

@@ -3,18 +3,9 @@ use Rattle.std.specs.Prelude.{◌≡◌, ℕ, List, Result, Ok, Err}
 use Rattle.spec_query.specs.Query.{Query}
 use Rattle.spec_query.specs.Refusals as is
 use Rattle.rql_grammar.specs.declared.kind.RqlKind.{RqlKind}
-use Rattle.rql_grammar.specs.declared.kind.RqlKind.TheVariants as kind
+use Rattle.rql_grammar.specs.Kinds.{query_refusal}
 use Rattle.rql_parser.specs.Parse.{IsParsed}
 use Rattle.rql_parser.specs.declared.refusal.RqlRefusal.TheVariants.{At}
-
-abbrev pub kind_view : RqlKind → is.QueryKind
-kind_view kind.TooLarge = is.TooLarge
-kind_view kind.ClauseOrder = is.ClauseOrder
-kind_view kind.BadNumber = is.BadNumber
-kind_view kind.Unexpected = is.Unexpected
-
-abbrev pub query_refusal : ℕ → RqlKind → is.QueryRefusal
-query_refusal at kind = record { at = at; kind = kind_view kind }
 
 -- the text is refused for this cause
 pub record SaysNoQuery (text : List ℕ) (refusal : is.QueryRefusal) : Type 0 where

@@ -6,3 +6,4 @@ pub mod Limits
 pub mod FieldReading
 pub mod ConditionReading
 pub mod QueryReading
+pub mod Kinds

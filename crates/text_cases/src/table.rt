@@ -1,7 +1,9 @@
 //! A table of texts, and the answers to its lines.
 use crate::queries::query_answer;
 use anyhow::{Context, Result, bail};
-use index_lang::{DefBody, Definition, LangRefusal, fields, parse, row_body, same, scope};
+use index_lang::{
+    DefBody, Definition, LangRefusal, Shape, auto_definition, fields, parse, row_body, same, scope,
+};
 use index_print::{print_map, print_reduce};
 use raven_base::NoMemory;
 use raven_json::write;
@@ -112,10 +114,12 @@ fn automatic(alloc: Global, text: &str) -> Result<Definition> {
     for word in words {
         fields.push(path(alloc, word)?)?;
     }
-    Ok(Definition {
-        name: Name::new(alloc, "N")?,
-        body: DefBody::Auto { collection, fields },
-    })
+    let shape = Shape {
+        collection,
+        groups: None,
+        fields,
+    };
+    Ok(auto_definition(Name::new(alloc, "N")?, shape))
 }
 
 // The path of these parts, with a point between them.

@@ -1,5 +1,5 @@
-use Rattle.std.proofs.Common.{ap, arith}
-use Rattle.index_tree.specs.Mapper.{mapper_of}
+use Rattle.std.proofs.Common.{◌∙◌, ap, arith, sym}
+use Rattle.index_tree.specs.Mapper.{mapper_of, scope_of}
 use Rattle.index_definition.specs.declared.definition.Definition.{Definition}
 use Rattle.index_definition.specs.DefinitionView.{definition_view}
 use Rattle.spec_index.specs.World.{Version}
@@ -84,6 +84,7 @@ invariant_of-result g c = (
       (ap (λ (d : Definition). definition_view d.body) c.in_ok-share.ensures) c.in_ok-groups.ensures.queries c.in_ok-groups.ensures.entries,
   still_termed c.self.inside.definition.value.body _ (by_folded c.self.inside.kept.given) (by_folded c.in_ok-kept.kept.given) c.self.inside.terms c.in_ok-terms.terms c.self.invariant.2 (ap (λ (d : Definition). d.body) c.in_ok-share.ensures)
       c.in_ok-terms.ensures.names c.in_ok-terms.ensures.terms,
+  c.in_ok-scope.ensures.cases ∙ c.self.invariant.3 ∙ sym (ap (λ (d : Definition). scope_of (mapper_of (definition_view d.body))) c.in_ok-share.ensures),
 )
 
 pub retermed-requires-clause-others : goal.retermed-requires-clause-others
