@@ -16,7 +16,6 @@ use Rattle.spec_query.specs.Plan.{Plan, Selected}
 use Rattle.spec_query.specs.Query.{Ask, Field, Query}
 use Rattle.spec_query.specs.Sorting.{SortKey}
 use Rattle.rql_tree.specs.Codes.{field_code, path_code, query_code}
-use Rattle.rql_plan.specs.Shapes.{Shape}
 
 -- CONDITIONS
 
@@ -98,7 +97,3 @@ ask_code = code_by (Query × (Pairs × (ℤ × (Option ℤ × (Option ℕ × (Bo
 
 abbrev pub offered_code : Coded Offered
 offered_code = code_by (List (List ℕ) × Bool) (coded× (coded_list text_code) coded_bool) (λ d. (d.names, d.reduced)) (λ p. record { names = p.0; reduced = p.1 }) (λ _. refl)
-
-abbrev pub shape_code : Coded Shape
-shape_code = code_by (List ℕ × (List Path × (List Path × Bool))) (coded× text_code (coded× (coded_list path_code) (coded× (coded_list path_code) coded_bool)))
-    (λ s. (s.collection, (s.groups, (s.fields, s.grouped)))) (λ p. record { collection = p.0; groups = p.1.0; fields = p.1.1.0; grouped = p.1.1.1 }) (λ _. refl)

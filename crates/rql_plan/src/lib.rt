@@ -20,4 +20,4 @@ pub use condition::{Condition, ConditionKind};
 pub use naming::field_name;
 pub use plan::{Plan, Selected, SelectedFields, SortKey, SortKeys};
 pub use refusal::PlanRefusal;
-pub use shapes::{Shape, shape_of};
+pub use shapes::shape_of;

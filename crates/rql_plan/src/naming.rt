@@ -8,20 +8,11 @@ ghost use Rattle.spec_query.specs.Results.{field_name as spec_field_name};
 ghost use Rattle.rql_plan.specs.Naming.{IsNoPart, IsPartThen};
 ghost use Rattle.rql_tree.specs.View.{field_of};
 
-use index_definition::joined_name;
+use index_definition::{joined_name, sum_name};
 use raven_base::NoMemory;
 use raven_value::{Path, Text};
 use rql_tree::Field;
 use std::alloc::Global;
-
-fn sum_name(alloc: Global, path: &Path) -> Result<Text, NoMemory>
-    ensures { IfOk result (λ name. name ≡ spec_field_name (SumOf path.now)) }
-{
-    let mut name = String::from_str(alloc, "sum(")?;
-    name.push_str(joined_name(alloc, path)?.as_str())?;
-    name.push_str(")")?;
-    Text::of_string(name)
-}
 
 /// The name of a field in an index: a path joined by dots, `count()`, or `sum(..)` with the joined path in it.
 pub fn field_name(alloc: Global, field: &Field) -> Result<Text, NoMemory>

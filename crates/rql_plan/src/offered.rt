@@ -1,8 +1,7 @@
 //! Which field an index does not have.
 ghost use Rattle.std.specs.Prelude.{◌≡◌, ◌++◌, IfOk, OnOk, filter, find, map, not, option_map};
-ghost use Rattle.index_tree.specs.Mapper.{joined};
 ghost use Rattle.spec_query.specs.Fields.{is_offered as spec_is_offered, is_to_be_offered as spec_is_to_be_offered, not_offered as spec_not_offered};
-ghost use Rattle.index_definition.specs.DefinitionView.{definition_view};
+ghost use Rattle.index_definition.specs.DefinitionView.{automatic, definition_view};
 ghost use Rattle.spec_query.specs.Offering.{offered_of};
 ghost use Rattle.rql_plan.specs.View.{lent_field, lent_fields};
 ghost use Rattle.rql_tree.specs.View.{field_of};
@@ -10,10 +9,10 @@ ghost use Rattle.rql_tree.specs.View.{field_of};
 use crate::fields::asked_fields;
 use crate::grouping::is_of_group;
 use crate::naming::is_named;
-use index_definition::{DefBody, Definition, joined_name};
+use index_definition::{DefBody, Definition, Shape, shape_names};
 use index_tree::{FoldMember, MapMember};
 use raven_base::NoMemory;
-use raven_value::{Names, Path};
+use raven_value::Names;
 use rql_tree::{Column, Field, Origin, Query};
 use std::alloc::Global;
 use std::marker::Model;
@@ -67,14 +66,14 @@ fn reduce_names(alloc: Global, members: &[FoldMember]) -> Result<Names, NoMemory
     Ok(names)
 }
 
-fn path_names(alloc: Global, paths: &[Path]) -> Result<Names, NoMemory>
-    ensures { IfOk result (λ names. names ≡ map joined paths.now) }
+fn of_shape(alloc: Global, shape: &Shape) -> Result<Offered, NoMemory>
+    ensures { IfOk result (λ offered. offered ≡ offered_of (automatic shape.now.collection shape.now.groups shape.now.fields)) }
 {
-    let mut names = Names::new(alloc);
-    for path in paths {
-        names.push(joined_name(alloc, path)?)?;
-    }
-    Ok(names)
+    let names = shape_names(alloc, shape)?;
+    Ok(Offered {
+        names,
+        reduced: shape.groups.is_some(),
+    })
 }
 
 impl Offered {
@@ -97,10 +96,7 @@ impl Offered {
                 names: reduce_names(alloc, reduce.members.as_slice())?,
                 reduced: true,
             }),
-            DefBody::Auto { fields, .. } => Ok(Offered {
-                names: path_names(alloc, fields.as_slice())?,
-                reduced: false,
-            }),
+            DefBody::Auto(shape) => of_shape(alloc, shape),
         }
     }
 

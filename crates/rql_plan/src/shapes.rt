@@ -1,86 +1,19 @@
 //! What a query asks of an automatic index.
-ghost use Rattle.std.specs.Prelude.{◌≡◌, [], ◌∷◌, IfOk, OnOk, map, option_copied};
+ghost use Rattle.std.specs.Prelude.{◌≡◌, IfOk, map, option_copied, option_map};
 ghost use Rattle.std.specs.List.{filter_map};
-ghost use Rattle.spec_data.specs.Rising.{IsRising};
+ghost use Rattle.index_definition.specs.ShapeView.{shape_view};
 ghost use Rattle.spec_query.specs.Query.{is_empty, is_whole as spec_is_whole};
-ghost use Rattle.rql_plan.specs.Shapes.{distinct as spec_distinct, kept_paths, plain_path as spec_plain_path, shape as spec_shape, shape_in as spec_shape_in, summed_path as spec_summed_path, with_paths};
+ghost use Rattle.spec_server.specs.Shapes.{grouped_shape as spec_grouped_shape, path_in as spec_path_in, plain_shape as spec_plain_shape, shape_asked, sum_in as spec_sum_in};
+ghost use Rattle.rql_plan.specs.Shapes.{shape_if_any};
 ghost use Rattle.rql_plan.specs.View.{lent_fields};
 ghost use Rattle.rql_tree.specs.View.{field_of};
 
 use crate::fields::{add_selected, asked_fields};
-use index_definition::joined_name;
+use index_definition::{Shape, in_order};
 use raven_base::NoMemory;
-use raven_value::{Path, Paths, Text, put_named};
+use raven_value::{Path, Text};
 use rql_tree::{Field, Origin, Query};
 use std::alloc::Global;
-use std::marker::Model;
-
-/// What a query asks of an automatic index.
-pub struct Shape {
-    pub collection: Text,
-
-    /// The paths by which it groups, each once, in the order of the bytes of their joined forms.
-    pub groups: Paths,
-
-    /// The paths whose values it keeps, in the same order; with groups those whose sums it keeps.
-    pub fields: Paths,
-
-    /// Whether it groups.
-    pub grouped: bool,
-}
-
-// Opaque drop: see raven_base.
-impl Drop for Shape {
-    fn drop(self) {
-        let Shape {
-            collection: _collection,
-            groups: _groups,
-            fields: _fields,
-            grouped: _grouped,
-        } = self;
-    }
-}
-
-impl Model for Shape {
-    ghost use Rattle.rql_plan.specs.Shapes as shapes;
-    ghost use Rattle.rql_plan.specs.Codes.{shape_code};
-
-    ghost Value = { shapes.Shape };
-
-    ghost coded = { shape_code };
-
-    ghost view = { λ a. record { collection = a.collection; groups = a.groups; fields = a.fields; grouped = a.grouped } };
-}
-
-// Puts a path in at its joined form.
-fn put_path(alloc: Global, path: &Path, found: &mut Vec<(Text, Path)>) -> Result<(), NoMemory>
-    requires { IsRising found.old.items }
-    ensures found { OnOk result (found.new.items ≡ with_paths (path.now ∷ []) found.old.items) }
-    ensures rising { IsRising found.new.items }
-{
-    let name = joined_name(alloc, path)?;
-    put_named(found, name, path.clone()?)
-}
-
-fn paths_of(alloc: Global, found: Vec<(Text, Path)>) -> Result<Paths, NoMemory>
-    ensures { IfOk result (λ paths. paths ≡ map (λ p. p.1) found.items) }
-{
-    let mut paths = Paths::new(alloc);
-    for pair in found {
-        paths.push(pair.1)?;
-    }
-    Ok(paths)
-}
-
-fn distinct(alloc: Global, paths: &[&Path]) -> Result<Paths, NoMemory>
-    ensures { IfOk result (λ all. all ≡ spec_distinct (map (λ p. p.now) paths.now)) }
-{
-    let mut found = Vec::new(alloc);
-    for path in paths {
-        put_path(alloc, path, &mut found)?;
-    }
-    paths_of(alloc, found)
-}
 
 fn lent<'a>(alloc: Global, paths: &'a [Path]) -> Result<Vec<&'a Path>, NoMemory>
     ensures { IfOk result (λ all. map (λ p. p.now) all.items ≡ paths.now) }
@@ -92,8 +25,8 @@ fn lent<'a>(alloc: Global, paths: &'a [Path]) -> Result<Vec<&'a Path>, NoMemory>
     Ok(all)
 }
 
-fn plain_path(field: &Field) -> Option<&Path>
-    ensures { option_copied result ≡ spec_plain_path (field_of field.now) }
+fn path_in(field: &Field) -> Option<&Path>
+    ensures { option_copied result ≡ spec_path_in (field_of field.now) }
 {
     match field {
         Field::Path(path) => Some(path),
@@ -102,8 +35,8 @@ fn plain_path(field: &Field) -> Option<&Path>
     }
 }
 
-fn summed_path(field: &Field) -> Option<&Path>
-    ensures { option_copied result ≡ spec_summed_path (field_of field.now) }
+fn sum_in(field: &Field) -> Option<&Path>
+    ensures { option_copied result ≡ spec_sum_in (field_of field.now) }
 {
     match field {
         Field::Path(_) => None,
@@ -112,24 +45,24 @@ fn summed_path(field: &Field) -> Option<&Path>
     }
 }
 
-fn plain_paths<'a>(alloc: Global, fields: &[&'a Field]) -> Result<Vec<&'a Path>, NoMemory>
-    ensures { IfOk result (λ all. map (λ p. p.now) all.items ≡ filter_map spec_plain_path (lent_fields fields.now)) }
+fn paths_in<'a>(alloc: Global, fields: &[&'a Field]) -> Result<Vec<&'a Path>, NoMemory>
+    ensures { IfOk result (λ all. map (λ p. p.now) all.items ≡ filter_map spec_path_in (lent_fields fields.now)) }
 {
     let mut all = Vec::new(alloc);
     for field in fields {
-        if let Some(path) = plain_path(field) {
+        if let Some(path) = path_in(field) {
             all.push(path)?;
         }
     }
     Ok(all)
 }
 
-fn summed_paths<'a>(alloc: Global, fields: &[&'a Field]) -> Result<Vec<&'a Path>, NoMemory>
-    ensures { IfOk result (λ all. map (λ p. p.now) all.items ≡ filter_map spec_summed_path (lent_fields fields.now)) }
+fn sums_in<'a>(alloc: Global, fields: &[&'a Field]) -> Result<Vec<&'a Path>, NoMemory>
+    ensures { IfOk result (λ all. map (λ p. p.now) all.items ≡ filter_map spec_sum_in (lent_fields fields.now)) }
 {
     let mut all = Vec::new(alloc);
     for field in fields {
-        if let Some(path) = summed_path(field) {
+        if let Some(path) = sum_in(field) {
             all.push(path)?;
         }
     }
@@ -148,18 +81,6 @@ fn has_no_order(query: &Query) -> bool
     query.sorts.is_empty()
 }
 
-#[tactic(auto, using(crate::proofs::Shaped::kept))]
-fn fields_of<'a>(alloc: Global, query: &'a Query) -> Result<Vec<&'a Path>, NoMemory>
-    ensures { IfOk result (λ paths. map (λ p. p.now) paths.items ≡ kept_paths query.now.groups query.now) }
-{
-    let mut fields = asked_fields(alloc, query)?;
-    if has_no_groups(query) {
-        return plain_paths(alloc, &fields);
-    }
-    add_selected(query, &mut fields)?;
-    summed_paths(alloc, &fields)
-}
-
 fn is_whole(query: &Query) -> bool
     ensures { result ≡ spec_is_whole query.now }
 {
@@ -169,22 +90,45 @@ fn is_whole(query: &Query) -> bool
     has_no_groups(query) && query.cond.is_none() && has_no_order(query)
 }
 
-fn shape_in(alloc: Global, query: &Query, collection: &Text) -> Result<Shape, NoMemory>
-    ensures { IfOk result (λ shape. shape ≡ spec_shape_in query.now collection.now) }
+fn plain_shape(alloc: Global, query: &Query, collection: &Text) -> Result<Shape, NoMemory>
+    ensures { IfOk result (λ shape. shape_view shape ≡ spec_plain_shape collection.now query.now) }
 {
-    let groups = lent(alloc, query.groups.as_slice())?;
-    let fields = fields_of(alloc, query)?;
+    let asked = asked_fields(alloc, query)?;
+    let fields = paths_in(alloc, &asked)?;
     Ok(Shape {
         collection: collection.clone()?,
-        groups: distinct(alloc, &groups)?,
-        fields: distinct(alloc, &fields)?,
-        grouped: !has_no_groups(query),
+        groups: None,
+        fields: in_order(alloc, &fields)?,
     })
+}
+
+fn grouped_shape(alloc: Global, query: &Query, collection: &Text) -> Result<Shape, NoMemory>
+    ensures { IfOk result (λ shape. shape_view shape ≡ spec_grouped_shape collection.now query.now) }
+{
+    let mut named = asked_fields(alloc, query)?;
+    add_selected(query, &mut named)?;
+    let groups = lent(alloc, query.groups.as_slice())?;
+    let sums = sums_in(alloc, &named)?;
+    Ok(Shape {
+        collection: collection.clone()?,
+        groups: Some(in_order(alloc, &groups)?),
+        fields: in_order(alloc, &sums)?,
+    })
+}
+
+fn shape_in(alloc: Global, query: &Query, collection: &Text) -> Result<Shape, NoMemory>
+    ensures { IfOk result (λ shape. shape_view shape ≡ shape_asked collection.now query.now) }
+{
+    if has_no_groups(query) {
+        plain_shape(alloc, query, collection)
+    } else {
+        grouped_shape(alloc, query, collection)
+    }
 }
 
 /// What a query asks of an automatic index. A query on an index that it names, and one on a whole collection, ask for none.
 pub fn shape_of(alloc: Global, query: &Query) -> Result<Option<Shape>, NoMemory>
-    ensures { IfOk result (λ shape. shape ≡ spec_shape query.now) }
+    ensures { IfOk result (λ shape. option_map shape_view shape ≡ shape_if_any query.now) }
 {
     let Origin::Collection(name) = &query.origin else {
         return Ok(None);

@@ -80,10 +80,10 @@ fn scalars_in(alloc: Global, parameters: &Members, operands: &Operands) -> Resul
     Ok(items)
 }
 
-fn words_of(alloc: Global, value: Scalar) -> Result<Text, NoMemory>
-    ensures { IfOk result (λ text. text ≡ words_in (scalar_view value)) }
+fn words_of(alloc: Global, value: &Scalar) -> Result<Text, NoMemory>
+    ensures { IfOk result (λ text. text ≡ words_in (scalar_view value.now)) }
 {
-    match &value {
+    match value {
         Scalar::Text(text) => Ok(text.clone()?),
         Scalar::Null => Text::of(alloc, ""),
         Scalar::Flag(_) => Text::of(alloc, ""),
@@ -142,8 +142,8 @@ fn bound(alloc: Global, parameters: &Members, cond: &Cond) -> Result<Condition, 
         }
         CondKind::True => Condition::of(alloc, ConditionKind::Always),
         CondKind::Starts(field, value) => {
-            let text = words_of(alloc, scalar_in(parameters, value)?)?;
-            has(alloc, field, Test::Starts(text))
+            let words = words_of(alloc, &scalar_in(parameters, value)?)?;
+            has(alloc, field, Test::Starts(words))
         }
         CondKind::Exists(field) => has(alloc, field, Test::There),
         CondKind::Compare(field, op, value) => {

@@ -1,9 +1,0 @@
-use Rattle.std.proofs.Common.{◌≡◌, ◌++◌, drop, map}
-use Rattle.std.specs.List.{filter_map}
-use Rattle.rql_plan.specs.Shapes.{summed_path}
-use Rattle.rql_plan.specs.View.{lent_fields}
-use Rattle.rql_plan.proofs.shapes.summed_paths.Given as goal
-
--- those that are left have still to be added
-abbrev pub invariant-loop-field : goal.invariant-loop-field
-invariant-loop-field l = map (λ p. p.now) l.all.items ++ filter_map summed_path (lent_fields (drop l.field-index l.fields)) ≡ filter_map summed_path (lent_fields l.fields)
