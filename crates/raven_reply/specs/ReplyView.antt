@@ -3,7 +3,7 @@ use Rattle.std.specs.Prelude.{map}
 use Rattle.spec_query.specs.Binding as plan
 use Rattle.spec_server.specs.Replies as is
 use Rattle.index_definition.specs.RefusalView.{refusal_view}
-use Rattle.raven_lines.specs.SaysQuery.{query_refusal}
+use Rattle.rql_grammar.specs.Kinds.{query_refusal}
 use Rattle.raven_value.specs.View.{data_of}
 use Rattle.raven_reply.specs.Shown.{shown_with}
 use Rattle.raven_reply.specs.declared.reply.BulkResult.{BulkResult}

@@ -5,7 +5,7 @@ ghost use Rattle.spec_query.specs.Refusals.{kind_name as spec_rql_kind_name};
 ghost use Rattle.spec_server.specs.Replies.{BadQuery, Conflict, Lang as LangOf, NotFresh, error, error_at, reply_data};
 ghost use Rattle.index_tree.specs.Language.{kind_name as spec_kind_name, part_name as spec_part_name};
 ghost use Rattle.index_definition.specs.RefusalView.{kind_view, part_view, refusal_view};
-ghost use Rattle.raven_lines.specs.SaysQuery.{kind_view as rql_kind_view, query_refusal};
+ghost use Rattle.rql_grammar.specs.Kinds.{kind_view as rql_kind_view, query_refusal};
 ghost use Rattle.raven_reply.specs.Pieces.{piece_data};
 
 use crate::piece::{Piece, write_object};

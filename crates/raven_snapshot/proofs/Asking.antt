@@ -4,6 +4,7 @@ use Rattle.std.specs.FinMap.{values}
 use Rattle.std.specs.Option.{option_or}
 use Rattle.raven_base.specs.Counts.{Counts}
 use Rattle.spec_data.specs.Data.{Data}
+use Rattle.spec_data.specs.Members.{Path}
 use Rattle.spec_data.specs.Rows.{Row}
 use Rattle.spec_data.specs.Scalars.{Is, Scalar, words}
 use Rattle.spec_data.specs.Tables.{Table, table_of}
@@ -22,27 +23,40 @@ use Rattle.spec_query.specs.Parameters.{bound_where}
 use Rattle.spec_query.specs.Plan.{Plan}
 use Rattle.spec_query.specs.Query.{Ask, Origin, OfIndex, OfCollection, Query, is_empty, is_of_index, is_whole}
 use Rattle.spec_query.specs.Printing.{field_text}
+use Rattle.spec_index.specs.Optimiser.{Choice, Make, Shape, Use, pick}
 use Rattle.spec_index.specs.Reduces.{reduce_of}
 use Rattle.spec_index.specs.Find.{field_is_text, found_in, is_text}
 use Rattle.spec_index.specs.World.{Slot, Version, World, reads, serving}
-use Rattle.spec_server.specs.Asking.{answer_ask, answer_by, answer_from, answer_from_collection, answer_from_index, answer_if_bound, answer_of, answer_over, found_by, found_over, unless_refused, without_ids}
+use Rattle.spec_server.specs.Asking.{Answered, MustMake, Ready, answer_ask, answer_by, answer_from_collection, answer_from_index, answer_if_bound, answer_of, answer_over, answer_picked, found_by, found_over, unless_refused, without_ids}
 use Rattle.spec_server.specs.Machine.{has_reduce, ids_found}
-use Rattle.spec_server.specs.Replies.{Reply, BadPlan, NoIndex, UnknownLine}
+use Rattle.spec_server.specs.Replies.{Reply, BadPlan, Index, NoIndex}
+use Rattle.spec_server.specs.Shapes.{shape_asked}
 use Rattle.spec_server.specs.Shown.{shown}
+use Rattle.index_definition.specs.DefinitionView.{automatic}
 use Rattle.index_version.specs.Entries.{all_entries}
 use Rattle.index_version.specs.Reduced.{entries_of, rows_by, rows_of}
 use Rattle.rql_eval.specs.Pages.{ReadsAtMost}
 use Rattle.rql_eval.specs.Rows.{without_fields}
 use Rattle.rql_eval.proofs.Paging.{no_reads}
+use Rattle.rql_plan.specs.Shapes.{shape_if_any}
+use Rattle.raven_snapshot.specs.AnsweredView.{name_of_choice}
+use Rattle.raven_snapshot.specs.Asked.{ReadsToAnswer, counted}
 
 -- REFUSALS
 
-pub by_cause : (other : Reply) (cause : Option PlanRefusal) (refusal : PlanRefusal) → cause ≡ Some refusal → BadPlan refusal ≡ unless_refused other cause
+pub by_cause : (other : Answered) (cause : Option PlanRefusal) (refusal : PlanRefusal) → cause ≡ Some refusal → Ready (BadPlan refusal) ≡ unless_refused other cause
 by_cause other cause refusal h = ap (unless_refused other) (sym h)
 
 pub ruleset refusals = (by_cause)
 
 -- IN AN INDEX
+
+-- an automatic index with groups groups its entries
+pub groups_them : (collection : List ℕ) (groups : Option (List Path)) (fields : List Path) → is_some groups ≡ has_reduce (automatic collection groups fields)
+groups_them collection None fields = refl
+groups_them collection (Some groups) fields = refl
+
+pub ruleset grouped = (groups_them)
 
 pub by_rows : (v : Version) (show : Row → Data → Data) (q : Plan) (S : Store) (found : Found) (groups : List Fields) → has_reduce v.definition ≡ true → groups ≡ rows_of v.definition v.table
     → found ≡ find_rows show (λ id. row_at id S.rows) q (without_ids groups) → found ≡ found_by (reduce_of v.definition) show q (all_entries v) S
@@ -68,43 +82,71 @@ reads_counted m n before after same h = subst (λ k. ReadsAtMost k before after)
 
 pub ruleset findings = (by_rows, by_entries, nothing_read, reads_counted)
 
--- what only a definition refuses
-abbrev missing : Ask → Slot → Option PlanRefusal
-missing ask s = option_map (λ field. NoField (field_text field)) (not_offered (offered_of s.version.definition) ask.query)
-
-abbrev bound_by : Table → World → Ask → Slot → (c more : Option PlanRefusal) → Reply
-bound_by T W ask s c more = answer_if_bound T W ask s (binding.unless_refused (plan_of ask) (option_or c more))
+ready_same : (a b : Reply) → Ready a ≡ Ready b → a ≡ b
+ready_same a b h = cc
 
 -- all that is refused for a definition is told by one refusal, the first
-pub all_told : (T : Table) (W : World) (ask : Ask) (s : Slot) (reply : Reply) → reply ≡ unless_refused (answer_by T W ask s) (refusal_of ask (offered_of s.version.definition)) → reply ≡ unless_refused (answer_by T W ask s) (check ask)
-all_told T W ask s reply is = is ∙ by (check ask) (missing ask s)
+pub all_told : (T : Table) (W : World) (ask : Ask) (s : Slot) (reply : Reply) → Ready reply ≡ unless_refused (Ready (answer_by T W ask s)) (refusal_of ask (offered_of s.version.definition)) → reply ≡ answer_by T W ask s
+all_told T W ask s reply is = by (refusal_of ask (offered_of s.version.definition)) is
   where
-    by : (c more : Option PlanRefusal) → unless_refused (bound_by T W ask s c more) (option_or c more) ≡ unless_refused (bound_by T W ask s c more) c
-    by (Some r) more = refl
-    by None None = refl
-    by None (Some r) = refl
+    by : (c : Option PlanRefusal) → Ready reply ≡ unless_refused (Ready (answer_if_bound T W ask s (binding.unless_refused (plan_of ask) c))) c → reply ≡ answer_if_bound T W ask s (binding.unless_refused (plan_of ask) c)
+    by None h = ready_same reply _ h
+    by (Some r) h = ready_same reply _ h
 
-pub if_bound : (T : Table) (W : World) (ask : Ask) (s : Slot) (q : Plan) (reply : Reply) → bind ask (offered_of s.version.definition) ≡ Ok q → reply ≡ answer_over T W ask s q → reply ≡ unless_refused (answer_by T W ask s) (check ask)
-if_bound T W ask s q reply bound is = is ∙ sym (by (check ask) (missing ask s) bound)
-  where
-    by : (c more : Option PlanRefusal) → binding.unless_refused (plan_of ask) (option_or c more) ≡ Ok q → unless_refused (bound_by T W ask s c more) c ≡ answer_over T W ask s q
-    by (Some r) more h = absurd cc
-    by None (Some r) h = absurd cc
-    by None None h = let same : plan_of ask ≡ q = cc in ap (answer_over T W ask s) same
+pub if_bound : (T : Table) (W : World) (ask : Ask) (s : Slot) (q : Plan) (reply : Reply) → bind ask (offered_of s.version.definition) ≡ Ok q → reply ≡ answer_over T W ask s q → reply ≡ answer_by T W ask s
+if_bound T W ask s q reply bound is = is ∙ sym (ap (answer_if_bound T W ask s) bound)
 
 pub answered : (W : World) (ask : Ask) (s : Slot) (q : Plan) (reply : Reply) (found : Found) (etag : ℕ) (name : List ℕ) (flag : Bool) → reply ≡ answer_of found etag name flag → found ≡ found_over s.version.definition s.version.table W q → etag ≡ s.version.etag → name ≡ s.name
     → flag ≡ stale W.store (reads s.version) s.version.etag ask.cutoff → reply ≡ answer_over s.version.table W ask s q
 answered W ask s q reply found etag name flag is f e n b = is ∙ λ i. answer_of (f i) (e i) (n i) (b i)
 
-pub from_served : (W : World) (ask : Ask) (name : List ℕ) (s : Slot) (reply : Reply) → serving W.slots name ≡ Some s → reply ≡ unless_refused (answer_by s.version.table W ask s) (check ask)
-    → reply ≡ unless_refused (answer_from_index W ask name (serving W.slots name)) (check ask)
-from_served W ask name s reply h is = is ∙ sym (ap (λ o. unless_refused (answer_from_index W ask name o) (check ask)) h)
+pub from_served : (W : World) (ask : Ask) (name : List ℕ) (s : Slot) (reply : Reply) → serving W.slots name ≡ Some s → reply ≡ answer_by s.version.table W ask s
+    → reply ≡ answer_from_index W ask name (serving W.slots name)
+from_served W ask name s reply h is = is ∙ sym (ap (answer_from_index W ask name) h)
 
-pub from_none : (W : World) (ask : Ask) (name told : List ℕ) (reply : Reply) → serving W.slots name ≡ None → told ≡ name → reply ≡ unless_refused (NoIndex told) (check ask)
-    → reply ≡ unless_refused (answer_from_index W ask name (serving W.slots name)) (check ask)
-from_none W ask name told reply h same is = is ∙ ap (λ n. unless_refused (NoIndex n) (check ask)) same ∙ sym (ap (λ o. unless_refused (answer_from_index W ask name o) (check ask)) h)
+pub from_none : (W : World) (ask : Ask) (name : List ℕ) (reply : Reply) → serving W.slots name ≡ None → reply ≡ NoIndex name → reply ≡ answer_from_index W ask name (serving W.slots name)
+from_none W ask name reply h is = is ∙ sym (ap (answer_from_index W ask name) h)
 
-pub ruleset answers = (reads_counted, nothing_read)
+pub nothing_answered : (answered : Answered) (counts : Counts) → ReadsToAnswer answered counts counts
+nothing_answered (Ready reply) counts = no_reads (counted reply) counts
+nothing_answered (MustMake shape) counts = no_reads 0 counts
+
+pub ruleset answers = (reads_counted, nothing_read, nothing_answered)
+
+-- UNLESS IT IS REFUSED
+
+-- what only a definition refuses
+abbrev missing : Ask → Slot → Option PlanRefusal
+missing ask s = option_map (λ field. NoField (field_text field)) (not_offered (offered_of s.version.definition) ask.query)
+
+abbrev bound_by : Table → World → Ask → Slot → (c more : Option PlanRefusal) → Answered
+bound_by T W ask s c more = Ready (answer_if_bound T W ask s (binding.unless_refused (plan_of ask) (option_or c more)))
+
+-- an index refuses what is refused without one
+checked : (T : Table) (W : World) (ask : Ask) (s : Slot) → Ready (answer_by T W ask s) ≡ unless_refused (Ready (answer_by T W ask s)) (check ask)
+checked T W ask s = by (check ask) (missing ask s)
+  where
+    by : (c more : Option PlanRefusal) → bound_by T W ask s c more ≡ unless_refused (bound_by T W ask s c more) c
+    by None more = refl
+    by (Some r) more = refl
+
+pub served_checked : (W : World) (ask : Ask) (name : List ℕ) (s : Slot) (reply : Reply) → serving W.slots name ≡ Some s → reply ≡ answer_by s.version.table W ask s
+    → Ready reply ≡ unless_refused (Ready (answer_from_index W ask name (serving W.slots name))) (check ask)
+served_checked W ask name s reply h is = ap Ready is ∙ checked s.version.table W ask s ∙ sym (ap (λ o. unless_refused (Ready (answer_from_index W ask name o)) (check ask)) h)
+
+pub none_checked : (W : World) (ask : Ask) (name told : List ℕ) (answered : Answered) → serving W.slots name ≡ None → told ≡ name → answered ≡ unless_refused (Ready (NoIndex told)) (check ask)
+    → answered ≡ unless_refused (Ready (answer_from_index W ask name (serving W.slots name))) (check ask)
+none_checked W ask name told answered h same is = is ∙ ap (λ n. unless_refused (Ready (NoIndex n)) (check ask)) same ∙ sym (ap (λ o. unless_refused (Ready (answer_from_index W ask name o)) (check ask)) h)
+
+-- the index that was picked
+pub picked_checked : (W : World) (ask : Ask) (choice : Choice) (s : Slot) (reply : Reply) → Use s ≡ choice → reply ≡ answer_by s.version.table W ask s
+    → Ready reply ≡ unless_refused (answer_picked W ask choice) (check ask)
+picked_checked W ask choice s reply h is = ap Ready is ∙ checked s.version.table W ask s ∙ ap (λ x. unless_refused (answer_picked W ask x) (check ask)) h
+
+-- or none
+pub made_checked : (W : World) (ask : Ask) (choice : Choice) (shape : Shape) (answered : Answered) → Make shape ≡ choice → answered ≡ unless_refused (MustMake shape) (check ask)
+    → answered ≡ unless_refused (answer_picked W ask choice) (check ask)
+made_checked W ask choice shape answered h is = is ∙ ap (λ x. unless_refused (answer_picked W ask x) (check ask)) h
 
 -- IN A COLLECTION
 
@@ -132,47 +174,61 @@ whole_condition ask q h is = ap (λ (p : Plan). p.condition) is ∙ ap (bound_wh
 pub whole_order : (ask : Ask) (q : Plan) → is_whole ask.query ≡ true → q ≡ plan_of ask → q.order ≡ []
 whole_order ask q h is = ap (λ (p : Plan). p.order) is ∙ ap (map key_of) (whole_parts ask.query h).1
 
-pub if_passed : (reply : Reply) (ask : Ask) → check ask ≡ None → reply ≡ unless_refused reply (check ask)
-if_passed reply ask h = sym (ap (unless_refused reply) h)
+pub if_passed : (reply : Reply) (ask : Ask) → check ask ≡ None → Ready reply ≡ unless_refused (Ready reply) (check ask)
+if_passed reply ask h = sym (ap (unless_refused (Ready reply)) h)
 
 pub in_collection : (W : World) (ask : Ask) (collection : List ℕ) (q : Plan) (reply : Reply) (found : Found) (documents : List Row) (etag : ℕ) (name : List ℕ) → reply ≡ answer_of found etag name false
     → found ≡ find_entries (shown W.setting.base) (λ id. row_at id W.store.rows) q (without_fields documents) → documents ≡ values (table_of (filter (is_document_of collection) W.store.rows)) → q ≡ plan_of ask → etag ≡ last W.store
-    → name ≡ codes "collection/" ++ collection → check ask ≡ None → reply ≡ unless_refused (answer_from_collection W ask collection) (check ask)
+    → name ≡ codes "collection/" ++ collection → check ask ≡ None → Ready reply ≡ unless_refused (Ready (answer_from_collection W ask collection)) (check ask)
 in_collection W ask collection q reply found documents etag name is f are plan e n passed =
-    is
-    ∙ (λ i. answer_of ((f ∙ λ j. find_entries (shown W.setting.base) (λ id. row_at id W.store.rows) (plan j) (without_fields (are j))) i) (e i) (n i) false)
+    ap Ready (is
+    ∙ λ i. answer_of ((f ∙ λ j. find_entries (shown W.setting.base) (λ id. row_at id W.store.rows) (plan j) (without_fields (are j))) i) (e i) (n i) false)
     ∙ if_passed (answer_from_collection W ask collection) ask passed
 
 pub ruleset collections = (whole_condition, whole_order, if_passed)
 
 -- BY THE ORIGIN
 
-of_index : (W : World) (ask : Ask) (name : List ℕ) → ask.query.origin ≡ OfIndex name → answer_from W ask ≡ answer_from_index W ask name (serving W.slots name)
-of_index W ask name h = ap (λ (o : Origin). elim o [
-  | OfIndex n ↦ answer_from_index W ask n (serving W.slots n)
-  | OfCollection c ↦ cond (is_whole ask.query) (answer_from_collection W ask c) UnknownLine
-]) h
+abbrev by_origin : World → Ask → Origin → Answered
+by_origin W ask origin = elim origin [
+  | OfIndex name ↦ Ready (answer_from_index W ask name (serving W.slots name))
+  | OfCollection c ↦ cond (is_whole ask.query) (Ready (answer_from_collection W ask c)) (answer_picked W ask (pick (shape_asked c ask.query) W.store W.slots))
+]
 
-of_collection : (W : World) (ask : Ask) (c : List ℕ) → ask.query.origin ≡ OfCollection c → answer_from W ask ≡ cond (is_whole ask.query) (answer_from_collection W ask c) UnknownLine
-of_collection W ask c h = ap (λ (o : Origin). elim o [
-  | OfIndex n ↦ answer_from_index W ask n (serving W.slots n)
-  | OfCollection d ↦ cond (is_whole ask.query) (answer_from_collection W ask d) UnknownLine
-]) h
+pub told_index : (W : World) (ask : Ask) (name : List ℕ) (answered : Answered) → ask.query.origin ≡ OfIndex name
+    → answered ≡ unless_refused (Ready (answer_from_index W ask name (serving W.slots name))) (check ask) → answered ≡ answer_ask W ask
+told_index W ask name answered h is = is ∙ sym (ap (λ o. unless_refused (by_origin W ask o) (check ask)) h)
 
-of_whole : (W : World) (ask : Ask) (c : List ℕ) → ask.query.origin ≡ OfCollection c → is_whole ask.query ≡ true → answer_from W ask ≡ answer_from_collection W ask c
-of_whole W ask c h whole = of_collection W ask c h ∙ ap (λ b. cond b (answer_from_collection W ask c) UnknownLine) whole
+asked_of : (q : Query) (c : List ℕ) → q.origin ≡ OfCollection c → shape_if_any q ≡ cond (is_whole q) None (Some (shape_asked c q))
+asked_of q c h = ap (λ (o : Origin). elim o [ OfIndex name ↦ None | OfCollection d ↦ cond (is_whole q) None (Some (shape_asked d q)) ]) h
 
-of_dynamic : (W : World) (ask : Ask) (c : List ℕ) → ask.query.origin ≡ OfCollection c → is_whole ask.query ≡ false → answer_from W ask ≡ UnknownLine
-of_dynamic W ask c h whole = of_collection W ask c h ∙ ap (λ b. cond b (answer_from_collection W ask c) UnknownLine) whole
+none_asked : (b : Bool) (shape : Shape) → (let o : Option Shape = None in o) ≡ cond b None (Some shape) → b ≡ true
+none_asked true shape h = refl
+none_asked false shape h = absurd cc
 
-pub told_index : (W : World) (ask : Ask) (name : List ℕ) (reply : Reply) → ask.query.origin ≡ OfIndex name → reply ≡ unless_refused (answer_from_index W ask name (serving W.slots name)) (check ask) → reply ≡ answer_ask W ask
-told_index W ask name reply h is = is ∙ sym (ap (λ r. unless_refused r (check ask)) (of_index W ask name h))
+some_asked : (b : Bool) (a shape : Shape) → Some a ≡ cond b None (Some shape) → (b ≡ false) × (a ≡ shape)
+some_asked true a shape h = absurd cc
+some_asked false a shape h = (refl, let same : a ≡ shape = cc in same)
 
-pub told_whole : (W : World) (ask : Ask) (c : List ℕ) (reply : Reply) → ask.query.origin ≡ OfCollection c → is_whole ask.query ≡ true → reply ≡ unless_refused (answer_from_collection W ask c) (check ask) → reply ≡ answer_ask W ask
-told_whole W ask c reply h whole is = is ∙ sym (ap (λ r. unless_refused r (check ask)) (of_whole W ask c h whole))
+-- a query that asks for no index is about the whole collection
+pub asks_whole : (q : Query) (c : List ℕ) → q.origin ≡ OfCollection c → None ≡ shape_if_any q → is_whole q ≡ true
+asks_whole q c h none = none_asked (is_whole q) (shape_asked c q) (none ∙ asked_of q c h)
 
-pub told_dynamic : (W : World) (ask : Ask) (c : List ℕ) (reply : Reply) → ask.query.origin ≡ OfCollection c → is_whole ask.query ≡ false → reply ≡ unless_refused UnknownLine (check ask) → reply ≡ answer_ask W ask
-told_dynamic W ask c reply h whole is = is ∙ sym (ap (λ r. unless_refused r (check ask)) (of_dynamic W ask c h whole))
+pub told_whole : (W : World) (ask : Ask) (c : List ℕ) (answered : Answered) → ask.query.origin ≡ OfCollection c → is_whole ask.query ≡ true
+    → answered ≡ unless_refused (Ready (answer_from_collection W ask c)) (check ask) → answered ≡ answer_ask W ask
+told_whole W ask c answered h whole is =
+    is
+    ∙ sym (ap (λ b. unless_refused (cond b (Ready (answer_from_collection W ask c)) (answer_picked W ask (pick (shape_asked c ask.query) W.store W.slots))) (check ask)) whole)
+    ∙ sym (ap (λ o. unless_refused (by_origin W ask o) (check ask)) h)
+
+pub told_picked : (W : World) (ask : Ask) (c : List ℕ) (shape : Shape) (answered : Answered) → ask.query.origin ≡ OfCollection c → Some shape ≡ shape_if_any ask.query
+    → answered ≡ unless_refused (answer_picked W ask (pick shape W.store W.slots)) (check ask) → answered ≡ answer_ask W ask
+told_picked W ask c shape answered h asks is =
+    let some = some_asked (is_whole ask.query) shape (shape_asked c ask.query) (asks ∙ asked_of ask.query c h) in
+    is
+    ∙ ap (λ x. unless_refused (answer_picked W ask (pick x W.store W.slots)) (check ask)) some.1
+    ∙ sym (ap (λ b. unless_refused (cond b (Ready (answer_from_collection W ask c)) (answer_picked W ask (pick (shape_asked c ask.query) W.store W.slots))) (check ask)) some.0)
+    ∙ sym (ap (λ o. unless_refused (by_origin W ask o) (check ask)) h)
 
 pub ruleset origins = (told_index, nothing_read)
 
@@ -195,3 +251,16 @@ pub no_texts : (v : Version) (name ws : List ℕ) → has_reduce v.definition �
 no_texts v name ws has = ap (λ b. cond b [] (found_in (mapper_of v.definition) v.table name ws)) (sym has)
 
 pub ruleset texts = (texts_found, no_texts, nothing_read)
+
+-- THE NAME OF AN INDEX
+
+pub names_used : (choice : Choice) (s : Slot) (reply : Reply) → Use s ≡ choice → reply ≡ Index s.name → Ready reply ≡ name_of_choice choice
+names_used choice s reply h is = ap Ready is ∙ ap name_of_choice h
+
+pub names_none : (choice : Choice) (shape : Shape) → Make shape ≡ choice → MustMake shape ≡ name_of_choice choice
+names_none choice shape h = ap name_of_choice h
+
+pub of_shape : (choice : Choice) (a b : Shape) (S : Store) (slots : List Slot) → choice ≡ pick a S slots → a ≡ b → choice ≡ pick b S slots
+of_shape choice a b S slots h same = h ∙ ap (λ x. pick x S slots) same
+
+pub ruleset names = (names_used, names_none, of_shape)

@@ -1,4 +1,3 @@
-pub mod Choices
 pub mod Pairs
 pub mod Shown
 pub mod Asking

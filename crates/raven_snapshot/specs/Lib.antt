@@ -1,3 +1,2 @@
-pub mod AutoAnswer
-pub mod ChoiceView
+pub mod AnsweredView
 pub mod Asked

@@ -10,7 +10,7 @@ use crate::snapshot::Snapshot;
 use crate::stale::is_stale;
 use doc_store::Store;
 use doc_txn::{BaseId, spelling};
-use index_lang::definition_value;
+use index_definition::definition_value;
 use raven_base::NoMemory;
 use raven_reply::{Listing, Listings, Reply};
 use raven_value::{Body, Document, Id, Name, Row, Text, Value};
@@ -40,7 +40,7 @@ fn listing(alloc: Global, store: &Store, slot: &Slot) -> Result<Listing, NoMemor
         entries: version.entries(),
         errors: version.errors(),
         etag: version.etag(),
-        is_stale: is_stale(alloc, store, version, None)?,
+        is_stale: is_stale(store, version, None),
         name: slot.name.clone()?,
     })
 }
@@ -96,13 +96,11 @@ impl<'w> Snapshot<'w> {
         let Some(slot) = self.slots.serving(name) else {
             return no_index(alloc, name);
         };
-        let scope = slot.version.scope(alloc)?;
-        let newest = self.store.newest(&scope, cutoff);
-        let index_etag = slot.version.etag();
+        let version = &slot.version;
         Ok(Reply::Stale {
-            index_etag,
-            is_stale: index_etag < newest,
-            newest,
+            index_etag: version.etag(),
+            is_stale: is_stale(self.store, version, cutoff),
+            newest: self.store.newest(version.scope(), cutoff),
         })
     }
 

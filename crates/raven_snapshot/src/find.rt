@@ -24,13 +24,14 @@ use side_by_side::Slot;
 use std::alloc::Global;
 use std::sync::ledger::Ledger;
 
-/// Whether the definition groups its entries by a reduce.
+/// Whether the definition groups its entries: by a reduce, or as an automatic index with groups does.
+#[tactic(auto, using(crate::proofs::Asking::grouped))]
 pub fn has_reduce(definition: &Definition) -> bool
     ensures { result ≡ spec_has_reduce (definition_view definition.now.body) }
 {
     match &definition.body {
         DefBody::Static { reduce, .. } => reduce.is_some(),
-        DefBody::Auto { .. } => false,
+        DefBody::Auto(shape) => shape.groups.is_some(),
     }
 }
 
@@ -68,16 +69,15 @@ fn found<L: Ledger>(
 {
     let version = &slot.version;
     let ids = ids_found(alloc, version, field, words, steps)?;
-    let is_stale = is_stale(alloc, store, version, None)?;
     Ok(Reply::Found {
         ids,
         index_etag: version.etag(),
-        is_stale,
+        is_stale: is_stale(store, version, None),
     })
 }
 
 impl<'w> Snapshot<'w> {
-    /// The documents of an index whose field is that text, without regard to case, and whether the index lags. An index with a reduce has rows
+    /// The documents of an index whose field is that text, without regard to case, and whether the index lags. An index that groups has rows
     /// in place of documents, and so finds none.
     ///
     /// Only entries that are found are read.

@@ -2,8 +2,8 @@
 #![tactic(auto)]
 
 mod answer;
+mod answered;
 mod ask;
-mod choice;
 mod documents;
 mod entries;
 mod find;
@@ -11,5 +11,5 @@ mod snapshot;
 mod stale;
 
 pub use answer::{index_reply, no_index};
-pub use choice::Answered;
+pub use answered::Answered;
 pub use snapshot::Snapshot;

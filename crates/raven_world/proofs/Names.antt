@@ -11,14 +11,14 @@ use Rattle.spec_data.specs.Folding.{folded}
 use Rattle.spec_data.specs.Limits.{max_name}
 use Rattle.spec_data.proofs.Clean.{IsClean, clean-append, faultless}
 use Rattle.spec_store.proofs.StoreLemmas.{both_true}
-use Rattle.index_tree.specs.Definitions.{Definition, Static, Auto}
-use Rattle.spec_index.specs.World.{begins_with_replacement, is_reserved_name, replaced_name}
+use Rattle.index_tree.specs.Definitions.{Definition, Static, Auto, AutoReduce}
+use Rattle.spec_index.specs.World.{begins_with_auto, begins_with_replacement, is_reserved_name, replaced_name}
 use Rattle.spec_server.specs.Opening.{may_be_named}
 use Rattle.raven_laws.proofs.KindLemmas.{auto-no-replacement}
 use Rattle.side_by_side.specs.Naming.{IsNamedAs}
+use Rattle.side_by_side.proofs.Ids.{fit-short}
 use Rattle.side_by_side.proofs.Names.{given-plain}
 use Rattle.raven_world.specs.Kinds.{begins_as, own_part}
-use Rattle.raven_world.proofs.Clean.{fit-short}
 
 -- NAMES
 
@@ -67,6 +67,7 @@ pub ruleset names = (long-name, other-name, unfit-name, fit-name)
 by_part : (d : Definition) (s : List ℕ) → may_be_named d s ≡ may_own d (own_part d s)
 by_part (Static m r t u) s = refl
 by_part (Auto collection fields) s = refl
+by_part (AutoReduce collection groups sums) s = refl
 
 pub if_some : (b : Bool) (s t : List ℕ) → Some t ≡ (if b then Some s else None) → (b ≡ true) × (t ≡ s)
 if_some true s t h = (refl, let same : t ≡ s = cc in same)
@@ -89,14 +90,18 @@ not_true : (b : Bool) → not b ≡ true → b ≡ false
 not_true true h = absurd cc
 not_true false h = refl
 
+auto_named : (s own : List ℕ) → begins_with_auto s ≡ true → own ≡ s → (own ≡ replaced_name s) × IsNamedAs s own
+auto_named s own auto is =
+    let plain = auto-no-replacement s auto in
+    let whole : replaced_name s ≡ s = ap (λ b. if b then drop 14 s else s) plain in
+    (is ∙ sym whole, record { same = ap folded (is ∙ sym whole); plain = ap begins_with_replacement is ∙ plain })
+
 own_named : (d : Definition) (s own : List ℕ) → may_own d (own_part d s) ≡ true → own ≡ own_part d s → (own ≡ replaced_name s) × IsNamedAs s own
 own_named (Static m r t u) s own h is =
     let plain = given-plain (replaced_name s) (not_true (is_reserved_name (replaced_name s)) (both_true (is_fit 200 (replaced_name s)) _ h).1) in
     (is, record { same = ap folded is; plain = ap begins_with_replacement is ∙ plain })
-own_named (Auto collection fields) s own h is =
-    let plain = auto-no-replacement s (both_true (is_fit 200 s) _ h).1 in
-    let whole : replaced_name s ≡ s = ap (λ b. if b then drop 14 s else s) plain in
-    (is ∙ sym whole, record { same = ap folded (is ∙ sym whole); plain = ap begins_with_replacement is ∙ plain })
+own_named (Auto collection fields) s own h is = auto_named s own (both_true (is_fit 200 s) _ h).1 is
+own_named (AutoReduce collection groups sums) s own h is = auto_named s own (both_true (is_fit 200 s) _ h).1 is
 
 pub name-own : (d : Definition) (s part own : List ℕ) → part ≡ own_part d s → Some own ≡ (if may_own d part then Some part else None) → (own ≡ replaced_name s) × IsNamedAs s own
 name-own d s part own is h =
@@ -151,6 +156,7 @@ fit-part (Static m r t u) s h =
       | false ↦ λ e fit. fit-itself s fit
     ] refl (both_true (is_fit 200 (replaced_name s)) _ h).0
 fit-part (Auto collection fields) s h = fit-itself s (both_true (is_fit 200 s) _ h).0
+fit-part (AutoReduce collection groups sums) s h = fit-itself s (both_true (is_fit 200 s) _ h).0
 
 pub whole-fit : (d : Definition) (s part own : List ℕ) → part ≡ own_part d s → Some own ≡ (if may_own d part then Some part else None) → fault_of max_name s ≡ None
 whole-fit d s part own is h = fit-part d s (ap (may_own d) (sym is) ∙ (if_some (may_own d part) part own h).0)

@@ -1,6 +1,5 @@
 -- How a world is opened by one row after another.
 use Rattle.std.proofs.Common.{◌≡◌, ◌<◌, ◌≤◌, ◌+◌, ℕ, suc, List, [], ◌∷◌, ◌++◌, length, Bool, true, false, cond, not, ◌&&◌, ◌||◌, Option, Some, None, Result, Ok, Err, drop, refl, sym, ap, ◌∙◌, subst, arith, codes, get_or, IfOk, IsUtf8}
-use Rattle.std.proofs.lemmas.Bool.{ltb-true}
 use Rattle.std.proofs.lemmas.Grind.{common_steps}
 use Rattle.std.specs.Prelude.{nat_eq, if◌then◌else◌}
 use Rattle.std.specs.List.{starts_with}
@@ -12,9 +11,8 @@ use Rattle.std.specs.Char.{to_ascii_lowercase}
 use Rattle.spec_data.specs.Folding.{folded}
 use Rattle.spec_data.specs.Rows.{Row, is_document}
 use Rattle.spec_store.specs.Commit.{Setting, is_index_id}
-use Rattle.spec_store.specs.Store.{AreRising, Store, last, last_of}
-use Rattle.spec_store.proofs.StoreLemmas.{both_true, last_of-append}
-use Rattle.doc_store.specs.Opening.{first_bad, is_sound_after}
+use Rattle.spec_store.specs.Store.{AreRising, IsStore, Store, last, last_of}
+use Rattle.spec_store.proofs.StoreLemmas.{both_true}
 use Rattle.spec_server.specs.Machine.{Machine, machine_of}
 use Rattle.index_tree.specs.Definitions.{Definition}
 use Rattle.spec_server.specs.Opening.{ReadRow, and_then, is_beside, is_defining, is_filed, is_too_many, may_be_named, name_in, opened_with, or_bad, rows_of, slot_of, slots_after, slots_from, slots_with, with_slot}
@@ -188,21 +186,9 @@ pub ruleset opening = (none-read, one-read, ends-here, opens)
 
 -- THE NUMBERS
 
--- the rows of a store that opens rise
-rising-from : (earlier rows : List Row) → first_bad earlier rows ≡ None → AreRising (last_of 0 earlier) rows
-rising-from earlier [] h = tt
-rising-from earlier (r ∷ rows) h = by (is_sound_after earlier r) refl h (rising-from (earlier ++ r ∷ []) rows)
-  where
-    by : (b : Bool) → is_sound_after earlier r ≡ b → (if b then first_bad (earlier ++ r ∷ []) rows else Some r.etag) ≡ None
-        → (first_bad (earlier ++ r ∷ []) rows ≡ None → AreRising (last_of 0 (earlier ++ r ∷ [])) rows) → AreRising (last_of 0 earlier) (r ∷ rows)
-    by true e g more = (
-      ltb-true (last_of 0 earlier) r.etag (both_true _ _ (both_true _ _ (both_true _ _ (both_true _ _ e).0).0).0).0,
-      subst (λ n. AreRising n rows) (last_of-append 0 earlier (r ∷ [])) (more g),
-    )
-    by false e g more = absurd cc
-
-pub rows-rise : (rows : List Row) → first_bad [] rows ≡ None → AreRising 0 rows
-rows-rise rows h = rising-from [] rows h
+-- the rows of a store rise
+pub rows-rise : (S : Store) (rows : List Row) → S ≡ record { rows = rows } → IsStore S → AreRising 0 rows
+rows-rise S rows is h = subst (λ (T : Store). AreRising 0 T.rows) is h.rising
 
 -- the slots of rows that rise, so far
 rise-push : (low latest : ℕ) (slots : List Slot) (new : Slot) → RiseTo low latest slots → latest < new.number → RiseTo low new.number (slots ++ new ∷ [])
@@ -259,17 +245,17 @@ all-read s rows count slots many h =
     omega (arith, parts, as_many, many)
 
 -- all rows are read
-pub all-rise : (s : Setting) (rows : List Row) (count : ℕ) (slots : List Slot) → count ≡ length rows → first_bad [] rows ≡ None → HasRead s rows count slots → RiseTo 0 (last_of 0 rows) slots
-all-rise s rows count slots all sound h =
+pub all-rise : (s : Setting) (rows : List Row) (count : ℕ) (slots : List Slot) → count ≡ length rows → AreRising 0 rows → HasRead s rows count slots → RiseTo 0 (last_of 0 rows) slots
+all-rise s rows count slots all rise h =
     let whole : rows_of h.read ≡ rows = sym (append-nil (rows_of h.read)) ∙ ap (λ ys. rows_of h.read ++ ys) (sym (ap (λ n. drop n rows) all ∙ none_left rows)) ∙ h.rows in
     subst (λ rs. RiseTo 0 (last_of 0 rs) slots) whole
-    (rise-all s rows 0 0 [] slots h.read (let none : 0 ≤ 0 = omega arith in none) (subst (AreRising 0) (sym whole) (rows-rise rows sound)) h.slots)
+    (rise-all s rows 0 0 [] slots h.read (let none : 0 ≤ 0 = omega arith in none) (subst (AreRising 0) (sym whole) rise) h.slots)
 
-pub opened-rise : (s : Setting) (rows : List Row) (count : ℕ) (slots : List Slot) → count ≡ length rows → first_bad [] rows ≡ None → HasRead s rows count slots → NumbersRise 0 slots
-opened-rise s rows count slots all sound h = rises 0 (last_of 0 rows) slots (all-rise s rows count slots all sound h)
+pub opened-rise : (s : Setting) (rows : List Row) (count : ℕ) (slots : List Slot) → count ≡ length rows → AreRising 0 rows → HasRead s rows count slots → NumbersRise 0 slots
+opened-rise s rows count slots all rise h = rises 0 (last_of 0 rows) slots (all-rise s rows count slots all rise h)
 
-pub opened-numbers : (s : Setting) (rows : List Row) (count : ℕ) (slots : List Slot) → count ≡ length rows → first_bad [] rows ≡ None → HasRead s rows count slots → NumbersUpTo (last_of 0 rows) slots
-opened-numbers s rows count slots all sound h = (up-to 0 (last_of 0 rows) slots (all-rise s rows count slots all sound h)).1
+pub opened-numbers : (s : Setting) (rows : List Row) (count : ℕ) (slots : List Slot) → count ≡ length rows → AreRising 0 rows → HasRead s rows count slots → NumbersUpTo (last_of 0 rows) slots
+opened-numbers s rows count slots all rise h = (up-to 0 (last_of 0 rows) slots (all-rise s rows count slots all rise h)).1
 
 -- what holds of a result holds of it in other words
 pub if-ok : {T E : Type 0} (r : Result T E) (P Q : T → Type 0) → ((t : T) → P t → Q t) → IfOk r P → IfOk r Q

@@ -6,20 +6,23 @@ use Rattle.std.specs.Option.{option_map}
 use Rattle.spec_store.specs.Store.{Store, last}
 use Rattle.spec_data.specs.Rows.{Row}
 use Rattle.spec_store.specs.Commit.{Client, Server, Command, Put, Delete, Refused, Written, commit, etags_taken}
-use Rattle.spec_server.specs.Replies.{Reply, Index, UnknownLine, Result as Done, TooManyIndexes as TooMany}
+use Rattle.spec_server.specs.Replies.{Reply, Index, Result as Done, TooManyIndexes as TooMany}
 use Rattle.spec_server.specs.Replies as replies
-use Rattle.index_tree.specs.Definitions.{Definition}
-use Rattle.spec_index.specs.Optimiser.{Make, pick, name_of, retired, retirement}
+use Rattle.index_tree.specs.Definitions.{Definition, Auto, AutoReduce}
+use Rattle.spec_index.specs.Optimiser.{Shape, definition_of, retired, retirement}
 use Rattle.spec_index.specs.World.{World, Slot, SlotChange, added, begins_with_auto, define, define_named, is_automatic, serving}
 use Rattle.spec_index.specs.World as is
-use Rattle.spec_server.specs.Machine.{Course, Auto as AutoOne, changed, in_world, one_change, only_reply, one_field, refused_at, change_of_slots, result_of, results_of, retire, rewrote, single_reply, slot_refused, switch_and, then_course, try_switch, use_or_make, write_refused, wrote, write, course_of}
+use Rattle.spec_query.specs.Query.{Ask}
+use Rattle.spec_server.specs.Asking.{MustMake, answer_from_index}
+use Rattle.spec_server.specs.Machine.{Course, answer_made, answer_making, ask_course, change_of_slots, changed, in_world, made_name, make, one_change, only_reply, refused_at, result_of, results_of, retire, rewrote, single_reply, slot_refused, switch_and, then_course, try_switch, write_refused, wrote, write}
 use Rattle.raven_laws.proofs.KindLemmas.{name_of-begins}
 use Rattle.raven_reply.specs.ReplyView.{reply_view}
 use Rattle.side_by_side.specs.Changes.{MayDefine, answer_view as slot_answer}
 use Rattle.side_by_side.specs.Standing.{Standing}
+use Rattle.side_by_side.specs.declared.change.SlotChange.{SlotChange as Answer}
 use Rattle.side_by_side.specs.declared.change.SlotRefusal.{SlotRefusal}
 use Rattle.side_by_side.specs.declared.change.SlotRefusal.TheVariants as refusal
-use Rattle.raven_world.specs.Slotting.{IsRewritten, Rewrites, change_to, refusal_view}
+use Rattle.raven_world.specs.Slotting.{IsRewritten, IsSlotRefusal, Reslots, Rewrites, change_to, refusal_view}
 use Rattle.raven_world.specs.Transacts.{bare}
 use Rattle.raven_world.specs.WorldView.{answer_view, tried_view}
 use Rattle.raven_world.specs.declared.world.Rewritten.{Rewritten}
@@ -102,18 +105,31 @@ some-same : {A : Type 0} (a b : A) → Some a ≡ Some b → a ≡ b
 some-same a b h = cc
 
 -- a change that is not made, and its reply
+pub slot-refused : (name : List ℕ) (change : Result SlotChange is.SlotRefusal) (refusal : SlotRefusal) (reply : Reply)
+    → IfSome (slot_answer (Err refusal)) (λ c. c ≡ change) → option_map (slot_refused name) (refusal_view refusal) ≡ Some reply → IsSlotRefusal name change reply
+slot-refused name change refusal.NoIndex reply h e = record { refusal = is.NoIndex; cause = sym h; told = sym (some-same (slot_refused name is.NoIndex) reply e) }
+slot-refused name change refusal.TooManyIndexes reply h e = record { refusal = is.TooManyIndexes; cause = sym h; told = sym (some-same (slot_refused name is.TooManyIndexes) reply e) }
+slot-refused name change (refusal.NotFresh index_etag newest) reply h e =
+    record { refusal = is.NotFresh index_etag newest; cause = sym h; told = sym (some-same (slot_refused name (is.NotFresh index_etag newest)) reply e) }
+slot-refused name change refusal.NoReplacement reply h e = record { refusal = is.NoReplacement; cause = sym h; told = sym (some-same (slot_refused name is.NoReplacement) reply e) }
+slot-refused name change refusal.NotesFull reply h e = record { refusal = is.NotesFull; cause = sym h; told = sym (some-same (slot_refused name is.NotesFull) reply e) }
+slot-refused name change refusal.ReservedName reply h e = record { refusal = is.ReservedName; cause = sym h; told = sym (some-same (slot_refused name is.ReservedName) reply e) }
+slot-refused name change (refusal.NameTooLong len) reply h e = record { refusal = is.NameTooLong len; cause = sym h; told = sym (some-same (slot_refused name (is.NameTooLong len)) reply e) }
+slot-refused name change refusal.NoMemory reply h e = absurd cc
+
+refused-told : (W : World) (now : ℕ) (told : List ℕ → Reply) (name : List ℕ) (change : Result SlotChange is.SlotRefusal) (reply : Reply) → IsSlotRefusal name change reply
+    → only_reply reply ≡ change_of_slots W now told name change
+refused-told W now told name change reply h = ap only_reply h.told ∙ ap (change_of_slots W now told name) (sym h.cause)
+
 pub reslots-refused : (W : World) (now : ℕ) (told : List ℕ → Reply) (name : List ℕ) (change : Result SlotChange is.SlotRefusal) (refusal : SlotRefusal) (reply : Reply)
     → IfSome (slot_answer (Err refusal)) (λ c. c ≡ change) → option_map (slot_refused name) (refusal_view refusal) ≡ Some reply → only_reply reply ≡ change_of_slots W now told name change
-reslots-refused W now told name change refusal.NoIndex reply h e = ap only_reply (sym (some-same (slot_refused name is.NoIndex) reply e)) ∙ ap (change_of_slots W now told name) h
-reslots-refused W now told name change refusal.TooManyIndexes reply h e = ap only_reply (sym (some-same (slot_refused name is.TooManyIndexes) reply e)) ∙ ap (change_of_slots W now told name) h
-reslots-refused W now told name change (refusal.NotFresh index_etag newest) reply h e =
-    ap only_reply (sym (some-same (slot_refused name (is.NotFresh index_etag newest)) reply e)) ∙ ap (change_of_slots W now told name) h
-reslots-refused W now told name change refusal.NoReplacement reply h e = ap only_reply (sym (some-same (slot_refused name is.NoReplacement) reply e)) ∙ ap (change_of_slots W now told name) h
-reslots-refused W now told name change refusal.NotesFull reply h e = ap only_reply (sym (some-same (slot_refused name is.NotesFull) reply e)) ∙ ap (change_of_slots W now told name) h
-reslots-refused W now told name change refusal.ReservedName reply h e = ap only_reply (sym (some-same (slot_refused name is.ReservedName) reply e)) ∙ ap (change_of_slots W now told name) h
-reslots-refused W now told name change (refusal.NameTooLong len) reply h e =
-    ap only_reply (sym (some-same (slot_refused name (is.NameTooLong len)) reply e)) ∙ ap (change_of_slots W now told name) h
-reslots-refused W now told name change refusal.NoMemory reply h e = absurd cc
+reslots-refused W now told name change refusal reply h e = refused-told W now told name change reply (slot-refused name change refusal reply h e)
+
+-- a fault that comes before any change
+pub reslots-fault : (W : World) (now : ℕ) (told : List ℕ → Reply) (name : List ℕ) (change : Result SlotChange is.SlotRefusal) (fault : WorldFault) → Reslots name change (Err fault)
+    → IfSome (answer_view (Err fault)) (λ course. course ≡ change_of_slots W now told name change)
+reslots-fault W now told name change (Refuse reply) h = refused-told W now told name change (reply_view reply) h
+reslots-fault W now told name change NoMemory h = tt
 
 -- SWITCHES THAT ARE TRIED
 
@@ -157,45 +173,46 @@ retired-told W now switched retired_names standing commands answer slots notes o
 
 -- A NEW AUTOMATIC INDEX
 
-module _ (W : World) (now : ℕ) (collection field : List ℕ) where
-  abbrev name : List ℕ
-  name = name_of W.slots (last W.store + 1) (one_field collection field)
+-- no more indexes may be made
+pub makes-many : (W : World) (shape : Shape) → nat_le W.setting.max_slots (length W.slots) ≡ true → IsSlotRefusal (made_name W shape) (make W shape) TooMany
+makes-many W shape many = record {
+  refusal = is.TooManyIndexes;
+  cause = ap (λ b. cond b (Err is.TooManyIndexes) (cond (is_some (serving W.slots (made_name W shape))) (Err is.NameServes) (Ok (added W (made_name W shape) (definition_of shape))))) many;
+  told = refl;
+}
 
-  abbrev own : Definition
-  own = Definition.Auto collection ((field ∷ []) ∷ [])
+-- the server may define it under a free name
+pub may-make : (W : World) (shape : Shape) (name : List ℕ) (d : Definition) → name ≡ made_name W shape → serving W.slots name ≡ None → d ≡ definition_of shape → MayDefine Server W.slots name d
+may-make W shape name d named free own = (ap is_automatic own ∙ by shape.grouped, ap begins_with_auto named ∙ name_of-begins W.slots (last W.store + 1) shape, free)
+  where
+    by : (b : Bool) → is_automatic (cond b (AutoReduce shape.collection shape.groups shape.fields) (Auto shape.collection shape.fields)) ≡ true
+    by true = refl
+    by false = refl
 
-  -- what is answered where there are as many indexes as may be, or not, and where the name serves, or not
-  abbrev made : Bool → Bool → Course
-  made many serves = change_of_slots W now Index name (cond many (Err is.TooManyIndexes) (cond serves (Err is.NameServes) (Ok (added W name own))))
+pub makes-so : (W : World) (shape : Shape) (name : List ℕ) (d : Definition) (answer : Result Answer WorldFault) → name ≡ made_name W shape → d ≡ definition_of shape
+    → Reslots name (define W name d) answer → Reslots (made_name W shape) (make W shape) answer
+makes-so W shape name d answer named own h =
+    subst (λ n. Reslots n (define W n (definition_of shape)) answer) named (subst (λ e. Reslots name (define W name e) answer) own h)
 
-  pub picked : pick (one_field collection field) W.store W.slots ≡ Make (one_field collection field)
-      → made (nat_le W.setting.max_slots (length W.slots)) (is_some (serving W.slots name)) ≡ course_of W now (AutoOne collection field)
-  picked p = ap (use_or_make W now) (sym p)
+-- AND THE QUERY FOR WHICH IT IS MADE
 
-  pub make-many : pick (one_field collection field) W.store W.slots ≡ Make (one_field collection field) → nat_le W.setting.max_slots (length W.slots) ≡ true
-      → only_reply TooMany ≡ course_of W now (AutoOne collection field)
-  make-many p many = ap (λ b. made b (is_some (serving W.slots name))) (sym many) ∙ picked p
+pub asks-fault : (W : World) (now : ℕ) (ask : Ask) (shape : Shape) (fault : WorldFault) → Reslots (made_name W shape) (make W shape) (Err fault)
+    → IfSome (answer_view (Err fault)) (λ course. course ≡ ask_course W now ask (MustMake shape))
+asks-fault W now ask shape (Refuse reply) h = ap only_reply h.told ∙ ap (answer_making W now ask (made_name W shape)) (sym h.cause)
+asks-fault W now ask shape NoMemory h = tt
 
-  pub make-serves : pick (one_field collection field) W.store W.slots ≡ Make (one_field collection field) → nat_le W.setting.max_slots (length W.slots) ≡ false
-      → is_some (serving W.slots name) ≡ true → only_reply UnknownLine ≡ course_of W now (AutoOne collection field)
-  make-serves p few serves = (λ i. made ((sym few) i) ((sym serves) i)) ∙ picked p
+pub asks-not : (W : World) (now : ℕ) (ask : Ask) (shape : Shape) (standing : Standing) (commands : List Command) (name : List ℕ) (fault : WorldFault) → Ok (change_to standing commands name) ≡ make W shape
+    → Rewrites W now standing commands (Err fault) → IfSome (answer_view (Err fault)) (λ course. course ≡ ask_course W now ask (MustMake shape))
+asks-not W now ask shape standing commands name (Refuse told) is h =
+    ap only_reply h.told ∙ ap (answer_made W ask (change_to standing commands name)) (sym h.cause) ∙ ap (answer_making W now ask (made_name W shape)) is
+asks-not W now ask shape standing commands name NoMemory is h = tt
 
--- an index that is told the name and the definition
-pub make-told : (W : World) (now : ℕ) (collection field told : List ℕ) (d : Definition) → pick (one_field collection field) W.store W.slots ≡ Make (one_field collection field)
-    → told ≡ name_of W.slots (last W.store + 1) (one_field collection field) → d ≡ Definition.Auto collection ((field ∷ []) ∷ [])
-    → change_of_slots W now Index told (define W told d) ≡ course_of W now (AutoOne collection field)
-make-told W now collection field told d p is body =
-    (λ i. change_of_slots W now Index (is i) (define W (is i) (body i))) ∙ picked W now collection field p
-
--- the server may define it
-pub may-make : (W : World) (collection field told : List ℕ) (d : Definition) → told ≡ name_of W.slots (last W.store + 1) (one_field collection field) → d ≡ Definition.Auto collection ((field ∷ []) ∷ [])
-    → serving W.slots told ≡ None → MayDefine Server W.slots told d
-may-make W collection field told d is body free =
-    (ap is_automatic body, ap begins_with_auto is ∙ name_of-begins W.slots (last W.store + 1) (one_field collection field), free)
-
-pub copied-none : {T : Type 0} (o : Option (Bor T)) → is_some o ≡ false → option_copied o ≡ None
-copied-none None h = refl
-copied-none (Some x) h = absurd cc
+pub asks-made : (W : World) (now : ℕ) (ask : Ask) (shape : Shape) (standing : Standing) (commands : List Command) (name : List ℕ) (r : Rewritten) (reply : Reply) → Ok (change_to standing commands name) ≡ make W shape
+    → IsRewritten W now standing commands r → reply ≡ answer_from_index r.world ask name (serving r.world.slots name) → one_change reply r.rows r.world ≡ ask_course W now ask (MustMake shape)
+asks-made W now ask shape standing commands name r reply is h told =
+    (λ i. one_change ((told ∙ ap (λ (V : World). answer_from_index V ask name (serving V.slots name)) h.world) i) (h.rows i) (h.world i))
+    ∙ ap (answer_made W ask (change_to standing commands name)) (sym h.cause)
+    ∙ ap (answer_making W now ask (made_name W shape)) is
 
 -- THE NAME OF A NEW INDEX
 

@@ -3,10 +3,12 @@ use Rattle.std.specs.Prelude.{◌≡◌, ℕ, List, Option, Some, None, Result, 
 use Rattle.spec_store.specs.Commit.{Command, Refused, Server, Written, after_commands, commit}
 use Rattle.spec_store.specs.Store.{last}
 use Rattle.spec_index.specs.World as is
-use Rattle.spec_server.specs.Machine.{write_refused}
+use Rattle.spec_server.specs.Machine.{slot_refused, write_refused}
 use Rattle.spec_server.specs.Replies.{Reply}
 use Rattle.raven_reply.specs.ReplyView.{reply_view}
+use Rattle.side_by_side.specs.Changes.{change_view}
 use Rattle.side_by_side.specs.Standing.{Standing, world_of}
+use Rattle.side_by_side.specs.declared.change.SlotChange.{SlotChange}
 use Rattle.side_by_side.specs.declared.change.SlotRefusal.{SlotRefusal}
 use Rattle.side_by_side.specs.declared.change.SlotRefusal.TheVariants as refusal
 use Rattle.raven_world.specs.Roomy.{NumbersUpTo}
@@ -50,3 +52,15 @@ refusal_view refusal.NotesFull = Some is.NotesFull
 refusal_view refusal.ReservedName = Some is.ReservedName
 refusal_view (refusal.NameTooLong len) = Some (is.NameTooLong len)
 refusal_view refusal.NoMemory = None
+
+-- this change of the indexes is refused, with this reply for the name
+pub record IsSlotRefusal (name : List ℕ) (change : Result is.SlotChange is.SlotRefusal) (reply : Reply) : Type 0 where
+  pub refusal : is.SlotRefusal
+  pub cause : change ≡ Err refusal
+  pub told : reply ≡ slot_refused name refusal
+
+-- the indexes are changed so, or are not
+abbrev pub Reslots : List ℕ → Result is.SlotChange is.SlotRefusal → Result SlotChange WorldFault → Type 0
+Reslots name change (Ok c) = Ok (change_view c) ≡ change
+Reslots name change (Err (Refuse reply)) = IsSlotRefusal name change (reply_view reply)
+Reslots name change (Err NoMemory) = Unit {0}

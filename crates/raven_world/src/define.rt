@@ -1,14 +1,14 @@
 //! Indexes that are defined and removed.
-ghost use Rattle.std.specs.Prelude.{◌≡◌, ◌+◌, IfOk, IfSome, length, map, nat_le};
+ghost use Rattle.std.specs.Prelude.{◌≡◌, ◌+◌, ℕ, IfOk, IfSome, length, map, nat_le};
 ghost use Rattle.spec_store.specs.Commit.{Server, commit as spec_commit};
-ghost use Rattle.spec_server.specs.Machine.{Define, Remove, change_of_slots, course_of, rewrote};
+ghost use Rattle.spec_server.specs.Machine.{Define, Remove, course_of, rewrote};
 ghost use Rattle.spec_server.specs.Replies.{Index as IndexOf, Removed as RemovedOf};
 ghost use Rattle.spec_store.specs.Store.{last};
 ghost use Rattle.doc_txn.specs.CommandView.{command_view, writer_view};
 ghost use Rattle.index_definition.specs.DefinitionView.{definition_view};
 ghost use Rattle.raven_reply.specs.ReplyView.{reply_view};
 ghost use Rattle.side_by_side.specs.Changes.{MayDefine, change_view as slot_change, define_by as spec_define_by};
-ghost use Rattle.raven_world.specs.Slotting.{HasNumbers};
+ghost use Rattle.raven_world.specs.Slotting.{HasNumbers, Reslots};
 ghost use Rattle.raven_world.specs.WorldView.{answer_view};
 
 use crate::rewrite::slots_refused;
@@ -61,8 +61,13 @@ impl World {
         self.store.last() + 1
     }
 
-    // The world after an index is defined.
-    fn defined(&self, alloc: Global, change: SlotChange, now: u64) -> Result<Change, WorldFault>
+    /// The world after an index is defined.
+    pub(crate) fn defined(
+        &self,
+        alloc: Global,
+        change: SlotChange,
+        now: u64,
+    ) -> Result<Change, WorldFault>
         requires { HasNumbers self.now now (map command_view change.commands) change.slots.slots }
         ensures { IfSome (answer_view result) (λ course. course ≡ rewrote self.now (IndexOf change.name) (slot_change change) (spec_commit self.now.setting Server now (map command_view change.commands) self.now.store)) }
     {
@@ -75,16 +80,16 @@ impl World {
         self.rewrite(alloc, slots, commands, reply, now)
     }
 
-    /// Defines an index under the name of its definition.
-    pub(crate) fn define_for(
+    /// The indexes after one is defined under the name of its definition.
+    pub(crate) fn with_index(
         &self,
         alloc: Global,
         definition: Arc<Definition>,
         writer: Writer,
-        now: u64,
-    ) -> Result<Change, WorldFault>
+    ) -> Result<SlotChange, WorldFault>
         requires { MayDefine (writer_view writer) self.now.slots definition.value.name (definition_view definition.value.body) }
-        ensures { IfSome (answer_view result) (λ course. course ≡ change_of_slots self.now now IndexOf definition.value.name (spec_define_by (writer_view writer) self.now definition.value.name (definition_view definition.value.body))) }
+        ensures change { Reslots definition.value.name (spec_define_by (writer_view writer) self.now definition.value.name (definition_view definition.value.body)) result }
+        ensures numbers { (now : ℕ) → IfOk result (λ change. HasNumbers self.now now (map command_view change.commands) change.slots.slots) }
     {
         let name = own_name(&definition)?;
         let last = self.store.last();
@@ -92,7 +97,7 @@ impl World {
             .slots
             .define(alloc, definition, writer, last, &self.limits)
         {
-            Ok(change) => self.defined(alloc, change, now),
+            Ok(change) => Ok(change),
             Err(refusal) => Err(WorldFault::Refused(slots_refused(alloc, &name, refusal)?)),
         }
     }
@@ -107,7 +112,8 @@ impl World {
     ) -> Result<Change, WorldFault>
         ensures { IfSome (answer_view result) (λ course. course ≡ course_of self.now now (Define definition.name definition.definition)) }
     {
-        self.define_for(alloc, definition.into_shared(), Writer::Client, now)
+        let change = self.with_index(alloc, definition.into_shared(), Writer::Client)?;
+        self.defined(alloc, change, now)
     }
 
     /// Removes the index of a name, and its replacement if it has one. The rows of their definitions are deleted.

@@ -1,58 +1,79 @@
 //! New automatic indexes.
-ghost use Rattle.std.specs.Prelude.{◌≡◌, ◌+◌, IfOk, IfSome, false, length, nat_le, true};
-ghost use Rattle.spec_server.specs.Machine.{Auto as AutoOne, course_of, one_field};
-ghost use Rattle.spec_server.specs.Opening.{is_part};
-ghost use Rattle.spec_index.specs.Optimiser.{Make, name_of, pick as spec_pick};
-ghost use Rattle.spec_store.specs.Store.{last};
+ghost use Rattle.std.specs.Prelude.{◌≡◌, ℕ, IfOk, IfSome, None, false, length, map, nat_le};
+ghost use Rattle.spec_index.specs.Optimiser.{Make};
+ghost use Rattle.spec_index.specs.World.{serving};
+ghost use Rattle.spec_server.specs.Asking.{MustMake};
+ghost use Rattle.spec_server.specs.Machine.{ask_course, made_name, make as spec_make, use_or_make};
+ghost use Rattle.doc_txn.specs.CommandView.{command_view};
+ghost use Rattle.index_definition.specs.ShapeView.{shape_view};
+ghost use Rattle.raven_reply.specs.ReplyView.{reply_view};
+ghost use Rattle.raven_snapshot.specs.Asked.{ReadsWhatItCounts};
+ghost use Rattle.raven_world.specs.Slotting.{HasNumbers, Reslots};
 ghost use Rattle.raven_world.specs.WorldView.{answer_view};
 
 use crate::define::shared;
-use crate::naming::auto_name;
-use crate::world::{Change, World, WorldFault};
+use crate::world::{Change, Rewritten, World, WorldFault};
 use doc_txn::Writer;
-use index_definition::auto_definition;
-use raven_base::NoMemory;
+use index_definition::{Shape, auto_definition};
+use query_optimizer::auto_name;
+use raven_base::{NoMemory, Steps};
 use raven_reply::Reply;
-use raven_value::{Name, Text};
+use raven_value::Name;
+use rql_plan::QueryAsk;
+use side_by_side::SlotChange;
 use std::alloc::Global;
+use std::sync::ledger::Ledger;
 
 impl World {
-    // The name of a new index.
-    fn new_name(&self, alloc: Global, collection: &Text, field: &Text) -> Result<Name, NoMemory>
+    // The name of a new index, which none has yet.
+    fn new_name(&self, alloc: Global, shape: &Shape) -> Result<Name, NoMemory>
         requires { nat_le self.now.setting.max_slots (length self.now.slots) ≡ false }
-        ensures { IfOk result (λ name. name ≡ name_of self.now.slots (last self.now.store + 1) (one_field collection.now field.now)) }
+        ensures name { IfOk result (λ name. name ≡ made_name self.now (shape_view shape.now)) }
+        ensures free { IfOk result (λ name. serving self.now.slots name ≡ None) }
     {
-        let _roomy = &self.store;
-        auto_name(
-            alloc,
-            self.slots.list(),
-            self.next_number(),
-            collection,
-            field,
-        )
+        auto_name(alloc, self.slots.list(), self.next_number(), shape)
     }
 
-    /// Makes an automatic index for a query of one field of a collection. The field can be a part of a path; an index of another would not
-    /// open again.
-    pub fn make(
-        &self,
-        alloc: Global,
-        collection: &Text,
-        field: &Text,
-        now: u64,
-    ) -> Result<Change, WorldFault>
-        requires part { is_part field.now ≡ true }
-        requires picked { spec_pick (one_field collection.now field.now) self.now.store self.now.slots ≡ Make (one_field collection.now field.now) }
-        ensures { IfSome (answer_view result) (λ course. course ≡ course_of self.now now (AutoOne collection.now field.now)) }
+    // The indexes with a new one of this shape.
+    fn with_new(&self, alloc: Global, shape: Shape) -> Result<SlotChange, WorldFault>
+        ensures change { Reslots (made_name self.now (shape_view shape)) (spec_make self.now (shape_view shape)) result }
+        ensures numbers { (now : ℕ) → IfOk result (λ change. HasNumbers self.now now (map command_view change.commands) change.slots.slots) }
     {
         if self.is_crowded() {
             return Err(WorldFault::Refused(Reply::TooManyIndexes));
         }
-        let name = self.new_name(alloc, collection, field)?;
-        if self.slots.serving(&name).is_some() {
-            return Err(WorldFault::Refused(Reply::UnknownLine));
-        }
-        let definition = auto_definition(alloc, name, collection, field)?;
-        self.define_for(alloc, shared(alloc, definition)?, Writer::Server, now)
+        let name = self.new_name(alloc, &shape)?;
+        let definition = shared(alloc, auto_definition(name, shape))?;
+        self.with_index(alloc, definition, Writer::Server)
+    }
+
+    /// Makes an automatic index of this shape, and replies with its name.
+    pub fn make(&self, alloc: Global, shape: Shape, now: u64) -> Result<Change, WorldFault>
+        ensures { IfSome (answer_view result) (λ course. course ≡ use_or_make self.now now (Make (shape_view shape))) }
+    {
+        let change = self.with_new(alloc, shape)?;
+        self.defined(alloc, change, now)
+    }
+
+    /// Makes an automatic index of this shape for a query, and answers the query by it.
+    pub fn make_for<L: Ledger>(
+        &self,
+        alloc: Global,
+        ask: &QueryAsk,
+        shape: Shape,
+        now: u64,
+        steps: &mut Steps<L>,
+    ) -> Result<Change, WorldFault>
+        ensures course { IfSome (answer_view result) (λ course. course ≡ ask_course self.now now ask.now (MustMake (shape_view shape))) }
+        ensures reads { IfOk result (λ change. ReadsWhatItCounts (reply_view change.reply) steps.old steps.new) }
+    {
+        let SlotChange {
+            slots,
+            commands,
+            name,
+        } = self.with_new(alloc, shape)?;
+        let Rewritten { world, rows } = self.rewritten(alloc, slots, commands, now)?;
+        let reply = world.snapshot().ask_named(alloc, ask, &name, steps)?;
+        Ok(Change { world, rows, reply })
     }
 }

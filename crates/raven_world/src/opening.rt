@@ -8,7 +8,6 @@ ghost use Rattle.index_lang.specs.Openings.{IsReadRow, OpensAs};
 ghost use Rattle.raven_world.specs.Opened.{TakesRow, TellsBadRow, read_as};
 ghost use Rattle.spec_data.specs.Folding.{folded};
 ghost use Rattle.spec_store.specs.Store.{row_at};
-ghost use Rattle.doc_store.specs.Opening.{first_bad};
 ghost use Rattle.spec_index.specs.World.{index_id as spec_index_id, new_version};
 ghost use Rattle.raven_world.specs.Kinds.{HasOwnName};
 ghost use Rattle.spec_server.specs.Machine.{machine_of};
@@ -174,8 +173,8 @@ impl World {
     /// - the live row of a definition with as many indexes before it as the limit allows;
     /// - a row whose id begins with `@index/`, without regard to case, and whose collection is not `@indexes`, or the other way
     ///   round;
-    /// - the live row of a definition whose body is neither that of an automatic index of one field nor that of a map by a text
-    ///   of the language, or the rest of whose id cannot be the name of such an index;
+    /// - the live row of a definition whose body is neither that of an automatic index nor that of a map by a text of the language,
+    ///   or the rest of whose id cannot be the name of such an index;
     /// - the live row of a definition that is to replace one that has no live row.
     #[tactic(auto, using(crate::proofs::Openings::opening))]
     pub fn open(
@@ -187,7 +186,6 @@ impl World {
     ) -> Result<World, OpenFault>
         requires few { length rows.now < 2 ^ 32 }
         requires stored { store ≡ record { rows = rows.now } }
-        requires sound { first_bad [] rows.now ≡ None }
         ensures opened { IfOk result (λ world. OpensAs (setting_of base limits) rows.now (machine_of world)) }
         ensures fault { IfErr result (TellsBadRow (setting_of base limits) rows.now) }
     {
@@ -197,6 +195,8 @@ impl World {
                 return Err(OpenFault::KeptBad { etag: row.etag });
             }
         }
+        // A store tells with its last etag that its etags rise, and so the numbers of the indexes do.
+        let _last = store.last();
         let live = Slots::of(alloc, slots)?;
         Ok(World::of_parts(store, live, base, limits))
     }

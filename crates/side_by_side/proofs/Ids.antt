@@ -22,7 +22,7 @@ fit-parts false true n r h = absurd cc
 fit-parts false false n None h = (refl, refl)
 fit-parts false false n (Some k) h = absurd cc
 
-fit-short : (limit : ℕ) (s : List ℕ) → IsTrue (is_fit limit s) → IsClean s × (length s ≤ limit)
+pub fit-short : (limit : ℕ) (s : List ℕ) → IsTrue (is_fit limit s) → IsClean s × (length s ≤ limit)
 fit-short limit s h =
     let parts = fit-parts (length s == 0) (nat_lt limit (length s)) (length s) (position_from is_control 0 s) h in
     let few : nat_lt limit (length s) ≡ false = parts.0 in

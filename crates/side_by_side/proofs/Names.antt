@@ -9,7 +9,7 @@ use Rattle.spec_data.specs.Folding.{folded, same_key}
 use Rattle.spec_data.specs.Limits.{max_index_name}
 use Rattle.spec_index.specs.World.{Slot, Version, NumbersRise, numbered, begins_with_auto, begins_with_replacement, is_reserved_name, replaced_name, serving, without}
 use Rattle.side_by_side.proofs.Rising.{rise-versioned}
-use Rattle.side_by_side.specs.Naming.{AreBeside, AreNamedAs, IfNumbered, IsNamedAs}
+use Rattle.side_by_side.specs.Naming.{AreBeside, AreNamedAs, IfNumbered, IsNamedAs, IsServedBy}
 
 -- FOLDED NAMES
 
@@ -41,8 +41,11 @@ replaced-itself n plain = ap (λ t. cond t (drop 14 n) n) plain
 pub named-itself : (n : List ℕ) → begins_with_replacement n ≡ false → IsNamedAs n n
 named-itself n plain = record { same = ap folded (sym (replaced-itself n plain)); plain = plain }
 
-pub named-beside : (s d : List ℕ) → folded d ≡ folded s → begins_with_replacement d ≡ false → IsNamedAs (replacement_of s) d
-named-beside s d same plain = record { same = same; plain = plain }
+pub named-beside : (s d : List ℕ) → IsServedBy d s → IsNamedAs (replacement_of s) d
+named-beside s d h = record { same = h.same; plain = h.plain }
+
+pub short-served : (d s : List ℕ) → IsServedBy d s → length s ≤ max_index_name
+short-served d s h = h.short
 
 -- the definition of a replacement may have the name that it takes
 pub takes-name : (a n d : List ℕ) → IsNamedAs a d → folded a ≡ folded (replacement_of n) → IsNamedAs n d
@@ -89,17 +92,20 @@ holds p (x ∷ slots) s h = elim (p x) as (λ b. p x ≡ b → cond b (Some x) (
   | false ↦ λ e is. holds p slots s is
 ] refl h
 
-pub found-name : (slots : List Slot) (q : List ℕ) (s : Slot) → serving slots q ≡ Some s → folded q ≡ folded s.name
+found-name : (slots : List Slot) (q : List ℕ) (s : Slot) → serving slots q ≡ Some s → folded q ≡ folded s.name
 found-name slots q s h = (bytes_eq-Decides (folded q) (folded s.name)).0 (holds (λ x. same_key (folded q) (folded x.name)) slots s h)
 
-pub found-short : (slots : List Slot) (q : List ℕ) (s : Slot) → serving slots q ≡ Some s → length q ≤ max_index_name → length s.name ≤ max_index_name
+found-short : (slots : List Slot) (q : List ℕ) (s : Slot) → serving slots q ≡ Some s → length q ≤ max_index_name → length s.name ≤ max_index_name
 found-short slots q s h few =
     let long : length s.name ≡ length q = sym (length-folded s.name) ∙ ap length (sym (found-name slots q s h)) ∙ length-folded q in
     omega arith
 
-pub ruleset defining = (named-given, given-plain, named-auto, found-name, found-short)
+pub found-served : (slots : List Slot) (q : List ℕ) (s : Slot) → serving slots q ≡ Some s → begins_with_replacement q ≡ false → length q ≤ max_index_name → IsServedBy q s.name
+found-served slots q s h plain few = record { same = found-name slots q s h; plain = plain; short = found-short slots q s h few }
 
-pub ruleset replacing = (named-beside)
+pub ruleset defining = (named-given, given-plain, named-auto)
+
+pub ruleset replacing = (named-beside, short-served)
 
 -- NUMBERS OF SLOTS THAT ARE FOUND
 

@@ -1,11 +1,13 @@
 -- What the answers of the program say of a change of indexes.
-use Rattle.std.specs.Prelude.{◌≡◌, ℕ, List, true, false, map, Option, Some, None, Result, Ok, Err}
+use Rattle.std.specs.Prelude.{◌≡◌, ℕ, List, true, false, map, IfSome, Option, Some, None, Result, Ok, Err}
 use Rattle.spec_index.specs.World as is
 use Rattle.spec_index.specs.World.{World, Slot, begins_with_auto, define, define_named, is_automatic, serving}
-use Rattle.spec_store.specs.Commit.{Writer, Client, Server}
+use Rattle.spec_store.specs.Commit.{Setting, Writer, Client, Server}
+use Rattle.spec_store.specs.Store.{Store, last}
 use Rattle.index_tree.specs.Definitions.{Definition}
 use Rattle.doc_txn.specs.CommandView.{command_view}
 use Rattle.spec_index.specs.Optimiser.{retired, retirement}
+use Rattle.side_by_side.specs.Standing.{Standing, world_of}
 use Rattle.side_by_side.specs.declared.change.SlotChange.{SlotChange}
 use Rattle.side_by_side.specs.declared.retire.Retirement.{Retirement}
 use Rattle.side_by_side.specs.declared.change.SlotRefusal.{SlotRefusal}
@@ -25,6 +27,11 @@ answer_view (Err refusal.NotesFull) = Some (Err is.NotesFull)
 answer_view (Err refusal.ReservedName) = Some (Err is.ReservedName)
 answer_view (Err (refusal.NameTooLong len)) = Some (Err (is.NameTooLong len))
 answer_view (Err refusal.NoMemory) = None
+
+-- with so many slots at most, and where the last etag is this one, the answer is this change of a world of these indexes
+abbrev pub Changes : ℕ → ℕ → Standing → (World → Result is.SlotChange is.SlotRefusal) → Result SlotChange SlotRefusal → Type 0
+Changes most latest standing change answer = (setting : Setting) (S : Store) → setting.max_slots ≡ most → last S ≡ latest →
+    IfSome (answer_view answer) (λ c. c ≡ change (world_of setting S standing))
 
 -- a client defines an index of a name that it chose, the server one of a name that is free
 abbrev pub define_by : Writer → World → List ℕ → Definition → Result is.SlotChange is.SlotRefusal

@@ -1,13 +1,20 @@
 -- The name of a slot and that in its definition, and the numbers of slots.
-use Rattle.std.specs.Prelude.{◌≡◌, ◌<◌, ◌≤◌, ℕ, List, [], ◌∷◌, false}
+use Rattle.std.specs.Prelude.{◌≡◌, ◌<◌, ◌≤◌, ℕ, List, [], ◌∷◌, false, length}
 use Rattle.spec_data.specs.Faults.{replacement_of}
 use Rattle.spec_data.specs.Folding.{folded}
+use Rattle.spec_data.specs.Limits.{max_index_name}
 use Rattle.spec_index.specs.World.{Slot, begins_with_replacement, replaced_name}
 
 -- The definition has the slot's name, or the name that the slot is to take if it is a replacement. Names are compared without regard to case.
 pub record IsNamedAs (name definition : List ℕ) : Type 0 where
   pub same : folded definition ≡ folded (replaced_name name)
   pub plain : begins_with_replacement definition ≡ false
+
+-- a client may give a definition this name, and the slot of that name serves it
+pub record IsServedBy (definition name : List ℕ) : Type 0 where
+  pub same : folded definition ≡ folded name
+  pub plain : begins_with_replacement definition ≡ false
+  pub short : length name ≤ max_index_name
 
 -- each slot of this number has a name of which P holds
 abbrev pub IfNumbered : ℕ → (List ℕ → Type 0) → List Slot → Type 0

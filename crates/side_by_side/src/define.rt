@@ -1,8 +1,7 @@
 //! How an index is defined.
-ghost use Rattle.std.specs.Prelude.{◌≡◌, ◌+◌, ◌++◌, ◌∷◌, ◌≤◌, [], IfOk, IfSome, None, Ok, Some, false, length, nat_lt, option_copied};
+ghost use Rattle.std.specs.Prelude.{◌≡◌, ◌+◌, ◌++◌, ◌∷◌, ◌≤◌, [], IfOk, None, Ok, Some, false, length, nat_lt, option_copied};
 ghost use Rattle.std.specs.List.{All};
 ghost use Rattle.spec_data.specs.Faults.{replacement_of as spec_replacement_of};
-ghost use Rattle.spec_data.specs.Folding.{folded};
 ghost use Rattle.spec_data.specs.Limits.{max_etag};
 ghost use Rattle.index_tree.specs.Definitions.{same_definition};
 ghost use Rattle.spec_store.specs.Commit.{AnyVector, Delete, Put, Setting};
@@ -10,8 +9,8 @@ ghost use Rattle.spec_store.specs.Store.{Store, last};
 ghost use Rattle.spec_index.specs.World.{added_if_room as spec_added_if_room, begins_with_replacement, define_at as spec_define_at, define_beside as spec_define_beside, define_named as spec_define_named, index_id, is_reserved_name as spec_is_reserved_name, max_index_name, new_version, row_body, serving as spec_serving, without as spec_without};
 ghost use Rattle.doc_txn.specs.CommandView.{writer_view};
 ghost use Rattle.index_definition.specs.DefinitionView.{definition_view};
-ghost use Rattle.side_by_side.specs.Changes.{MayDefine, answer_view, change_view, define_by};
-ghost use Rattle.side_by_side.specs.Naming.{IsNamedAs, RiseTo};
+ghost use Rattle.side_by_side.specs.Changes.{Changes, MayDefine, change_view, define_by};
+ghost use Rattle.side_by_side.specs.Naming.{IsNamedAs, IsServedBy, RiseTo};
 ghost use Rattle.side_by_side.specs.Standing.{world_of};
 
 use crate::change::{SlotChange, SlotRefusal};
@@ -137,8 +136,7 @@ impl Slots {
         requires latest { latest ≤ max_etag }
         requires numbers { All (λ s. s.number ≤ latest) self.now.slots }
         requires named { IsNamedAs name definition.value.name }
-        ensures { (setting : Setting) (S : Store) → setting.max_slots ≡ limits.now.slots → last S ≡ latest →
-            IfSome (answer_view result) (λ change. change ≡ spec_added_if_room (world_of setting S self.now) name (definition_view definition.value.body)) }
+        ensures { Changes limits.now.slots latest self.now (λ W. spec_added_if_room W name (definition_view definition.value.body)) result }
     {
         if limits.slots as usize <= self.list().len() {
             return Err(SlotRefusal::TooManyIndexes);
@@ -158,8 +156,7 @@ impl Slots {
         requires latest { latest ≤ max_etag }
         requires numbers { All (λ s. s.number ≤ latest) self.now.slots }
         requires named { IsNamedAs definition.value.name definition.value.name }
-        ensures { (setting : Setting) (S : Store) → setting.max_slots ≡ limits.now.slots → last S ≡ latest →
-            IfSome (answer_view result) (λ change. change ≡ spec_added_if_room (world_of setting S self.now) definition.value.name (definition_view definition.value.body)) }
+        ensures { Changes limits.now.slots latest self.now (λ W. spec_added_if_room W definition.value.name (definition_view definition.value.body)) result }
     {
         let name = own_name(&definition)?;
         self.added_if_room(alloc, name, definition, latest, limits)
@@ -177,11 +174,8 @@ impl Slots {
     ) -> Result<SlotChange, SlotRefusal>
         requires latest { latest ≤ max_etag }
         requires numbers { All (λ s. s.number ≤ latest) self.now.slots }
-        requires served { folded definition.value.name ≡ folded slot.now.name }
-        requires plain { begins_with_replacement definition.value.name ≡ false }
-        requires short { length slot.now.name ≤ max_index_name }
-        ensures { (setting : Setting) (S : Store) → setting.max_slots ≡ limits.now.slots → last S ≡ latest →
-            IfSome (answer_view result) (λ change. change ≡ spec_define_beside (world_of setting S self.now) (definition_view definition.value.body) slot.now None) }
+        requires served { IsServedBy definition.value.name slot.now.name }
+        ensures { Changes limits.now.slots latest self.now (λ W. spec_define_beside W (definition_view definition.value.body) slot.now None) result }
     {
         if defines(slot, &definition) {
             return Ok(self.unchanged(alloc, &slot.name)?);
@@ -202,9 +196,7 @@ impl Slots {
     ) -> Result<SlotChange, NoMemory>
         requires latest { latest ≤ max_etag }
         requires numbers { All (λ s. s.number ≤ latest) self.now.slots }
-        requires served { folded definition.value.name ≡ folded slot.now.name }
-        requires plain { begins_with_replacement definition.value.name ≡ false }
-        requires short { length slot.now.name ≤ max_index_name }
+        requires served { IsServedBy definition.value.name slot.now.name }
         ensures { (setting : Setting) (S : Store) → last S ≡ latest →
             IfOk result (λ change. Ok (change_view change) ≡ spec_define_beside (world_of setting S self.now) (definition_view definition.value.body) slot.now (Some replacement.now)) }
     {
@@ -230,11 +222,8 @@ impl Slots {
     ) -> Result<SlotChange, SlotRefusal>
         requires latest { latest ≤ max_etag }
         requires numbers { All (λ s. s.number ≤ latest) self.now.slots }
-        requires served { folded definition.value.name ≡ folded slot.now.name }
-        requires plain { begins_with_replacement definition.value.name ≡ false }
-        requires short { length slot.now.name ≤ max_index_name }
-        ensures { (setting : Setting) (S : Store) → setting.max_slots ≡ limits.now.slots → last S ≡ latest →
-            IfSome (answer_view result) (λ change. change ≡ spec_define_beside (world_of setting S self.now) (definition_view definition.value.body) slot.now (spec_serving self.now.slots (spec_replacement_of slot.now.name))) }
+        requires served { IsServedBy definition.value.name slot.now.name }
+        ensures { Changes limits.now.slots latest self.now (λ W. spec_define_beside W (definition_view definition.value.body) slot.now (spec_serving self.now.slots (spec_replacement_of slot.now.name))) result }
     {
         match self.beside(alloc, slot)? {
             Some(replacement) => {
@@ -257,8 +246,7 @@ impl Slots {
         requires numbers { All (λ s. s.number ≤ latest) self.now.slots }
         requires plain { begins_with_replacement definition.value.name ≡ false }
         requires short { length definition.value.name ≤ max_index_name }
-        ensures { (setting : Setting) (S : Store) → setting.max_slots ≡ limits.now.slots → last S ≡ latest →
-            IfSome (answer_view result) (λ change. change ≡ spec_define_at (world_of setting S self.now) definition.value.name (definition_view definition.value.body) (spec_serving self.now.slots definition.value.name)) }
+        ensures { Changes limits.now.slots latest self.now (λ W. spec_define_at W definition.value.name (definition_view definition.value.body) (spec_serving self.now.slots definition.value.name)) result }
     {
         match self.served_by(&definition) {
             Some(slot) => self.define_beside(alloc, slot, definition, latest, limits),
@@ -277,8 +265,7 @@ impl Slots {
     ) -> Result<SlotChange, SlotRefusal>
         requires latest { latest ≤ max_etag }
         requires numbers { All (λ s. s.number ≤ latest) self.now.slots }
-        ensures { (setting : Setting) (S : Store) → setting.max_slots ≡ limits.now.slots → last S ≡ latest →
-            IfSome (answer_view result) (λ change. change ≡ spec_define_named (world_of setting S self.now) definition.value.name (definition_view definition.value.body)) }
+        ensures { Changes limits.now.slots latest self.now (λ W. spec_define_named W definition.value.name (definition_view definition.value.body)) result }
     {
         if has_reserved_name(&definition) {
             return Err(SlotRefusal::ReservedName);
@@ -306,8 +293,7 @@ impl Slots {
         requires latest { latest ≤ max_etag }
         requires numbers { All (λ s. s.number ≤ latest) self.now.slots }
         requires may { MayDefine (writer_view writer) self.now.slots definition.value.name (definition_view definition.value.body) }
-        ensures { (setting : Setting) (S : Store) → setting.max_slots ≡ limits.now.slots → last S ≡ latest →
-            IfSome (answer_view result) (λ change. change ≡ define_by (writer_view writer) (world_of setting S self.now) definition.value.name (definition_view definition.value.body)) }
+        ensures { Changes limits.now.slots latest self.now (λ W. define_by (writer_view writer) W definition.value.name (definition_view definition.value.body)) result }
     {
         match writer {
             Writer::Client => self.define_named(alloc, definition, latest, limits),

@@ -7,8 +7,7 @@ ghost use Rattle.doc_txn.specs.CommandView.{command_view};
 ghost use Rattle.index_definition.specs.DefinitionView.{definition_view};
 
 use doc_txn::{Command, Expect};
-use index_definition::Definition;
-use index_lang::row_body;
+use index_definition::{Definition, row_body};
 use raven_base::NoMemory;
 use raven_value::{Id, IdRefusal, Name, starts_folded};
 use std::alloc::Global;

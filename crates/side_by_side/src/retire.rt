@@ -1,11 +1,8 @@
 //! Which automatic indexes are no longer needed.
 ghost use Rattle.std.specs.Prelude.{◌≡◌, IfOk, filter, map, not};
-ghost use Rattle.std.specs.List.{list_all, list_any};
-ghost use Rattle.std.specs.Cmp.Lexicographic.{pointwise};
-ghost use Rattle.std.specs.Str.{bytes_eq};
 ghost use Rattle.spec_store.specs.Commit.{AnyVector, Delete, Setting};
 ghost use Rattle.spec_store.specs.Store.{Store};
-ghost use Rattle.spec_index.specs.Optimiser.{has_path as spec_has_path, is_retired as spec_is_retired, is_wider as spec_is_wider, outdoes as spec_outdoes, retired, retirement, slot_shape};
+ghost use Rattle.spec_index.specs.Optimiser.{is_retired as spec_is_retired, is_wider as spec_is_wider, outdoes as spec_outdoes, retired, retirement, slot_shape};
 ghost use Rattle.spec_index.specs.World.{index_id};
 ghost use Rattle.doc_txn.specs.CommandView.{command_view};
 ghost use Rattle.side_by_side.specs.Changes.{IsRetirement};
@@ -16,7 +13,7 @@ use crate::slot::Slot;
 use crate::slots::Slots;
 use doc_txn::Commands;
 use raven_base::NoMemory;
-use raven_value::{Name, Path};
+use raven_value::Name;
 use std::alloc::Global;
 
 /// The indexes without the retired ones, and the commands by which the rows of these are deleted.
@@ -29,37 +26,17 @@ pub struct Retirement {
     pub names: Vec<Name>,
 }
 
-fn is_same(path: &Path, other: &Path) -> bool
-    ensures { result ≡ pointwise bytes_eq path.now other.now }
-{
-    path.as_slice() == other.as_slice()
-}
-
-fn has_path(paths: &[Path], path: &Path) -> bool
-    ensures { result ≡ spec_has_path paths.now path.now }
-{
-    paths.iter().any(|own| is_same(path, own))
-}
-
-fn has_paths(paths: &[Path], others: &[Path]) -> bool
-    ensures { result ≡ list_all (spec_has_path paths.now) others.now }
-{
-    others.iter().all(|path| has_path(paths, path))
-}
-
 // Whether one automatic index covers another and has more fields.
 fn is_wider(wider: &Slot, slot: &Slot) -> bool
     ensures { result ≡ spec_is_wider (slot_shape wider.now) (slot_shape slot.now) }
 {
-    let Some((collection, fields)) = slot.shape() else {
+    let Some(shape) = slot.shape() else {
         return false;
     };
-    let Some((other, more)) = wider.shape() else {
-        return false;
-    };
-    other == collection
-        && has_paths(more.as_slice(), fields.as_slice())
-        && fields.len() < more.len()
+    match wider.shape() {
+        Some(other) => auto_merge::is_wider(other, shape),
+        None => false,
+    }
 }
 
 // Whether one index answers all that another answers, has more fields, and is no further back.

@@ -1,15 +1,16 @@
 //! Live indexes.
-ghost use Rattle.std.specs.Prelude.{◌≡◌, IfOk, MatchOption, None, Some, nat_lt};
+ghost use Rattle.std.specs.Prelude.{◌≡◌, IfOk, MatchOption, None, Some};
 ghost use Rattle.spec_index.specs.Optimiser.{slot_shape};
 ghost use Rattle.spec_index.specs.World.{new_version, is_named as spec_is_named, newest_read, is_stale as spec_is_stale};
 ghost use Rattle.index_definition.specs.DefinitionView.{definition_view};
+ghost use Rattle.index_definition.specs.ShapeView.{shape_view};
 ghost use Rattle.side_by_side.specs.Naming.{IsNamedAs};
 
 use doc_store::Store;
-use index_definition::{DefBody, Definition};
+use index_definition::{Definition, Shape};
 use index_version::IndexVersion;
 use raven_base::NoMemory;
-use raven_value::{Name, Paths, Text};
+use raven_value::Name;
 use std::alloc::{AllocError, Global};
 use std::marker::Model;
 use std::sync::Arc;
@@ -88,31 +89,27 @@ impl Slot {
         })
     }
 
-    /// The etag of the newest row that it reads, 0 if there is none. The index is stale if it has not come so far.
-    pub fn newest(&self, alloc: Global, store: &Store) -> Result<u64, NoMemory>
-        ensures newest { IfOk result (λ etag. etag ≡ newest_read store.now self.now) }
-        ensures stale { IfOk result (λ etag. spec_is_stale store.now self.now ≡ nat_lt self.now.version.etag etag) }
+    /// The etag of the newest row that it reads, 0 if there is none.
+    pub fn newest(&self, store: &Store) -> u64
+        ensures { result ≡ newest_read store.now self.now }
     {
-        let scope = self.version.scope(alloc)?;
-        Ok(store.newest(&scope, None))
+        store.newest(self.version.scope(), None)
     }
 
-    /// The collection and the fields of an automatic index, and nothing of another.
-    pub fn shape(&self) -> Option<(&Text, &Paths)>
-        ensures { MatchOption result (slot_shape self.now ≡ None) (λ shape. slot_shape self.now ≡ Some (record { collection = shape.0.now; fields = shape.1.now })) }
+    /// Whether the store has a row that it reads and has not seen.
+    pub fn is_stale(&self, store: &Store) -> bool
+        ensures { result ≡ spec_is_stale store.now self.now }
     {
         let version = &self.version;
-        match &version.definition().body {
-            DefBody::Auto { collection, fields } => Some((collection, fields)),
-            DefBody::Static { .. } => None,
-        }
+        store.stale(version.scope(), version.etag(), None)
     }
 
-    /// Whether it has not come as far as this etag.
-    pub fn is_behind(&self, etag: u64) -> bool
-        ensures { result ≡ nat_lt self.now.version.etag etag }
+    /// The shape of an automatic index; another has none.
+    pub fn shape(&self) -> Option<&Shape>
+        ensures { MatchOption result (slot_shape self.now ≡ None) (λ shape. slot_shape self.now ≡ Some (shape_view shape.now)) }
     {
-        self.version.etag() < etag
+        let version = &self.version;
+        version.definition().body.shape()
     }
 }
 

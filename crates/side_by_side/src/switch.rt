@@ -18,17 +18,24 @@ use raven_base::NoMemory;
 use raven_value::Name;
 use std::alloc::Global;
 
+// How far an index has come.
+fn etag_of(slot: &Slot) -> u64
+    ensures { result ≡ slot.now.version.etag }
+{
+    slot.version.etag()
+}
+
 // The note of a switch whose row has this etag.
-fn note_of(slot: &Slot, replacement: &Slot, etag: u64, newest: u64) -> Result<Note, NoMemory>
-    ensures { IfOk result (λ note. note ≡ record { etag = etag; name = slot.now.name; old = slot.now.number; new = replacement.now.number; index_etag = replacement.now.version.etag; newest = newest }) }
+fn note_of(slot: &Slot, replacement: &Slot, etag: u64, store: &Store) -> Result<Note, NoMemory>
+    ensures { IfOk result (λ note. note ≡ record { etag = etag; name = slot.now.name; old = slot.now.number; new = replacement.now.number; index_etag = replacement.now.version.etag; newest = newest_read store.now replacement.now }) }
 {
     Ok(Note {
         etag,
         name: slot.name.clone()?,
         old: slot.number,
         new: replacement.number,
-        index_etag: replacement.version.etag(),
-        newest,
+        index_etag: etag_of(replacement),
+        newest: replacement.newest(store),
     })
 }
 
@@ -41,10 +48,8 @@ impl Slots {
         slot: &Slot,
         replacement: &Slot,
         store: &Store,
-        newest: u64,
     ) -> Result<SlotChange, NoMemory>
-        requires beside { AreBeside replacement.now.number slot.now.name self.now.slots }
-        requires newest { newest ≡ newest_read store.now replacement.now }
+        requires { AreBeside replacement.now.number slot.now.name self.now.slots }
         ensures { (base : List ℕ) (limits : Limits) → IfOk result (λ change. change_view change ≡ spec_takes_over (world_of (setting_of base limits) store.now self.now) slot.now replacement.now) }
     {
         let etag = store.last() + 1;
@@ -53,7 +58,7 @@ impl Slots {
         commands.push(deleting(alloc, &replacement.name)?)?;
         let slots = all_taken_over(alloc, self.list(), slot, replacement, etag)?;
         let mut notes = copied_notes(alloc, self.notes())?;
-        notes.push(note_of(slot, replacement, etag, newest)?)?;
+        notes.push(note_of(slot, replacement, etag, store)?)?;
         Ok(SlotChange {
             slots: Slots::both(alloc, slots, notes)?,
             commands,
@@ -83,12 +88,13 @@ impl Slots {
         if self.has_full_notes(limits) {
             return Err(SlotRefusal::NotesFull);
         }
-        let newest = replacement.newest(alloc, store)?;
-        if replacement.is_behind(newest) {
-            let index_etag = replacement.version.etag();
-            return Err(SlotRefusal::NotFresh { index_etag, newest });
+        if replacement.is_stale(store) {
+            return Err(SlotRefusal::NotFresh {
+                index_etag: etag_of(replacement),
+                newest: replacement.newest(store),
+            });
         }
-        Ok(self.taken_over(alloc, slot, replacement, store, newest)?)
+        Ok(self.taken_over(alloc, slot, replacement, store)?)
     }
 
     /// Lets the replacement of an index take its name, if it is not stale on this very store. Of the two rows, that of the name is put first.

@@ -10,7 +10,7 @@ use Rattle.spec_query.specs.Binding.{bind, refusal_of}
 use Rattle.spec_query.specs.Offering.{offered_of}
 use Rattle.spec_query.specs.Query.{Ask}
 use Rattle.spec_index.specs.World.{Slot, World, reads}
-use Rattle.spec_server.specs.Asking.{answer_by, found_by}
+use Rattle.spec_server.specs.Asking.{Ready, answer_by, found_by}
 use Rattle.spec_server.specs.Shown.{shown}
 use Rattle.raven_reply.specs.ReplyView.{reply_view}
 use Rattle.rql_eval.specs.FoundView.{found_view}
@@ -26,7 +26,7 @@ returns-in-Err-clause-reply g c =
     let own : definition_view c.deref-2.result.now.body ≡ s.version.definition =
     ap (λ (d : Definition). definition_view d.body) c.deref-2.ensures ∙ c.definition.ensures.body ∙ ap (λ (v : NamedVersion). v.version.definition) c.deref.ensures ∙ ap (λ (x : Slot). x.version.definition) c.slot.view_is in
     let cause = subst (λ d. Refuses c.in-Err.refusal (refusal_of ask (offered_of d))) own c.in-Err.ensures.refused in
-    IfOk-weaker c.refused.result _ _ (λ reply h. all_told s.version.table W ask s (reply_view reply) (h (answer_by s.version.table W ask s) (refusal_of ask (offered_of s.version.definition)) cause)) c.refused.ensures
+    IfOk-weaker c.refused.result _ _ (λ reply h. all_told s.version.table W ask s (reply_view reply) (h (Ready (answer_by s.version.table W ask s)) (refusal_of ask (offered_of s.version.definition)) cause)) c.refused.ensures
 
 pub returns-clause-reply : goal.returns-clause-reply
 returns-clause-reply g c =
@@ -42,7 +42,7 @@ returns-clause-reply g c =
     ∙ ap (λ (w : World). found_by (reduce_of s.version.definition) (shown w.setting.base) q (all_entries s.version) w.store) c.self.view_is in
     let etag = c.etag.ensures ∙ ap (λ (v : NamedVersion). v.version.etag) c.deref-5.ensures ∙ ap (λ (x : Slot). x.version.etag) c.slot.view_is in
     let name = c.in_ok-name.ensures ∙ c.as_str.ensures.spelling ∙ ap (λ (x : Slot). x.name) c.slot.view_is in
-    let flag = c.in_ok-is_stale.ensures
+    let flag = c.is_stale-is_stale.ensures
     ∙ ap (λ (v : NamedVersion). stale c.self.inside.store.now (reads v.version) v.version.etag c.ask.inside.cutoff) c.deref-4.ensures
     ∙ ap (λ (x : Slot). stale c.self.inside.store.now (reads x.version) x.version.etag c.ask.inside.cutoff) c.slot.view_is
     ∙ ap (λ (w : World). stale w.store (reads s.version) s.version.etag c.ask.inside.cutoff) c.self.view_is

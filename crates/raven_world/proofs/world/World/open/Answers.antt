@@ -9,7 +9,7 @@ use Rattle.spec_server.specs.Machine.{machine_of}
 use Rattle.side_by_side.specs.Standing.{Standing, world_of}
 use Rattle.raven_world.specs.Opened.{read_as}
 use Rattle.raven_world.specs.Roomy.{NumbersUpTo}
-use Rattle.raven_world.proofs.Openings.{all-read, ends-here, one-read, opened-numbers, opened-rise, opens}
+use Rattle.raven_world.proofs.Openings.{all-read, ends-here, one-read, opened-numbers, opened-rise, opens, rows-rise}
 use Rattle.raven_world.proofs.world.World.open.Goals as goal
 
 pub returns-then-not-branch-clause-fault : goal.returns-then-not-branch-clause-fault
@@ -43,11 +43,11 @@ loop-count-preserved c =
 
 pub of-requires : goal.of-requires
 of-requires c =
-    opened-rise (setting_of c.args.base c.args.limits) c.args.rows.now c.loop-count.count c.loop-count.slots.items (all-read (setting_of c.args.base c.args.limits) c.args.rows.now c.loop-count.count c.loop-count.slots.items (subst (λ (xs : List Row). length xs ≤ c.loop-count.count) c.as_slice-row-items.ensures c.loop-count-test.false) c.loop-count.invariant) c.requires.sound c.loop-count.invariant
+    opened-rise (setting_of c.args.base c.args.limits) c.args.rows.now c.loop-count.count c.loop-count.slots.items (all-read (setting_of c.args.base c.args.limits) c.args.rows.now c.loop-count.count c.loop-count.slots.items (subst (λ (xs : List Row). length xs ≤ c.loop-count.count) c.as_slice-row-items.ensures c.loop-count-test.false) c.loop-count.invariant) (rows-rise c.args.store c.args.rows.now c.requires.stored c.last-last.ensures.store) c.loop-count.invariant
 
 pub of_parts-requires : goal.of_parts-requires
 of_parts-requires c =
-    let numbers = opened-numbers (setting_of c.args.base c.args.limits) c.args.rows.now c.loop-count.count c.loop-count.slots.items (all-read (setting_of c.args.base c.args.limits) c.args.rows.now c.loop-count.count c.loop-count.slots.items (subst (λ (xs : List Row). length xs ≤ c.loop-count.count) c.as_slice-row-items.ensures c.loop-count-test.false) c.loop-count.invariant) c.requires.sound c.loop-count.invariant in
+    let numbers = opened-numbers (setting_of c.args.base c.args.limits) c.args.rows.now c.loop-count.count c.loop-count.slots.items (all-read (setting_of c.args.base c.args.limits) c.args.rows.now c.loop-count.count c.loop-count.slots.items (subst (λ (xs : List Row). length xs ≤ c.loop-count.count) c.as_slice-row-items.ensures c.loop-count-test.false) c.loop-count.invariant) (rows-rise c.args.store c.args.rows.now c.requires.stored c.last-last.ensures.store) c.loop-count.invariant in
     subst (λ (x : Standing). NumbersUpTo (last c.args.store) x.slots) (sym c.in_ok-live.ensures) (subst (λ (S : Store). NumbersUpTo (last S) c.loop-count.slots.items) (sym c.requires.stored) numbers)
 
 pub returns-clause-opened : goal.returns-clause-opened

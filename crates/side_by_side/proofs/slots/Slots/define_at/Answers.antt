@@ -4,7 +4,12 @@ use Rattle.index_definition.specs.DefinitionView.{definition_view}
 use Rattle.side_by_side.specs.Changes.{answer_view}
 use Rattle.side_by_side.specs.Standing.{world_of}
 use Rattle.side_by_side.proofs.Changing.{at-slot}
+use Rattle.side_by_side.proofs.Names.{found-served}
 use Rattle.side_by_side.proofs.slots.Slots.define_at.Goals as goal
+
+pub define_beside-requires-clause-served : goal.define_beside-requires-clause-served
+define_beside-requires-clause-served c =
+    found-served c.args.self.now.slots c.args.definition.value.name c.in-Some.slot.now (sym c.served_by.ensures ∙ ap option_copied c.in-Some.is) c.requires.plain c.requires.short
 
 pub returns-in-Some : goal.returns-in-Some
 returns-in-Some c setting S room latest =

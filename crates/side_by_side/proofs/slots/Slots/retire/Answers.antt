@@ -1,4 +1,4 @@
-use Rattle.std.proofs.Common.{◌≡◌, ◌∙◌, List, ap, filter, map, not, subst, sym}
+use Rattle.std.proofs.Common.{◌≡◌, ◌∙◌, ap, filter, map, not, subst, sym}
 use Rattle.std.proofs.lemmas.Simd.{map-map}
 use Rattle.spec_store.specs.Commit.{AnyVector, Delete}
 use Rattle.spec_index.specs.Optimiser.{is_retired, retired}

@@ -8,5 +8,5 @@ use Rattle.side_by_side.proofs.slots.Slots.switched_to.Goals as goal
 pub returns : goal.returns
 returns c base =
     switches-to (world_of (setting_of base c.args.limits.now) c.args.store.now c.args.self.now) c.args.slot.now c.args.replacement.now (change_view c.in_ok-taken_over.field-0)
-    (sym c.has_full_notes.ensures ∙ c.if-has_full_notes.false) (c.in_ok-newest.ensures.stale ∙ sym c.is_behind.ensures ∙ c.if-is_behind.false)
+    (sym c.has_full_notes.ensures ∙ c.if-has_full_notes.false) (sym c.is_stale.ensures ∙ c.if-is_stale.false)
     (c.in_ok-taken_over.ensures base c.args.limits.now)
