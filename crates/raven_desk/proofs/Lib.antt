@@ -5,3 +5,4 @@ pub mod Opened
 pub mod Pieces
 pub mod Courses
 pub mod Publications
+pub mod Picked

@@ -1,7 +1,6 @@
 //! What a request does to a world: its reply, and its changes, which are not made yet.
-ghost use Rattle.std.specs.Prelude.{◌≡◌, ◌≤◌, IfOk, Some, true};
+ghost use Rattle.std.specs.Prelude.{◌≡◌, ◌≤◌, IfOk, Some};
 ghost use Rattle.spec_server.specs.Machine.{Ask, Auto, Do, Find, course_of as spec_course_of, only_reply, pump_for};
-ghost use Rattle.spec_server.specs.Opening.{is_part};
 ghost use Rattle.spec_server.specs.WellFormed.{IsWellFormed};
 ghost use Rattle.raven_request.specs.RequestView.{request_view};
 ghost use Rattle.raven_world.specs.WorldView.{answer_view, change_view};
@@ -122,6 +121,8 @@ fn changed_or_refused(alloc: Global, answer: Result<Change, WorldFault>) -> Resu
     }
 }
 
+// The automatic index of a collection by one field, or the change that makes one.
+#[tactic(auto, using(crate::proofs::Picked::picking))]
 fn picked(
     alloc: Global,
     world: &World,
@@ -129,14 +130,11 @@ fn picked(
     collection: &Text,
     field: &Text,
 ) -> Result<Course, NoMemory>
-    requires { is_part field.now ≡ true }
     ensures { IfOk result (λ course. course_view course ≡ spec_course_of world.now now (Auto collection.now field.now)) }
 {
-    match world.snapshot().answer(alloc, collection, field)? {
+    match world.snapshot().auto(alloc, collection, field)? {
         Answered::Reply(reply) => Ok(unchanged(alloc, reply)),
-        Answered::MustMake => {
-            changed_or_refused(alloc, world.make(alloc, collection, field, now))
-        }
+        Answered::MustMake(shape) => changed_or_refused(alloc, world.make(alloc, shape, now)),
     }
 }
 
@@ -177,32 +175,41 @@ fn found<L: Ledger>(
     Ok(unchanged(alloc, seen.find(alloc, index, field, text, &mut steps)?))
 }
 
-// What a query finds. Nobody reads the counter.
+// What a query finds, or the change that makes its index first. Nobody reads the counter.
+#[tactic(auto, using(crate::proofs::Picked::asking))]
 fn asked<L: Ledger>(
     alloc: Global,
-    seen: &Snapshot<'_>,
+    world: &World,
+    now: u64,
     ask: &QueryAsk,
     blank: Blank,
 ) -> Result<Course, NoMemory>
     requires name { blank.name ≡ L.name }
     requires parts { blank.parts ≡ L.parts }
     requires enough { 3 ≤ blank.parts }
-    ensures { IfOk result (λ course. course_view course ≡ spec_course_of seen.now 0 (Ask ask.now)) }
+    ensures { IfOk result (λ course. course_view course ≡ spec_course_of world.now now (Ask ask.now)) }
 {
     let mut steps = Steps::<L>::new(blank);
-    Ok(unchanged(alloc, seen.ask(alloc, ask, &mut steps)?))
+    match world.snapshot().ask(alloc, ask, &mut steps)? {
+        Answered::Reply(reply) => Ok(unchanged(alloc, reply)),
+        Answered::MustMake(shape) => {
+            let answer = world.make_for(alloc, ask, shape, now, &mut steps);
+            changed_or_refused(alloc, answer)
+        }
+    }
 }
 
-/// What a query does to the world at this moment.
+/// What a query does to the world at this moment: nothing, or it makes the automatic index that it needs.
 pub(crate) fn course_of_query(
     alloc: Global,
     world: &World,
     now: u64,
     ask: &QueryAsk,
 ) -> Result<Course, NoMemory>
+    requires { IsWellFormed (Do (Ask ask.now)) }
     ensures { IfOk result (λ course. course_view course ≡ spec_course_of world.now now (Ask ask.now)) }
 {
-    asked::<Brand>(alloc, &world.snapshot(), ask, Blank::new(3))
+    asked::<Brand>(alloc, world, now, ask, Blank::new(3))
 }
 
 /// What the request does to the world at this moment. Its documents are moved into the new world.

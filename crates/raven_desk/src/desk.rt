@@ -90,6 +90,7 @@ pub trait Desk {
         alloc: Global,
         ask: &QueryAsk,
     ) -> Result<(Shot, Reply), NoMemory>
+        requires { IsWellFormed (Do (Ask ask.now)) }
         ensures looked { IfOk result (λ o. LooksOnce link (clock self.old) (Ask ask.now) (seen self.old) (made self.old) o.0 (reply_view o.1) (seen self.new) (made self.new)) }
         ensures onward { Onward (seen self.old) (seen self.new) }
         ensures same { same self.old self.new }
@@ -140,13 +141,15 @@ pub trait Desk {
         })
     }
 
-    /// Answers a query. If it waits for its index, it looks again, up to the number of its looks.
+    /// Answers a query. If it waits for its index, it looks again, up to the number of its looks. A look that finds no index makes it, and a later
+    /// one uses it.
     final fn ask_query<R: Threads + Wait>(
         &mut self,
         rt: &R,
         alloc: Global,
         ask: &QueryAsk,
     ) -> Result<Receipt, NoMemory>
+        requires formed { IsWellFormed (Do (Ask ask.now)) }
         requires some { 1 ≤ looks_in ask.now }
         ensures asked { IfOk result (λ r. IsAsked link (clock self.old) (pump self.old) (seen self.old) (made self.old) (Ask ask.now) (receipt_view r) (seen self.new) (made self.new)) }
         ensures onward { Onward (seen self.old) (seen self.new) }

@@ -81,14 +81,16 @@ impl<K: Keeper> Live<K> {
 
     // What a query does, before the keeper is asked.
     fn query_course(&self, alloc: Global, now: u64, ask: &QueryAsk) -> Result<Course, NoMemory>
+        requires { IsWellFormed (Do (Ask ask.now)) }
         ensures course { IfOk result (λ c. course_view c ≡ spec_course_of self.now.world now (Ask ask.now)) }
         ensures may { IfOk result (λ c. MayMake self.now c.changes.items) }
     {
         course_of_query(alloc, self.world.get(), now, ask)
     }
 
-    /// The step of a query, which is lent, so that it can be asked again.
+    /// The step of a query, which is lent, so that it can be asked again. If it needs an automatic index, that is made first.
     pub fn ask(&mut self, alloc: Global, now: u64, ask: &QueryAsk) -> Result<Reply, NoMemory>
+        requires { IsWellFormed (Do (Ask ask.now)) }
         ensures stepped { IfOk result (λ reply. IsStep now (Ask ask.now) self.old (reply_view reply) self.new) }
         ensures later { Follows self.old self.new }
         ensures err { OnErr result (Stays self.old self.new) }

@@ -1,4 +1,5 @@
 pub mod Texts
+pub mod Asked
 pub mod IdLemmas
 pub mod Doing
 pub mod Settled

@@ -1,10 +1,11 @@
 -- The request that defines the index.
-use Rattle.std.specs.Prelude.{◌≡◌, List, [], ◌∷◌, Option, Some, None, Result}
+use Rattle.std.specs.Prelude.{◌≡◌, ℕ, List, [], ◌∷◌, Option, Some, None, Result}
 use Rattle.index_lang.specs.Says.{Says}
 use Rattle.index_tree.specs.Definitions.{Definition}
 use Rattle.index_tree.specs.Language.{LangRefusal}
 use Rattle.raven_request.specs.RequestView.{request_view}
 use Rattle.raven_request.specs.declared.request.Request.{Request}
+use Rattle.spec_index.specs.World.{World}
 use Rattle.spec_measure.specs.Requests.{definitions, index_texts}
 use Rattle.spec_server.specs.Machine as is
 use Rattle.spec_server.specs.WellFormed.{IsWellFormed}
@@ -13,6 +14,11 @@ use Rattle.spec_server.specs.WellFormed.{IsWellFormed}
 abbrev pub MakesOneChange : is.Request → Type 0
 MakesOneChange is.Tidy = ⊥
 MakesOneChange other = Unit {0}
+
+-- a well-formed request that changes nothing, whenever and wherever it is made
+pub record MakesNothing (q : is.Request) : Type 0 where
+  pub formed : IsWellFormed (is.Do q)
+  pub unchanged : (W : World) (now : ℕ) → (is.course_of W now q).changes ≡ []
 
 -- a request that a measurement may make
 abbrev pub MayBeMade : is.Request → Type 0

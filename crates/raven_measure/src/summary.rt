@@ -2,9 +2,10 @@
 ghost use Rattle.std.specs.Prelude.{◌≡◌, FitsSigned, IfOk, codes, map, string_bytes};
 ghost use Rattle.std.specs.Int.{w64};
 ghost use Rattle.spec_measure.specs.Requests.{rows_ask as spec_rows_ask};
+ghost use Rattle.raven_measure.specs.Defining.{MakesNothing};
 ghost use Rattle.spec_measure.specs.Summary.{printed_summary, summary_by as spec_summary_by, summary_of as spec_summary_of, total_at as spec_total_at, total_of as spec_total_of};
 ghost use Rattle.spec_data.specs.Members.{member_of};
-ghost use Rattle.spec_server.specs.Machine.{count_documents};
+ghost use Rattle.spec_server.specs.Machine.{Ask, count_documents};
 ghost use Rattle.spec_desk.specs.Lived.{machine_in};
 ghost use Rattle.raven_value.specs.View.{data_of};
 ghost use Rattle.raven_reply.specs.ReplyView.{reply_view};
@@ -35,9 +36,11 @@ struct Summary {
     total: i128,
 }
 
-// The query for all rows of the index.
+// The query for all rows of the index. It names the index, so it makes none.
+#[tactic(auto, using(crate::proofs::Asked::asking))]
 fn rows_ask(alloc: Global) -> Result<QueryAsk, NoMemory>
-    ensures { IfOk result (λ ask. ask ≡ spec_rows_ask) }
+    ensures ask { IfOk result (λ ask. ask ≡ spec_rows_ask) }
+    ensures makes_nothing { IfOk result (λ ask. MakesNothing (Ask ask)) }
 {
     let query = Query {
         origin: Origin::Index(Text::of(alloc, INDEX)?),

@@ -1,5 +1,5 @@
 -- What is asked by the texts of definitions and of queries.
-use Rattle.std.proofs.Common.{◌≡◌, ◌∙◌, ℕ, List, Option, Some, None, Result, Ok, Err, refl, sym, ap, subst}
+use Rattle.std.proofs.Common.{◌≡◌, ℕ, List, Option, Some, None, Result, Ok, Err, refl, sym, ap, subst}
 use Rattle.spec_data.specs.Data.{Data}
 use Rattle.spec_data.specs.Faults.{Fault}
 use Rattle.index_tree.specs.Definitions.{Texts}
@@ -9,7 +9,7 @@ use Rattle.index_definition.specs.declared.refusal.Part.{Part}
 use Rattle.index_lang.specs.ByTexts.{Gives, Named}
 use Rattle.index_lang.specs.Says.{Says}
 use Rattle.raven_lines.specs.Lines.{Comes, IsDefining, IsQuerying}
-use Rattle.raven_lines.specs.SaysQuery.{query_refusal}
+use Rattle.rql_grammar.specs.Kinds.{query_refusal}
 use Rattle.raven_value.specs.Refusal.{fault_in}
 use Rattle.raven_value.specs.declared.fault.IdRefusal.{IdRefusal}
 use Rattle.rql_grammar.specs.declared.kind.RqlKind.{RqlKind}

@@ -9,7 +9,7 @@ use Rattle.spec_server.specs.Script as read
 use Rattle.doc_txn.specs.CommandView.{command_view, expect_view}
 use Rattle.index_definition.specs.RefusalView.{refusal_view}
 use Rattle.index_lang.specs.ByTexts.{Named}
-use Rattle.raven_lines.specs.SaysQuery.{query_refusal}
+use Rattle.rql_grammar.specs.Kinds.{query_refusal}
 use Rattle.raven_request.specs.declared.query.Asking.{Asking}
 use Rattle.raven_request.specs.declared.request.Request.{Request}
 use Rattle.raven_request.specs.declared.request.Request.TheVariants as r

@@ -1,7 +1,8 @@
 //! The definition of an index, in JSON.
-ghost use Rattle.std.specs.Prelude.{◌≡◌, IfOk, Option, Some, option_map};
+ghost use Rattle.std.specs.Prelude.{◌≡◌, Option, Some, map, option_map};
 ghost use Rattle.index_lang.specs.Bodies.{texts_behind};
 ghost use Rattle.raven_value.specs.View.{data_of};
+ghost use Rattle.raven_request.specs.Lists.{lone_text as spec_lone_text};
 ghost use Rattle.raven_request.specs.RequestRead.{Asks, AsksBy};
 ghost use Rattle.raven_request.specs.RequestView.{Reads, define_view};
 ghost use Rattle.spec_data.specs.Data.{Data, entries_of};
@@ -10,9 +11,8 @@ ghost use Rattle.spec_server.specs.Script.{Defining, asked_to_define, index_of, 
 use crate::body::{bad_member, json_of, name_of};
 use crate::request::{ReadRefusal, Request};
 use index_definition::LangRefusal;
-use index_lang::{TextDefinition, only_item, parse_texts, text_in};
-use raven_base::NoMemory;
-use raven_value::{Members, Name, Value};
+use index_lang::{TextDefinition, parse_texts};
+use raven_value::{Members, Name, Text, Value};
 use std::alloc::Global;
 
 /// The text of the map, and that of the reduce, if there is one.
@@ -28,12 +28,29 @@ fn name_member(alloc: Global, value: Option<&Value>) -> Result<Name, ReadRefusal
     }
 }
 
-// The text of a list of one, whatever else there is.
+// The text of a list of one text.
+#[tactic(auto, using(crate::proofs::Maps::lists))]
+fn lone_text(values: &[Value]) -> Option<&Text>
+    ensures { option_map (λ t. t.now) result ≡ spec_lone_text (map data_of values.now) }
+{
+    let [value] = values else {
+        return None;
+    };
+    match value {
+        Value::Text(text) => Some(text),
+        _ => None,
+    }
+}
+
+// The same, whatever else there is.
 #[tactic(auto, using(crate::proofs::Maps::maps))]
 fn only_text(alloc: Global, maps: &Value) -> Result<&str, ReadRefusal>
     ensures { (map : Option Data) → Reads (λ text. text.now) result (spec_map_member (Some (data_of maps.now)) map) }
 {
-    match text_in(only_item(Some(maps))) {
+    let Value::List(values) = maps else {
+        return Err(bad_member(alloc, "Maps"));
+    };
+    match lone_text(values.as_slice()) {
         Some(text) => Ok(text.as_str()),
         None => Err(bad_member(alloc, "Maps")),
     }
