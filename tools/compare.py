@@ -2,7 +2,6 @@
 """Compares the built program with the model, on random scripts: what both write has to be the same, byte for byte.
 
     tools/compare.py [--program PATH | --try] [--rounds N] [--lines N] [--seed N] [--random | --outside]
-                     [--stage optimiser]
 
 Before the random rounds it tries the statuses, the options, files that are opened again and again, and scripts that are at each
 limit or of a case that was worked out by hand; with --random the random rounds alone, and with --outside the statuses, the
@@ -11,9 +10,6 @@ differs; the status is then 1. At the end it says how often the random scripts r
 
 The moments that documents show are the program's own: each has to be that of 1970 or one of the run, and is then taken as
 that of 1970, which the model writes.
-
-With --stage the program is one that has what the model has at that stage: queries that choose an index. The random scripts then
-have these too.
 
 With --try no built program is needed: `rt try` builds it once, proves nothing, and runs all scripts. The statuses and the
 options, and what needs a file, are then left out.

@@ -281,10 +281,7 @@ def test_answers_that_are_fresh() -> None:
     assert over(define + PUT_ADA + query) == ("Done", b"".join(parts) + response("200 OK", found))
 
 
-# What the program does not have yet
-
-
-FULL = model.Stage(optimiser=True)
+# Indexes that requests make, and what is done behind them
 
 
 def answer_of(name: str, etag: int, is_stale: bool, results: str, total: int) -> bytes:
@@ -307,9 +304,9 @@ def test_queries_that_make_indexes() -> None:
     parts += [answer_of(wide, 0, True, "", 0), answer_of(wide, 3, False, ada, 1)]
     stats = response("200 OK", '{"CountOfDocuments":1,"CountOfIndexes":1,"CountOfTombstones":0,"LastDocEtag":4}')
     data = put + by_name * 2 + by_both + by_name + asked("GET", "/stats")
-    assert over(data, stage=FULL) == ("Done", b"".join(parts) + stats)
+    assert over(data) == ("Done", b"".join(parts) + stats)
     waiting = asked("POST", "/queries", (), b'{"Query":"from Users where Name = \'ada\'","WaitForNonStaleResults":true,"Looks":3}')
-    assert over(waiting, stage=FULL) == ("Done", answer_of("Auto/Users/ByName", 0, False, "", 0))
+    assert over(waiting) == ("Done", answer_of("Auto/Users/ByName", 0, False, "", 0))
 
 
 def test_removals_that_fail() -> None:
@@ -318,7 +315,7 @@ def test_removals_that_fail() -> None:
     stats = asked("GET", "/stats")
     for fails, counts in [([], [1, 1]), ([4], [2, 1]), ([4, 5], [2, 2])]:
         keeper = keeping.Keeper(fails=fails)
-        status, written = over(narrow + wide + stats * 2, keeper=keeper, stage=FULL)
+        status, written = over(narrow + wide + stats * 2, keeper=keeper)
         found = [model.read_json(body)["CountOfIndexes"] for _, _, body in responses_of(written)[2:]]
         assert (status, found) == ("Done", counts), (fails, written)
 
@@ -332,9 +329,9 @@ def test_replacements() -> None:
     stats = response("200 OK", '{"CountOfDocuments":0,"CountOfIndexes":1,"CountOfTombstones":0,"LastDocEtag":4}')
     parts = [response("201 Created", '{"Index":"U"}'), response("201 Created", '{"Index":"ReplacementOf/U"}'), response("200 OK", shown)]
     data = first + second + asked("GET", "/indexes") + asked("GET", "/stats")
-    assert over(data, stage=FULL) == ("Done", b"".join(parts) + stats)
+    assert over(data) == ("Done", b"".join(parts) + stats)
     stats = response("200 OK", '{"CountOfDocuments":0,"CountOfIndexes":2,"CountOfTombstones":0,"LastDocEtag":2}')
-    assert over(first + second + asked("GET", "/stats"), "--pump", "0", stage=FULL) == ("Done", b"".join(parts[:2]) + stats)
+    assert over(first + second + asked("GET", "/stats"), "--pump", "0") == ("Done", b"".join(parts[:2]) + stats)
 
 
 # Faults and options
@@ -493,7 +490,7 @@ def test_random_sessions(rounds: int) -> None:
         every = range(len(session.data) + 1)
         cuts = list(every) if seed % 20 == 0 and len(every) < 2_000 else chance.sample(every, min(12, len(every)))
         check_cuts(session.data, reading, cuts)
-        check_responses(reading, *over(session.data, stage=FULL))
+        check_responses(reading, *over(session.data))
     assert rounds < 2_000 or set(ends) >= {"Ended", "Closed", "Truncated", *worked_http.ENDS}, ends
 
 
@@ -515,9 +512,9 @@ def has_reached(reply: model.database.Reply) -> bool:
     return error not in BEFORE_DATABASE.split() and (error != "TooLarge" or "Len" in reply)
 
 
-def script_of(seed: int, pump: int, stage: model.Stage) -> tuple[list[Call], list[model.database.Reply]]:
+def script_of(seed: int, pump: int) -> tuple[list[Call], list[model.database.Reply]]:
     """The calls of a random script, and the replies if each line that reaches the database is followed by a batch."""
-    database = model.Database(stage=stage)
+    database = model.Database()
     calls, replies = [], []
     for line in model.lines(MAKERS[seed % len(MAKERS)](seed).script(24)):
         call = call_of(line)
@@ -540,11 +537,10 @@ def test_sessions_and_scripts() -> None:
     statuses: collections.Counter[int] = collections.Counter()
     for seed in range(160):
         pump = [0, 1, 2, 1_024][seed % 4]
-        stage = FULL if seed % 5 else model.Stage()
-        calls, replies = script_of(seed, pump, stage)
+        calls, replies = script_of(seed, pump)
         session = SessionMaker(seed).of_calls(calls)
         assert session_of(session.data).requests == session.meant, seed
-        ended, written = over(session.data, "--pump", str(pump), stage=stage)
+        ended, written = over(session.data, "--pump", str(pump))
         responses = responses_of(written)
         assert ended == "Done" and len(responses) == len(calls), (seed, ended)
         for call, reply, (status, _, body) in zip(calls, replies, responses):

@@ -180,7 +180,7 @@ APPEARS = """
 < {"At":28,"Error":"BadNumber"}
 < {"Error":"NoField","Name":"Size"}
 < {"Includes":{},"IndexEtag":3,"IndexName":"collection/Orders","IsStale":false,"Results":[{"Company":"companies/1"}],"TotalResults":1}
-< {"Error":"UnknownLine"}
+< {"Includes":{},"IndexEtag":0,"IndexName":"Auto/Orders/ByCompany","IsStale":true,"Results":[],"TotalResults":0}
 """
 
 # Groups come and go with their documents, and a sum may be outside 64 bits.
@@ -292,8 +292,8 @@ def test_places_of_indexes():
     """A place that a removal leaves is free again. Another definition under a live name needs one too."""
     autos = [f"AUTO c{number} F" for number in range(model.MAX_SLOTS)]
     index = 'INDEX {"Map":"from u in docs.U select new { u.%s }","Name":"N"}'
-    unknown, full, made = {"Error": "UnknownLine"}, {"Error": "TooManyIndexes"}, {"Index": "N"}
-    more = [("AUTO more F", full), ("AUTO c0 F", {"Index": "Auto/c0/ByF"}), ("AUTO c0 G", unknown), (index % "A", full)]
+    full, made = {"Error": "TooManyIndexes"}, {"Index": "N"}
+    more = [("AUTO more F", full), ("AUTO c0 F", {"Index": "Auto/c0/ByF"}), ("AUTO c0 G", full), (index % "A", full)]
     more += [("DROP Auto/c7/ByF", {"Removed": "Auto/c7/ByF"}), (index % "A", made), (index % "B", full), (index % "A", made)]
     more += [("AUTO more F", full)]
     assert replies_of(*autos, *(line for line, _ in more))[len(autos) :] == [reply for _, reply in more]

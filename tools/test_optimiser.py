@@ -3,41 +3,29 @@
 
     tools/test_optimiser.py
 
-The program does not have it yet, so the model answers these lines only at a stage. It needs no program. It ends with 0 if every
-test holds, and otherwise at the first assertion that does not.
+It needs no program. It ends with 0 if every test holds, and otherwise at the first assertion that does not.
 """
 
 import sys
 
 sys.dont_write_bytecode = True
 from raven_tools import model
-from raven_tools.making import worked_stages
+from raven_tools.making import worked_choices
 from raven_tools.making.lines import ask, definition
 from raven_tools.model import keeping, opening
 from raven_tools.transcripts import holds, replies_of
 
-CHOOSING = model.Stage(optimiser=True)
 LAST = model.MAX_ETAG
 
 
-def database() -> model.Database:
-    return model.Database(stage=CHOOSING)
-
-
 def test_worked_scripts() -> None:
-    for transcript in worked_stages.WORKED["optimiser"].values():
-        holds(transcript, database())
-
-
-def test_without_the_stage() -> None:
-    unknown = {"Error": "UnknownLine"}
-    replies = replies_of("AUTO C F", "AUTO C G", "QUERY from C where F = 1", "QUERY from C group by F", "TIDY")
-    assert replies[1:] == [unknown] * 3 + [{"Retired": [], "Switched": []}]
+    for transcript in worked_choices.WORKED.values():
+        holds(transcript, model.Database())
 
 
 def names_of(*lines: str, found: model.Database | None = None) -> list[str]:
     """The names of the indexes that are used for questions of a collection or made for lines."""
-    replies = replies_of(*lines, database=found or database())
+    replies = replies_of(*lines, database=found or model.Database())
     return [reply["Index"] if "Index" in reply else reply["IndexName"] for reply in replies if {"Index", "IndexName"} & reply.keys()]
 
 
@@ -57,14 +45,14 @@ def put(etag: int) -> keeping.KeptRow:
     return keeping.KeptRow(etag, "x", "C", '{"@metadata":{}}', 0)
 
 
-def opened(*rows: keeping.KeptRow, stage: model.Stage = CHOOSING) -> model.Database:
-    return opening.opened(keeping.Keeper(rows), stage=stage)
+def opened(*rows: keeping.KeptRow) -> model.Database:
+    return opening.opened(keeping.Keeper(rows))
 
 
-def bad(*rows: keeping.KeptRow, stage: model.Stage = CHOOSING) -> int | None:
+def bad(*rows: keeping.KeptRow) -> int | None:
     """The etag of the first bad row."""
     try:
-        opened(*rows, stage=stage)
+        opened(*rows)
     except keeping.KeptBad as found:
         return found.etag
     return None
@@ -88,8 +76,6 @@ def test_opening() -> None:
         assert bad(row) is None, row
     for row in wrong:
         assert bad(row) == 1, row
-    assert [bad(row, stage=model.Stage()) for row in good] == [1] * len(good)
-    assert bad(auto(1, "Auto/x", "A"), stage=model.Stage()) is None
     index = opened(kept(3, "Auto/x", **grouped)).indexes[0]
     assert (index.number, index.name, index.etag) == (3, "Auto/x", 0)
     assert index.definition.shown() == grouped and index.definition.fields() == ["A.B", "C", "count()", "sum(A)", "sum(B)"]
@@ -156,7 +142,7 @@ def fields_of(found: model.Database) -> list[list[list[str]]]:
 
 def test_sixty_four_fields() -> None:
     many = sorted(f"F{number}" for number in range(63))
-    found = database()
+    found = model.Database()
     lines = ["QUERY from C where " + " and ".join(f"{name} = 1" for name in many), "AUTO C G", "AUTO C H", "AUTO C G", "AUTO C F7"]
     lines += ["QUERY from C where G = 1 and H = 1", "AUTO D G"]
     assert names_of(*lines, found=found) == ["Auto/1", "Auto/2", "Auto/C/ByH", "Auto/2", "Auto/1", "Auto/C/ByGAndH", "Auto/D/ByG"]
@@ -168,12 +154,12 @@ def test_the_bytes_of_the_joined_paths() -> None:
     """65,536 bytes, in which the point between two parts counts."""
     long = "é" * 32_766
     for last, fits in (("abcd", True), ("abcde", False)):
-        found = database()
+        found = model.Database()
         names = names_of(f"AUTO C {long}", f"AUTO C {last}", found=found)
         assert names == ["Auto/1", "Auto/2" if fits else "Auto/C/By" + last]
         assert fields_of(found)[1] == ([[last], [long]] if fits else [[last]])
     for last, fits in (("a.bc", True), ("a.bcd", False)):
-        found = database()
+        found = model.Database()
         names_of(f"AUTO C {long}", f"QUERY from C where {last} = 1", found=found)
         assert fields_of(found)[1] == ([last.split("."), [long]] if fits else [last.split(".")])
     alone = "x" * 65_537
@@ -182,7 +168,7 @@ def test_the_bytes_of_the_joined_paths() -> None:
 
 def test_group_paths_do_not_count_as_bytes() -> None:
     group, first, second = "g" * 40_000, "x" * 15_000, "y" * 20_000
-    found = database()
+    found = model.Database()
     names = names_of(*(f"QUERY from C group by {group} select sum({path})" for path in (first, second)), found=found)
     assert names == ["Auto/1", "Auto/2"]
     assert [index.definition.shown()["Sums"] for index in found.indexes] == [[[first]], [[first], [second]]]
@@ -235,7 +221,7 @@ def test_columns_of_groups() -> None:
         ("group by A select count(), A as Count", {"Count": "x"}),
         ("group by A select sum(N.Count), count() as B", {"B": 1, "N.Count": 4}),
     ]
-    replies = replies_of(*lines, "PUMP 64", *(f"QUERY from C {text}" for text, _ in asked), database=database())[4:]
+    replies = replies_of(*lines, "PUMP 64", *(f"QUERY from C {text}" for text, _ in asked), database=model.Database())[4:]
     assert [reply["Results"] for reply in replies] == [[row] for _, row in asked], replies
 
 
@@ -253,7 +239,7 @@ def test_refusals_make_nothing() -> None:
         (ask("from C where A = 1", PageSize=2**31), {"Error": "BadPage"}),
     ]
     for line, reply in refused:
-        assert replies_of(line, "STATS", database=database()) == [reply, STATS], line
+        assert replies_of(line, "STATS", database=model.Database()) == [reply, STATS], line
 
 
 STATS = {"CountOfDocuments": 0, "CountOfIndexes": 0, "CountOfTombstones": 0, "LastDocEtag": 0}
@@ -264,7 +250,7 @@ def test_no_place_for_one_more() -> None:
     refused, stats = {"Error": "TooManyIndexes"}, {**STATS, "CountOfIndexes": 256, "LastDocEtag": 256}
     lines = ["QUERY from Users where Name = 'a'", "STATS", "AUTO c0 G", "AUTO c7 F", "QUERY from c7 where F = $p", "STATS"]
     replies = [refused, stats, refused, {"Index": "Auto/c7/ByF"}, {"Error": "NoParameter", "Name": "p"}, stats]
-    assert replies_of(*full, *lines, database=database())[256:] == replies
+    assert replies_of(*full, *lines, database=model.Database())[256:] == replies
 
 
 def test_no_etag_for_one_more() -> None:
@@ -276,7 +262,7 @@ def test_no_etag_for_one_more() -> None:
 
 def test_a_fault_of_the_keeper() -> None:
     keeper = keeping.Keeper(fails=[2])
-    found = opening.opened(keeper, stage=CHOOSING)
+    found = opening.opened(keeper)
     replies = replies_of("QUERY from C where A = 1", "STATS", "QUERY from C where A = 1", database=found)
     assert replies[:2] == [{"Error": "KeeperFault"}, STATS]
     assert replies[2]["IndexName"] == "Auto/C/ByA" and [row.id for row in keeper.rows] == ["@index/Auto/C/ByA"]
@@ -315,7 +301,7 @@ def test_what_is_retired_of_groups() -> None:
 def test_a_retirement_is_one_change() -> None:
     """If the keeper fails nothing goes. Switches before it stand. An index that has gone is made again under its name."""
     keeper = keeping.Keeper(fails=[8])
-    found = opening.opened(keeper, stage=CHOOSING)
+    found = opening.opened(keeper)
     lines = ["AUTO C A", "AUTO C B", "QUERY from C where A = 1 and D = 1"]
     lines += [definition("U", f"from u in docs.U select new {{ u.{field} }}") for field in "AB"]
     assert names_of(*lines, found=found)[:3] == ["Auto/C/ByA", "Auto/C/ByAAndB", "Auto/C/ByAAndBAndD"]
@@ -340,7 +326,7 @@ def test_a_retirement_up_to_the_last_etag() -> None:
 
 def test_what_is_held_of_a_retired_index_is_gone() -> None:
     lines = ["AUTO C A", "PUT x {[C]}", "READ 0 64 Auto/C/ByA", "QUERY from C where A = 1 and B = 1", "TIDY", "PUBLISH 0"]
-    replies = replies_of(*lines, database=database())
+    replies = replies_of(*lines, database=model.Database())
     assert replies[4:] == [{"Retired": ["Auto/C/ByA"], "Switched": []}, {"Error": "Gone", "Number": 1}]
 
 

@@ -15,7 +15,6 @@ from raven_tools.making.lines import definition
 from raven_tools.model import keeping, opening
 from raven_tools.transcripts import holds, replies_of
 
-CHOOSING = model.Stage(optimiser=True)
 LAST = model.MAX_ETAG
 
 
@@ -34,7 +33,6 @@ def beside(name: str) -> dict:
 def test_worked_scripts() -> None:
     for transcript in worked_slots.WORKED.values():
         holds(transcript, database())
-        holds(transcript, database(stage=CHOOSING))
 
 
 def test_lines_that_are_unknown() -> None:

@@ -5,9 +5,6 @@
 - `making` makes scripts and sessions: random ones, ones at each limit, and cases that were worked out by hand;
 - `checks` has one module for each tool that compares something.
 
-The model has more than the program. What the program lacks is behind a switch in `model.stage`, and without it the model answers as
-the program does. The makers and `tools/compare.py` take the same switches, so that a program with such lines can be compared at once.
-
 `model`, `language` and `queries` are written from the rules of docs/ and not from the program. The executables are in the folder above.
 Each sets `sys.dont_write_bytecode` before it imports from here, so no run leaves bytecode in the checkout.
 """

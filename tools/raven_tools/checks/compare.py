@@ -11,8 +11,7 @@ import tempfile
 
 from raven_tools import model, programs
 from raven_tools.checks.outside import outside
-from raven_tools.making import case_scripts, limit_scripts, makers_of, worked_slots, worked_stages
-from raven_tools.model.stage import SWITCHES, stage_of
+from raven_tools.making import MAKERS, case_scripts, limit_scripts, worked_choices, worked_slots
 from raven_tools.places import PROGRAM
 
 # `rt try` gives no answer past this.
@@ -34,13 +33,13 @@ def wrong_moment(written: bytes, began: str, ended: str) -> bytes | None:
     return None
 
 
-def expected_of(script: bytes, stage: model.Stage) -> tuple[int, bytes]:
-    return (9, b"") if len(script) > model.MAX_SCRIPT else (0, model.replies(script, model.Database(stage=stage)))
+def expected_of(script: bytes) -> tuple[int, bytes]:
+    return (9, b"") if len(script) > model.MAX_SCRIPT else (0, model.replies(script))
 
 
-def differs(program: str, script: bytes, name: str, stage: model.Stage) -> bool:
+def differs(program: str, script: bytes, name: str) -> bool:
     """Whether the two differ on the script. If so it prints where, and keeps the script."""
-    expected = expected_of(script, stage)
+    expected = expected_of(script)
     began = moment_now(-2)
     ended = programs.run(program, script)
     wrong = wrong_moment(ended.stdout, began, moment_now(2))
@@ -60,12 +59,12 @@ def differs(program: str, script: bytes, name: str, stage: model.Stage) -> bool:
     return True
 
 
-def differing_if_tried(named_scripts: Scripts, stage: model.Stage) -> int:
+def differing_if_tried(named_scripts: Scripts) -> int:
     """How many scripts differ if `rt try` runs them all; it prints where, and keeps the scripts if any differs."""
     folder = pathlib.Path(tempfile.mkdtemp(prefix="differs-"))
     scripts, expected, left_out = {}, {}, 0
     for name, script in named_scripts:
-        replies = expected_of(script, stage)[1]
+        replies = expected_of(script)[1]
         if len(replies) > MAX_TRIED:
             left_out += 1
             continue
@@ -99,20 +98,18 @@ def options() -> argparse.Namespace:
     given.add_argument("--seed", type=int, default=1)
     given.add_argument("--random", action="store_true")
     given.add_argument("--outside", action="store_true")
-    given.add_argument("--stage", action="append", choices=SWITCHES, default=[])
     return given.parse_args()
 
 
-def scripts_of(given: argparse.Namespace, stage: model.Stage, kinds: collections.Counter[str]) -> Scripts:
+def scripts_of(given: argparse.Namespace, kinds: collections.Counter[str]) -> Scripts:
     """The scripts, each with a name. How often the random ones reach each kind of reply is counted."""
     if not given.random:
         yield from limit_scripts.at_the_limits()
         yield from case_scripts.at_the_limits()
         yield from worked_slots.scripts()
-        yield from worked_stages.scripts_of(stage)
-    makers = makers_of(stage)
+        yield from worked_choices.scripts()
     for round_ in range(given.rounds):
-        maker = makers[round_ % len(makers)](given.seed * 1_000_003 + round_)
+        maker = MAKERS[round_ % len(MAKERS)](given.seed * 1_000_003 + round_)
         yield f"seed {given.seed}, round {round_}", maker.script(given.lines)
         kinds.update(maker.kinds)
 
@@ -120,22 +117,21 @@ def scripts_of(given: argparse.Namespace, stage: model.Stage, kinds: collections
 def main() -> int:
     sys.setrecursionlimit(10_000)
     given = options()
-    stage = stage_of(given.stage)
     if not given.is_tried and not programs.is_built(given.program):
         print(f"no program at {given.program}")
         return 1
     if given.outside:
-        found = outside(given.program, given.seed, given.lines, stage)
+        found = outside(given.program, given.seed, given.lines)
         print(f"statuses, options and files: {found} are wrong")
         return 1 if found else 0
 
     kinds: collections.Counter[str] = collections.Counter()
-    scripts = scripts_of(given, stage, kinds)
+    scripts = scripts_of(given, kinds)
     if given.is_tried:
-        found = differing_if_tried(scripts, stage)
+        found = differing_if_tried(scripts)
     else:
-        found = 0 if given.random else outside(given.program, given.seed, given.lines, stage)
-        found += sum(differs(given.program, script, name, stage) for name, script in scripts)
+        found = 0 if given.random else outside(given.program, given.seed, given.lines)
+        found += sum(differs(given.program, script, name) for name, script in scripts)
     print("reached: " + ", ".join(f"{kind} {count}" for kind, count in kinds.most_common()))
     before = "" if given.random else "the limits and "
     print(f"{before}{given.rounds} random scripts of {given.lines} lines with seed {given.seed}: {found} differ")

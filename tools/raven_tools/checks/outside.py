@@ -7,7 +7,7 @@ import tempfile
 
 from raven_tools import model
 from raven_tools.checks.files import files
-from raven_tools.making import makers_of
+from raven_tools.making import MAKERS
 from raven_tools.programs import STATUSES, first_difference, run
 
 
@@ -72,14 +72,14 @@ def options(program: str) -> int:
         return wrong
 
 
-def openings(program: str, seed: int, lines: int, stage: model.Stage) -> int:
+def openings(program: str, seed: int, lines: int) -> int:
     """How many files are wrong over which some scripts run one after another. A file keeps the rows: each index begins anew."""
-    wrong, makers = 0, makers_of(stage)
-    for round_ in range(len(makers) * 3 // 2):
-        database = model.Database(stage=stage)
+    wrong = 0
+    for round_ in range(len(MAKERS) * 3 // 2):
+        database = model.Database()
         with tempfile.TemporaryDirectory() as folder:
             for part in range(4):
-                maker = makers[(round_ + part) % len(makers)](seed * 2_000_003 + round_ * 7 + part)
+                maker = MAKERS[(round_ + part) % len(MAKERS)](seed * 2_000_003 + round_ * 7 + part)
                 script = maker.script(lines)
                 expected = model.replies(script, database)
                 ended = run(program, script, "--data", os.path.join(folder, "kept"))
@@ -92,5 +92,5 @@ def openings(program: str, seed: int, lines: int, stage: model.Stage) -> int:
     return wrong
 
 
-def outside(program: str, seed: int, lines: int, stage: model.Stage) -> int:
-    return statuses(program) + options(program) + openings(program, seed, lines, stage) + files(program)
+def outside(program: str, seed: int, lines: int) -> int:
+    return statuses(program) + options(program) + openings(program, seed, lines) + files(program)

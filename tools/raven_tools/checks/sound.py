@@ -10,7 +10,7 @@ from raven_tools.model.indexes import is_replacement
 from raven_tools.model.json import read_json
 from raven_tools.model.lines import ask_of
 from raven_tools.queries import answers, binding
-from raven_tools.queries.trees import COUNT, Query, in_order, joined, sum_name
+from raven_tools.queries.trees import COUNT, Path, Query, in_order, joined, sum_name
 from raven_tools.scalars import is_number, place_of
 
 Table = dict[str, model.Row]
@@ -158,8 +158,86 @@ def state(database: model.Database) -> tuple:
     return database.store.last, database.store.rows, database.notes, indexes
 
 
+# Automatic indexes
+
+Kind = tuple[str, tuple[Path, ...] | None]  # the collection, and the groups if there are any
+
+
+def kept_by(definition: Definition) -> tuple[Kind, set[Path]] | None:
+    """Of an automatic index its kind, and its fields or sums."""
+    if isinstance(definition, model.Auto):
+        return (definition.collection, None), set(definition.paths)
+    if isinstance(definition, model.AutoReduce):
+        return (definition.collection, definition.groups), set(definition.sums)
+    return None
+
+
+def asked_by(line: bytes, reply: dict) -> tuple[Kind, set[Path]] | None:
+    """What an `AUTO`, or a query of some documents of a collection, asks of an index, if it is answered by one."""
+    if line.startswith(b"AUTO ") and "Index" in reply:
+        _, collection, field = line.decode().split(" ")
+        return (collection, None), {(field,)}
+    if "IndexName" not in reply or not binding.is_dynamic(ask_in(line).query):
+        return None
+    query = ask_in(line).query
+    named = list(binding.named(query))
+    if query.groups:
+        return (query.origin[1], in_order(query.groups)), {field[1] for _, field in named if field[0] == "sum"}
+    return (query.origin[1], None), {field[1] for clause, field in named if clause != "select"}
+
+
+def is_before(database: model.Database, left: model.Index, right: model.Index) -> bool:
+    """Fresh before stale, then fewer fields before more, then the earlier one."""
+    if is_fresh(database, left) != is_fresh(database, right):
+        return is_fresh(database, left)
+    widths = [len(kept_by(index.definition)[1]) for index in (left, right)]
+    return widths[0] < widths[1] or widths[0] == widths[1] and left.number < right.number
+
+
+def check_made(before: model.Database, after: model.Database, kind: Kind, fields: set[Path]) -> None:
+    """The last index is new. It has what is asked, and what all of its kind have, unless that is too much."""
+    new = after.indexes[-1]
+    alike = [kept[1] for kept in (kept_by(index.definition) for index in before.indexes) if kept and kept[0] == kind]
+    every = fields.union(*alike)
+    is_too_wide = len(every) > 64 or sum(len(".".join(path).encode()) for path in every) > 65_536
+    assert kept_by(new.definition) == (kind, fields if is_too_wide else every), new.name
+    assert new.number == before.store.last + 1 and not before.serving(new.name) and len(new.name.encode()) <= 200, new.name
+
+
+def check_choice(before: model.Database, after: model.Database, line: bytes, reply: dict) -> None:
+    """What answers is the first of the indexes that can, and only if none can it is a new one."""
+    asked = asked_by(line, reply)
+    if asked is None:
+        return
+    name = reply.get("Index", reply.get("IndexName"))
+    kept = [(index, kept_by(index.definition)) for index in before.indexes]
+    able = [index for index, has in kept if has and has[0] == asked[0] and has[1] >= asked[1]]
+    if not able:
+        assert after.indexes[-1].name == name and len(after.indexes) == len(before.indexes) + 1, name
+        return check_made(before, after, *asked)
+    used = before.serving(name)
+    assert used in able and all(other is used or is_before(before, used, other) for other in able), name
+    assert before.store.last == after.store.last, name
+
+
+def check_retired(before: model.Database, after: model.Database, reply: dict) -> None:
+    """Of each retired index another one has all that it has, and more, and has come as far; of each that stays none does."""
+    kept = {index: kept_by(index.definition) for index in before.indexes if kept_by(index.definition)}
+
+    def outdoes(other: model.Index, index: model.Index) -> bool:
+        return kept[other][0] == kept[index][0] and kept[other][1] > kept[index][1] and other.etag >= index.etag
+
+    retired = [index for index in kept if any(outdoes(other, index) for other in kept)]
+    assert reply["Retired"] == [index.name for index in retired], reply
+    assert all(any(outdoes(other, index) for other in kept if other not in retired) for index in retired), reply
+    assert not any(after.numbered(index.number) for index in retired), reply
+
+
 def check_line(before: model.Database, after: model.Database, line: bytes, reply: dict) -> None:
     check_alone(after)
+    check_choice(before, after, line, reply)
+    if "Retired" in reply:
+        check_retired(before, after, reply)
     check_tables(before, after)
     check_store(before.store, after.store)
     check_definitions(before, after)

@@ -6,23 +6,18 @@
 - `map_scripts`, mostly good lines, of maps and of documents that load one another;
 - `query_scripts`, mostly good queries, over indexes that lag behind;
 - `slot_scripts`, mostly definitions under names that serve, switches, and batches that are held meanwhile;
-- `choice_scripts`, for a stage of the model: queries that choose an index;
+- `choice_scripts`, mostly queries that choose, make and widen automatic indexes, and tidyings;
 - `crash_scripts` and `load_scripts`, writes over a file;
 - `random_cases`, any of these over a keeper in memory that fails.
 
 `limit_scripts` and `case_scripts` are at each limit and of each case in `worked`. `worked_slots` has scripts of replacements, and
-`worked_stages` those for the stages.
+`worked_choices` those of queries that choose an index.
 
 `http_calls` makes calls over HTTP, out of the lines of scripts too, and `http_sessions` spells them as bytes. `worked_http` has bytes with
 what they are read as and what is answered.
 """
 
-import collections.abc
-import functools
-
-from raven_tools import model
 from raven_tools.making import choice_scripts, map_scripts, query_scripts, random_scripts, slot_scripts
-from raven_tools.making.maker import Maker
 
 # The kinds of random scripts, in turn.
 MAKERS = [
@@ -35,13 +30,5 @@ MAKERS = [
     map_scripts.MapMaker,
     query_scripts.QueryMaker,
     *[slot_scripts.SlotMaker] * 4,
+    *[choice_scripts.ChoiceMaker] * 4,
 ]
-
-# Those that a stage has besides, by its switch.
-OF_STAGES = {"optimiser": [choice_scripts.ChoiceMaker] * 4}
-
-
-def makers_of(stage: model.Stage) -> list[collections.abc.Callable[[int], Maker]]:
-    """The kinds of random scripts at a stage, in turn, each by its seed."""
-    every = MAKERS + [maker for switch, makers in OF_STAGES.items() if getattr(stage, switch) for maker in makers]
-    return [functools.partial(maker, stage=stage) for maker in every]

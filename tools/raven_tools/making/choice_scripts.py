@@ -1,12 +1,15 @@
 """Random scripts of queries that choose, make and widen automatic indexes, and of tidying, which removes some of them."""
 
 from raven_tools import model
-from raven_tools.making.query_scripts import QueryMaker
+from raven_tools.making.query_scripts import TEAMS, VALUES, QueryMaker
 from raven_tools.making.random_scripts import USUAL, kind_of
+from raven_tools.model import keeping, opening
 from raven_tools.queries.trees import in_order
 
 PATHS = [("F",), ("F",), ("Age",), ("Age",), ("Name",), ("Team",), ("N", "A"), ("N", "B"), ("Ref",), ("Gone",)]
-GROUPS = [("Team",), ("Team",), ("Name",), ("N", "A")]
+# Those with parts that a query has to quote.
+PATHS += [("x y",), ("order", "it's"), ("N", "x y"), ("é",)]
+GROUPS = [("Team",), ("Team",), ("Name",), ("N", "A"), ("x y",)]
 
 
 class ChoiceMaker(QueryMaker):
@@ -14,6 +17,12 @@ class ChoiceMaker(QueryMaker):
 
     def usual_body(self, name: str) -> str:
         return self.body(USUAL.get(model.folded(name)[:1], "Users"))
+
+    def body(self, usual: str) -> str:
+        """With a member whose name has to be quoted, by chance."""
+        members = super().body(usual)
+        named = [f'"x y":{self.one_of(TEAMS)},', f'"order":{{"it\'s":{self.one_of(VALUES)}}},']
+        return "{" + "".join(part for part in named if self.chance(40)) + members[1:]
 
     def some(self) -> str:
         """A query of some documents, or of groups of them, mostly of what they have."""
@@ -60,3 +69,13 @@ class ChoiceMaker(QueryMaker):
             written.append(make())
             self.kinds[kind_of(model.answer(self.database, written[-1].encode()))] += 1
         return "\n".join(written).encode()
+
+
+def over(seed: int, rows: list[keeping.KeptRow]) -> ChoiceMaker:
+    """A maker whose scripts run over what the rows open, if they do."""
+    maker = ChoiceMaker(seed)
+    try:
+        maker.database = opening.opened(keeping.Keeper(rows))
+    except keeping.KeptBad:
+        pass
+    return maker

@@ -1,5 +1,6 @@
 """Writes over a file, during which the program is killed, and what is asked afterwards."""
 
+import itertools
 import random
 
 from raven_tools import model
@@ -12,7 +13,11 @@ NAMES = ["Ada", "Grace", "Linus", "Barbara", "Edsger", "Niklaus", "É", "\U0001f
 # Each id belongs to one collection, since an id keeps the collection of its first write.
 IDS = [f"{COLLECTIONS[number % 4].strip('@').lower()}/{number}" for number in range(48)]
 COLLECTION_OF = {name: COLLECTIONS[number % 4] for number, name in enumerate(IDS)}
-AUTOS = [f"Auto/{collection}/By{field}" for collection in COLLECTIONS for field in FIELDS]
+# The names of the indexes that the database makes, of one field or more, with the fields; and those of groups.
+SETS = [fields for count in (1, 2, 3) for fields in itertools.combinations(sorted(FIELDS), count)]
+FIELDS_OF = {f"Auto/{collection}/By{'And'.join(fields)}": fields for collection in COLLECTIONS for fields in SETS}
+AUTOS = list(FIELDS_OF)
+GROUPED = [f"Auto/{name}/By{sums}ReducedBy{field}" for name in COLLECTIONS for sums in ("Count", "CountAndNumber") for field in FIELDS]
 # Names that clients give indexes, the last of them the first one spelled anew, and the maps and reduces that these may have.
 NAMED = ["Named", "Owners", "Shares", "Cities", "NAMED"]
 TEXTS = [
@@ -69,6 +74,14 @@ class CrashMaker(Maker):
     def auto(self):
         return f"AUTO {self.one_of(COLLECTIONS)} {self.one_of(FIELDS)}"
 
+    def query(self):
+        """A query of some documents, or of groups of them, which makes its index if there is none."""
+        first, second = self.random.sample(FIELDS, 2)
+        source = f"QUERY from '{self.one_of(COLLECTIONS)}'"
+        if self.chance(30):
+            return f"{source} group by {first}" + self.one_of(["", " select sum(Number)"])
+        return f"{source} where {first} = 'ada'" + self.one_of(["", f" order by {second} select Name"])
+
     def define(self):
         """Mostly a name has one definition, so that few are built beside another one."""
         at = self.random.randrange(len(NAMED))
@@ -76,7 +89,9 @@ class CrashMaker(Maker):
         return lines.definition(NAMED[at], *texts)
 
     def drop(self):
-        return f"DROP {self.one_of(NAMED + AUTOS)}"
+        """Mostly of an index that is there."""
+        made = [index.name for index in self.database.indexes]
+        return f"DROP {self.one_of(made if made and self.chance(50) else NAMED + AUTOS + GROUPED)}"
 
     def take_over(self) -> list[str]:
         """Another definition of a name, batches, and its switch, which is one commit of two rows."""
@@ -92,7 +107,7 @@ class CrashMaker(Maker):
 
     def script(self) -> list[bytes]:
         kinds = [self.put] * 8 + [self.put_if] * 2 + [self.delete] * 3 + [self.delete_if] + [self.bulk] * 5
-        kinds += [self.auto, self.define, self.drop, self.pump, self.pump, self.look, self.take_over]
+        kinds += [self.auto, self.query, self.query, self.define, self.drop, self.pump, self.pump, self.look, self.take_over]
         count = 1 if self.chance(25) else self.one_of([2, 5, 10, 20, 40, 80])
         script: list[str] = []
         while len(script) < count:
@@ -102,13 +117,14 @@ class CrashMaker(Maker):
 
 
 def ids_asked() -> list[str]:
-    return [*IDS, "nobody/1", *("@index/" + name for name in AUTOS + NAMED + ["ReplacementOf/" + name for name in NAMED])]
+    names = [*AUTOS, *GROUPED, *NAMED, *("ReplacementOf/" + name for name in NAMED)]
+    return [*IDS, "nobody/1", *("@index/" + name for name in names)]
 
 
 def questions(number: int) -> list[bytes]:
     """What is asked after a crash, and a document that is written after it."""
     asked = ["STATS", *(lines.get(name) for name in ids_asked()), "PUMP 65536"]
-    asked += [f"FIND {index} {field} ada" for index in AUTOS for field in FIELDS if index.endswith(field)]
+    asked += [f"FIND {name} {field} ada" for name, fields in FIELDS_OF.items() for field in fields]
     asked += [*(f"FIND {name} Name ada" for name in NAMED), "INDEXES"]
     asked += [f"QUERY from '{collection}' select Name, City, Number" for collection in COLLECTIONS]
     asked += [f"QUERY from index '{name}' order by Name desc" for name in NAMED]

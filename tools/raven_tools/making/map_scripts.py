@@ -8,8 +8,8 @@ from raven_tools.making.random_scripts import SIZES, USUAL, RandomMaker, kind_of
 class MapMaker(RandomMaker):
     """Makes scripts whose lines are mostly good, and mostly of maps and of documents that load one another."""
 
-    def __init__(self, seed: int, stage: model.Stage = model.Stage()):
-        super().__init__(seed, stage)
+    def __init__(self, seed: int):
+        super().__init__(seed)
         self.maps.collections = ["Users", "Users", "Orders", "Orders", "C"]
         self.loading = 50
         self.ahead: list = []  # what makes the next lines
@@ -66,7 +66,7 @@ class MapMaker(RandomMaker):
     def joined(self, written: list[str]) -> bytes:
         """The script of these lines, whose replies are counted."""
         script = "\n".join(written).encode()
-        replies = model.replies(script, model.Database(stage=self.database.stage)).split(b"\n")[:-1]
+        replies = model.replies(script).split(b"\n")[:-1]
         self.kinds.update(kind_of(model.read_json(reply)) for reply in replies)
         return script
 

@@ -108,8 +108,8 @@ class Questions(Chance):
         return ".".join(path), self.one_of([self.spelled_path(path)] * 3 + calls)
 
     def own_path(self):
-        """A path that the rows have, and that is no count or sum."""
-        return tuple(self.one_of([name for name in self.fields if "(" not in name]).split("."))
+        """A path that the rows have, and that is no count or sum, if there is one."""
+        return tuple(self.one_of([name for name in self.fields if "(" not in name] or ["Gone"]).split("."))
 
     def any_path(self):
         if self.fields and self.chance(30):

@@ -2,11 +2,11 @@
 
 import random
 
-from raven_tools.making import lines, map_scripts, query_scripts, slot_scripts
+from raven_tools.making import choice_scripts, kept_rows, lines, map_scripts, query_scripts, slot_scripts
 from raven_tools.making.chance import Chance
 
 LINES = 40
-MAKERS = [slot_scripts.SlotMaker] * 3 + [map_scripts.LagMaker, query_scripts.QueryMaker]
+MAKERS = [slot_scripts.SlotMaker] * 3 + [map_scripts.LagMaker, query_scripts.QueryMaker] + [choice_scripts.ChoiceMaker] * 3
 NAMES = ["U", "V", "w", "É", "_"]
 # Bytes that a line of a case may have as they are.
 PLAIN = frozenset(range(0x20, 0x7F))
@@ -61,12 +61,22 @@ class CaseMaker(Chance):
                 found += ["rows", "again"]
         return [*found, "rows"]
 
-    def case(self, name: str) -> str:
-        is_tidied = self.chance(40)
-        fails = self.fails(24 if is_tidied else 70)
+    def written(self, name: str, fails: list[int], first: list[str], script: list[bytes]) -> str:
+        """The case of these calls that fail, lines before the script, and lines of the script."""
         keeps = [f"keeps {' '.join(map(str, fails))}"] if fails else []
-        written = self.script(self.tidied() if is_tidied else self.any_lines(), 3)
-        return "\n".join([f"== {name}", *keeps, *written, ""]) + "\n"
+        return "\n".join([f"== {name}", *keeps, *first, *self.script(script, 3), ""]) + "\n"
+
+    def over_kept(self, name: str) -> str:
+        """A script over rows of documents and of automatic indexes, of which one is bad now and then."""
+        rows = kept_rows.KeptMaker(self.random).rows()
+        script = choice_scripts.over(self.seed, rows).script(LINES // 2).split(b"\n")
+        return self.written(name, self.fails(70) if self.chance(30) else [], kept_rows.printed(rows), script)
+
+    def case(self, name: str) -> str:
+        if self.chance(25):
+            return self.over_kept(name)
+        is_tidied = self.chance(40)
+        return self.written(name, self.fails(24 if is_tidied else 70), [], self.tidied() if is_tidied else self.any_lines())
 
 
 def cases(seed: int, rounds: int) -> str:

@@ -92,8 +92,8 @@ def padded(fill: int) -> str:
 class RandomMaker(Maker):
     """Makes one script out of a seed. Its database is what the lines so far lead to."""
 
-    def __init__(self, seed: int, stage: model.Stage = model.Stage()):
-        super().__init__(random.Random(seed), model.Database(stage=stage))
+    def __init__(self, seed: int):
+        super().__init__(random.Random(seed), model.Database())
         self.maps = maps.Maps(self.random)
         self.reduces = reduces.Reduces(self.random)
         self.questions = questions.Questions(self.random)

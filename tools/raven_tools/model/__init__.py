@@ -25,6 +25,5 @@ from raven_tools.model.limits import (
 from raven_tools.model.lines import answer, lines, replies
 from raven_tools.model.moments import MOMENT, MOMENTS, at_no_moment
 from raven_tools.model.refused import Refused
-from raven_tools.model.stage import Stage
 from raven_tools.model.store import Row, Store
 from raven_tools.texts import folded, size

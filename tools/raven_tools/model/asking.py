@@ -48,7 +48,6 @@ def answer_to(database: Database, ask: Ask) -> Reply:
         binding.check(ask.query, ask.parameters, ask.start, ask.size)
         kind, name = ask.query.origin
         if binding.is_dynamic(ask.query):
-            database.stage.must_choose()
             return of_index(database, ask, optimiser.index_for(database, optimiser.shape_of(ask.query)))
         return of_index(database, ask, database.live(name)) if kind == "index" else of_collection(database, ask, name)
     except binding.Unbound as unbound:

@@ -6,7 +6,6 @@ from raven_tools.model.indexes import REPLACEMENT, Batch, Index, Note
 from raven_tools.model.json import Json
 from raven_tools.model.limits import Limits
 from raven_tools.model.refused import Refused
-from raven_tools.model.stage import Stage
 from raven_tools.model.store import Row, Store
 from raven_tools.model.transactions import Command, transact
 from raven_tools.texts import folded
@@ -23,15 +22,12 @@ class Keeper(typing.Protocol):
 class Database:
     """What a run has in memory."""
 
-    def __init__(
-        self, store: Store | None = None, keeper: Keeper | None = None, stage: Stage = Stage(), limits: Limits = Limits()
-    ):
+    def __init__(self, store: Store | None = None, keeper: Keeper | None = None, limits: Limits = Limits()):
         self.store = store or Store({}, 0)
         self.indexes: list[Index] = []  # in order of their numbers
         self.notes: list[Note] = []
         self.held: dict[int, Batch] = {}  # by worker
         self.keeper = keeper
-        self.stage = stage
         self.limits = limits
 
     # changes of the store
@@ -92,14 +88,14 @@ class Database:
 
     def copied(self) -> "Database":
         """A database that the lines of this one do not change. Rows are never changed, only replaced."""
-        other = Database(self.store.copy(), None, self.stage, self.limits)
+        other = Database(self.store.copy(), None, self.limits)
         other.indexes = [index.copied() for index in self.indexes]
         other.notes, other.held = list(self.notes), dict(self.held)
         return other
 
     def opened(self) -> "Database":
         """The database after its file was opened: each index begins again at etag 0, with the number and the name of its row."""
-        other = Database(self.store.copy(), None, self.stage, self.limits)
+        other = Database(self.store.copy(), None, self.limits)
         for index in self.indexes:
             row = self.store.row("@index/" + index.name)
             other.indexes.append(Index(row.etag, row.spelling.removeprefix("@index/"), index.definition))

@@ -2,7 +2,6 @@
 
 from raven_tools.model.database import Reply
 from raven_tools.model.json import write_json
-from raven_tools.model.outside import LeftOpen
 from raven_tools.model.refused import Refused
 
 PHRASES = {
@@ -36,8 +35,6 @@ ENDS = {"BadHead": 400, "HeadTooLarge": 431, "BodyTooLarge": 413, "Encoded": 415
 
 def status_of_error(reply: Reply) -> int:
     """A document that is too large has its own status; its reply tells how long it is, which that of a text does not."""
-    if reply["Error"] not in STATUSES:
-        raise LeftOpen("what a request of a later stage is answered")
     return TOO_LARGE if reply["Error"] == "TooLarge" and "Len" in reply else STATUSES[str(reply["Error"])]
 
 

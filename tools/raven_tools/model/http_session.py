@@ -127,7 +127,7 @@ def run(given: Outside, keeper: keeping.Keeper) -> tuple[str, bytes]:
     if found is None:
         return "Usage", b""
     try:
-        database = opening.opened(keeper, found.base, given.stage)
+        database = opening.opened(keeper, found.base)
     except keeping.Failed:
         return "KeptFault", b""
     except keeping.KeptBad as bad:

@@ -6,7 +6,6 @@ from raven_tools.model.definitions import Auto, AutoReduce, Definition, Document
 from raven_tools.model.indexes import REPLACEMENT, Index, is_replacement
 from raven_tools.model.json import Json
 from raven_tools.model.limits import MAX_NEW_NAME, Limits
-from raven_tools.model.stage import Stage
 from raven_tools.queries.trees import in_order
 from raven_tools.texts import folded
 
@@ -74,26 +73,24 @@ def is_named(name: str, definition: Definition, rows: dict[str, model.Row]) -> b
     return own == name or not is_automatic and beside is not None and beside.is_document()
 
 
-def index_of(row: model.Row, rows: dict[str, model.Row], stage: Stage) -> Index:
+def index_of(row: model.Row, rows: dict[str, model.Row]) -> Index:
     """The index of a live row of a definition."""
     name = row.spelling[len("@index/") :]
     definition = definition_of(row.body)
-    if definition is None or not is_named(name, definition, rows) or not stage.opens(definition):
+    if definition is None or not is_named(name, definition, rows):
         raise keeping.KeptBad(row.etag)
     return Index(row.etag, name, definition)
 
 
-def opened(
-    keeper: keeping.Keeper, base: str = model.BASE, stage: Stage = Stage(), limits: Limits = Limits()
-) -> model.Database:
+def opened(keeper: keeping.Keeper, base: str = model.BASE, limits: Limits = Limits()) -> model.Database:
     """The database of the rows that the keeper has. Each index begins at etag 0, and its number is that of its row."""
     rows, last = keeping.load_all(keeper)
-    database = model.Database(model.Store(rows, last, base), keeper, stage, limits)
+    database = model.Database(model.Store(rows, last, base), keeper, limits)
     for key, row in rows.items():
         if key.startswith("@index/") != (row.collection == "@indexes"):
             raise keeping.KeptBad(row.etag)
         if row.is_document() and row.collection == "@indexes":
             if len(database.indexes) == limits.slots:
                 raise keeping.KeptBad(row.etag)
-            database.indexes.append(index_of(row, rows, stage))
+            database.indexes.append(index_of(row, rows))
     return database

@@ -117,8 +117,6 @@ def index_for(database: Database, shape: Shape) -> Index:
     if used:
         return used
     others = [offer.shape for offer in offers(database) if offer.shape.is_like(shape)]
-    if others:
-        database.stage.must_choose()
     wide = widened(shape, others)
     return slots.make(database, name_for(database, wide), definition_of(wide))
 

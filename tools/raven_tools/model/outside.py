@@ -30,7 +30,6 @@ class Outside:
     reads: frozenset[int] = frozenset()
     writes: frozenset[int] = frozenset()
     script: bytes = b""  # what is read, of whatever command
-    stage: model.Stage = model.Stage()  # what the model has beyond the program
 
 
 def pairs_of(

@@ -67,7 +67,7 @@ def run(given: Outside, keeper: keeping.Keeper) -> tuple[str, bytes]:
     if len(given.script) > model.MAX_SCRIPT:
         return "InputTooLarge", b""
     try:
-        database = opening.opened(keeper, found.get("--id", model.BASE), given.stage)
+        database = opening.opened(keeper, found.get("--id", model.BASE))
     except keeping.Failed:
         return "KeptFault", b""
     except keeping.KeptBad as bad:

@@ -1,7 +1,7 @@
 #!/usr/bin/env python3
-"""Runs the model on random scripts at each stage, and looks after each line whether what has to hold holds.
+"""Runs the model on random scripts, and looks after each line whether what has to hold holds.
 
-    tools/test_stages.py [--rounds N] [--lines N] [--seed N]
+    tools/test_sound.py [--rounds N] [--lines N] [--seed N]
 
 It needs no program, and compares nothing: a script whose replies are wrong may pass, if what they leave behind is sound. Some scripts
 have a keeper that fails now and then, and some a database with few places. It ends with 0 if everything held, and otherwise at the
@@ -16,13 +16,12 @@ import sys
 sys.dont_write_bytecode = True
 from raven_tools import model
 from raven_tools.checks import sound
-from raven_tools.making import choice_scripts, makers_of, slot_scripts
+from raven_tools.making import MAKERS, choice_scripts, slot_scripts
 from raven_tools.model import keeping, opening
 
-STAGES = [model.Stage(), model.Stage(optimiser=True)]
 FEW = model.Limits(slots=6, notes=1)
 # The makers of most scripts.
-OWN = [slot_scripts.SlotMaker, choice_scripts.ChoiceMaker]
+OWN = [slot_scripts.SlotMaker, slot_scripts.SlotMaker, choice_scripts.ChoiceMaker]
 # What many scripts have to reach.
 REACHED = """
 switched by a line, switched by tidying, retired, published, Gone, Passed, NotFresh, NoReplacement, NothingHeld, NotesFull, TooManyIndexes,
@@ -67,15 +66,12 @@ class Round:
 
     def __init__(self, seed: int, number: int, lines: int):
         self.chance = random.Random(seed * 1_000_003 + number)
-        stage = STAGES[number % 3 > 0]
-        makers = makers_of(stage)
-        own = [maker for maker in makers if maker.func in OWN]
-        maker = self.chance.choice(own if number % 8 else makers)(seed * 1_000_003 + number)
+        maker = self.chance.choice(OWN if number % 8 else MAKERS)(seed * 1_000_003 + number)
         self.lines = [line for line in model.lines(maker.script(lines)) if line]
         fails = [self.chance.randrange(2, 60) for _ in range(self.chance.choice([0, 0, 1, 5, 20]))]
         self.keeper = keeping.Keeper(fails=fails)
         limits = FEW if number % 4 == 1 else model.Limits()
-        self.database = opening.opened(self.keeper, stage=stage, limits=limits)
+        self.database = opening.opened(self.keeper, limits=limits)
 
     def run(self, counts: collections.Counter[str]) -> None:
         for line in self.lines:
@@ -99,7 +95,7 @@ class Round:
     def check_opened(self) -> None:
         """What is opened again has the same definitions under the numbers of their rows, and comes up to the same."""
         rows, limits = self.keeper.rows, self.database.limits
-        again = opening.opened(keeping.Keeper(rows), stage=self.database.stage, limits=limits)
+        again = opening.opened(keeping.Keeper(rows), limits=limits)
         expected = self.database.opened()
         for left, right in zip(again.indexes, expected.indexes, strict=True):
             assert (left.number, left.name, left.definition.shown()) == (right.number, right.name, right.definition.shown())
@@ -111,7 +107,7 @@ class Round:
 
 def main() -> int:
     sys.setrecursionlimit(10_000)
-    given = argparse.ArgumentParser(description="Runs the model on random scripts at each stage.")
+    given = argparse.ArgumentParser(description="Runs the model on random scripts.")
     given.add_argument("--rounds", type=int, default=2_000)
     given.add_argument("--lines", type=int, default=30)
     given.add_argument("--seed", type=int, default=1)

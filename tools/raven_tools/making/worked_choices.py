@@ -1,9 +1,6 @@
-"""Scripts with their replies, all worked out by hand, of what the model has at a stage and the program does not have yet."""
+"""Scripts with their replies, all worked out by hand, of queries that choose an index, and of what tidying removes."""
 
-from raven_tools import model
 from raven_tools.transcripts import halves
-
-# Queries that choose an index, and what tidying removes.
 
 ORDERED = """
 > PUT users/1 {"Age":9,[Users]}
@@ -22,6 +19,26 @@ ORDERED = """
 "Results":[{"Age":null},{"Age":10},{"Age":9}],"TotalResults":3}
 < {"Includes":{},"IndexEtag":4,"IndexName":"Auto/Users/ByAge","IsStale":false,\
 "Results":[{"Age":null},{"Age":9},{"Age":10}],"TotalResults":3}
+"""
+
+# The narrower index answers as long as it alone is fresh, and goes once the other one has come as far.
+NARROW_AND_WIDE = """
+> PUT users/1 {"Age":36,"Name":"Ada",[Users]}
+> QUERY from Users where Name = 'ada' select Name
+> PUMP 64
+> QUERY from Users where Name = 'ada' and Age = 36 select Name
+> QUERY from Users where Name = 'ada' select Name
+> PUMP 64
+> TIDY
+> QUERY from Users where Name = 'ada' select Name
+< {"ChangeVector":"A:1-{B}","Id":"users/1"}
+< {"Includes":{},"IndexEtag":0,"IndexName":"Auto/Users/ByName","IsStale":true,"Results":[],"TotalResults":0}
+< {"Pumped":[{"From":0,"Index":"Auto/Users/ByName","To":2}]}
+< {"Includes":{},"IndexEtag":0,"IndexName":"Auto/Users/ByAgeAndName","IsStale":true,"Results":[],"TotalResults":0}
+< {"Includes":{},"IndexEtag":2,"IndexName":"Auto/Users/ByName","IsStale":false,"Results":[{"Name":"Ada"}],"TotalResults":1}
+< {"Pumped":[{"From":2,"Index":"Auto/Users/ByName","To":2},{"From":0,"Index":"Auto/Users/ByAgeAndName","To":3}]}
+< {"Retired":["Auto/Users/ByName"],"Switched":[]}
+< {"Includes":{},"IndexEtag":3,"IndexName":"Auto/Users/ByAgeAndName","IsStale":false,"Results":[{"Name":"Ada"}],"TotalResults":1}
 """
 
 # A question of one more field makes an index of both, which takes the place of the first one once it has come as far.
@@ -174,21 +191,19 @@ UP_TO_A_CUTOFF = """
 """
 
 
-# Those of each switch of a stage, with their names.
+# With their names.
 WORKED = {
-    "optimiser": {
-        "ordered": ORDERED,
-        "widened": WIDENED,
-        "grouped": GROUPED,
-        "of groups": OF_GROUPS,
-        "of fields": OF_FIELDS,
-        "of no fields": OF_NO_FIELDS,
-        "up to a cutoff": UP_TO_A_CUTOFF,
-    },
+    "ordered": ORDERED,
+    "narrow and wide": NARROW_AND_WIDE,
+    "widened": WIDENED,
+    "grouped": GROUPED,
+    "of groups": OF_GROUPS,
+    "of fields": OF_FIELDS,
+    "of no fields": OF_NO_FIELDS,
+    "up to a cutoff": UP_TO_A_CUTOFF,
 }
 
 
-def scripts_of(stage: model.Stage) -> list[tuple[str, bytes]]:
-    """The scripts that have lines of the stage, each with a name."""
-    worked = [transcripts for switch, transcripts in WORKED.items() if getattr(stage, switch)]
-    return [(name, halves(transcript)[0]) for transcripts in worked for name, transcript in transcripts.items()]
+def scripts() -> list[tuple[str, bytes]]:
+    """Each with its name."""
+    return [(name, halves(transcript)[0]) for name, transcript in WORKED.items()]
