@@ -1,5 +1,5 @@
 -- What is asked, by the command and the pairs after it.
-use Rattle.std.proofs.Common.{◌≡◌, ℕ, List, [], ◌∷◌, Option, Some, None, Bool, true, false, String, Global, string_bytes, refl, ap, sym, ◌∙◌, map}
+use Rattle.std.proofs.Common.{◌≡◌, ℕ, List, ◌∷◌, Option, Some, None, Bool, true, false, String, Global, string_bytes, refl, ap, sym, ◌∙◌, map}
 use Rattle.std.specs.Prelude.{◌&&◌, if◌then◌else◌, codes}
 use Rattle.std.specs.Option.{option_and_then, option_map, option_or}
 use Rattle.std.specs.Str.{bytes_eq}
@@ -8,7 +8,6 @@ use Rattle.spec_measure.specs.Options.{options_in}
 use Rattle.spec_measure.specs.Requests as measure
 use Rattle.spec_server.specs.Options.{Pairs, are_known, are_once, base_in, pairs_in, run_names, run_options, value_named}
 use Rattle.spec_server.specs.Options as server
-use Rattle.raven_console.specs.ArgumentsView.{run_view}
 use Rattle.raven_console.specs.Invocations.{Invocation, Measure, Run, invoked_in, run_of}
 
 named : (n m : List ℕ) → bytes_eq n m ≡ true → n ≡ m

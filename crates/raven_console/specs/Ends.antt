@@ -3,11 +3,9 @@ use Rattle.std.specs.Prelude.{◌≡◌, ℕ, List, Option, Some, None, ◌⊎�
 use Rattle.spec_measure.specs.Requests as measure
 use Rattle.spec_server.specs.Options as server
 use Rattle.raven_measure.specs.Ends.{MeasuresRightly}
-use Rattle.raven_measure.specs.Measures as measurement
 use Rattle.raven_measure.specs.Measures.{ends_of}
 use Rattle.raven_measure.specs.declared.measuring.MeasureEnd.{MeasureEnd}
 use Rattle.raven_run.specs.Ends.{RunsRightly}
-use Rattle.raven_run.specs.Runs as run
 use Rattle.raven_run.specs.Runs.{Devices}
 use Rattle.raven_run.specs.declared.run_end.RunEnd.{RunEnd}
 use Rattle.raven_console.specs.Invocations.{Invocation, Measure, Run, invoked_in}

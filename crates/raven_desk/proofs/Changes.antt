@@ -3,14 +3,14 @@ use Rattle.std.proofs.Common.{◌≡◌, ℕ, List, [], ◌∷◌, true, Result,
 use Rattle.spec_data.specs.Kept.{EtagsRise, all_kept, last_kept}
 use Rattle.spec_index.specs.World.{World}
 use Rattle.spec_server.specs.Machine.{Change, Course, Do, Request, course_of, machine_of}
-use Rattle.spec_server.specs.Replies.{KeeperFault, Reply}
+use Rattle.spec_server.specs.Replies.{Reply}
 use Rattle.spec_server.specs.Sound.{Sound}
 use Rattle.spec_server.specs.WellFormed.{IsWellFormed}
 use Rattle.raven_laws.specs.Keeping.{IsItsRows}
 use Rattle.raven_ports.specs.States.{KeeperState}
 use Rattle.spec_desk.specs.Keepers.{IsKept, Keeps}
 use Rattle.spec_desk.specs.Lived.{Lived, lived}
-use Rattle.spec_desk.specs.Stepped.{IsStep, Makes, MayMake, Settled, Settles, Stopped, reply_after}
+use Rattle.spec_desk.specs.Stepped.{IsStep, Makes, MayMake, Settles, Stopped}
 use Rattle.spec_desk.proofs.Keeping.{keeps_taken, past, rising}
 use Rattle.spec_desk.proofs.Making.{may_make, stepped}
 

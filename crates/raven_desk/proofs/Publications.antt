@@ -1,5 +1,5 @@
 -- Publishing a batch on a live value.
-use Rattle.std.proofs.Common.{◌≡◌, ℕ, List, [], ◌∷◌, Option, Some, None, Result, Ok, Err, IfOk, refl, sym, ap, ◌∙◌, subst}
+use Rattle.std.proofs.Common.{◌≡◌, ℕ, [], ◌∷◌, Option, Some, None, Result, Ok, Err, IfOk, sym, ap, ◌∙◌, subst}
 use Rattle.spec_index.specs.World.{Slot, Version, World, numbered}
 use Rattle.spec_server.specs.Machine.{Change, Course, PublishRefusal, machine_of, only_reply, publish_refused, published, published_in, published_reply}
 use Rattle.spec_server.specs.Replies as replies

@@ -2,7 +2,6 @@
 use Rattle.std.proofs.Common.{◌≡◌, ◌≢◌, ℕ, ◌+◌, ◌≤◌, List, [], ◌∷◌, Bool, true, false, Option, length, map, refl, sym, ap, ◌∙◌, subst, arith}
 use Rattle.std.specs.Int.{from_bool}
 use Rattle.spec_data.specs.Rows.{Row}
-use Rattle.spec_index.specs.World.{World}
 use Rattle.spec_measure.specs.Summary.{is_moving, one_if}
 use Rattle.spec_server.specs.Machine.{Change, Course, Keeping, Machine, Replied, Request, Tidy, course_of, made, takes_all, with_world}
 use Rattle.spec_server.specs.Replies.{KeeperFault, Reply, UnknownLine}

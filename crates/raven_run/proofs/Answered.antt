@@ -1,5 +1,5 @@
 -- What is written for a line, and what it leaves, by what it means.
-use Rattle.std.proofs.Common.{◌≡◌, ℕ, List, [], Option, Some, None, Result, Ok, Err, inl, inr, refl, sym, ap, ◌∙◌, subst}
+use Rattle.std.proofs.Common.{◌≡◌, ℕ, List, [], Option, Some, None, Ok, Err, inl, inr, refl, ap, ◌∙◌, subst}
 use Rattle.std.specs.Prelude.{option_map}
 use Rattle.spec_data.specs.Kept.{KeptRow}
 use Rattle.spec_server.specs.Machine.{Do, Line as LineIs, Machine, Tidy}

@@ -1,8 +1,8 @@
 -- What a request leaves once its changes were settled.
-use Rattle.std.proofs.Common.{◌≡◌, ◌≢◌, ℕ, ◌⊎◌, inl, inr, List, Result, Ok, Err, IfOk, OnErr, OnOk, refl, sym, ap, ◌∙◌, subst}
+use Rattle.std.proofs.Common.{◌≡◌, ℕ, ◌⊎◌, inl, inr, List, Result, Ok, Err, IfOk, OnErr, OnOk, refl, sym, ap, ◌∙◌, subst}
 use Rattle.spec_index.specs.World.{World}
-use Rattle.spec_server.specs.Machine.{Course, Do, Held, Line, Machine, Replied, Request, Tidy, course_of, made, step}
-use Rattle.spec_server.specs.Replies.{Reply, printed}
+use Rattle.spec_server.specs.Machine.{Course, Do, Held, Machine, Replied, Request, Tidy, course_of, step}
+use Rattle.spec_server.specs.Replies.{printed}
 use Rattle.spec_desk.specs.Keepers.{keeping}
 use Rattle.spec_desk.specs.Lived.{Lived, machine_in, machine_with}
 use Rattle.spec_desk.specs.Stepped.{IsMadeInPart, Makes, Settled, Settles, Stays, reply_after}

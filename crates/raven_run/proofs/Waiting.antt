@@ -1,12 +1,11 @@
 -- Batches that workers hold may wait.
-use Rattle.std.proofs.Common.{◌≡◌, ℕ, ◌==◌, ◌++◌, find, List, [], ◌∷◌, Bool, true, not, Option, Some, None, inl, inr, refl, sym, ap, ◌∙◌, subst, arith}
+use Rattle.std.proofs.Common.{◌≡◌, ℕ, ◌==◌, find, List, [], ◌∷◌, not, Option, Some, None, inl, inr, sym, ◌∙◌, subst, arith}
 use Rattle.std.proofs.lemmas.Bool.{eqb-true}
 use Rattle.std.specs.Prelude.{IfSome, option_map}
 use Rattle.std.specs.declared.alloc.Global.{Global}
 use Rattle.std.specs.declared.sync.Arc.{Arc}
 use Rattle.index_version.specs.Named.{NamedVersion}
-use Rattle.spec_index.specs.World.{Slot, World, batch, numbered}
-use Rattle.spec_server.specs.Machine.{Held}
+use Rattle.spec_index.specs.World.{Slot, World, batch}
 use Rattle.spec_server.specs.Sound.{Has, IsHeld, LaterW, Sound}
 use Rattle.raven_laws.proofs.MachineLemmas.{IsHeld-later, batch-IsHeld}
 use Rattle.raven_laws.proofs.SlotLemmas.{Has-append, Has-filter, find-Has, same_slot, served}

@@ -6,9 +6,8 @@ use Rattle.raven_ports.specs.Asking.{Asked}
 use Rattle.raven_ports.specs.States.{KeeperState}
 use Rattle.raven_world.specs.Publishing.{IsReadAt}
 use Rattle.raven_world.specs.declared.publish.Batch.{Batch}
-use Rattle.spec_data.specs.Rows.{Row}
 use Rattle.spec_index.specs.World.{Slot, World, batch, numbered, serving}
-use Rattle.spec_server.specs.Machine.{Change, Course, Held, Keeping, Machine, Publish, PublishRefusal, Read, Replied, held_by, let_go, machine_of, made, publish_by, published, published_reply, read_at, read_batch, settled, step}
+use Rattle.spec_server.specs.Machine.{Change, Course, Held, Keeping, Machine, Publish, PublishRefusal, Read, Replied, held_by, machine_of, made, publish_by, published, published_reply, read_at, read_batch, step}
 use Rattle.spec_server.specs.Replies as replies
 use Rattle.spec_server.specs.Replies.{Reply, printed}
 use Rattle.spec_desk.specs.Keepers.{keeping}

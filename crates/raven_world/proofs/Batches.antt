@@ -1,5 +1,5 @@
 -- Worlds after batches.
-use Rattle.std.proofs.Common.{◌≡◌, ◌≤◌, ℕ, List, [], ◌∷◌, Bool, true, false, cond, filter, map, take, Option, Some, None, Result, IfOk, refl, sym, ap, ◌∙◌, subst}
+use Rattle.std.proofs.Common.{◌≡◌, ℕ, List, [], ◌∷◌, Bool, true, false, cond, filter, map, take, Option, Some, None, Result, IfOk, refl, sym, ap, ◌∙◌, subst}
 use Rattle.std.specs.Prelude.{find}
 use Rattle.raven_base.specs.Counts.{Counts}
 use Rattle.spec_store.specs.Store.{Store, last}

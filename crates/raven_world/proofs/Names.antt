@@ -77,15 +77,6 @@ pub if_none : (b : Bool) (s : List ℕ) → (let o : Option (List ℕ) = None in
 if_none true s h = absurd cc
 if_none false s h = refl
 
--- no name, from none of the definition
-pub name-none : (d : Definition) (s part : List ℕ) → part ≡ own_part d s → None ≡ (if may_own d part then Some part else None) → None ≡ (if may_be_named d s then Some s else None)
-name-none d s part is h =
-    ap (λ b. if b then Some s else None) (sym (by_part d s ∙ ap (may_own d) (sym is) ∙ if_none (may_own d part) part h))
-
-pub name-some : (d : Definition) (s part own : List ℕ) → part ≡ own_part d s → Some own ≡ (if may_own d part then Some part else None) → Some s ≡ (if may_be_named d s then Some s else None)
-name-some d s part own is h =
-    ap (λ b. if b then Some s else None) (sym (by_part d s ∙ ap (may_own d) (sym is) ∙ (if_some (may_own d part) part own h).0))
-
 not_true : (b : Bool) → not b ≡ true → b ≡ false
 not_true true h = absurd cc
 not_true false h = refl

@@ -1,16 +1,16 @@
 -- The numbers of indexes, of which none is past the last etag.
-use Rattle.std.proofs.Common.{◌≡◌, ℕ, ◌+◌, ◌≤◌, List, [], ◌∷◌, ◌++◌, Bool, true, false, not, cond, ◌==◌, filter, map, nat_le, length, Option, Some, None, is_some, Result, Ok, Err, IfOk, refl, sym, ap, ◌∙◌, subst, arith}
+use Rattle.std.proofs.Common.{◌≡◌, ℕ, ◌+◌, ◌≤◌, List, [], ◌∷◌, ◌++◌, Bool, true, false, not, cond, ◌==◌, filter, map, nat_le, length, Option, Some, None, is_some, Result, Ok, Err, IfOk, refl, sym, subst, arith}
 use Rattle.std.specs.Option.{option_map}
 use Rattle.std.proofs.lemmas.List.Elements.{All-append, All-cons, All-head, All-nil, All-tail}
 use Rattle.spec_data.specs.Data.{Data}
 use Rattle.spec_data.specs.Faults.{replacement_of}
 use Rattle.spec_data.specs.Folding.{folded}
 use Rattle.spec_data.specs.Rows.{Row, doc}
-use Rattle.spec_store.specs.Commit.{AnyVector, Client, Command, Delete, Put, Refused, Server, Setting, Writer, Written, after_command, after_commands, collection_of, commit, document_at, row_spelling, stored_body, tombstone, with_option}
+use Rattle.spec_store.specs.Commit.{AnyVector, Client, Command, Delete, Put, Server, Setting, Writer, Written, after_command, after_commands, collection_of, commit, document_at, row_spelling, stored_body, tombstone, with_option}
 use Rattle.spec_store.specs.Store.{Store, last, row_at, with_row}
 use Rattle.spec_store.proofs.LaterLemmas.{last-with}
 use Rattle.index_tree.specs.Definitions.{Definition, same_definition}
-use Rattle.spec_index.specs.Optimiser.{is_retired, retired, retirement}
+use Rattle.spec_index.specs.Optimiser.{is_retired, retirement}
 use Rattle.spec_index.specs.World.{NameServes, NotFresh, NotesFull, Slot, SlotChange, SlotRefusal, TooManyIndexes, Version, World, added, added_if_room, added_to, define, define_at, define_beside, define_named, dropped, index_id, is_stale, name_refusal, new_version, newest_read, remove, removed, renamed, row_body, serving, switch, switched, switched_to, taken_out, takes_over, unchanged, unless_refused, with_version, without}
 use Rattle.side_by_side.specs.Changes.{define_by}
 use Rattle.raven_laws.proofs.ListedLemmas.{commit_from-applied}

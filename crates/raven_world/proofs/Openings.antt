@@ -1,5 +1,5 @@
 -- How a world is opened by one row after another.
-use Rattle.std.proofs.Common.{◌≡◌, ◌<◌, ◌≤◌, ◌+◌, ℕ, suc, List, [], ◌∷◌, ◌++◌, length, Bool, true, false, cond, not, ◌&&◌, ◌||◌, Option, Some, None, Result, Ok, Err, drop, refl, sym, ap, ◌∙◌, subst, arith, codes, get_or, IfOk, IsUtf8}
+use Rattle.std.proofs.Common.{◌≡◌, ◌<◌, ◌≤◌, ◌+◌, ℕ, suc, List, [], ◌∷◌, ◌++◌, length, Bool, true, false, not, ◌&&◌, ◌||◌, Option, Some, None, Result, Ok, Err, drop, refl, sym, ap, ◌∙◌, subst, arith, codes, get_or, IfOk, IsUtf8}
 use Rattle.std.proofs.lemmas.Grind.{common_steps}
 use Rattle.std.specs.Prelude.{nat_eq, if◌then◌else◌}
 use Rattle.std.specs.List.{starts_with}
@@ -11,7 +11,7 @@ use Rattle.std.specs.Char.{to_ascii_lowercase}
 use Rattle.spec_data.specs.Folding.{folded}
 use Rattle.spec_data.specs.Rows.{Row, is_document}
 use Rattle.spec_store.specs.Commit.{Setting, is_index_id}
-use Rattle.spec_store.specs.Store.{AreRising, IsStore, Store, last, last_of}
+use Rattle.spec_store.specs.Store.{AreRising, IsStore, Store, last_of}
 use Rattle.spec_store.proofs.StoreLemmas.{both_true}
 use Rattle.spec_server.specs.Machine.{Machine, machine_of}
 use Rattle.index_tree.specs.Definitions.{Definition}
@@ -21,7 +21,7 @@ use Rattle.index_lang.specs.Openings.{AreReadRows, EndsAt, IsReadRow, OpensAs}
 use Rattle.side_by_side.specs.Naming.{RiseTo}
 use Rattle.raven_world.specs.Opened.{HasRead}
 use Rattle.raven_world.specs.Roomy.{NumbersUpTo}
-use Rattle.raven_world.proofs.Names.{both, if_none, if_some, never_left, never_right}
+use Rattle.raven_world.proofs.Names.{both, if_some, never_right}
 
 -- THE NAME IN AN ID
 
@@ -45,11 +45,6 @@ replacement-boundary name h u = let whole = ends_whole (codes "replacementof") n
 
 abbrev named : Definition → List ℕ → Option (List ℕ)
 named d name = if may_be_named d name then Some name else None
-
-pub slot-none : (all : List Row) (slots : List Slot) (r : Row) (d : Definition) (name : List ℕ) → name ≡ name_in r → None ≡ named d name → None ≡ with_slot all slots r (Some d)
-slot-none all slots r d name own h =
-    ap (λ b. if b then Some (slots ++ slot_of r d ∷ []) else None)
-    (sym (never_left (may_be_named d (name_in r)) (is_beside all (name_in r)) (ap (may_be_named d) (sym own) ∙ if_none (may_be_named d name) name h)))
 
 pub slot-alone : (all : List Row) (slots : List Slot) (r : Row) (d : Definition) (name got : List ℕ) → name ≡ name_in r → Some got ≡ named d name → is_beside all got ≡ false → None ≡ with_slot all slots r (Some d)
 slot-alone all slots r d name got own h alone =

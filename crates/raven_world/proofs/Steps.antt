@@ -1,7 +1,7 @@
 -- The changes that a world makes.
-use Rattle.std.proofs.Common.{◌≡◌, ◌<◌, ◌+◌, ◌++◌, ◌^◌, ℕ, List, [], ◌∷◌, length, Bool, true, false, cond, nat_le, Bor, map, Option, Some, None, is_some, Result, Ok, Err, refl, sym, ap, ◌∙◌, subst, arith}
+use Rattle.std.proofs.Common.{◌≡◌, ◌<◌, ◌+◌, ◌^◌, ℕ, List, [], ◌∷◌, Bool, true, false, cond, nat_le, map, Option, Some, None, Result, Ok, Err, refl, sym, ap, ◌∙◌, subst, arith}
 use Rattle.std.proofs.lemmas.Grind.{common_steps}
-use Rattle.std.specs.Prelude.{IfSome, is_none, option_copied}
+use Rattle.std.specs.Prelude.{IfSome, is_none}
 use Rattle.std.specs.Option.{option_map}
 use Rattle.spec_store.specs.Store.{Store, last}
 use Rattle.spec_data.specs.Rows.{Row}
@@ -12,22 +12,14 @@ use Rattle.index_tree.specs.Definitions.{Definition, Auto, AutoReduce}
 use Rattle.spec_index.specs.Optimiser.{Shape, definition_of, retired, retirement}
 use Rattle.spec_index.specs.World.{World, Slot, SlotChange, added, begins_with_auto, define, define_named, is_automatic, serving}
 use Rattle.spec_index.specs.World as is
-use Rattle.spec_query.specs.Query.{Ask}
-use Rattle.spec_server.specs.Asking.{MustMake, answer_from_index}
-use Rattle.spec_server.specs.Machine.{Course, answer_made, answer_making, ask_course, change_of_slots, changed, in_world, made_name, make, one_change, only_reply, refused_at, result_of, results_of, retire, rewrote, single_reply, slot_refused, switch_and, then_course, try_switch, write_refused, wrote, write}
+use Rattle.spec_server.specs.Machine.{Course, change_of_slots, changed, in_world, made_name, one_change, only_reply, refused_at, result_of, results_of, retire, rewrote, single_reply, slot_refused, try_switch, write_refused, wrote, write}
 use Rattle.raven_laws.proofs.KindLemmas.{name_of-begins}
-use Rattle.raven_reply.specs.ReplyView.{reply_view}
 use Rattle.side_by_side.specs.Changes.{MayDefine, answer_view as slot_answer}
 use Rattle.side_by_side.specs.Standing.{Standing}
-use Rattle.side_by_side.specs.declared.change.SlotChange.{SlotChange as Answer}
 use Rattle.side_by_side.specs.declared.change.SlotRefusal.{SlotRefusal}
 use Rattle.side_by_side.specs.declared.change.SlotRefusal.TheVariants as refusal
-use Rattle.raven_world.specs.Slotting.{IsRewritten, IsSlotRefusal, Reslots, Rewrites, change_to, refusal_view}
+use Rattle.raven_world.specs.Slotting.{IsSlotRefusal, change_to, refusal_view}
 use Rattle.raven_world.specs.Transacts.{bare}
-use Rattle.raven_world.specs.WorldView.{answer_view, tried_view}
-use Rattle.raven_world.specs.declared.world.Rewritten.{Rewritten}
-use Rattle.raven_world.specs.declared.world.WorldFault.{WorldFault}
-use Rattle.raven_world.specs.declared.world.WorldFault.TheVariants.{Refused as Refuse, NoMemory}
 
 -- WRITES
 
@@ -85,16 +77,6 @@ rewrote-done : (W : World) (now : ℕ) (reply : Reply) (c : SlotChange) (w : Wri
     → one_change reply rows V ≡ rewrote W reply c (commit W.setting Server now c.commands W.store)
 rewrote-done W now reply c w rows V is own made = (λ i. one_change reply (own i) (made i)) ∙ ap (rewrote W reply c) (sym is)
 
--- the answer, from the world that is made
-pub told-with : (W : World) (now : ℕ) (standing : Standing) (commands : List Command) (name : List ℕ) (reply : Reply) (r : Rewritten) → IsRewritten W now standing commands r
-    → one_change reply r.rows r.world ≡ rewrote W reply (change_to standing commands name) (commit W.setting Server now commands W.store)
-told-with W now standing commands name reply r h = rewrote-done W now reply (change_to standing commands name) h.written r.rows r.world h.cause h.rows h.world
-
-pub told-fault : (W : World) (now : ℕ) (standing : Standing) (commands : List Command) (name : List ℕ) (reply : Reply) (fault : WorldFault) → Rewrites W now standing commands (Err fault)
-    → IfSome (answer_view (Err fault)) (λ course. course ≡ rewrote W reply (change_to standing commands name) (commit W.setting Server now commands W.store))
-told-fault W now standing commands name reply (Refuse told) h = rewrote-refused W now reply (change_to standing commands name) h.refused (reply_view told) h.cause h.told
-told-fault W now standing commands name reply NoMemory h = tt
-
 -- a change that is made, and what is answered
 pub reslotted : (W : World) (now : ℕ) (told : List ℕ → Reply) (name : List ℕ) (change : Result SlotChange is.SlotRefusal) (c : SlotChange) (reply : Reply) (answer : Option Course) → Ok c ≡ change → reply ≡ told c.name
     → IfSome answer (λ course. course ≡ rewrote W reply c (commit W.setting Server now c.commands W.store)) → IfSome answer (λ course. course ≡ change_of_slots W now told name change)
@@ -125,28 +107,7 @@ pub reslots-refused : (W : World) (now : ℕ) (told : List ℕ → Reply) (name 
     → IfSome (slot_answer (Err refusal)) (λ c. c ≡ change) → option_map (slot_refused name) (refusal_view refusal) ≡ Some reply → only_reply reply ≡ change_of_slots W now told name change
 reslots-refused W now told name change refusal reply h e = refused-told W now told name change reply (slot-refused name change refusal reply h e)
 
--- a fault that comes before any change
-pub reslots-fault : (W : World) (now : ℕ) (told : List ℕ → Reply) (name : List ℕ) (change : Result SlotChange is.SlotRefusal) (fault : WorldFault) → Reslots name change (Err fault)
-    → IfSome (answer_view (Err fault)) (λ course. course ≡ change_of_slots W now told name change)
-reslots-fault W now told name change (Refuse reply) h = refused-told W now told name change (reply_view reply) h
-reslots-fault W now told name change NoMemory h = tt
-
 -- SWITCHES THAT ARE TRIED
-
-pub tried-with : (W : World) (now : ℕ) (switched : List (List ℕ)) (more : World → List (List ℕ) → Course) (standing : Standing) (commands : List Command) (name : List ℕ) (r : Rewritten) (change : Result SlotChange is.SlotRefusal)
-    → Ok (change_to standing commands name) ≡ change → IsRewritten W now standing commands r
-    → then_course (record { rows = r.rows; world = r.world }) (more r.world (switched ++ name ∷ [])) ≡ try_switch W now switched more change
-tried-with W now switched more standing commands name r change is h =
-    (λ i. then_course (record { rows = h.rows i; world = h.world i }) (more (h.world i) (switched ++ name ∷ [])))
-    ∙ ap (switch_and W (change_to standing commands name) (λ V. more V (switched ++ name ∷ []))) (sym h.cause)
-    ∙ ap (try_switch W now switched more) is
-
-pub tried-fault : (W : World) (now : ℕ) (switched : List (List ℕ)) (more : World → List (List ℕ) → Course) (standing : Standing) (commands : List Command) (name : List ℕ) (fault : WorldFault) (change : Result SlotChange is.SlotRefusal)
-    → Ok (change_to standing commands name) ≡ change → Rewrites W now standing commands (Err fault)
-    → IfSome (tried_view W switched more (Err fault)) (λ course. course ≡ try_switch W now switched more change)
-tried-fault W now switched more standing commands name (Refuse told) change is h =
-    ap only_reply h.told ∙ ap (switch_and W (change_to standing commands name) (λ V. more V (switched ++ name ∷ []))) (sym h.cause) ∙ ap (try_switch W now switched more) is
-tried-fault W now switched more standing commands name NoMemory change is h = tt
 
 -- a refusal that is not for want of memory is passed over
 pub tried-passed : (W : World) (now : ℕ) (switched : List (List ℕ)) (more : World → List (List ℕ) → Course) (r : SlotRefusal) (change : Result SlotChange is.SlotRefusal) → is_none (refusal_view r) ≡ false
@@ -173,14 +134,6 @@ retired-told W now switched retired_names standing commands answer slots notes o
 
 -- A NEW AUTOMATIC INDEX
 
--- no more indexes may be made
-pub makes-many : (W : World) (shape : Shape) → nat_le W.setting.max_slots (length W.slots) ≡ true → IsSlotRefusal (made_name W shape) (make W shape) TooMany
-makes-many W shape many = record {
-  refusal = is.TooManyIndexes;
-  cause = ap (λ b. cond b (Err is.TooManyIndexes) (cond (is_some (serving W.slots (made_name W shape))) (Err is.NameServes) (Ok (added W (made_name W shape) (definition_of shape))))) many;
-  told = refl;
-}
-
 -- the server may define it under a free name
 pub may-make : (W : World) (shape : Shape) (name : List ℕ) (d : Definition) → name ≡ made_name W shape → serving W.slots name ≡ None → d ≡ definition_of shape → MayDefine Server W.slots name d
 may-make W shape name d named free own = (ap is_automatic own ∙ by shape.grouped, ap begins_with_auto named ∙ name_of-begins W.slots (last W.store + 1) shape, free)
@@ -189,30 +142,7 @@ may-make W shape name d named free own = (ap is_automatic own ∙ by shape.group
     by true = refl
     by false = refl
 
-pub makes-so : (W : World) (shape : Shape) (name : List ℕ) (d : Definition) (answer : Result Answer WorldFault) → name ≡ made_name W shape → d ≡ definition_of shape
-    → Reslots name (define W name d) answer → Reslots (made_name W shape) (make W shape) answer
-makes-so W shape name d answer named own h =
-    subst (λ n. Reslots n (define W n (definition_of shape)) answer) named (subst (λ e. Reslots name (define W name e) answer) own h)
-
 -- AND THE QUERY FOR WHICH IT IS MADE
-
-pub asks-fault : (W : World) (now : ℕ) (ask : Ask) (shape : Shape) (fault : WorldFault) → Reslots (made_name W shape) (make W shape) (Err fault)
-    → IfSome (answer_view (Err fault)) (λ course. course ≡ ask_course W now ask (MustMake shape))
-asks-fault W now ask shape (Refuse reply) h = ap only_reply h.told ∙ ap (answer_making W now ask (made_name W shape)) (sym h.cause)
-asks-fault W now ask shape NoMemory h = tt
-
-pub asks-not : (W : World) (now : ℕ) (ask : Ask) (shape : Shape) (standing : Standing) (commands : List Command) (name : List ℕ) (fault : WorldFault) → Ok (change_to standing commands name) ≡ make W shape
-    → Rewrites W now standing commands (Err fault) → IfSome (answer_view (Err fault)) (λ course. course ≡ ask_course W now ask (MustMake shape))
-asks-not W now ask shape standing commands name (Refuse told) is h =
-    ap only_reply h.told ∙ ap (answer_made W ask (change_to standing commands name)) (sym h.cause) ∙ ap (answer_making W now ask (made_name W shape)) is
-asks-not W now ask shape standing commands name NoMemory is h = tt
-
-pub asks-made : (W : World) (now : ℕ) (ask : Ask) (shape : Shape) (standing : Standing) (commands : List Command) (name : List ℕ) (r : Rewritten) (reply : Reply) → Ok (change_to standing commands name) ≡ make W shape
-    → IsRewritten W now standing commands r → reply ≡ answer_from_index r.world ask name (serving r.world.slots name) → one_change reply r.rows r.world ≡ ask_course W now ask (MustMake shape)
-asks-made W now ask shape standing commands name r reply is h told =
-    (λ i. one_change ((told ∙ ap (λ (V : World). answer_from_index V ask name (serving V.slots name)) h.world) i) (h.rows i) (h.world i))
-    ∙ ap (answer_made W ask (change_to standing commands name)) (sym h.cause)
-    ∙ ap (answer_making W now ask (made_name W shape)) is
 
 -- THE NAME OF A NEW INDEX
 
@@ -220,9 +150,3 @@ pub few_slots : (most slots : ℕ) → nat_le most slots ≡ false → most < 2 
 few_slots most slots h lt = grind (arith, common_steps)
 
 -- DEFINITIONS BY TEXTS
-
--- a shared definition is defined as what it is
-pub shared-defined : (W : World) (now : ℕ) (a b : List ℕ) (d e : Definition) (told : Option Course) → a ≡ b → d ≡ e
-    → IfSome told (λ course. course ≡ change_of_slots W now Index a (define_named W a d)) → IfSome told (λ course. course ≡ change_of_slots W now Index b (define_named W b e))
-shared-defined W now a b d e told name is h =
-    let P : List ℕ → Definition → Type 0 = λ n x. IfSome told (λ course. course ≡ change_of_slots W now Index n (define_named W n x)) in subst (λ n. P n e) name (subst (P a) is h)

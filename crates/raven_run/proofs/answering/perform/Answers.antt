@@ -3,8 +3,8 @@ use Rattle.raven_desk.specs.CourseView.{course_view}
 use Rattle.spec_desk.proofs.Later.{Follows-itself}
 use Rattle.spec_server.specs.Machine.{Course}
 use Rattle.spec_desk.specs.Stepped.{IsMadeInPart, Stays}
-use Rattle.std.proofs.Common.{◌⊎◌, inl, refl, subst}
-use Rattle.raven_run.proofs.Performed.{if_err, if_ok, on_err, performed}
+use Rattle.std.proofs.Common.{◌⊎◌, subst}
+use Rattle.raven_run.proofs.Performed.{if_err, if_ok, performed}
 use Rattle.raven_run.proofs.answering.perform.Goals as goal
 
 pub returns-clause-performed : goal.returns-clause-performed

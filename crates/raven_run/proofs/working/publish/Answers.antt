@@ -1,4 +1,4 @@
-use Rattle.std.proofs.Common.{ℕ, List, refl, subst, sym}
+use Rattle.std.proofs.Common.{List, refl, subst, sym}
 use Rattle.spec_index.specs.World.{World}
 use Rattle.raven_desk.specs.CourseView.{course_view}
 use Rattle.raven_run.specs.Holding.{MayAllWait, NamedBatch}

@@ -1,6 +1,6 @@
-use Rattle.std.proofs.Common.{ℕ, List, subst}
+use Rattle.std.proofs.Common.{subst}
 use Rattle.raven_world.specs.Publishing.{IsRead}
-use Rattle.raven_run.specs.Holding.{MayAllWait, NamedBatch, after_read}
+use Rattle.raven_run.specs.Holding.{MayAllWait}
 use Rattle.raven_run.proofs.Performed.{either_way, if_both}
 use Rattle.raven_run.proofs.Waiting.{wait-after}
 use Rattle.raven_run.proofs.Worked.{reads-as}

@@ -1,4 +1,4 @@
-use Rattle.std.proofs.Common.{◌≡◌, ℕ, ◌+◌, List, [], length, sym, subst, arith}
+use Rattle.std.proofs.Common.{◌≡◌, List, [], sym, subst, arith}
 use Rattle.raven_reply.specs.ReplyView.{reply_view}
 use Rattle.raven_request.specs.RequestView.{request_view}
 use Rattle.spec_desk.specs.Lived.{Seen}

@@ -1,4 +1,4 @@
-use Rattle.std.proofs.Common.{◌≡◌, ℕ, ◌+◌, List, [], ◌∷◌, ◌++◌, Option, length, ◌∙◌, sym, subst, arith, length-append}
+use Rattle.std.proofs.Common.{ℕ, List, [], ◌∷◌, Option, ◌∙◌, sym, subst, arith, length-append}
 use Rattle.spec_server.specs.Machine.{Ask}
 use Rattle.raven_reply.specs.ReplyView.{reply_view}
 use Rattle.spec_desk.specs.Lived.{Seen}

@@ -1,6 +1,3 @@
-use Rattle.std.proofs.Common.{ap, ◌∙◌}
-use Rattle.spec_index.specs.World.{World}
-use Rattle.spec_server.specs.Machine.{course_of}
 use Rattle.raven_desk.specs.CourseView.{course_view}
 use Rattle.raven_desk.proofs.Changes.{may_make_in}
 use Rattle.raven_request.specs.RequestView.{request_view}

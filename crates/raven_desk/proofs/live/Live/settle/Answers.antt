@@ -1,13 +1,10 @@
-use Rattle.std.proofs.Common.{◌≡◌, ◌≤◌, [], ◌∷◌, List, length, refl, sym, ap, ◌∙◌, subst, arith, true, false}
+use Rattle.std.proofs.Common.{◌∷◌, List, length, refl, sym, ap, ◌∙◌, subst, arith}
 use Rattle.std.proofs.Common.{inl}
 use Rattle.std.specs.Vec.Iter.{into_iter_items}
 use Rattle.spec_server.specs.Machine.{Change}
-use Rattle.spec_desk.specs.Lived.{Lived}
 use Rattle.spec_desk.specs.Stepped.{MakesOne}
-use Rattle.spec_desk.proofs.Keeping.{failed_held}
-use Rattle.spec_desk.proofs.Later.{Follows-then, stays-follows}
-use Rattle.spec_desk.proofs.Making.{Going, begins, ends, goes_on, lacks_part, stops, stops_part}
-use Rattle.raven_desk.proofs.Changes.{nothing_left, on_err, stopped_as}
+use Rattle.spec_desk.proofs.Making.{Going, begins, goes_on, lacks_part, stops, stops_part}
+use Rattle.raven_desk.proofs.Changes.{on_err, stopped_as}
 use Rattle.raven_desk.proofs.live.Live.settle.Given.{Over}
 use Rattle.raven_desk.proofs.live.Live.settle.Goals as goal
 use Rattle.raven_desk.proofs.live.Live.settle.Goals.{In-None, In-Some}

@@ -3,7 +3,7 @@ use Rattle.std.specs.Prelude.{IfSome}
 use Rattle.std.proofs.lemmas.Bool.Decides.{nat_tests}
 use Rattle.raven_reply.specs.ReplyView.{reply_view}
 use Rattle.raven_desk.specs.Desks.{Alone}
-use Rattle.spec_desk.specs.Lived.{Lived, etags}
+use Rattle.spec_desk.specs.Lived.{etags}
 use Rattle.spec_desk.specs.Receipts.{HasCaughtUp}
 use Rattle.spec_desk.proofs.Later.{Follows-then}
 use Rattle.spec_desk.proofs.Onwards.{alone, brings, on_one_at, rests}

@@ -1,4 +1,4 @@
-use Rattle.std.proofs.Common.{◌≡◌, ◌∙◌, [], IfSome, map, subst, sym}
+use Rattle.std.proofs.Common.{◌≡◌, [], IfSome, map, subst, sym}
 use Rattle.spec_store.specs.Commit.{Server, commit}
 use Rattle.spec_store.specs.Store.{last}
 use Rattle.spec_index.specs.World.{World}
