@@ -2,8 +2,14 @@
 #![tactic(auto)]
 
 #[cfg(test)]
+mod answering;
+#[cfg(test)]
+mod asking;
+#[cfg(test)]
 mod drip;
 #[cfg(test)]
 mod parts;
 #[cfg(test)]
 mod reading;
+#[cfg(test)]
+mod sessions;

@@ -1,0 +1,5 @@
+pub mod Pieces
+pub mod Responses
+pub mod LastResponse
+pub mod Runs
+pub mod Moved
