@@ -70,6 +70,7 @@ fn add_items(parameters: &Members, operand: &Operand, items: &mut Scalars) -> Re
     }
 }
 
+#[inline(never)]
 fn scalars_in(alloc: Global, parameters: &Members, operands: &Operands) -> Result<Scalars, NoMemory>
     ensures { IfOk result (λ values. map scalar_view values ≡ spec_scalars_in parameters.now (map operand_of operands.now)) }
 {
@@ -80,6 +81,7 @@ fn scalars_in(alloc: Global, parameters: &Members, operands: &Operands) -> Resul
     Ok(items)
 }
 
+#[inline(never)]
 fn words_of(alloc: Global, value: &Scalar) -> Result<Text, NoMemory>
     ensures { IfOk result (λ text. text ≡ words_in (scalar_view value.now)) }
 {
@@ -104,6 +106,7 @@ fn test_of(op: CompareOp, value: Scalar) -> Test
     }
 }
 
+#[inline(never)]
 fn between(parameters: &Members, low: &Operand, high: &Operand) -> Result<Test, NoMemory>
     ensures { IfOk result (λ test. test_view test ≡ BetweenTest (spec_scalar_in parameters.now (operand_of low.now)) (spec_scalar_in parameters.now (operand_of high.now))) }
 {
@@ -117,6 +120,8 @@ fn has(alloc: Global, field: &Field, test: Test) -> Result<Condition, NoMemory>
     Condition::of(alloc, ConditionKind::Has(name, test))
 }
 
+// It is entered once for each part within another, of which a query may have 8,000. So its frame has to be small, and what it calls for a test is
+// not inlined.
 #[cycle(bound)]
 fn bound(alloc: Global, parameters: &Members, cond: &Cond) -> Result<Condition, NoMemory>
     ensures { IfOk result (λ condition. condition ≡ spec_bound parameters.now cond.now) }
