@@ -6,6 +6,8 @@ mod answering;
 #[cfg(test)]
 mod asking;
 #[cfg(test)]
+mod desks;
+#[cfg(test)]
 mod drip;
 #[cfg(test)]
 mod parts;

@@ -1,0 +1,39 @@
+//! One request over HTTP.
+ghost use Rattle.std.specs.Prelude.{◌≡◌, IfOk};
+ghost use Rattle.spec_http.specs.Requests.{asked_over_http};
+ghost use Rattle.spec_desk.specs.Receipts.{Onward};
+ghost use Rattle.http_desk.specs.Standings.{standing};
+ghost use Rattle.http_desk.specs.Answers.{AnswersOverHttp};
+
+use http_front::{answer, answer_to_refusal, asked};
+use http_read::HttpRequest;
+use raven_base::{Bytes, NoMemory};
+use raven_desk::Desk;
+use std::alloc::Global;
+use std::sync::Wait;
+use std::thread::Threads;
+
+/// Answers a request from a desk with the bytes of a whole response. A request that asks nothing of the database of this name does not reach the desk.
+/// `close` says that the connection is closed after the response.
+pub fn ask_desk<R: Threads + Wait, D: Desk>(
+    rt: &R,
+    alloc: Global,
+    desk: &mut D,
+    database: &str,
+    request: &HttpRequest,
+    close: bool,
+) -> Result<Bytes, NoMemory>
+    ensures answered { IfOk result (λ bytes. AnswersOverHttp D.link (standing D.seen D.made D.clock D.pump) desk.old (asked_over_http database.now request.now) close bytes desk.new) }
+    ensures onward { Onward (D.seen desk.old) (D.seen desk.new) }
+    ensures same { D.same desk.old desk.new }
+    ensures clock { D.clock desk.new ≡ D.clock desk.old }
+    ensures pump { D.pump desk.new ≡ D.pump desk.old }
+{
+    match asked(alloc, database, request) {
+        Ok(asks) => {
+            let receipt = desk.ask(rt, alloc, asks)?;
+            answer(alloc, &receipt.reply, close)
+        }
+        Err(refusal) => answer_to_refusal(alloc, refusal, close),
+    }
+}
