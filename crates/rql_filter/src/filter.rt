@@ -14,6 +14,7 @@ use std::alloc::Global;
 use term_index::{Terms, common, union, without};
 
 /// The ids of all entries.
+#[inline(never)]
 fn all_ids<E: Entries>(alloc: Global, entries: &E, terms: &Terms) -> Result<Ids, NoMemory>
     requires { AreTermsOf (E.entries entries.now) terms.now }
     ensures members { IfOk result (λ ids. (q : List ℕ) → is_one_of q ids ≡ is_some (entry_at (folded q) (E.entries entries.now))) }
@@ -23,6 +24,7 @@ fn all_ids<E: Entries>(alloc: Global, entries: &E, terms: &Terms) -> Result<Ids,
 }
 
 /// The ids of the entries whose field meets a test.
+#[inline(never)]
 fn ids_that_pass<E: Entries>(
     alloc: Global,
     entries: &E,

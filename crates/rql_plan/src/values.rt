@@ -1,9 +1,9 @@
 //! Values in place of parameters.
 ghost use Rattle.std.specs.Prelude.{◌≡◌, ◌++◌, [], IfOk, OnOk, flat_map, map, unwrap_or};
-ghost use Rattle.spec_data.specs.Scalars.{Between as BetweenTest, scalar_of, words_in};
+ghost use Rattle.spec_data.specs.Scalars.{Between as BetweenTest, In as InTest, Starts as StartsTest, There as ThereTest, scalar_of, words_in};
 ghost use Rattle.raven_value.specs.ScalarView.{scalar_view, test_view};
 ghost use Rattle.raven_value.specs.View.{data_of};
-ghost use Rattle.spec_query.specs.Condition.{Has as HasTest};
+ghost use Rattle.spec_query.specs.Condition.{Always, And as AndOf, Exact as ExactOf, Has as HasTest, Not as NotOf, Or as OrOf};
 ghost use Rattle.spec_query.specs.Parameters.{bound as spec_bound, bound_where as spec_bound_where, items_given, items_in, scalar_in as spec_scalar_in, scalars_in as spec_scalars_in, test_of as spec_test_of};
 ghost use Rattle.spec_query.specs.Results.{field_name as spec_field_name};
 ghost use Rattle.rql_tree.specs.View.{field_of, op_of, operand_of};
@@ -70,7 +70,6 @@ fn add_items(parameters: &Members, operand: &Operand, items: &mut Scalars) -> Re
     }
 }
 
-#[inline(never)]
 fn scalars_in(alloc: Global, parameters: &Members, operands: &Operands) -> Result<Scalars, NoMemory>
     ensures { IfOk result (λ values. map scalar_view values ≡ spec_scalars_in parameters.now (map operand_of operands.now)) }
 {
@@ -81,7 +80,6 @@ fn scalars_in(alloc: Global, parameters: &Members, operands: &Operands) -> Resul
     Ok(items)
 }
 
-#[inline(never)]
 fn words_of(alloc: Global, value: &Scalar) -> Result<Text, NoMemory>
     ensures { IfOk result (λ text. text ≡ words_in (scalar_view value.now)) }
 {
@@ -106,13 +104,6 @@ fn test_of(op: CompareOp, value: Scalar) -> Test
     }
 }
 
-#[inline(never)]
-fn between(parameters: &Members, low: &Operand, high: &Operand) -> Result<Test, NoMemory>
-    ensures { IfOk result (λ test. test_view test ≡ BetweenTest (spec_scalar_in parameters.now (operand_of low.now)) (spec_scalar_in parameters.now (operand_of high.now))) }
-{
-    Ok(Test::Between(scalar_in(parameters, low)?, scalar_in(parameters, high)?))
-}
-
 fn has(alloc: Global, field: &Field, test: Test) -> Result<Condition, NoMemory>
     ensures { IfOk result (λ condition. condition ≡ HasTest (spec_field_name (field_of field.now)) (test_view test)) }
 {
@@ -120,8 +111,105 @@ fn has(alloc: Global, field: &Field, test: Test) -> Result<Condition, NoMemory>
     Condition::of(alloc, ConditionKind::Has(name, test))
 }
 
-// It is entered once for each part within another, of which a query may have 8,000. So its frame has to be small, and what it calls for a test is
-// not inlined.
+// What `bound` calls is not inlined, so that its own frame stays small.
+
+#[inline(never)]
+fn starts(
+    alloc: Global,
+    parameters: &Members,
+    field: &Field,
+    value: &Operand,
+) -> Result<Condition, NoMemory>
+    ensures { IfOk result (λ condition. condition ≡ HasTest (spec_field_name (field_of field.now)) (StartsTest (words_in (spec_scalar_in parameters.now (operand_of value.now))))) }
+{
+    let words = words_of(alloc, &scalar_in(parameters, value)?)?;
+    has(alloc, field, Test::Starts(words))
+}
+
+#[inline(never)]
+fn exists(alloc: Global, field: &Field) -> Result<Condition, NoMemory>
+    ensures { IfOk result (λ condition. condition ≡ HasTest (spec_field_name (field_of field.now)) ThereTest) }
+{
+    has(alloc, field, Test::There)
+}
+
+#[inline(never)]
+fn compare(
+    alloc: Global,
+    parameters: &Members,
+    field: &Field,
+    op: CompareOp,
+    value: &Operand,
+) -> Result<Condition, NoMemory>
+    ensures { IfOk result (λ condition. condition ≡ HasTest (spec_field_name (field_of field.now)) (spec_test_of (op_of op) (spec_scalar_in parameters.now (operand_of value.now)))) }
+{
+    has(alloc, field, test_of(op, scalar_in(parameters, value)?))
+}
+
+#[inline(never)]
+fn between(
+    alloc: Global,
+    parameters: &Members,
+    field: &Field,
+    low: &Operand,
+    high: &Operand,
+) -> Result<Condition, NoMemory>
+    ensures { IfOk result (λ condition. condition ≡ HasTest (spec_field_name (field_of field.now)) (BetweenTest (spec_scalar_in parameters.now (operand_of low.now)) (spec_scalar_in parameters.now (operand_of high.now)))) }
+{
+    let low = scalar_in(parameters, low)?;
+    let high = scalar_in(parameters, high)?;
+    has(alloc, field, Test::Between(low, high))
+}
+
+#[inline(never)]
+fn is_in(
+    alloc: Global,
+    parameters: &Members,
+    field: &Field,
+    operands: &Operands,
+) -> Result<Condition, NoMemory>
+    ensures { IfOk result (λ condition. condition ≡ HasTest (spec_field_name (field_of field.now)) (InTest (spec_scalars_in parameters.now (map operand_of operands.now)))) }
+{
+    let values = scalars_in(alloc, parameters, operands)?;
+    has(alloc, field, Test::In(values))
+}
+
+#[inline(never)]
+fn either(alloc: Global, left: Condition, right: Condition) -> Result<Condition, NoMemory>
+    ensures { IfOk result (λ condition. condition ≡ OrOf left right) }
+{
+    Condition::of(alloc, ConditionKind::Or(left, right))
+}
+
+#[inline(never)]
+fn both(alloc: Global, left: Condition, right: Condition) -> Result<Condition, NoMemory>
+    ensures { IfOk result (λ condition. condition ≡ AndOf left right) }
+{
+    Condition::of(alloc, ConditionKind::And(left, right))
+}
+
+#[inline(never)]
+fn negated(alloc: Global, inner: Condition) -> Result<Condition, NoMemory>
+    ensures { IfOk result (λ condition. condition ≡ NotOf inner) }
+{
+    Condition::of(alloc, ConditionKind::Not(inner))
+}
+
+#[inline(never)]
+fn exactly(alloc: Global, inner: Condition) -> Result<Condition, NoMemory>
+    ensures { IfOk result (λ condition. condition ≡ ExactOf inner) }
+{
+    Condition::of(alloc, ConditionKind::Exact(inner))
+}
+
+#[inline(never)]
+fn always(alloc: Global) -> Result<Condition, NoMemory>
+    ensures { IfOk result (λ condition. condition ≡ Always) }
+{
+    Condition::of(alloc, ConditionKind::Always)
+}
+
+// It is entered once for each part within another, of which a query may have 8,000.
 #[cycle(bound)]
 fn bound(alloc: Global, parameters: &Members, cond: &Cond) -> Result<Condition, NoMemory>
     ensures { IfOk result (λ condition. condition ≡ spec_bound parameters.now cond.now) }
@@ -130,40 +218,21 @@ fn bound(alloc: Global, parameters: &Members, cond: &Cond) -> Result<Condition, 
         CondKind::Or(left, right) => {
             let left = bound(alloc, parameters, left)?;
             let right = bound(alloc, parameters, right)?;
-            Condition::of(alloc, ConditionKind::Or(left, right))
+            either(alloc, left, right)
         }
         CondKind::And(left, right) => {
             let left = bound(alloc, parameters, left)?;
             let right = bound(alloc, parameters, right)?;
-            Condition::of(alloc, ConditionKind::And(left, right))
+            both(alloc, left, right)
         }
-        CondKind::Not(inner) => {
-            let inner = bound(alloc, parameters, inner)?;
-            Condition::of(alloc, ConditionKind::Not(inner))
-        }
-        CondKind::Exact(inner) => {
-            let inner = bound(alloc, parameters, inner)?;
-            Condition::of(alloc, ConditionKind::Exact(inner))
-        }
-        CondKind::True => Condition::of(alloc, ConditionKind::Always),
-        CondKind::Starts(field, value) => {
-            let words = words_of(alloc, &scalar_in(parameters, value)?)?;
-            has(alloc, field, Test::Starts(words))
-        }
-        CondKind::Exists(field) => has(alloc, field, Test::There),
-        CondKind::Compare(field, op, value) => {
-            has(alloc, field, test_of(*op, scalar_in(parameters, value)?))
-        }
-        CondKind::Between(field, low, high) => {
-            has(alloc, field, between(parameters, low, high)?)
-        }
-        CondKind::In(field, values) => {
-            has(
-                alloc,
-                field,
-                Test::In(scalars_in(alloc, parameters, values)?),
-            )
-        }
+        CondKind::Not(inner) => negated(alloc, bound(alloc, parameters, inner)?),
+        CondKind::Exact(inner) => exactly(alloc, bound(alloc, parameters, inner)?),
+        CondKind::True => always(alloc),
+        CondKind::Starts(field, value) => starts(alloc, parameters, field, value),
+        CondKind::Exists(field) => exists(alloc, field),
+        CondKind::Compare(field, op, value) => compare(alloc, parameters, field, *op, value),
+        CondKind::Between(field, low, high) => between(alloc, parameters, field, low, high),
+        CondKind::In(field, values) => is_in(alloc, parameters, field, values),
     }
 }
 
