@@ -213,7 +213,7 @@ pub(crate) fn course_of_query(
 }
 
 /// What the request does to the world at this moment. Its documents are moved into the new world.
-pub(crate) fn course_of<R: Threads>(
+pub fn course_of<R: Threads>(
     rt: &R,
     alloc: Global,
     world: &World,

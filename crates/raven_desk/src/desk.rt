@@ -15,8 +15,6 @@ use raven_request::Request;
 use raven_world::Reply;
 use rql_plan::QueryAsk;
 use std::alloc::Global;
-use std::sync::Wait;
-use std::thread::Threads;
 
 // How often a query looks at most.
 fn looks_at(ask: &QueryAsk) -> u32
@@ -52,8 +50,9 @@ fn query_in(request: Request) -> Result<QueryAsk, Request>
     }
 }
 
-/// What answers requests, and knows the values that it has seen.
-pub trait Desk {
+/// What answers requests, and knows the values that it has seen. `R` is the runtime that its calls are given: one of threads, and for a desk that waits for
+/// others one that may wait.
+pub trait Desk<R> {
     // What a look may find, where that value was seen last.
     ghost link: { Lived → Lived → Type 0 };
 
@@ -70,7 +69,7 @@ pub trait Desk {
     ghost same: { Self → Self → Type 0 };
 
     /// One look with a request that is not repeated, and the reply.
-    fn do_once<R: Threads + Wait>(
+    fn do_once(
         &mut self,
         rt: &R,
         alloc: Global,
@@ -84,7 +83,7 @@ pub trait Desk {
         ensures pump { pump self.new ≡ pump self.old };
 
     /// One look with a query, and the reply.
-    fn look_once<R: Threads + Wait>(
+    fn look_once(
         &mut self,
         rt: &R,
         alloc: Global,
@@ -101,7 +100,7 @@ pub trait Desk {
     fn pause(&self);
 
     /// Lets the indexes catch up after a request.
-    fn catch_up<R: Threads + Wait>(&mut self, rt: &R, alloc: Global) -> Result<(), NoMemory>
+    fn catch_up(&mut self, rt: &R, alloc: Global) -> Result<(), NoMemory>
         ensures went { IfOk result (λ _. (x : Lived) → seen self.old ≡ x ∷ [] → HasCaughtUp (clock self.old) (pump self.old) x (made self.old) (seen self.new) (made self.new)) }
         ensures onward { Onward (seen self.old) (seen self.new) }
         ensures same { same self.old self.new }
@@ -117,7 +116,7 @@ pub trait Desk {
     ghost same_on: { (x y z : Self) → same x y → same y z → same x z };
 
     /// Answers a request that looks once.
-    final fn ask_once<R: Threads + Wait>(
+    final fn ask_once(
         &mut self,
         rt: &R,
         alloc: Global,
@@ -143,7 +142,7 @@ pub trait Desk {
 
     /// Answers a query. If it waits for its index, it looks again, up to the number of its looks. A look that finds no index makes it, and a later
     /// one uses it.
-    final fn ask_query<R: Threads + Wait>(
+    final fn ask_query(
         &mut self,
         rt: &R,
         alloc: Global,
@@ -177,12 +176,7 @@ pub trait Desk {
     }
 
     /// Answers a request. A query that waits for its index looks again, up to the number of its looks.
-    final fn ask<R: Threads + Wait>(
-        &mut self,
-        rt: &R,
-        alloc: Global,
-        request: Request,
-    ) -> Result<Receipt, NoMemory>
+    final fn ask(&mut self, rt: &R, alloc: Global, request: Request) -> Result<Receipt, NoMemory>
         requires formed { IsWellFormed (Do (request_view request)) }
         requires some { 1 ≤ looks_of (request_view request) }
         ensures asked { IfOk result (λ r. IsAsked link (clock self.old) (pump self.old) (seen self.old) (made self.old) (request_view request) (receipt_view r) (seen self.new) (made self.new)) }

@@ -15,7 +15,7 @@ mod shot;
 mod step;
 mod tidying;
 
-pub use course::{Course, Pending};
+pub use course::{Course, Pending, course_of};
 pub use desk::Desk;
 pub use give::give_all;
 pub use live::Live;

@@ -12,7 +12,7 @@ use raven_world::Reply;
 use rql_plan::QueryAsk;
 use std::alloc::Global;
 use std::marker::Model;
-use std::sync::{Arc, Wait};
+use std::sync::Arc;
 use std::thread::Threads;
 
 /// The live value of one caller. After each request each index catches up by one batch of at most `pump` rows, unless `pump` is 0, and then a Tidy is
@@ -68,7 +68,7 @@ impl<K: Keeper, C: Clock + Drop> OneDesk<K, C> {
     }
 }
 
-impl<K: Keeper, C: Clock> Desk for OneDesk<K, C> {
+impl<K: Keeper, C: Clock, R: Threads> Desk<R> for OneDesk<K, C> {
     ghost use Rattle.std.specs.Prelude.{◌≡◌, ◌∷◌, [], refl};
     ghost use Rattle.spec_desk.specs.Lived.{etags};
     ghost use Rattle.spec_desk.proofs.Later.{same-follows};
@@ -85,7 +85,7 @@ impl<K: Keeper, C: Clock> Desk for OneDesk<K, C> {
 
     ghost same = { λ d e. Unit {0} };
 
-    fn do_once<R: Threads + Wait>(
+    fn do_once(
         &mut self,
         rt: &R,
         alloc: Global,
@@ -97,7 +97,7 @@ impl<K: Keeper, C: Clock> Desk for OneDesk<K, C> {
         Ok((shot, reply))
     }
 
-    fn look_once<R: Threads + Wait>(
+    fn look_once(
         &mut self,
         _rt: &R,
         alloc: Global,
@@ -113,7 +113,7 @@ impl<K: Keeper, C: Clock> Desk for OneDesk<K, C> {
         self.clock.nap();
     }
 
-    fn catch_up<R: Threads + Wait>(&mut self, rt: &R, alloc: Global) -> Result<(), NoMemory> {
+    fn catch_up(&mut self, rt: &R, alloc: Global) -> Result<(), NoMemory> {
         if self.pump == 0 {
             return Ok(());
         }
