@@ -10,7 +10,7 @@ use Rattle.spec_http.specs.Answers.{response_to_end}
 use Rattle.http_session.specs.declared.why.Why.TheVariants as why
 use Rattle.http_session.specs.Given.{GivesPrefix}
 use Rattle.http_session.specs.Sessions.{end_bytes, or_nothing}
-use Rattle.http_session.specs.Steps.{Refuses, Tells, why_after, why_silent}
+use Rattle.http_session.specs.Steps.{NamesEnd, Refuses, Tells, why_after, why_silent}
 use Rattle.http_session.proofs.Pieces.{appended-nil}
 
 -- an end with a response is one of the bytes, and not the end of the source
@@ -52,4 +52,20 @@ last_given end text (Ok _) old new is all part = let l = loud end (some_is end t
 last_given end text (Err sink_fault.Failed) old new is all part = ((loud end (some_is end text is)).tells, subst (λ o. GivesPrefix old new (or_nothing o)) (sym is) part)
 last_given end text (Err sink_fault.NoMemory) old new is all part = inr ((loud end (some_is end text is)).tells, subst (λ o. GivesPrefix old new (or_nothing o)) (sym is) part)
 
-pub ruleset refusing = (silent, no_response, last_given)
+pub silent_names : (end : HttpEnd) → response_to_end end ≡ None → NamesEnd (why_silent end)
+silent_names Ended none = tt
+silent_names BadHead none = absurd cc
+silent_names HeadTooLarge none = absurd cc
+silent_names BodyTooLarge none = absurd cc
+silent_names Encoded none = absurd cc
+silent_names BadChunk none = absurd cc
+silent_names Truncated none = (λ e. cc, (λ e. cc, λ e. cc))
+silent_names ReadFault none = tt
+silent_names NoMemory none = tt
+
+pub last_names : (end : HttpEnd) (text : List ℕ) (r : Result ⊤ SinkFault) → response_to_end end ≡ Some text → NamesEnd (why_after end r)
+last_names end text (Ok _) is = let l = loud end (some_is end text is) in (l.more, l.tells)
+last_names end text (Err sink_fault.Failed) is = tt
+last_names end text (Err sink_fault.NoMemory) is = tt
+
+pub ruleset refusing = (silent, no_response, last_given, silent_names, last_names)

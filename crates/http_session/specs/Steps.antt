@@ -21,6 +21,15 @@ Gave A K answerer request last old (Err sink_fault.NoMemory) after new = (K answ
 abbrev pub Tells : HttpEnd → Type 0
 Tells end = (end ≢ ReadFault) × (end ≢ NoMemory)
 
+-- an end of the bytes that is not the end of the source
+abbrev pub IsOfBytes : HttpEnd → Type 0
+IsOfBytes end = (end ≢ Ended) × Tells end
+
+-- a session that ended at bytes that are no request, names an end of the bytes
+abbrev pub NamesEnd : Why → Type 0
+NamesEnd (why.Http end) = IsOfBytes end
+NamesEnd other = Unit {0}
+
 -- the session ends with this end, and its response was given, all or a prefix of it
 abbrev pub Refuses : HttpEnd → Option (List ℕ) → Why → Option (List ℕ) → Type 0
 Refuses end old why.Ended new = (end ≡ Ended) × (new ≡ old)

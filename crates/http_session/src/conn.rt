@@ -3,7 +3,7 @@ ghost use Rattle.std.specs.Prelude.{◌≡◌, ◌≤◌, None, Err, IfSome, OnO
 ghost use Rattle.raven_ports.specs.Faults.{Rose};
 ghost use Rattle.http_read.specs.Reading.{ReadsNext};
 ghost use Rattle.http_session.specs.Sessions.{Finishes};
-ghost use Rattle.http_session.specs.Steps.{Gave, Refuses};
+ghost use Rattle.http_session.specs.Steps.{Gave, NamesEnd, Refuses};
 
 use crate::answering::Answering;
 use crate::ends::refuse;
@@ -50,6 +50,7 @@ fn answer_on<A: Answering, N: Connection>(
 // Gives the last response, which leaves the source as it was.
 fn refuse_on<N: Connection>(alloc: Global, end: HttpEnd, conn: &mut N) -> Why
     ensures refuses { Refuses end (N.Sink.state conn.old).held result (N.Sink.state conn.new).held }
+    ensures names { NamesEnd result }
     ensures reads { (N.Source.state conn.new).faults ≡ (N.Source.state conn.old).faults }
     ensures later { (N.Sink.state conn.old).faults ≤ (N.Sink.state conn.new).faults }
     ensures cause { result ≡ Why.WriteFault → Rose (N.Sink.state conn.old).faults (N.Sink.state conn.new).faults }
@@ -61,6 +62,7 @@ fn refuse_on<N: Connection>(alloc: Global, end: HttpEnd, conn: &mut N) -> Why
 pub fn serve_conn<A: Answering, N: Connection>(alloc: Global, answerer: &mut A, conn: &mut N) -> Why
     ensures served { IfSome (N.Source.state conn.old).left (λ bytes. Finishes A.answers A.keeps answerer.old bytes (N.Sink.state conn.old).held result answerer.new (N.Sink.state conn.new).held) }
     ensures kept { A.keeps answerer.old answerer.new }
+    ensures names { NamesEnd result }
     ensures reads { (N.Source.state conn.old).faults ≤ (N.Source.state conn.new).faults }
     ensures writes { (N.Sink.state conn.old).faults ≤ (N.Sink.state conn.new).faults }
     ensures read_fault { result ≡ Why.ReadFault → Rose (N.Source.state conn.old).faults (N.Source.state conn.new).faults }

@@ -75,6 +75,7 @@ fn why_after(end: HttpEnd, given: Result<(), SinkFault>) -> Why
 #[tactic(auto, using(crate::proofs::LastResponse::refusing))]
 pub(crate) fn refuse<O: Sink>(alloc: Global, end: HttpEnd, sink: &mut O) -> Why
     ensures refuses { steps.Refuses end (O.state sink.old).held result (O.state sink.new).held }
+    ensures names { steps.NamesEnd result }
     ensures later { (O.state sink.old).faults ≤ (O.state sink.new).faults }
     ensures gave { O.gave sink.old sink.new }
     ensures cause { result ≡ Why.WriteFault → Rose (O.state sink.old).faults (O.state sink.new).faults }

@@ -2,7 +2,7 @@
 ghost use Rattle.std.specs.Prelude.{◌≡◌, ◌≤◌, Err, IfSome};
 ghost use Rattle.raven_ports.specs.Faults.{Rose};
 ghost use Rattle.http_session.specs.Sessions as sessions;
-ghost use Rattle.http_session.specs.Steps.{Gave};
+ghost use Rattle.http_session.specs.Steps.{Gave, NamesEnd};
 
 use crate::answering::Answering;
 use crate::ends::refuse;
@@ -52,6 +52,7 @@ pub fn serve<A: Answering, S: Source, O: Sink>(
 ) -> Why
     ensures served { IfSome (S.state source.old).left (λ bytes. sessions.Finishes A.answers A.keeps answerer.old bytes (O.state sink.old).held result answerer.new (O.state sink.new).held) }
     ensures kept { A.keeps answerer.old answerer.new }
+    ensures names { NamesEnd result }
     ensures reads { (S.state source.old).faults ≤ (S.state source.new).faults }
     ensures writes { (O.state sink.old).faults ≤ (O.state sink.new).faults }
     ensures read_fault { result ≡ Why.ReadFault → Rose (S.state source.old).faults (S.state source.new).faults }
