@@ -4,6 +4,7 @@ use Rattle.raven_ports.specs.Faults.{Rose}
 use Rattle.doc_keeper.specs.declared.loading.LoadFault.{LoadFault}
 use Rattle.doc_keeper.specs.declared.loading.LoadFault.TheVariants as load
 use Rattle.http_session.specs.Sessions.{Finishes}
+use Rattle.http_session.specs.Steps.{NamesEnd}
 use Rattle.http_session.specs.declared.why.Why.{Why}
 use Rattle.http_session.specs.declared.why.Why.TheVariants as why
 use Rattle.spec_server.specs.Options.{setting_with}
@@ -15,14 +16,14 @@ use Rattle.http_desk.specs.Chains.{AnswersAlone, KeepsAlone}
 use Rattle.http_desk.specs.ProgramSessions.{EndsSo, Serves, Session, end_of, end_unopened}
 
 -- it was served
-pub ends-so : (s : Session) (w : Why) → Serves w s → (w ≡ why.ReadFault → Rose s.before.input.faults s.after.input.faults) → (w ≡ why.WriteFault → Rose s.before.output.faults s.after.output.faults) → EndsSo (end_of w) s
-ends-so s why.Ended h r g = inl h
-ends-so s why.Closed h r g = inr h
-ends-so s (why.Http end) h r g = h
-ends-so s why.ReadFault h r g = (r refl, h)
-ends-so s why.WriteFault h r g = (g refl, h)
-ends-so s why.Enough h r g = h
-ends-so s why.NoMemory h r g = inr h
+pub ends-so : (s : Session) (w : Why) → Serves w s → NamesEnd w → (w ≡ why.ReadFault → Rose s.before.input.faults s.after.input.faults) → (w ≡ why.WriteFault → Rose s.before.output.faults s.after.output.faults) → EndsSo (end_of w) s
+ends-so s why.Ended h n r g = inl h
+ends-so s why.Closed h n r g = inr h
+ends-so s (why.Http end) h n r g = (n, h)
+ends-so s why.ReadFault h n r g = (r refl, h)
+ends-so s why.WriteFault h n r g = (g refl, h)
+ends-so s why.Enough h n r g = h
+ends-so s why.NoMemory h n r g = inr h
 
 -- it was not opened
 pub ends-unopened : (s : Session) (fault : LoadFault) → Loads s.before.keeper s.after.keeper → NamesBadRow (setting_with s.base) s.before.keeper.held fault

@@ -5,6 +5,7 @@ use Rattle.raven_ports.specs.States.{KeeperState, SinkState, SourceState}
 use Rattle.doc_keeper.specs.declared.loading.LoadFault.{LoadFault}
 use Rattle.doc_keeper.specs.declared.loading.LoadFault.TheVariants as load
 use Rattle.http_session.specs.Sessions.{Finishes}
+use Rattle.http_session.specs.Steps.{IsOfBytes}
 use Rattle.http_session.specs.declared.why.Why.{Why}
 use Rattle.http_session.specs.declared.why.Why.TheVariants as why
 use Rattle.spec_server.specs.Options.{setting_with}
@@ -59,7 +60,7 @@ pub record Serves (how : Why) (s : Session) : Type 0 where
 -- what each end of the command says of the session
 abbrev pub EndsSo : ServeEnd → Session → Type 0
 EndsSo Done s = Serves why.Ended s ⊎ Serves why.Closed s
-EndsSo (Refused end) s = Serves (why.Http end) s
+EndsSo (Refused end) s = IsOfBytes end × Serves (why.Http end) s
 EndsSo Enough s = Serves why.Enough s
 EndsSo ReadFault s = Rose s.before.input.faults s.after.input.faults × Serves why.ReadFault s
 EndsSo WriteFault s = Rose s.before.output.faults s.after.output.faults × Serves why.WriteFault s

@@ -10,12 +10,10 @@ use http_read::HttpRequest;
 use raven_base::{Bytes, NoMemory};
 use raven_desk::Desk;
 use std::alloc::Global;
-use std::sync::Wait;
-use std::thread::Threads;
 
 /// Answers a request from a desk with the bytes of a whole response. A request that asks nothing of the database of this name does not reach the desk.
 /// `close` says that the connection is closed after the response.
-pub fn ask_desk<R: Threads + Wait, D: Desk>(
+pub fn ask_desk<R, D: Desk<R>>(
     rt: &R,
     alloc: Global,
     desk: &mut D,

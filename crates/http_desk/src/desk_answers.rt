@@ -9,8 +9,6 @@ use raven_desk::Desk;
 use raven_value::Text;
 use std::alloc::Global;
 use std::marker::Model;
-use std::sync::Wait;
-use std::thread::Threads;
 
 /// A desk, which answers the requests over HTTP to the database of one name. Contracts see the desk and the name.
 pub struct DeskAnswers<'a, R, D> {
@@ -59,7 +57,7 @@ impl<'a, R, D> DeskAnswers<'a, R, D> {
     }
 }
 
-impl<'a, R: Threads + Wait, D: Desk> Answering for DeskAnswers<'a, R, D> {
+impl<'a, R, D: Desk<R>> Answering for DeskAnswers<'a, R, D> {
     ghost use Rattle.http_desk.specs.Standings.{standing};
     ghost use Rattle.http_desk.specs.Answers.{AnswersWith, Keeps};
     ghost use Rattle.http_desk.specs.Keeping.{keeps-more, keeps-none};

@@ -11,7 +11,7 @@ use raven_desk::{Live, OneDesk, Unopened};
 use raven_ports::{Clock, Keeper, Sink, Source};
 use raven_value::Text;
 use std::alloc::Global;
-use std::sync::{Arc, Wait};
+use std::sync::Arc;
 use std::thread::Threads;
 
 /// How a session over the input and the output ended.
@@ -86,7 +86,7 @@ fn end_of(why: Why) -> ServeEnd
 
 /// Opens the database of the rows that the keeper holds, and then serves one session over the input and the output, at the moments that the clock
 /// gives. The keeper is returned in each case.
-pub fn serve_input<R: Threads + Wait, S: Source, O: Sink, K: Keeper, C: Clock + Drop>(
+pub fn serve_input<R: Threads, S: Source, O: Sink, K: Keeper, C: Clock + Drop>(
     rt: &R,
     alloc: Global,
     serving: Serving,

@@ -2,6 +2,7 @@
 ghost use Rattle.std.specs.Prelude.{◌≡◌, ◌≤◌, IfSome};
 ghost use Rattle.raven_ports.specs.Faults.{Rose};
 ghost use Rattle.http_session.specs.Sessions.{Finishes};
+ghost use Rattle.http_session.specs.Steps.{NamesEnd};
 ghost use Rattle.http_desk.specs.Chains.{AnswersAlone, KeepsAlone};
 
 use crate::desk_answers::DeskAnswers;
@@ -10,11 +11,10 @@ use raven_desk::OneDesk;
 use raven_ports::{Clock, Keeper, Sink, Source};
 use raven_value::Text;
 use std::alloc::Global;
-use std::sync::Wait;
 use std::thread::Threads;
 
 /// Serves one session from the desk of one caller, which answers to requests to the database of this name, and gives the desk back.
-pub fn serve_alone<R: Threads + Wait, K: Keeper, C: Clock, S: Source, O: Sink>(
+pub fn serve_alone<R: Threads, K: Keeper, C: Clock, S: Source, O: Sink>(
     rt: &R,
     alloc: Global,
     desk: OneDesk<K, C>,
@@ -24,6 +24,7 @@ pub fn serve_alone<R: Threads + Wait, K: Keeper, C: Clock, S: Source, O: Sink>(
 ) -> (Why, OneDesk<K, C>)
     ensures served { IfSome (S.state source.old).left (λ bytes. Finishes AnswersAlone KeepsAlone (desk, database) bytes (O.state sink.old).held result.0 (result.1, database) (O.state sink.new).held) }
     ensures kept { KeepsAlone (desk, database) (result.1, database) }
+    ensures names { NamesEnd result.0 }
     ensures reads { (S.state source.old).faults ≤ (S.state source.new).faults }
     ensures writes { (O.state sink.old).faults ≤ (O.state sink.new).faults }
     ensures read_fault { result.0 ≡ Why.ReadFault → Rose (S.state source.old).faults (S.state source.new).faults }

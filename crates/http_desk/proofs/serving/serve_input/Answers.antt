@@ -20,4 +20,4 @@ returns-clause-ends g c =
     subst (λ (end : ServeEnd). EndsSo end session) (sym c.end_of-end.ensures)
     (ends-so session c.serve_alone-why.result.0
     (serves session c.serve_alone-why.result.0 c.in-Ok.live c.new-desk.result c.serve_alone-why.result.1 c.finish.result c.new-desk.ensures c.finish.ensures o.opens o.loads o.fronts e.served e.kept k.keeper k.keeps)
-    e.read_fault e.write_fault)
+    e.names e.read_fault e.write_fault)
