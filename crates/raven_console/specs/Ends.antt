@@ -1,15 +1,19 @@
 -- What the status of the program says of what it did.
 use Rattle.std.specs.Prelude.{◌≡◌, ℕ, List, Option, Some, None, ◌⊎◌}
+use Rattle.spec_http.specs.Options as http
 use Rattle.spec_measure.specs.Requests as measure
 use Rattle.spec_server.specs.Options as server
+use Rattle.http_desk.specs.ProgramSessions.{EndsSo, Session}
+use Rattle.http_desk.specs.ProgramSessions as session
+use Rattle.http_desk.specs.declared.serving.ServeEnd.{ServeEnd}
 use Rattle.raven_measure.specs.Ends.{MeasuresRightly}
 use Rattle.raven_measure.specs.Measures.{ends_of}
 use Rattle.raven_measure.specs.declared.measuring.MeasureEnd.{MeasureEnd}
 use Rattle.raven_run.specs.Ends.{RunsRightly}
 use Rattle.raven_run.specs.Runs.{Devices}
 use Rattle.raven_run.specs.declared.run_end.RunEnd.{RunEnd}
-use Rattle.raven_console.specs.Invocations.{Invocation, Measure, Run, invoked_in}
-use Rattle.raven_console.specs.Statuses.{status_of_measurement, status_of_run}
+use Rattle.raven_console.specs.Invocations.{Http, Invocation, Measure, Run, invoked_in}
+use Rattle.raven_console.specs.Statuses.{status_of_measurement, status_of_run, status_of_session}
 use Rattle.raven_console.specs.declared.status.Status.{Status}
 use Rattle.raven_console.specs.declared.status.Status.TheVariants.{KeptBad, KeptFault, NoMemory, NotEmpty, Usage}
 
@@ -43,22 +47,47 @@ pub record MeasuredSo (options : measure.Options) (status : Status) (call : Call
   })
   pub unread : call.after.input ≡ call.before.input
 
+-- the devices of a session
+abbrev pub devices_in : Devices → session.Devices
+devices_in d = session.devices_of d.input d.output d.keeper
+
+-- the session of a call
+abbrev pub session_of : http.Options → Call → Session
+session_of options call =
+    record { base = options.base; name = options.name; pump = options.pump; clock = call.clock; before = devices_in call.before; after = devices_in call.after }
+
+-- the command `http` ended so
+pub record ServedSo (options : http.Options) (status : Status) (call : Call) : Type 0 where
+  pub end : ServeEnd
+  pub status_is : status ≡ status_of_session end
+  pub ends : EndsSo end (session_of options call)
+
 -- what was done, by what the arguments ask for
 abbrev pub DoesAsked : Option Invocation → Status → Call → Type 0
 DoesAsked None status call = HasDoneNothing Usage status call
 DoesAsked (Some (Run options)) status call = RanSo options status call
 DoesAsked (Some (Measure options)) status call = MeasuredSo options status call
+DoesAsked (Some (Http options)) status call = ServedSo options status call
 
 -- that was done, or memory ran out while the arguments were read
 abbrev pub EndsAsAsked : Status → Call → Type 0
 EndsAsAsked status call = DoesAsked (invoked_in call.arguments) status call ⊎ HasDoneNothing NoMemory status call
 
--- no request was answered, because of what the keeper holds, or since it failed when a run was to open it
+-- no request was answered, because of what the keeper holds, or since it failed when a run or a session was to open it
 abbrev pub IsUnopened : Option Invocation → Status → Type 0
 IsUnopened asked (KeptBad etag) = Unit {0}
 IsUnopened asked (NotEmpty last) = Unit {0}
 IsUnopened (Some (Run options)) KeptFault = Unit {0}
+IsUnopened (Some (Http options)) KeptFault = Unit {0}
 IsUnopened asked other = ⊥
+
+abbrev pub AsksToRun : Option Invocation → Type 0
+AsksToRun (Some (Run options)) = Unit {0}
+AsksToRun other = ⊥
+
+abbrev pub AsksForSession : Option Invocation → Type 0
+AsksForSession (Some (Http options)) = Unit {0}
+AsksForSession other = ⊥
 
 abbrev pub AsksToMeasure : Option Invocation → Type 0
 AsksToMeasure (Some (Measure options)) = Unit {0}

@@ -1,5 +1,7 @@
 -- The status of the program: its name and its number, which are part of the program's interface, and by the end of a command.
 use Rattle.std.specs.Prelude.{ℕ, List, codes}
+use Rattle.http_desk.specs.declared.serving.ServeEnd.{ServeEnd}
+use Rattle.http_desk.specs.declared.serving.ServeEnd.TheVariants as http
 use Rattle.raven_measure.specs.declared.measuring.MeasureEnd.{MeasureEnd}
 use Rattle.raven_measure.specs.declared.measuring.MeasureEnd.TheVariants as measure
 use Rattle.raven_run.specs.declared.run_end.RunEnd.{RunEnd}
@@ -17,6 +19,8 @@ number_of is.KeptFault = 5
 number_of (is.KeptBad etag) = 6
 number_of is.InputTooLarge = 9
 number_of is.NoMemory = 10
+number_of (is.HttpRefused end) = 11
+number_of is.Enough = 12
 number_of (is.NotEmpty last) = 13
 
 -- the name, as it is written to standard error
@@ -29,6 +33,8 @@ name_of is.KeptFault = codes "KeptFault"
 name_of (is.KeptBad etag) = codes "KeptBad"
 name_of is.InputTooLarge = codes "InputTooLarge"
 name_of is.NoMemory = codes "NoMemory"
+name_of (is.HttpRefused end) = codes "HttpRefused"
+name_of is.Enough = codes "Enough"
 name_of (is.NotEmpty last) = codes "NotEmpty"
 
 -- if the command was `run`
@@ -49,3 +55,14 @@ status_of_measurement measure.KeptFault = is.KeptFault
 status_of_measurement (measure.KeptBad etag) = is.KeptBad etag
 status_of_measurement (measure.NotEmpty last) = is.NotEmpty last
 status_of_measurement measure.NoMemory = is.NoMemory
+
+-- if it was `http`
+abbrev pub status_of_session : ServeEnd → Status
+status_of_session http.Done = is.Done
+status_of_session http.ReadFault = is.ReadFault
+status_of_session http.WriteFault = is.WriteFault
+status_of_session http.KeptFault = is.KeptFault
+status_of_session (http.KeptBad etag) = is.KeptBad etag
+status_of_session (http.Refused end) = is.HttpRefused end
+status_of_session http.Enough = is.Enough
+status_of_session http.NoMemory = is.NoMemory

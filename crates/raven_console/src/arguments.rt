@@ -3,11 +3,11 @@ ghost use Rattle.std.specs.Prelude.{◌≡◌, IfOk, map, option_map, string_byt
 ghost use Rattle.raven_console.specs.ArgumentsView.{invocation_view, outside_of};
 ghost use Rattle.raven_console.specs.Invocations.{invoked_in};
 
-use crate::options::{Invocation, Outside, RunOptions, invoked};
+use crate::options::{HttpOptions, Invocation, Outside, RunOptions, invoked};
 use raven_base::NoMemory;
 use std::alloc::Global;
 
-// What a command needs: a run its file, and a measurement nothing.
+// What a command needs: a run and a session their file, and a measurement nothing.
 fn needed(invocation: Invocation) -> Outside
     ensures { result ≡ outside_of (invocation_view invocation) }
 {
@@ -17,6 +17,15 @@ fn needed(invocation: Invocation) -> Outside
             file
         }
         Invocation::Measure(_options) => None,
+        Invocation::Http(options) => {
+            let HttpOptions {
+                file,
+                base: _base,
+                name: _name,
+                pump: _pump,
+            } = options;
+            file
+        }
     };
     Outside {
         file,

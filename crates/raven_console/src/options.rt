@@ -1,10 +1,12 @@
 //! What the arguments of the program ask for: a command with its options.
-ghost use Rattle.std.specs.Prelude.{◌≡◌, ◌≤◌, IfOk, Some, length, map, option_map, string_bytes};
+ghost use Rattle.std.specs.Prelude.{◌≡◌, ◌≤◌, IfOk, IfSome, Some, length, map, option_map, string_bytes};
+ghost use Rattle.std.specs.List.{list_all};
+ghost use Rattle.spec_http.specs.Options.{is_name as spec_is_name, is_of_name as spec_is_of_name, name_in, options_in as spec_http_options, pump_in};
 ghost use Rattle.spec_measure.specs.Options.{number_in as spec_number_in, number_up_to as spec_number_up_to, options_in as spec_measure_options};
 ghost use Rattle.spec_server.specs.Options.{base_in, run_options as spec_run_options};
 ghost use Rattle.spec_server.specs.Script.{number_of as spec_number_of};
 ghost use Rattle.raven_measure.specs.OptionsView.{options_view as measure_view};
-ghost use Rattle.raven_console.specs.ArgumentsView.{invocation_view, pair_view, run_view, text_view};
+ghost use Rattle.raven_console.specs.ArgumentsView.{FitsPump, http_view, invocation_view, pair_view, run_view, text_view};
 ghost use Rattle.raven_console.specs.Invocations.{invoked_in};
 
 use crate::pairs::{are_valid, pairs_in, value_named};
@@ -24,11 +26,28 @@ pub(crate) struct RunOptions {
     pub(crate) base: BaseId,
 }
 
+/// The options of `http`.
+#[derive(Drop)]
+pub(crate) struct HttpOptions {
+    /// The file of the documents. Without one they are stored in memory alone.
+    pub(crate) file: Option<Text>,
+
+    /// The base id of the database.
+    pub(crate) base: BaseId,
+
+    /// The name of the database.
+    pub(crate) name: Text,
+
+    /// The most rows of the batches after each request. If it is 0, none are made.
+    pub(crate) pump: u32,
+}
+
 /// A command with its options.
 #[derive(Drop)]
 pub(crate) enum Invocation {
     Run(RunOptions),
     Measure(Options),
+    Http(HttpOptions),
 }
 
 /// What the arguments ask the caller to make before the program is called.
@@ -49,6 +68,12 @@ pub struct Outside {
 
 // The most digits of a number.
 const MAX_DIGITS: usize = 10;
+
+// The most characters of the name of a database.
+const MAX_NAME: usize = 64;
+
+// The most rows of a batch.
+const MAX_PUMP: u64 = 65_536;
 
 // The number that up to ten digits write.
 #[tactic(auto, using(crate::proofs::NumberLemmas::numbers))]
@@ -135,9 +160,84 @@ fn measure_options(pairs: &[(&str, &str)]) -> Option<Options>
     Some(Options { seed, docs, batch })
 }
 
+fn is_of_name(byte: u8) -> bool
+    ensures { result ≡ spec_is_of_name byte }
+{
+    byte.is_ascii_alphanumeric() || byte == b'_' || byte == b'-'
+}
+
+fn are_of_name(bytes: &[u8]) -> bool
+    ensures { result ≡ list_all spec_is_of_name bytes.now }
+{
+    bytes.iter().all(|byte| is_of_name(*byte))
+}
+
+// Whether a text may be the name of a database.
+fn is_name(text: &str) -> bool
+    ensures { result ≡ spec_is_name text.now }
+{
+    1 <= text.len() && text.len() <= MAX_NAME && are_of_name(text.as_bytes())
+}
+
+fn name_of(alloc: Global, text: Option<&str>) -> Result<Option<Text>, NoMemory>
+    ensures { IfOk result (λ name. name ≡ name_in (text_view text.entry)) }
+{
+    let Some(text) = text else {
+        return Ok(Some(Text::of(alloc, "db")?));
+    };
+    if !is_name(text) {
+        return Ok(None);
+    }
+    Ok(Some(Text::of(alloc, text)?))
+}
+
+fn pump_of(text: Option<&str>) -> Option<u32>
+    ensures pump { result ≡ pump_in (text_view text.entry) }
+    ensures fits { IfSome result (λ pump. pump ≤ 65536) }
+{
+    let Some(text) = text else {
+        return Some(1_024);
+    };
+    if text.len() > MAX_DIGITS {
+        return None;
+    }
+    let number = number_of(text.as_bytes())?;
+    if number <= MAX_PUMP {
+        Some(number as u32)
+    } else {
+        None
+    }
+}
+
+fn http_options(alloc: Global, pairs: &[(&str, &str)]) -> Result<Option<HttpOptions>, NoMemory>
+    ensures options { IfOk result (λ found. option_map http_view found ≡ spec_http_options (Some (map pair_view pairs.now))) }
+    ensures fits { IfOk result (λ found. IfSome found (λ options. options.pump ≤ 65536)) }
+{
+    if !are_valid(&["--data", "--id", "--db", "--pump"], pairs) {
+        return Ok(None);
+    }
+    let Some(pump) = pump_of(value_named(pairs, "--pump")) else {
+        return Ok(None);
+    };
+    let Some(base) = base_of(alloc, value_named(pairs, "--id"))? else {
+        return Ok(None);
+    };
+    let Some(name) = name_of(alloc, value_named(pairs, "--db"))? else {
+        return Ok(None);
+    };
+    let file = file_of(alloc, value_named(pairs, "--data"))?;
+    Ok(Some(HttpOptions {
+        file,
+        base,
+        name,
+        pump,
+    }))
+}
+
 /// What the arguments ask the program to do; none exactly if they are malformed.
 pub(crate) fn invoked(alloc: Global, arguments: &[String]) -> Result<Option<Invocation>, NoMemory>
-    ensures { IfOk result (λ found. option_map invocation_view found ≡ invoked_in (map string_bytes arguments.now)) }
+    ensures asked { IfOk result (λ found. option_map invocation_view found ≡ invoked_in (map string_bytes arguments.now)) }
+    ensures fits { IfOk result (λ found. IfSome found FitsPump) }
 {
     let Some((command, more)) = arguments.split_first() else {
         return Ok(None);
@@ -148,6 +248,7 @@ pub(crate) fn invoked(alloc: Global, arguments: &[String]) -> Result<Option<Invo
     match command.as_str() {
         "run" => Ok(run_options(alloc, &pairs)?.map(Invocation::Run)),
         "measure" => Ok(measure_options(&pairs).map(Invocation::Measure)),
+        "http" => Ok(http_options(alloc, &pairs)?.map(Invocation::Http)),
         _ => Ok(None),
     }
 }

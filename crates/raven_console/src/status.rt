@@ -1,16 +1,18 @@
 //! How the program ends.
 ghost use Rattle.std.specs.Prelude.{◌≡◌};
 
+use http_read::HttpEnd;
+
 /// How the program ended.
 #[derive(Clone, Copy)]
 pub enum Status {
-    /// The input was read to its end, and all replies were written.
+    /// The input was read to its end, or to a request that closes the session, and all replies were written.
     Done,
 
     /// The arguments are malformed. Nothing was read or written.
     Usage,
 
-    /// A call of the input failed. Nothing was written.
+    /// A call of the input failed. A run wrote nothing; a session wrote the responses to all requests before.
     ReadFault,
 
     /// A call of the output failed. What was written is a prefix of what there was to write.
@@ -28,8 +30,17 @@ pub enum Status {
     /// The input has more than 16,777,216 bytes. Nothing was written.
     InputTooLarge,
 
-    /// Memory ran out. The replies to all earlier lines of a run are whole.
+    /// Memory ran out. The replies to all earlier lines of a run are whole, and so are the responses to all earlier requests of a session.
     NoMemory,
+
+    /// The bytes of a session are no further request, or end inside one.
+    HttpRefused {
+        /// Why there is no further request.
+        end: HttpEnd,
+    },
+
+    /// A session had 1,000 requests, the most that it may have, and all responses were written.
+    Enough,
 
     /// What is measured is a database of its own, but the keeper holds rows. Nothing was written.
     NotEmpty {
@@ -54,6 +65,8 @@ impl Status {
             Status::KeptBad { .. } => 6,
             Status::InputTooLarge => 9,
             Status::NoMemory => 10,
+            Status::HttpRefused { .. } => 11,
+            Status::Enough => 12,
             Status::NotEmpty { .. } => 13,
         }
     }
@@ -71,6 +84,8 @@ impl Status {
             Status::KeptBad { .. } => "KeptBad",
             Status::InputTooLarge => "InputTooLarge",
             Status::NoMemory => "NoMemory",
+            Status::HttpRefused { .. } => "HttpRefused",
+            Status::Enough => "Enough",
             Status::NotEmpty { .. } => "NotEmpty",
         }
     }

@@ -1,0 +1,114 @@
+//! The texts of `--help` and `--version`, which malformed arguments are answered with too. The arguments themselves are read elsewhere.
+
+use clap::{Arg, Command};
+use raven_base::NoMemory;
+use std::alloc::Global;
+
+/// What the arguments ask for, if it is a text about the program.
+pub enum Wish {
+    Help,
+    Version,
+}
+
+/// `--help` or `-h` alone or after a command, or `--version` or `-V` alone.
+pub fn wish_in(arguments: &[String]) -> Option<Wish> {
+    let last = arguments.last()?;
+    match (arguments.len(), last.as_str()) {
+        (1, "--version") | (1, "-V") => Some(Wish::Version),
+        (1, "--help") | (1, "-h") | (2, "--help") | (2, "-h") => Some(Wish::Help),
+        _ => None,
+    }
+}
+
+fn data(alloc: Global) -> Arg<'static> {
+    Arg::new(alloc, "data").long("data").value_name("FILE").help(
+        "The SQLite file of the documents. Without it they are in memory alone",
+    )
+}
+
+fn id(alloc: Global) -> Arg<'static> {
+    Arg::new(alloc, "id")
+        .long("id")
+        .value_name("BASE")
+        .default_value("AAAAAAAAAAAAAAAAAAAAAA")
+        .help(
+            "The base id of the database, which its change vectors end with: 22 letters or digits",
+        )
+}
+
+fn number(alloc: Global, name: &'static str, default: &'static str) -> Arg<'static> {
+    Arg::new(alloc, name)
+        .long(name)
+        .value_name("N")
+        .default_value(default)
+}
+
+fn run(alloc: Global) -> Result<Command<'static>, NoMemory> {
+    let run = Command::new(alloc, "run").about(
+        "Reads a script from standard input, and writes a reply for each line",
+    );
+    Ok(run.arg(data(alloc))?.arg(id(alloc))?)
+}
+
+fn http(alloc: Global) -> Result<Command<'static>, NoMemory> {
+    let name = Arg::new(alloc, "db")
+        .long("db")
+        .value_name("NAME")
+        .default_value("db")
+        .help("The name of the database: 1 to 64 letters, digits, `_` or `-`");
+    let pump = number(alloc, "pump", "1024").help(
+        "The most documents that each index takes in after each request, up to 65536. 0: none",
+    );
+    let http = Command::new(alloc, "http").about(
+        "Serves one HTTP connection over standard input and output",
+    );
+    let http = http.arg(data(alloc))?.arg(id(alloc))?;
+    Ok(http.arg(name)?.arg(pump)?)
+}
+
+fn measure(alloc: Global) -> Result<Command<'static>, NoMemory> {
+    let seed = number(alloc, "seed", "1").help("The seed of the orders, up to 2147483646");
+    let docs = number(alloc, "docs", "2000").help("How many orders, up to 200000");
+    let batch = number(alloc, "batch", "1024").help(
+        "How many orders are stored at once, up to 65536",
+    );
+    let measure = Command::new(alloc, "measure").about(
+        "Fills a database in memory with orders, and writes what an index over them comes to",
+    );
+    Ok(measure.arg(seed)?.arg(docs)?.arg(batch)?)
+}
+
+fn program(alloc: Global) -> Result<Command<'static>, NoMemory> {
+    let program = Command::new(alloc, "raven")
+        .about("A document server with the behaviour of RavenDB 4.0")
+        .version(RELEASE)
+        .disable_help_subcommand(true)
+        .subcommand_required(true);
+    let program = program.subcommand(run(alloc)?)?;
+    let program = program.subcommand(http(alloc)?)?;
+    Ok(program.subcommand(measure(alloc)?)?)
+}
+
+const RELEASE: &str = "0.1.0";
+
+// The help of one command, under the name by which it is called.
+fn add(text: &mut String, command: Command<'static>, name: &str) -> Result<(), NoMemory> {
+    let mut command = command.bin_name(name)?.disable_help_flag(true);
+    text.push_str("\n")?;
+    text.push_str(command.render_help()?.as_str())?;
+    Ok(())
+}
+
+/// The help of the program and of each of its commands.
+pub fn help_text(alloc: Global) -> Result<String, NoMemory> {
+    let mut text = program(alloc)?.render_help()?;
+    add(&mut text, run(alloc)?, "raven run")?;
+    add(&mut text, http(alloc)?, "raven http")?;
+    add(&mut text, measure(alloc)?, "raven measure")?;
+    Ok(text)
+}
+
+/// The name of the program and its version.
+pub fn version_text(alloc: Global) -> Result<String, NoMemory> {
+    Ok(program(alloc)?.render_version()?)
+}
