@@ -29,7 +29,11 @@ pub struct Run {
     /// The calls of the output that fail, counted from 1.
     pub writes: Numbers,
 
-    pub script: Vec<u8>,
+    /// The most bytes that a call of the input gives.
+    pub gives: usize,
+
+    /// The bytes of the input.
+    pub bytes: Vec<u8>,
 
     /// Whether the rows that the keeper holds after the run are printed.
     pub shows_rows: bool,

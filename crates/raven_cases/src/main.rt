@@ -8,6 +8,7 @@ mod marks;
 mod printing;
 mod reading;
 mod running;
+mod source;
 mod values;
 
 use reading::{ReadError, read_cases};

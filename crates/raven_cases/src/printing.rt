@@ -1,4 +1,6 @@
 //! What came of a run, as text.
+ghost use Rattle.std.specs.Prelude.{◌≤◌, length};
+
 use raven_base::NoMemory;
 use raven_console::Status;
 use raven_json::write_text;
@@ -16,6 +18,7 @@ pub fn print_status<W: Write>(out: &mut W, status: Status) -> io::Result<()> {
     match status {
         Status::KeptBad { etag } => write!(out, " {etag}")?,
         Status::NotEmpty { last } => write!(out, " {last}")?,
+        Status::HttpRefused { end } => write!(out, " {end:?}")?,
         _ => {}
     }
     writeln!(out)
@@ -24,16 +27,48 @@ pub fn print_status<W: Write>(out: &mut W, status: Status) -> io::Result<()> {
 /// Prints what was written to the output: its lines, and what follows the last of them.
 pub fn print_written<W: Write>(out: &mut W, written: &[u8]) -> io::Result<()> {
     for line in written.split_inclusive(|byte| *byte == b'\n') {
-        if line.ends_with(b"\n") {
-            out.write_all(b"> ")?;
-            out.write_all(line)?;
+        if let Some(line) = line.strip_suffix(b"\r\n") {
+            print_head_line(out, line)?;
+        } else if let Some(line) = line.strip_suffix(b"\n") {
+            print_piece(out, b"> ", line)?;
         } else {
-            out.write_all(b"| ")?;
-            out.write_all(line)?;
-            out.write_all(b"\n")?;
+            print_piece(out, b"| ", line)?;
         }
     }
     Ok(())
+}
+
+fn print_piece<W: Write>(out: &mut W, mark: &[u8], text: &[u8]) -> io::Result<()> {
+    out.write_all(mark)?;
+    out.write_all(text)?;
+    out.write_all(b"\n")
+}
+
+/// Prints a line that ends with CR LF. Before it, if it is a status line, stands the body of the response before, which has no line end of its own.
+fn print_head_line<W: Write>(out: &mut W, line: &[u8]) -> io::Result<()> {
+    let (body, line) = line.split_at(end_of_body(line));
+    if !body.is_empty() {
+        print_piece(out, b"| ", body)?;
+    }
+    if line.is_empty() {
+        out.write_all(b"<\n")
+    } else {
+        print_piece(out, b"< ", line)
+    }
+}
+
+const STATUS_LINE: &[u8] = b"HTTP/1.1 ";
+
+/// Where the last status line in a line begins; 0 if there is none.
+fn end_of_body(line: &[u8]) -> usize
+    ensures { result ≤ length line.now }
+{
+    for at in (0..line.len()).rev() {
+        if line[at..].starts_with(STATUS_LINE) {
+            return at;
+        }
+    }
+    0
 }
 
 pub fn print_rows<W: Write>(alloc: Global, out: &mut W, rows: &[KeptRow]) -> io::Result<()> {

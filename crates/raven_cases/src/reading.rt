@@ -120,7 +120,10 @@ impl Draft {
 
     fn read(&mut self, alloc: Global, word: &str, value: &str) -> Result<(), LineFault> {
         if let Some(copies) = word.strip_prefix('>') {
-            return self.add_lines(alloc, copies, value);
+            return self.add_lines(alloc, copies, value, b"\n");
+        }
+        if let Some(copies) = word.strip_prefix('<') {
+            return self.add_lines(alloc, copies, value, b"\r\n");
         }
         match word {
             "arguments" => self.run.arguments = arguments_in(alloc, value)?,
@@ -128,7 +131,8 @@ impl Draft {
             "reads" => self.run.reads = numbers_in(alloc, value)?,
             "writes" => self.run.writes = numbers_in(alloc, value)?,
             "rows" if value.is_empty() => self.run.shows_rows = true,
-            "|" => write_out(alloc, &mut self.run.script, value, None)?,
+            "gives" => self.run.gives = number_in(value)? as usize,
+            "|" => write_out(alloc, &mut self.run.bytes, value, None)?,
             "again" if value.is_empty() => self.begin_run(alloc)?,
             _ if self.runs.is_empty() => self.read_kept(alloc, word, value)?,
             _ => return Err(LineFault::Mistake),
@@ -136,13 +140,19 @@ impl Draft {
         Ok(())
     }
 
-    /// Adds one line to the script for `>`, and three numbered ones for `>3`.
-    fn add_lines(&mut self, alloc: Global, copies: &str, line: &str) -> Result<(), LineFault> {
+    /// Adds one line with this end to the input for `>`, and three numbered ones for `>3`.
+    fn add_lines(
+        &mut self,
+        alloc: Global,
+        copies: &str,
+        line: &str,
+        end: &[u8],
+    ) -> Result<(), LineFault> {
         if copies.is_empty() {
-            return self.add_line(alloc, line, None);
+            return self.add_line(alloc, line, end, None);
         }
         for number in 1..=number_in(copies)? {
-            self.add_line(alloc, line, Some(number))?;
+            self.add_line(alloc, line, end, Some(number))?;
         }
         Ok(())
     }
@@ -151,10 +161,11 @@ impl Draft {
         &mut self,
         alloc: Global,
         line: &str,
+        end: &[u8],
         number: Option<u64>,
     ) -> Result<(), LineFault> {
-        write_out(alloc, &mut self.run.script, line, number)?;
-        self.run.script.push(b'\n')?;
+        write_out(alloc, &mut self.run.bytes, line, number)?;
+        self.run.bytes.extend_from_slice(end)?;
         Ok(())
     }
 
@@ -189,7 +200,8 @@ fn new_run(alloc: Global) -> Result<Run, LineFault> {
         clock: clock_in("0")?,
         reads: Numbers::new(alloc),
         writes: Numbers::new(alloc),
-        script: Vec::new(alloc),
+        gives: usize::MAX,
+        bytes: Vec::new(alloc),
         shows_rows: false,
     })
 }

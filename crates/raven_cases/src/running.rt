@@ -1,6 +1,7 @@
 //! Cases, run and printed.
 use crate::case::{Case, Run};
 use crate::printing::{out_of_memory, print_rows, print_status, print_written};
+use crate::source::CaseSource;
 use raven_base::Bytes;
 use raven_console::{Finish, raven};
 use raven_ports::{ByteSink, ByteSource, MemKeeper};
@@ -39,11 +40,15 @@ fn print_run<R: AllocGlobal + Threads, W: Write>(
         clock,
         reads,
         writes,
-        script,
+        gives,
+        bytes,
         shows_rows,
     } = run;
     let alloc = rt.alloc();
-    let mut input = ByteSource::of(Bytes::of(script), reads);
+    let mut input = CaseSource {
+        bytes: ByteSource::of(Bytes::of(bytes), reads),
+        most: gives,
+    };
     let mut output = ByteSink::of(Bytes::new(alloc), writes);
     let clock = Arc::new(alloc, clock)?;
     let Finish { status, keeper } = raven(rt, &arguments, &mut input, &mut output, keeper, clock);
