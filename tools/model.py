@@ -1,37 +1,47 @@
 #!/usr/bin/env python3
-"""Answers a script as `raven run` has to, or a session as `raven http` has to: a small model, written from the rules and not from the
-program. It stores nothing.
+"""Answers as the program has to: a small model, written from the rules and not from the program. It stores nothing.
 
-    tools/model.py [--id BASE] < SCRIPT
-    tools/model.py --http [--db NAME] [--id BASE] [--pump N] < BYTES
+    tools/model.py [run] [--id BASE] < SCRIPT
+    tools/model.py http [--db NAME] [--id BASE] [--pump N] < BYTES
+    tools/model.py measure [--seed N] [--docs N] [--batch N]
 
-It writes the replies, or the responses, and ends with the number of the status.
+It takes the arguments of the program but `--data`, and without a command it is `run`. What it writes to standard output and to
+standard error, and the status with which it ends, are those of the program.
 """
 
-import argparse
 import sys
 
 sys.dont_write_bytecode = True
 from raven_tools import model, programs
 from raven_tools.model import http_session, keeping, running
 
-NUMBERS = {name: number for number, name in programs.STATUSES.items()}
+
+def served(arguments: tuple[str, ...]) -> str:
+    """A session, with each response as soon as its request is there."""
+
+    def give(response: bytes) -> None:
+        sys.stdout.buffer.write(response)
+        sys.stdout.buffer.flush()
+
+    return http_session.serve(arguments, keeping.Keeper(), lambda: sys.stdin.buffer.read1(65_536), give)
+
+
+def answered(arguments: tuple[str, ...]) -> str:
+    read = b"" if arguments[0] == "measure" else sys.stdin.buffer.read(model.MAX_SCRIPT + 1)
+    status, written = running.run(running.Outside(arguments, script=read), keeping.Keeper())
+    sys.stdout.buffer.write(written)
+    return status
 
 
 def main() -> int:
     sys.setrecursionlimit(10_000)
-    parser = argparse.ArgumentParser(description="Answers a script or a session by the model alone.", allow_abbrev=False)
-    parser.add_argument("--http", action="store_true")
-    given, others = parser.parse_known_args()
-    if "--data" in others[::2]:
+    given = sys.argv[1:]
+    arguments = tuple(given if given and not given[0].startswith("-") else ["run", *given])
+    if "--data" in arguments[1::2]:
         sys.exit("the model stores nothing, so it has no --data")
-    arguments = ("http" if given.http else "run", *others)
-    read = sys.stdin.buffer.read() if given.http else sys.stdin.buffer.read(model.MAX_SCRIPT + 1)
-    outside = running.Outside(arguments, script=read)
-    run = http_session.run if given.http else running.run
-    status, written = run(outside, keeping.Keeper())
-    sys.stdout.buffer.write(written)
-    return NUMBERS[status.split(" ")[0]]
+    status = (served if arguments[0] == "http" else answered)(arguments)
+    sys.stderr.write(running.message_of(status))
+    return programs.NUMBERS[status.split(" ")[0]]
 
 
 sys.exit(main())

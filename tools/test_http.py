@@ -17,18 +17,15 @@ from raven_tools import model, session_file
 from raven_tools.making import MAKERS, worked_http
 from raven_tools.making.http_calls import Call, call_of
 from raven_tools.making.http_sessions import Session, SessionMaker
-from raven_tools.making.worked_http import CHUNKS, EMPTY_STATS, LAST_STATS, NO_ROWS, PUT_ADA, STATS, head
-from raven_tools.model import http_answering, http_asking, http_reading, keeping
+from raven_tools.making.worked_http import CHUNKS, EMPTY_STATS, LAST_STATS, NO_ROWS, PUT_ADA, STATS, asked, head
+from raven_tools.model import http_answering, http_asking, http_reading, http_session, keeping
 from raven_tools.model.http_reading import Reading, session_of
-from raven_tools.model.http_session import run
 from raven_tools.model.outside import Clock, LeftOpen, Outside
-from raven_tools.places import TOP
+from raven_tools.model.running import run
+from raven_tools.places import DATA
+from raven_tools.responses import responses_of
 
 Answer = tuple[str, bytes]
-BEFORE_BODY = re.compile(
-    rb"HTTP/1\.1 ([0-9]{3}) [A-Za-z ]+\r\n(Connection: close\r\n)?"
-    rb"(?:Content-Length: ([0-9]+)\r\nContent-Type: application/json; charset=utf-8\r\n)?\r\n"
-)
 # Heads again, as expressions: whole ones, and what some bytes can make whole.
 NAME, VALUE, END = rb"[!#$%&'*+.^_`|~0-9A-Za-z-]+", rb"[\t\x20-\x7e\x80-\xff]*", rb"\r?\n"
 FIELDS = rb"(?:%s:%s%s)*" % (NAME, VALUE, END)
@@ -53,24 +50,6 @@ def response(status: str, body: str | None, closes: bool = False) -> bytes:
 
 def refused(end: str) -> bytes:
     return response(worked_http.ENDS[end], f'{{"Error":"{end}"}}', True)
-
-
-def asked(method: str, target: str, fields: tuple[bytes, ...] = (), body: bytes = b"", version: str = "1.1") -> bytes:
-    """The bytes of a request."""
-    length = [b"Content-Length: %d" % len(body)] if body else []
-    return head(*length, *fields, line=f"{method} /databases/db{target} HTTP/{version}".encode()) + body
-
-
-def responses_of(written: bytes) -> list[tuple[int, bool, bytes]]:
-    """The status of each response, whether it closes the session, and the body."""
-    found, at = [], 0
-    while at < len(written):
-        before = BEFORE_BODY.match(written, at)
-        assert before, written[at:]
-        at = before.end() + int(before[3] or 0)
-        found.append((int(before[1]), bool(before[2]), written[before.end() : at]))
-    assert at == len(written)
-    return found
 
 
 def nested(parts: list[bytes]) -> bytes:
@@ -209,8 +188,7 @@ def test_databases() -> None:
         body = NO_ROWS.decode() if is_there else '{"Error":"NoDatabase"}'
         wanted = response("200 OK" if is_there else "404 Not Found", body)
         assert over(head(line=f"GET {path} HTTP/1.1".encode()), "--db", "a-B_1") == ("Done", wanted), path
-    for path in ["/databases//stats", "/databases/db", "/databases", "/", "/stats", "/x/databases/db/stats", "/Databases/db/stats",
-                 "/databases/other/none", "/databases/db/db/stats", "//databases/db/stats"]:
+    for path in worked_http.NO_ROUTE:
         assert over(head(line=f"GET {path} HTTP/1.1".encode())) == ("Done", response("404 Not Found", '{"Error":"NoRoute"}')), path
 
 
@@ -414,8 +392,8 @@ def test_what_is_left_open() -> None:
 
 
 def test_clients() -> None:
-    recorded = session_file.read((TOP / "tools/data/http-clients.txt").read_text())
-    assert len(recorded) > 15
+    recorded = session_file.read((DATA / "http-clients.txt").read_text())
+    assert len(recorded) > 30
     for session in recorded:
         reading = session_of(session.data)
         assert (reading.requests, reading.end) == (session.requests, session.end), (session.name, reading)
@@ -476,6 +454,23 @@ def check_responses(reading: Reading, status: str, written: bytes) -> None:
     assert [is_last for _, is_last, _ in responses] == closes, written
     assert status == ("Done" if reading.end in ("Ended", "Closed") else f"HttpRefused {reading.end}"), status
     assert all((status == 204) == (body == b"") for status, _, body in responses), written
+
+
+def as_it_comes(data: bytes, size: int) -> Answer:
+    """What `over` gives, of bytes that come in pieces of this size."""
+    pieces = [data[start : start + size] for start in range(0, len(data), size)]
+    written: list[bytes] = []
+    status = http_session.serve(("http",), keeping.Keeper(), lambda: pieces.pop(0) if pieces else b"", written.append)
+    return status, b"".join(written)
+
+
+def test_bytes_as_they_come() -> None:
+    for seed in range(200):
+        data = SessionMaker(seed).session().data
+        for size in (1, 7, 20_000):
+            if size > 1 or len(data) < 2_000:
+                assert as_it_comes(data, size) == over(data), (data, size)
+    assert as_it_comes(STATS * 1_001, 99) == over(STATS * 1_001)
 
 
 def test_random_sessions(rounds: int) -> None:

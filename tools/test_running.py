@@ -256,10 +256,26 @@ def test_measure():
         assert (status, json.loads(written)) == ("Done", {"Batches": batches, "IsStale": False, **sums}), written
 
 
+def test_messages():
+    """What standard error has. The status of a session is found by its bytes."""
+    for arguments, script, status, message in [
+        (("run",), b"", "Done", "raven: Done\n"),
+        ((), b"", "Usage", "raven: Usage\n"),
+        (("http", "--pump", "x"), b"", "Usage", "raven: Usage\n"),
+        (("http",), b"", "Done", "raven: Done\n"),
+        (("http",), b"G", "HttpRefused Truncated", "raven: HttpRefused\nthe bytes are no further request: Truncated\n"),
+        (("http",), b" ", "HttpRefused BadHead", "raven: HttpRefused\nthe bytes are no further request: BadHead\n"),
+    ]:
+        found, _ = running.run(running.Outside(arguments, script=script), keeping.Keeper())
+        assert (found, running.message_of(found)) == (status, message), (arguments, found)
+    assert running.message_of("KeptBad 7") == "raven: KeptBad\nthe kept row of etag 7 breaks the form of rows\n"
+
+
 def test_mistakes():
     """A line that is not valid is reported by its number."""
     lines = ["arguments", "x", ">x", ">0 x", "> ⟨x⟩", "> ⟨n⟩", "> ⟨", "reads", "reads x", "clock +1", "clock 1 2", "row 1", "id a",
-             "rows x", "again 1", "|", "|x", "keeps 1\nagain\nkeeps 2", "again\nrow 1 1", "row 2 0\nrow 2 0"]
+             "rows x", "again 1", "|", "|x", "keeps 1\nagain\nkeeps 2", "again\nrow 1 1", "row 2 0\nrow 2 0", "<x", "<0 x", "<2", "< ⟨n⟩",
+             "gives", "gives 0", "gives 1 2"]
     for line in lines[1:]:
         try:
             case_file.read(f"== A\n{line}\n")
@@ -267,6 +283,26 @@ def test_mistakes():
             assert f"line {2 + line.count(chr(10))}:" in str(mistake), (line, mistake)
         else:
             raise AssertionError(line)
+
+
+def test_printing():
+    """Each line with its end, and what follows the last one. A response begins a line, whatever is before it."""
+    for written, printed in [
+        (b"", ""),
+        (b"a\n\nb", "> a\n> \n| b\n"),
+        (b"a\r\n\r\n", "< a\n<\n"),
+        (b"HTTP/1.1 204 No Content\r\n\r\n{}HTTP/1.1 200 OK\r\n\r\n{}", "< HTTP/1.1 204 No Content\n<\n| {}\n< HTTP/1.1 200 OK\n<\n| {}\n"),
+        ('{"A":"HTTP/1.1 é"}\n'.encode(), '> {"A":"HTTP/1.1 é"}\n'),
+        (b'{"A":"HTTP/1.1 "}HTTP/1.1 200 OK\r\n', '| {"A":"HTTP/1.1 "}\n< HTTP/1.1 200 OK\n'),
+    ]:
+        assert case_file.printed_output(written) == printed, written
+
+
+def test_single_bytes():
+    """If a call gives one byte, it is known what a failing call leaves unread."""
+    for number, status in [(1, "ReadFault"), (7, "ReadFault"), (8, "Done")]:
+        [case] = case_file.read(f"== A\ngives 1\nreads {number}\n> STATS\n")
+        assert running.run(case.runs[0].outside, keeping.Keeper())[0] == status, number
 
 
 def test_what_is_left_open():

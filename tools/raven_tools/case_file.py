@@ -4,13 +4,15 @@ A case begins with `== NAME`. These lines come before its script, in any order:
 
     arguments A A ..     the arguments; without the line `run`, and none at all if nothing follows it
     clock M [+S]         the first call of the clock gives M, and each further one S more; without the line 0
+    gives N              each call of the input gives at most N bytes; without the line, as many as it is asked for
     reads N .., writes N .., keeps N ..      the calls of the input, of the output and of the keeper that fail
     row ETAG MOMENT      a row that the keeper holds at the start, with `id`, `collection` and `body` lines behind it
     rows                 the rows that the keeper is left with are printed too
 
-The script has `> LINE`, a line with its LF; `>N LINE`, N such lines; and `| TEXT`, a piece without one. `again` begins a
-further run over the keeper that was handed back. In values `⟨0d⟩` is a byte, `⟨3*ab⟩` is `ababab`, and `⟨n⟩` is the number
-of the copy of a line that is there several times. Empty lines, and lines that begin with `#`, are passed over.
+The script, or the bytes of a session over HTTP, has `> LINE`, a line with its LF; `< LINE`, one with CR LF; `>N LINE` and
+`<N LINE`, N such lines; and `| TEXT`, a piece without a line end. `again` begins a further run over the keeper that was handed
+back. In values `⟨0d⟩` is a byte, `⟨3*ab⟩` is `ababab`, and `⟨n⟩` is the number of the copy of a line that is there several
+times. Empty lines, and lines that begin with `#`, are passed over.
 """
 
 import dataclasses
@@ -20,7 +22,10 @@ from raven_tools import model
 from raven_tools.model import keeping, running
 
 MARK = re.compile(r"⟨(?:(?P<bytes>(?:[0-9a-f]{2})+)|(?P<count>[0-9]+)\*(?P<text>[^⟨⟩]*)|(?P<number>n))⟩|[⟨⟩]")
-COPIES = re.compile(r">([1-9][0-9]*) (.*)")
+LINE = re.compile(r"(?P<mark>[<>])(?P<count>[1-9][0-9]*)?(?: (?P<text>.*))?")
+LINE_ENDS = {">": b"\n", "<": b"\r\n"}
+# Of what is written, a line with its end, or what stands behind the last of them.
+WRITTEN = re.compile(rb"[^\n]*\n|[^\n]+")
 NUMBERS = re.compile(r"[0-9]+(?: [0-9]+)*", re.ASCII)
 CLOCK = re.compile(r"([0-9]+)(?: \+([0-9]+))?", re.ASCII)
 
@@ -65,10 +70,30 @@ def written_out(value: str, number: int | None = None) -> bytes:
     return b"".join([*parts, value[at:].encode()])
 
 
+def part_of(line: str) -> bytes:
+    """The bytes of a line of a script, or of a piece of one."""
+    if line.startswith("| "):
+        return written_out(line[2:])
+    found = LINE.fullmatch(line)
+    if not found or found["count"] and found["text"] is None:
+        raise ValueError(f"not a line of a script: {line}")
+    text, end = found["text"] or "", LINE_ENDS[found["mark"]]
+    numbers = range(1, int(found["count"]) + 1) if found["count"] else [None]
+    return b"".join(written_out(text, number) + end for number in numbers)
+
+
 def numbers_of(value: str) -> tuple[int, ...]:
     if not NUMBERS.fullmatch(value):
         raise ValueError(f"not numbers: {value}")
     return tuple(map(int, value.split(" ")))
+
+
+def number_of(value: str) -> int:
+    """One number, which is not 0."""
+    numbers = numbers_of(value)
+    if len(numbers) > 1 or not numbers[0]:
+        raise ValueError(f"not a number of bytes: {value}")
+    return numbers[0]
 
 
 def clock_of(value: str) -> running.Clock:
@@ -97,7 +122,7 @@ class Reader:
     def line(self, line: str) -> None:
         if not line or line.startswith("#"):
             return
-        if line.startswith(("== ", ">", "| ")):
+        if line.startswith(("== ", ">", "<", "| ")):
             return self.part_of_script(line)
         word, _, value = line.partition(" ")
         if word in ("rows", "again") and word == line:
@@ -109,18 +134,10 @@ class Reader:
         self.given(word, value)
 
     def part_of_script(self, line):
-        copies = COPIES.fullmatch(line)
         if line.startswith("== "):
             self.cases.append(Case(line[3:], [Run(running.Outside())]))
-        elif copies:
-            lines = [written_out(copies[2], number + 1) + b"\n" for number in range(int(copies[1]))]
-            self.outside.script += b"".join(lines)
-        elif line == ">" or line.startswith("> "):
-            self.outside.script += written_out(line[2:]) + b"\n"
-        elif line.startswith("| "):
-            self.outside.script += written_out(line[2:])
         else:
-            raise ValueError(f"not a line of a script: {line}")
+            self.outside.script += part_of(line)
 
     def alone(self, word):
         if word == "rows":
@@ -138,6 +155,8 @@ class Reader:
             self.outside.arguments = tuple(written_out(value).decode().split(" ")) if value else ()
         elif word == "clock":
             self.outside.clock = clock_of(value)
+        elif word == "gives":
+            self.outside.gives = number_of(value)
         elif word in ("reads", "writes"):
             setattr(self.outside, word, frozenset(numbers_of(value)))
         elif word == "keeps" and len(self.case.runs) == 1:
@@ -166,10 +185,19 @@ def printed_row(row: keeping.KeptRow) -> str:
     return f"row {row.etag} {row.changed} {id_and_collection} {'deleted' if row.body is None else row.body}\n"
 
 
+def printed_line(line: bytes) -> str:
+    """A line that was written. Before the first one of a response stands what the one before it has behind its last line end."""
+    if not line.endswith(b"\n"):
+        return f"| {line.decode()}\n"
+    if not line.endswith(b"\r\n"):
+        return f"> {line[:-1].decode()}\n"
+    before, first, rest = line[:-2].decode().rpartition("HTTP/1.1 ")
+    body = f"| {before}\n" if before else ""
+    return body + (f"< {first}{rest}\n" if first or rest else "<\n")
+
+
 def printed_output(written: bytes) -> str:
-    """Each line that was written, and what follows the last of them."""
-    *lines, last = written.decode().split("\n")
-    return "".join(f"> {line}\n" for line in lines) + (f"| {last}\n" if last else "")
+    return "".join(map(printed_line, WRITTEN.findall(written)))
 
 
 def printed_run(run: Run, keeper: keeping.Keeper) -> str:

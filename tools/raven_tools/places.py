@@ -5,3 +5,4 @@ import pathlib
 TOP = pathlib.Path(__file__).resolve().parents[2]
 CRATES = TOP / "crates"
 PROGRAM = CRATES / "raven/out/raven"
+DATA = TOP / "tools/data"

@@ -1,5 +1,7 @@
 """Runs of the built program, and how what it writes is compared."""
 
+import collections.abc
+import dataclasses
 import os
 import pathlib
 import subprocess
@@ -15,19 +17,36 @@ STATUSES = {
     3: "ReadFault",
     4: "WriteFault",
     5: "KeptFault",
+    6: "KeptBad",
     9: "InputTooLarge",
+    10: "NoMemory",
     11: "HttpRefused",
     12: "Enough",
+    13: "NotEmpty",
 }
+NUMBERS = {name: number for number, name in STATUSES.items()}
+
+
+@dataclasses.dataclass(frozen=True)
+class Given:
+    """What one run is given, and what it is called."""
+
+    name: str
+    data: bytes
+    arguments: tuple[str, ...] = ("run",)
 
 
 def is_built(program: Path) -> bool:
     return os.access(program, os.X_OK)
 
 
+def call(program: Path, arguments: collections.abc.Sequence[Path], data: bytes, timeout: float = 600) -> subprocess.CompletedProcess[bytes]:
+    return subprocess.run([program, *arguments], input=data, capture_output=True, timeout=timeout)
+
+
 def run(program: Path, script: bytes, *options: Path, timeout: float = 600) -> subprocess.CompletedProcess[bytes]:
     """One run of a script."""
-    return subprocess.run([program, "run", *options], input=script, capture_output=True, timeout=timeout)
+    return call(program, ["run", *options], script, timeout)
 
 
 def takes_data(program: Path) -> bool:
@@ -58,7 +77,7 @@ def tried(scripts: dict[str, bytes], folder: pathlib.Path) -> tuple[dict[str, by
 
 
 def first_difference(expected: bytes, found: bytes, names: tuple[str, str] = ("model", "program")) -> str:
-    """The first reply that differs, or how many replies each has."""
+    """The first reply, or line of a response, that differs, or how many each has."""
     left, right = expected.split(b"\n"), found.split(b"\n")
     for at, (mine, its) in enumerate(zip(left, right)):
         if mine != its:

@@ -7,17 +7,51 @@ import tempfile
 
 from raven_tools import model
 from raven_tools.checks.files import files
+from raven_tools.checks.sessions import sessions
 from raven_tools.making import MAKERS
 from raven_tools.programs import STATUSES, first_difference, run
 
 
+HELP = {
+    "run": ["--data <FILE>", "--id <BASE>", "[default: AAAAAAAAAAAAAAAAAAAAAA]"],
+    "http": ["--data <FILE>", "--id <BASE>", "--db <NAME>", "[default: db]", "--pump <N>", "[default: 1024]"],
+    "measure": ["--seed <N>", "[default: 1]", "--docs <N>", "[default: 2000]", "--batch <N>", "[default: 1024]"],
+}
+"""What the help says of each command: its options and their defaults."""
+
+
+def lacks_help(text: str) -> list[str]:
+    """What the help does not say."""
+    found = {name: text.partition(f"Usage: raven {name} ")[2].partition("Usage:")[0] for name in HELP}
+    return [f"{name} {part}" for name, parts in HELP.items() for part in parts if part not in found[name]]
+
+
+def helps(program: str) -> int:
+    """How many of the calls for a text about the program are wrong."""
+    wrong = 0
+    for arguments in (["--help"], ["-h"], ["run", "--help"], ["http", "-h"]):
+        ended = subprocess.run([program, *arguments], capture_output=True, timeout=60)
+        if ended.returncode or ended.stderr or lacks_help(ended.stdout.decode()):
+            wrong += 1
+            print(f"arguments {arguments}: status {ended.returncode}, {lacks_help(ended.stdout.decode())}, {ended.stderr!r}")
+    for arguments in (["--version"], ["-V"]):
+        ended = subprocess.run([program, *arguments], capture_output=True, timeout=60)
+        if ended.returncode or ended.stderr or not ended.stdout.startswith(b"raven "):
+            wrong += 1
+            print(f"arguments {arguments}: status {ended.returncode}, {ended.stdout!r}")
+    return wrong
+
+
 def has_status(program: str, arguments: list, wanted: int, name: str, given=None, taken=None) -> bool:
-    """Whether the program, called with these arguments, input and output, writes nothing and reports this status."""
-    script = b"PUT a {}\n"
-    ways = {"stdin": given} if given is not None else {"input": script}
+    """Whether the program, called with these arguments, input and output, writes nothing and reports this status. Without an input
+    it is given a line of a script, of which HTTP is refused."""
+    ways = {"stdin": given} if given is not None else {"input": b"PUT a {}\n"}
     ended = subprocess.run([program, *arguments], stdout=taken or subprocess.PIPE, stderr=subprocess.PIPE, timeout=60, **ways)
     message = f"raven: {STATUSES[wanted]}".encode()
-    if ended.returncode == wanted and not ended.stdout and ended.stderr.strip() == message:
+    first, _, rest = ended.stderr.partition(b"\n")
+    # After malformed arguments stands the help.
+    is_whole = not lacks_help(rest.decode()) if wanted == 2 else not rest
+    if ended.returncode == wanted and not ended.stdout and first == message and is_whole:
         return True
     print(f"{name}: status {ended.returncode} in place of {wanted}, {ended.stderr!r} in place of {message!r}, output {ended.stdout!r}")
     return False
@@ -29,9 +63,13 @@ def statuses(program: str) -> int:
     calls += [["run", "--data"], ["run", "--data", ""], ["run", "--data", "-x"], ["run", "--data=x"], ["run", "--data", "x", "y"]]
     calls += [["run", "--id", text] for text in ("short", "A" * 21, "A" * 23, "A" * 21 + "-", "A" * 21 + "\u00e9")]
     calls += [["run", "--data", "x", "--data", "x"], ["run", "--id", "A" * 22, "--id", "A" * 22]]
+    calls += [["HTTP"], ["http", "x"], ["http", "--db"], ["http", "--db", "db", "--db", "db"], ["http", "--port", "80"], ["run", "--pump", "1"]]
+    calls += [["http", "--db", name] for name in ("", "-db", "a b", "a/b", "a.b", "\u00e9", "x" * 65)]
+    calls += [["http", "--pump", number] for number in ("", "-1", "+1", "1.0", "x", "65537", "00000000001", "\u0663")]
     wrong = sum(not has_status(program, arguments, 2, f"arguments {arguments}") for arguments in calls)
     with open("/dev/full", "wb") as full:
         wrong += not has_status(program, ["run"], 4, "a full output", taken=full)
+        wrong += not has_status(program, ["http"], 4, "a full output of a session", taken=full)
     with tempfile.TemporaryFile() as large:
         large.write(b"PUT a {}\n" * (model.MAX_SCRIPT // 9 + 1))
         large.seek(0)
@@ -39,6 +77,7 @@ def statuses(program: str) -> int:
     folder = os.open("/", os.O_RDONLY)
     try:
         wrong += not has_status(program, ["run"], 3, "an input that cannot be read", given=folder)
+        wrong += not has_status(program, ["http"], 3, "a session that cannot be read", given=folder)
     finally:
         os.close(folder)
     return wrong
@@ -93,4 +132,4 @@ def openings(program: str, seed: int, lines: int) -> int:
 
 
 def outside(program: str, seed: int, lines: int) -> int:
-    return statuses(program) + options(program) + openings(program, seed, lines) + files(program)
+    return statuses(program) + helps(program) + options(program) + openings(program, seed, lines) + files(program) + sessions(program, seed, lines)

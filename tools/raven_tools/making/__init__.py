@@ -14,7 +14,7 @@
 `worked_choices` those of queries that choose an index.
 
 `http_calls` makes calls over HTTP, out of the lines of scripts too, and `http_sessions` spells them as bytes. `worked_http` has bytes with
-what they are read as and what is answered.
+what they are read as and what is answered, and `http_rounds` makes runs of the command `http` out of both.
 """
 
 from raven_tools.making import choice_scripts, map_scripts, query_scripts, random_scripts, slot_scripts

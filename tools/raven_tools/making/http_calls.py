@@ -76,14 +76,14 @@ QUESTIONS += ["from index 'V'", "from", "from Users select count()", ""]
 IDS = ["a", "A", "users/1", "Users/1", "b c", "é&=+%#?/", '"', "", "tab\t", "\U0001f426", "%41", "@index/x"]
 PAGES = ["/docs", "/bulk_docs", "/queries", "/admin/indexes", "/indexes", "/indexes/staleness", "/stats", "/", "", "/docs/", "/Docs"]
 METHODS = ["GET", "PUT", "POST", "DELETE", "HEAD", "OPTIONS", "PATCH", "get", "!"]
-VECTORS = ["", "x", "A:1-" + model.BASE, '"', '"a"', "é", "*", "a b"]
+VECTORS = ["", "", "x", "A:1-" + model.BASE, '"', '"a', 'a"', '"a"', "é", "*", "a b", 'W/"a"']
 
 
 class Calls(Chance):
     """Makes calls by chance: mostly ones that have a route."""
 
     def vector(self) -> str | None:
-        return self.one_of(VECTORS) if self.chance(15) else None
+        return self.one_of(VECTORS) if self.chance(30) else None
 
     def put(self) -> Call:
         return put(self.one_of(IDS), self.one_of(BODIES[:3] if self.chance(80) else BODIES), self.vector())

@@ -120,6 +120,8 @@ class Spelling(Chance):
         if closes and (not is_old or self.chance(20)):
             fields.append(self.field(b"Connection", self.in_any_case(b"close")))
         self.random.shuffle(fields)
+        if call.expected is not None and self.chance(15):
+            fields.append(self.field(b"If-Match", self.one_of([b"x", b'""', b"\xff"])))
         first = b"%s %s HTTP/1.%d" % (call.method.encode(), target, not is_old)
         before = self.line_end() * self.one_of([0] * 9 + [1, 2])
         head = b"".join(line + self.line_end() for line in [first, *fields, b""])

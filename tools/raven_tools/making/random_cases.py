@@ -1,11 +1,17 @@
-"""Random cases of runs: scripts over a keeper that fails now and then, each cut into runs over what the keeper is left with."""
+"""Random cases of runs: scripts and sessions over HTTP over a keeper that fails now and then, each cut into runs over what the keeper is
+left with."""
 
+import itertools
 import random
+import re
 
-from raven_tools.making import choice_scripts, kept_rows, lines, map_scripts, query_scripts, slot_scripts
+from raven_tools import programs
+from raven_tools.making import choice_scripts, http_rounds, kept_rows, lines, map_scripts, query_scripts, slot_scripts
 from raven_tools.making.chance import Chance
 
 LINES = 40
+# The bytes that a session may not have.
+LONG = 50_000
 MAKERS = [slot_scripts.SlotMaker] * 3 + [map_scripts.LagMaker, query_scripts.QueryMaker] + [choice_scripts.ChoiceMaker] * 3
 NAMES = ["U", "V", "w", "É", "_"]
 # Bytes that a line of a case may have as they are.
@@ -22,6 +28,15 @@ def marked(line: bytes) -> str:
         else:
             strange += bytes([byte])
     return "".join(parts) + (f"⟨{strange.hex()}⟩" if strange else "")
+
+
+def pieces(data: bytes) -> list[str]:
+    """Bytes as the lines of a case."""
+    found = []
+    for line in re.findall(rb"[^\n]*\n|[^\n]+", data):
+        mark, text = ("<", line[:-2]) if line.endswith(b"\r\n") else (">", line[:-1]) if line.endswith(b"\n") else ("|", line)
+        found.append(f"{mark} {marked(text)}" if text else mark)
+    return found
 
 
 class CaseMaker(Chance):
@@ -79,7 +94,37 @@ class CaseMaker(Chance):
         return self.written(name, self.fails(24 if is_tidied else 70), [], self.tidied() if is_tidied else self.any_lines())
 
 
-def cases(seed: int, rounds: int) -> str:
+class SessionCaseMaker(CaseMaker):
+    """Makes one case of sessions out of a seed."""
+
+    def faults(self, data: bytes) -> list[str]:
+        """Whether single bytes are given, and which calls of the input and of the output fail. Of an input that gives more at once it is
+        left open what a failing call leaves unread."""
+        found = []
+        if len(data) < 3_000 and self.chance(50):
+            found.append("gives 1")
+            found += [f"reads {self.random.randrange(1, len(data) + 3)}"] * self.chance(30)
+        return found + [f"writes {self.random.randrange(1, 30)}"] * self.chance(20)
+
+    def given(self, number: int) -> programs.Given:
+        """One session that is not long, since all of it stands in the text of the case."""
+        seeds = itertools.count(self.seed * 1_009 + number * 100)
+        rounds = (http_rounds.RoundMaker(seed).round("", LINES) for seed in seeds)
+        return next(given for given in rounds if len(given.data) < LONG)
+
+    def run(self, number: int) -> list[str]:
+        given = self.given(number)
+        return [f"arguments {' '.join(given.arguments)}", *self.faults(given.data), "rows", *pieces(given.data)]
+
+    def case(self, name: str) -> str:
+        fails = self.fails(60)
+        runs = [self.run(number) for number in range(self.one_of([1, 2, 3]))]
+        joined = runs[0] + [line for run in runs[1:] for line in ["again", *run]]
+        keeps = [f"keeps {' '.join(map(str, fails))}"] if fails else []
+        return "\n".join([f"== {name}", *keeps, *joined, ""]) + "\n"
+
+
+def cases(seed: int, rounds: int, maker: type[CaseMaker] = CaseMaker) -> str:
     """So many cases. Each has its seed in its name."""
     seeds = [seed * 1_000_003 + round_ for round_ in range(rounds)]
-    return "".join(CaseMaker(each).case(f"seed {each}") for each in seeds)
+    return "".join(maker(each).case(f"seed {each}") for each in seeds)

@@ -21,6 +21,12 @@ def head(*fields: bytes, line: bytes = b"PUT /d HTTP/1.1") -> bytes:
     return b"".join(part + b"\r\n" for part in (line, *fields, b""))
 
 
+def asked(method: str, target: str, fields: tuple[bytes, ...] = (), body: bytes = b"", version: str = "1.1") -> bytes:
+    """The bytes of a request to the database `db`."""
+    length = [b"Content-Length: %d" % len(body)] if body else []
+    return head(*length, *fields, line=f"{method} /databases/db{target} HTTP/{version}".encode()) + body
+
+
 def sized(size: int) -> bytes:
     """A head of so many bytes."""
     before, after = b"GET / HTTP/1.1\r\nX: ", b"\r\n\r\n"
@@ -453,6 +459,10 @@ ANSWERS = [
     ("GET", "/indexes", (), b"", 200, '{"Results":[]}'),
     ("GET", "/stats?x", (), b"", 200, '{"CountOfDocuments":1,"CountOfIndexes":0,"CountOfTombstones":1,"LastDocEtag":6}'),
 ]
+
+# Paths that no method has, whatever the database.
+NO_ROUTE = ["/databases//stats", "/databases/db", "/databases", "/", "/stats", "/x/databases/db/stats", "/Databases/db/stats"]
+NO_ROUTE += ["/databases/other/none", "/databases/db/db/stats", "//databases/db/stats", "/databases/other/"]
 
 # Each error that may be answered, with further members, and the status.
 ERRORS = [

@@ -1,7 +1,4 @@
-"""The command `http`: one session over the input and the output.
-
-The program does not have the command yet, so `running.run`, which models the program as it is, knows nothing of it.
-"""
+"""The command `http`: one session over the input and the output."""
 
 import collections.abc
 import dataclasses
@@ -17,6 +14,9 @@ from raven_tools.model.outside import LeftOpen, Outside, base_of, pairs_of
 
 NAME = re.compile(r"[A-Za-z0-9_-]{1,64}", re.ASCII)
 NUMBER = re.compile(r"[0-9]{1,10}", re.ASCII)
+# What gives the next bytes, or none at the end, and what takes a response.
+Taking = collections.abc.Callable[[], bytes]
+Giving = collections.abc.Callable[[bytes], object]
 
 
 @dataclasses.dataclass(frozen=True)
@@ -88,11 +88,15 @@ def cut_off(reading: Reading, count: int) -> Reading:
     return Reading(reading.requests[:whole], reading.places[:whole], "ReadFault", None)
 
 
-def with_faults(reading: Reading, length: int, fails: frozenset[int]) -> Reading:
-    """The session with what the input is said to do. How much a call gives is left open: it is one byte, all, or any number between."""
-    first = min(fails, default=length + 2)
+def with_faults(reading: Reading, given: Outside) -> Reading:
+    """The session with what the input is said to do. How much a call gives is left open, if it is not one byte: it may be one byte,
+    all, or any number between."""
+    length = len(given.script)
+    first = min(given.reads, default=length + 2)
     if first > length + 1:
         return reading
+    if given.gives == 1:
+        return cut_off(reading, first - 1)
     ways = [cut_off(reading, first - 1), cut_off(reading, length if first > 1 else 0)]
     if first > 2:
         ways.append(reading)
@@ -109,7 +113,7 @@ def status_of(end: str) -> str:
 
 def session(database: model.Database, options: Options, given: Outside) -> tuple[str, bytes]:
     """The status, and what was written. A response is one call of the output, and no request behind one that fails is executed."""
-    reading = with_faults(http_reading.session_of(given.script), len(given.script), given.reads)
+    reading = with_faults(http_reading.session_of(given.script), given)
     if reading.requests and given.clock.step:
         raise LeftOpen("how often a session asks the clock")
     database.store.now = given.clock.moment
@@ -121,15 +125,52 @@ def session(database: model.Database, options: Options, given: Outside) -> tuple
     return status_of(reading.end), b"".join(written)
 
 
-def run(given: Outside, keeper: keeping.Keeper) -> tuple[str, bytes]:
-    """The status and what was written. The causes come in this order; the keeper is left as the session leaves it."""
-    found = options_of(given.arguments)
-    if found is None:
-        return "Usage", b""
+def opened(options: Options | None, keeper: keeping.Keeper) -> model.Database | str:
+    """The database that the session begins with, or the status if there is none. The causes come in this order."""
+    if options is None:
+        return "Usage"
     try:
-        database = opening.opened(keeper, found.base)
+        return opening.opened(keeper, options.base)
     except keeping.Failed:
-        return "KeptFault", b""
+        return "KeptFault"
     except keeping.KeptBad as bad:
-        return f"KeptBad {bad.etag}", b""
-    return session(database, found, given)
+        return f"KeptBad {bad.etag}"
+
+
+def run(given: Outside, keeper: keeping.Keeper) -> tuple[str, bytes]:
+    """The status and what was written. The keeper is left as the session leaves it."""
+    options = options_of(given.arguments)
+    database = opened(options, keeper)
+    return (database, b"") if isinstance(database, str) else session(database, options, given)
+
+
+# A session with bytes as they come
+
+
+def serve(arguments: tuple[str, ...], keeper: keeping.Keeper, take: Taking, give: Giving) -> str:
+    """The status. More bytes are taken only if those that are there are no whole request and show no end."""
+    options = options_of(arguments)
+    database = opened(options, keeper)
+    if isinstance(database, str):
+        return database
+    data, place, is_all = b"", 0, False
+    number = 0
+    while True:
+        try:
+            request, place = http_reading.next_request(data, place)
+        except http_reading.Stopped as stopped:
+            if stopped.shown_by is None and not is_all:
+                more = take()
+                data, is_all = data + more, not more
+                continue
+            last = http_answering.response_to_end(stopped.end)
+            if last is not None:
+                give(last)
+            return status_of(stopped.end)
+        number += 1
+        status, reply = replied(database, options, request)
+        give(http_answering.response(status, reply, request.close or number == MAX_REQUESTS))
+        if number == MAX_REQUESTS:
+            return "Enough"
+        if request.close:
+            return "Done"

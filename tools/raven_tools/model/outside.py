@@ -30,6 +30,7 @@ class Outside:
     reads: frozenset[int] = frozenset()
     writes: frozenset[int] = frozenset()
     script: bytes = b""  # what is read, of whatever command
+    gives: int | None = None  # the most bytes that a call of the input gives; None if it gives as many as it is asked for
 
 
 def pairs_of(

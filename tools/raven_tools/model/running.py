@@ -3,8 +3,14 @@
 import collections.abc
 
 from raven_tools import model
-from raven_tools.model import keeping, measuring, opening
+from raven_tools.model import http_session, keeping, measuring, opening
 from raven_tools.model.outside import Clock, LeftOpen, Outside, base_of, pairs_of
+
+# What a second line on standard error says of a status that names an etag or an end.
+SECOND_LINES = {
+    "KeptBad": "the kept row of etag %s breaks the form of rows",
+    "HttpRefused": "the bytes are no further request: %s",
+}
 
 
 def options(arguments: tuple[str, ...]) -> dict[str, str] | None:
@@ -13,16 +19,17 @@ def options(arguments: tuple[str, ...]) -> dict[str, str] | None:
     return found if found is not None and base_of(found) else None
 
 
-def is_read(script: bytes, fails: frozenset[int]) -> bool:
-    """Whether no call fails. How much a call gives is left open: there is at least one for the bytes, and one for the end."""
-    if not fails:
+def is_read(given: Outside) -> bool:
+    """Whether no call fails. How much a call gives is left open, if it is not one byte: there is at least one for the bytes, and one
+    for the end."""
+    if not given.reads:
         return True
-    first = min(fails)
-    if first <= (2 if script else 1):
-        return False
-    if first <= len(script) + 1:
+    first, most = min(given.reads), len(given.script) + 1
+    if first > most:
+        return True
+    if first > (2 if given.script else 1) and given.gives != 1:
         raise LeftOpen("how many calls the input takes")
-    return True
+    return False
 
 
 def moments(clock: Clock, lines: list[bytes]) -> collections.abc.Iterator[tuple[bytes, int]]:
@@ -55,14 +62,12 @@ def measured(given: Outside, keeper: keeping.Keeper) -> tuple[str, bytes]:
     return measuring.measure(given.arguments[1:], keeper, given.clock.moment, 1 not in given.writes)
 
 
-def run(given: Outside, keeper: keeping.Keeper) -> tuple[str, bytes]:
-    """The status and what was written. The causes come in this order; the keeper is left as the run leaves it."""
-    if given.arguments[:1] == ("measure",):
-        return measured(given, keeper)
+def executed(given: Outside, keeper: keeping.Keeper) -> tuple[str, bytes]:
+    """The command `run`."""
     found = options(given.arguments)
     if found is None:
         return "Usage", b""
-    if not is_read(given.script, given.reads):
+    if not is_read(given):
         return "ReadFault", b""
     if len(given.script) > model.MAX_SCRIPT:
         return "InputTooLarge", b""
@@ -73,3 +78,19 @@ def run(given: Outside, keeper: keeping.Keeper) -> tuple[str, bytes]:
     except keeping.KeptBad as bad:
         return f"KeptBad {bad.etag}", b""
     return answered(database, given)
+
+
+COMMANDS = {"run": executed, "http": http_session.run, "measure": measured}
+
+
+def run(given: Outside, keeper: keeping.Keeper) -> tuple[str, bytes]:
+    """The status and what was written. The causes come in this order; the keeper is left as the run leaves it."""
+    command = COMMANDS.get(given.arguments[0]) if given.arguments else None
+    return command(given, keeper) if command else ("Usage", b"")
+
+
+def message_of(status: str) -> str:
+    """What is written to standard error."""
+    name, _, detail = status.partition(" ")
+    second = f"{SECOND_LINES[name] % detail}\n" if name in SECOND_LINES else ""
+    return f"raven: {name}\n{second}"
