@@ -1,0 +1,4 @@
+pub mod Outcomes
+pub mod Beginnings
+pub mod Refusals
+pub mod Crews

@@ -1,0 +1,15 @@
+//! A piece of work that one thread does.
+use std::sync::Wait;
+use std::thread::Threads;
+
+/// A piece of work that one thread does from beginning to end.
+pub trait Job {
+    type Out;
+
+    /// What a run does, as a relation between the job and its output.
+    ghost done: { Self → Self.Out → Type 0 };
+
+    /// Does the work. It may wait for other threads.
+    fn run<R: Threads + Wait>(self, rt: &R) -> Self::Out
+        ensures { done self result };
+}
