@@ -1,0 +1,131 @@
+//! A TCP connection as where bytes come from and go to. It does not report its contents.
+ghost use Rattle.std.specs.Prelude.{None};
+
+use raven_ports::{Connection, Failed, Sink, SinkFault, Source};
+use std::io;
+use std::io::{Read, Write};
+use std::net::{Shutdown, TcpStream};
+use std::time::{Clock as SystemClock, Duration};
+
+/// How long a read waits for the client, and a write until the client takes what was written, in seconds. So a client that does
+/// nothing holds a thread for no longer.
+const PATIENCE: u64 = 10;
+
+/// How long the bytes of a client that still sends are read at the end of its connection, in seconds.
+const LAST_READS: u64 = 2;
+
+/// How many reads are made of them.
+const MOST_LAST_READS: u32 = 4096;
+
+/// How many bytes each of these reads takes.
+const LAST_READ: usize = 4096;
+
+/// A TCP connection. A call fails if the system's call does, and if the client does nothing for 10 seconds.
+#[derive(Drop)]
+pub struct RealConn {
+    stream: TcpStream,
+    failed_reads: u64,
+    failed_writes: u64,
+}
+
+impl RealConn {
+    /// The connection over this stream, which sends each piece at once.
+    pub(crate) fn of(stream: TcpStream) -> io::Result<RealConn> {
+        stream.set_nodelay(true)?;
+        stream.set_read_timeout(Some(Duration::from_secs(PATIENCE)))?;
+        stream.set_write_timeout(Some(Duration::from_secs(PATIENCE)))?;
+        Ok(RealConn {
+            stream,
+            failed_reads: 0,
+            failed_writes: 0,
+        })
+    }
+
+    /// Ends the connection: the client sees the end of the bytes, and what it still sends is read and dropped, for about 2 seconds
+    /// and at most 16 MiB. If it were closed at once, the system would drop the connection of a client that still sends, and such a
+    /// client often loses what was written to it last.
+    pub(crate) fn end<R: SystemClock>(self, rt: &R) {
+        let RealConn { mut stream, .. } = self;
+        if stream.shutdown(Shutdown::Write).is_ok() {
+            read_last(rt, &mut stream);
+        }
+    }
+}
+
+// Reads until the client closes the connection, or one of the limits is reached.
+fn read_last<R: SystemClock>(rt: &R, stream: &mut TcpStream) {
+    let patience = Duration::from_secs(LAST_READS);
+    let Ok(start) = rt.monotonic() else {
+        return;
+    };
+    if stream.set_read_timeout(Some(patience)).is_err() {
+        return;
+    }
+    let mut bytes = [0; LAST_READ];
+    for _ in 0..MOST_LAST_READS {
+        match stream.read(&mut bytes) {
+            Ok(count) if count > 0 => {}
+            _ => return,
+        }
+        match rt.monotonic() {
+            Ok(now) if now.saturating_sub(start) < patience => {}
+            _ => return,
+        }
+    }
+}
+
+impl Source for RealConn {
+    ghost use Rattle.std.specs.Prelude.{◌≡◌, refl};
+    ghost use Rattle.std.proofs.Common.{◌∙◌};
+
+    ghost state = { λ s. record { left = None; faults = s.failed_reads } };
+
+    ghost took = { λ s t. t.failed_writes ≡ s.failed_writes };
+
+    ghost took_none = { λ _. refl };
+
+    ghost took_more = { λ _ _ _ first second. second ∙ first };
+
+    fn take(&mut self, buf: &mut [u8]) -> Result<usize, Failed> {
+        match self.stream.read(buf) {
+            Ok(count) => Ok(count),
+            Err(_) => {
+                self.failed_reads = self.failed_reads.saturating_add(1);
+                Err(Failed)
+            }
+        }
+    }
+}
+
+impl Sink for RealConn {
+    ghost use Rattle.std.specs.Prelude.{◌≡◌, refl};
+    ghost use Rattle.std.proofs.Common.{◌∙◌};
+
+    ghost state = { λ s. record { held = None; faults = s.failed_writes } };
+
+    ghost gave = { λ s t. t.failed_reads ≡ s.failed_reads };
+
+    ghost gave_none = { λ _. refl };
+
+    ghost gave_more = { λ _ _ _ first second. second ∙ first };
+
+    fn give(&mut self, bytes: &[u8]) -> Result<usize, SinkFault> {
+        match self.stream.write(bytes) {
+            Ok(count) if count > 0 => Ok(count),
+            _ => {
+                self.failed_writes = self.failed_writes.saturating_add(1);
+                Err(SinkFault::Failed)
+            }
+        }
+    }
+}
+
+impl Connection for RealConn {
+    ghost use Rattle.std.proofs.Common.{ap};
+    ghost use Rattle.std.specs.Prelude.{None, ℕ};
+    ghost use Rattle.raven_ports.specs.States.{SinkState, SourceState};
+
+    ghost taking = { λ x y same. ap (λ (n : ℕ). record { held = None; faults = n }) same };
+
+    ghost giving = { λ x y same. ap (λ (n : ℕ). record { left = None; faults = n }) same };
+}

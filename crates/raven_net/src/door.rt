@@ -1,0 +1,127 @@
+//! A TCP listener as where connections come in.
+//!
+//! A program makes one [`Listening`], and from it the doors. From then on clients can connect, so it is then that it prints one line
+//! with the port: `println!(rt; "listening on 127.0.0.1:{}", listening.port()?)?`.
+ghost use Rattle.std.specs.Prelude.{None};
+
+use crate::conn::RealConn;
+use raven_ports::Failed;
+use serve_ports::Door;
+use std::io;
+use std::net::{Ipv4Addr, Net, SocketAddr, TcpListener, TcpStream};
+use std::sync::atomic::AtomicU64;
+use std::sync::atomic::Ordering::SeqCst;
+use std::time::Clock as SystemClock;
+
+/// How often a connection that was lost while it was accepted is passed over.
+const TRIES: u32 = 16;
+
+/// A TCP listener on the loopback address, at which several doors accept connections, each in a thread of its own.
+#[derive(Drop)]
+pub struct Listening {
+    listener: TcpListener,
+    /// How many connections are accepted in all; no limit if there is none.
+    most: Option<u32>,
+    /// How often a door was about to accept one.
+    begun: AtomicU64,
+}
+
+impl Listening {
+    /// Listens on this port of the loopback address, or on a free one if it is 0. Its doors are closed once so many connections
+    /// were accepted in all, or never.
+    pub fn on_loopback<R: Net<Listener = TcpListener, Stream = TcpStream>>(
+        rt: &R,
+        port: u16,
+        most: Option<u32>,
+    ) -> io::Result<Listening> {
+        let address = SocketAddr::from((Ipv4Addr::LOCALHOST, port));
+        Ok(Listening {
+            listener: TcpListener::bind(rt, address)?,
+            most,
+            begun: AtomicU64::new(0),
+        })
+    }
+
+    /// The port that it listens on.
+    pub fn port(&self) -> io::Result<u16> {
+        Ok(self.listener.local_addr()?.port())
+    }
+
+    // Whether one more connection may be accepted. It is counted before it is accepted, so that no door waits for one that another
+    // door has accepted.
+    fn begins(&self) -> bool {
+        match self.most {
+            Some(most) => self.begun.fetch_add(1, SeqCst) < u64::from(most),
+            None => true,
+        }
+    }
+
+    // The connection that was counted was not accepted.
+    fn gives_up(&self) {
+        if self.most.is_some() {
+            self.begun.fetch_sub(1, SeqCst);
+        }
+    }
+
+    // Waits for a connection. Clients that are gone again are passed over.
+    fn next(&self) -> Result<RealConn, Failed> {
+        for _ in 0..TRIES {
+            match self.listener.accept() {
+                Ok((stream, _)) => {
+                    if let Ok(conn) = RealConn::of(stream) {
+                        return Ok(conn);
+                    }
+                }
+                Err(error) if error.kind() == io::ErrorKind::ConnectionAborted => {}
+                Err(_) => return Err(Failed),
+            }
+        }
+        Err(Failed)
+    }
+}
+
+/// A door at a listener that it shares with other doors.
+#[derive(Drop)]
+pub struct TcpDoor<'a, R: SystemClock> {
+    rt: &'a R,
+    listening: &'a Listening,
+    closed: bool,
+    faults: u64,
+}
+
+impl<'a, R: SystemClock> TcpDoor<'a, R> {
+    /// A door at this listener. At the end of a connection it asks the clock how long it has lasted.
+    pub fn at(rt: &'a R, listening: &'a Listening) -> Self {
+        TcpDoor {
+            rt,
+            listening,
+            closed: false,
+            faults: 0,
+        }
+    }
+}
+
+impl<'a, R: SystemClock> Door for TcpDoor<'a, R> {
+    type Conn = RealConn;
+
+    ghost state = { λ d. record { left = None; back = None; out = None; plan = None; closed = d.closed; faults = d.faults } };
+
+    fn accept(&mut self) -> Result<Option<RealConn>, Failed> {
+        if self.closed || !self.listening.begins() {
+            self.closed = true;
+            return Ok(None);
+        }
+        match self.listening.next() {
+            Ok(conn) => Ok(Some(conn)),
+            Err(Failed) => {
+                self.listening.gives_up();
+                self.faults = self.faults.saturating_add(1);
+                Err(Failed)
+            }
+        }
+    }
+
+    fn done(&mut self, conn: RealConn) {
+        conn.end(self.rt);
+    }
+}
