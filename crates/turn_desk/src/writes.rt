@@ -1,0 +1,66 @@
+//! Requests that are answered in one hold of the turn.
+ghost use Rattle.std.specs.Prelude.{◌≡◌, IfOk};
+ghost use Rattle.spec_server.specs.Machine.{Ask, Do};
+ghost use Rattle.spec_server.specs.WellFormed.{IsWellFormed};
+ghost use Rattle.raven_reply.specs.ReplyView.{reply_view};
+ghost use Rattle.raven_request.specs.RequestView.{request_view};
+ghost use Rattle.spec_desk.specs.Lived.{Follows};
+ghost use Rattle.spec_desk.specs.Receipts.{LooksOnce, Onward};
+
+use crate::acts::{AskOnce, DoOnce};
+use raven_base::NoMemory;
+use raven_desk::{Live, Shot};
+use raven_ports::{Clock, Keeper};
+use raven_request::Request;
+use raven_turn::{Pass, Turn};
+use raven_world::Reply;
+use rql_plan::QueryAsk;
+use std::alloc::Global;
+use std::sync::Wait;
+use std::thread::Threads;
+
+/// One hold with the step of the request. It returns the reply, and what the hold found. If memory runs out, nothing was changed, unless the request is a
+/// Tidy.
+pub fn write<K: Keeper, C: Clock, R: Threads + Wait>(
+    rt: &R,
+    alloc: Global,
+    turn: &Turn<Live<K>>,
+    pass: &mut Pass<Live<K>>,
+    clock: &C,
+    request: Request,
+) -> Result<(Shot, Reply), NoMemory>
+    requires own { pass.old.turn ≡ turn.now.turn }
+    requires formed { IsWellFormed (Do (request_view request)) }
+    ensures looked { IfOk result (λ o. LooksOnce Follows (C.moment clock.now) (request_view request) pass.old.seen pass.old.made o.0 (reply_view o.1) pass.new.seen pass.new.made) }
+    ensures onward { Onward pass.old.seen pass.new.seen }
+    ensures same { (pass.new.turn ≡ pass.old.turn) × (pass.new.shares ≡ pass.old.shares) }
+{
+    turn.with(
+        rt,
+        pass,
+        DoOnce {
+            rt,
+            alloc,
+            clock,
+            request,
+        },
+    )
+}
+
+/// One hold with the step of the query.
+pub(crate) fn write_query<K: Keeper, C: Clock, R: Wait>(
+    rt: &R,
+    alloc: Global,
+    turn: &Turn<Live<K>>,
+    pass: &mut Pass<Live<K>>,
+    clock: &C,
+    ask: &QueryAsk,
+) -> Result<(Shot, Reply), NoMemory>
+    requires own { pass.old.turn ≡ turn.now.turn }
+    requires formed { IsWellFormed (Do (Ask ask.now)) }
+    ensures looked { IfOk result (λ o. LooksOnce Follows (C.moment clock.now) (Ask ask.now) pass.old.seen pass.old.made o.0 (reply_view o.1) pass.new.seen pass.new.made) }
+    ensures onward { Onward pass.old.seen pass.new.seen }
+    ensures same { (pass.new.turn ≡ pass.old.turn) × (pass.new.shares ≡ pass.old.shares) }
+{
+    turn.with(rt, pass, AskOnce { alloc, clock, ask })
+}
