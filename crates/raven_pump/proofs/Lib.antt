@@ -1,0 +1,3 @@
+pub mod Waiting
+pub mod Publishing
+pub mod Steps

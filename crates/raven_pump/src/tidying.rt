@@ -1,0 +1,34 @@
+//! Tidying over a turn.
+ghost use Rattle.std.specs.Prelude.{◌≡◌, IfOk};
+ghost use Rattle.spec_desk.specs.Receipts.{Onward};
+ghost use Rattle.raven_reply.specs.ReplyView.{reply_view};
+ghost use Rattle.raven_pump.specs.Turning.{Tidies};
+
+use raven_base::NoMemory;
+use raven_desk::Live;
+use raven_ports::{Clock, Keeper};
+use raven_request::Request;
+use raven_turn::{Pass, Turn};
+use raven_world::Reply;
+use std::alloc::Global;
+use std::sync::Wait;
+use std::thread::Threads;
+use turn_desk::write;
+
+/// One hold with a Tidy: each replacement that is not stale takes its name, in order of names, and then the automatic indexes go that are no longer of use.
+/// If memory runs out in the keeper, the changes before stand.
+pub fn tidy<K: Keeper, C: Clock, R: Threads + Wait>(
+    rt: &R,
+    alloc: Global,
+    turn: &Turn<Live<K>>,
+    pass: &mut Pass<Live<K>>,
+    clock: &C,
+) -> Result<Reply, NoMemory>
+    requires { pass.old.turn ≡ turn.now.turn }
+    ensures tidied { IfOk result (λ reply. Tidies (C.moment clock.now) pass.old.seen pass.old.made (reply_view reply) pass.new.seen pass.new.made) }
+    ensures onward { Onward pass.old.seen pass.new.seen }
+    ensures same { (pass.new.turn ≡ pass.old.turn) × (pass.new.shares ≡ pass.old.shares) }
+{
+    let (_found, reply) = write(rt, alloc, turn, pass, clock, Request::Tidy)?;
+    Ok(reply)
+}
