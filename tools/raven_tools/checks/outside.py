@@ -1,7 +1,9 @@
 """Compares statuses, options and files: what no single script shows."""
 
+import functools
 import os
 import pathlib
+import resource
 import subprocess
 import tempfile
 
@@ -39,6 +41,25 @@ def helps(program: str) -> int:
         if ended.returncode or ended.stderr or not ended.stdout.startswith(b"raven "):
             wrong += 1
             print(f"arguments {arguments}: status {ended.returncode}, {ended.stdout!r}")
+    return wrong
+
+
+STACK = 8 << 20
+"""The stack that a program has on Linux by default."""
+
+
+def depths(program: str) -> int:
+    """How many conditions of as many parts as a text can have are not answered as `true` is, on a stack of that size."""
+    wrong = 0
+    for word in ("or", "and"):
+        query = f"QUERY from Users where {f' {word} '.join(['true'] * (8_000 if word == 'or' else 7_000))}"
+        script = f'PUT users/1 {{"@metadata":{{"@collection":"Users"}}}}\nQUERY from Users where true\n{query}\n'
+        limit = functools.partial(resource.setrlimit, resource.RLIMIT_STACK, (STACK, STACK))
+        ended = subprocess.run([program, "run"], input=script.encode(), capture_output=True, preexec_fn=limit, timeout=60)
+        _, plain, long, *_ = [*ended.stdout.decode().splitlines(), "", "", ""]
+        if ended.returncode or not plain or plain != long:
+            wrong += 1
+            print(f"parts joined by `{word}`: status {ended.returncode}, {long[:200]!r} in place of {plain[:200]!r}")
     return wrong
 
 
@@ -132,4 +153,4 @@ def openings(program: str, seed: int, lines: int) -> int:
 
 
 def outside(program: str, seed: int, lines: int) -> int:
-    return statuses(program) + helps(program) + options(program) + openings(program, seed, lines) + files(program) + sessions(program, seed, lines)
+    return statuses(program) + helps(program) + depths(program) + options(program) + openings(program, seed, lines) + files(program) + sessions(program, seed, lines)
