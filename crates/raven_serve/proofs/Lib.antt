@@ -1,0 +1,9 @@
+pub mod Chaining
+pub mod Fronting
+pub mod Joining
+pub mod Ending
+pub mod Ordered
+pub mod Goings
+pub mod Receiving
+pub mod Completing
+pub mod Crossing

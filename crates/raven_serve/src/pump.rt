@@ -1,0 +1,119 @@
+//! Pumps: batches of all indexes, until each front is at its end.
+ghost use Rattle.std.specs.Prelude.{◌≡◌, ◌≤◌};
+ghost use Rattle.raven_serve.specs.Fronts.{SamePass};
+
+use raven_base::{NoMemory, Steps};
+use raven_desk::{Live, Shot};
+use raven_ports::{Clock, Keeper};
+use raven_pump::{Turned, tidy, turn_index};
+use raven_turn::{Pass, Turn};
+use serve_ports::Gate;
+use std::alloc::Global;
+use std::marker::Brand;
+use std::sync::Wait;
+use std::sync::ledger::{Blank, Ledger};
+use std::thread::Threads;
+
+/// The most rows of one batch.
+const BATCH: u32 = 1024;
+
+// What came of a round, or of the part of it that was made.
+#[derive(Clone, Copy)]
+enum Round {
+    /// No front is left, so there will be no further round.
+    Last,
+
+    /// Some batch was published.
+    Moved,
+
+    /// None was.
+    Still,
+
+    /// Memory ran out.
+    Lacking,
+}
+
+// The round after one batch more.
+fn with_batch(round: Round, turned: Result<Turned, NoMemory>) -> Round {
+    match (round, turned) {
+        (_, Err(NoMemory)) => Round::Lacking,
+        (Round::Still, Ok(Turned::Moved { .. })) => Round::Moved,
+        (other, _) => other,
+    }
+}
+
+// Makes one batch for each index of the world of a look.
+fn batches<R: Threads + Wait, K: Keeper, G: Gate, L: Ledger>(
+    rt: &R,
+    alloc: Global,
+    turn: &Turn<Live<K>>,
+    pass: &mut Pass<Live<K>>,
+    shot: &Shot,
+    gate: &G,
+    blank: Blank,
+) -> Round
+    requires own { pass.old.turn ≡ turn.now.turn }
+    requires name { blank.name ≡ L.name }
+    requires parts { blank.parts ≡ L.parts }
+    requires enough { 3 ≤ blank.parts }
+    ensures same { SamePass pass.old pass.new }
+{
+    let mut steps = Steps::<L>::new(blank);
+    let mut round = Round::Still;
+    let seen = shot.world().snapshot();
+    for slot in seen.slots.list() {
+        let number = slot.number;
+        let turned = turn_index(rt, alloc, turn, pass, number, BATCH, gate, &mut steps);
+        round = with_batch(round, turned);
+    }
+    round
+}
+
+// Makes a look, one batch for each index there, and a Tidy.
+fn make_round<R: Threads + Wait, K: Keeper + Drop, C: Clock, G: Gate>(
+    rt: &R,
+    alloc: Global,
+    turn: &Turn<Live<K>>,
+    pass: &mut Pass<Live<K>>,
+    clock: &C,
+    gate: &G,
+) -> Round
+    requires own { pass.old.turn ≡ turn.now.turn }
+    ensures same { SamePass pass.old pass.new }
+{
+    let Ok(shot) = turn.look(rt, alloc, pass) else {
+        return Round::Lacking;
+    };
+    if shot.fronts() == 0 {
+        return Round::Last;
+    }
+    let made = batches::<R, K, G, Brand>(rt, alloc, turn, pass, &shot, gate, Blank::new(3));
+    match tidy(rt, alloc, turn, pass, clock) {
+        Ok(_) => made,
+        Err(NoMemory) => Round::Lacking,
+    }
+}
+
+/// Makes one batch for each index and then a Tidy, round after round, until no front is left. It naps after a round that published
+/// no batch or ran out of memory.
+pub(crate) fn pump<R: Threads + Wait, K: Keeper + Drop, C: Clock, G: Gate>(
+    rt: &R,
+    alloc: Global,
+    turn: &Turn<Live<K>>,
+    pass: Pass<Live<K>>,
+    clock: &C,
+    gate: &G,
+) -> Pass<Live<K>>
+    requires own { pass.turn ≡ turn.now.turn }
+    ensures same { SamePass pass result }
+{
+    let mut pass = pass;
+    for _ in rt.forever() {
+        match make_round(rt, alloc, turn, &mut pass, clock, gate) {
+            Round::Last => return pass,
+            Round::Moved => {}
+            Round::Still | Round::Lacking => clock.nap(),
+        }
+    }
+    unreachable!()
+}
