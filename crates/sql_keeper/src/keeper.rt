@@ -274,6 +274,9 @@ impl<S: Alter + Drop> SqlKeeper<S> {
     }
 }
 
+/// A keeper in a file.
+pub type FileKeeper = SqlKeeper<FileStore<File>>;
+
 impl SqlKeeper<MemStore> {
     /// A keeper in memory, without rows.
     pub fn in_memory(alloc: Global) -> Result<SqlKeeper<MemStore>, KeeperFault> {
@@ -292,14 +295,23 @@ impl SqlKeeper<FileStore<File>> {
     /// sync the log once.
     ///
     /// It fails if the file is no database of SQLite, is open elsewhere, or has anything but the table of a keeper.
-    pub fn in_file(
-        rt: &HostRuntime,
-        path: &str,
-    ) -> Result<SqlKeeper<FileStore<File>>, KeeperFault> {
+    pub fn in_file(rt: &HostRuntime, path: &str) -> Result<FileKeeper, KeeperFault> {
         match Connection::open(rt, path) {
             Ok(conn) => SqlKeeper::over(rt.alloc(), conn),
             Err(error) => Err(fault_of(error)),
         }
+    }
+
+    /// Copies the log into the file, and closes both. A keeper that is dropped, and one for which this fails, leaves the log next to
+    /// the file, with the last commits; it is read again when the file is opened.
+    pub fn close(self) -> Result<(), KeeperFault> {
+        let SqlKeeper {
+            alloc: _,
+            conn,
+            statements: _statements,
+            faults: _,
+        } = self;
+        conn.close().map_err(fault_of)
     }
 }
 

@@ -3,4 +3,4 @@
 
 mod keeper;
 
-pub use keeper::SqlKeeper;
+pub use keeper::{FileKeeper, SqlKeeper};
