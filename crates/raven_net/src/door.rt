@@ -11,10 +11,14 @@ use std::io;
 use std::net::{Ipv4Addr, Net, SocketAddr, TcpListener, TcpStream};
 use std::sync::atomic::AtomicU64;
 use std::sync::atomic::Ordering::SeqCst;
-use std::time::Clock as SystemClock;
+use std::thread::sleep;
+use std::time::{Clock as SystemClock, Duration};
 
-/// How often a connection that was lost while it was accepted is passed over.
-const TRIES: u32 = 16;
+/// How often an accept that failed is tried again, before the door has failed.
+const TRIES: u32 = 100;
+
+/// How long a door waits before it tries again, in milliseconds: what is short, such as descriptors of files, may come back.
+const PAUSE: u64 = 100;
 
 /// A TCP listener on the loopback address, at which several doors accept connections, each in a thread of its own.
 #[derive(Drop)]
@@ -64,7 +68,7 @@ impl Listening {
     }
 
     // Waits for a connection. Clients that are gone again are passed over.
-    fn next(&self) -> Result<RealConn, Failed> {
+    fn next<R: SystemClock>(&self, rt: &R) -> Result<RealConn, Failed> {
         for _ in 0..TRIES {
             match self.listener.accept() {
                 Ok((stream, _)) => {
@@ -73,7 +77,7 @@ impl Listening {
                     }
                 }
                 Err(error) if error.kind() == io::ErrorKind::ConnectionAborted => {}
-                Err(_) => return Err(Failed),
+                Err(_) => sleep(rt, Duration::from_millis(PAUSE)),
             }
         }
         Err(Failed)
@@ -111,7 +115,7 @@ impl<'a, R: SystemClock> Door for TcpDoor<'a, R> {
             self.closed = true;
             return Ok(None);
         }
-        match self.listening.next() {
+        match self.listening.next(self.rt) {
             Ok(conn) => Ok(Some(conn)),
             Err(Failed) => {
                 self.listening.gives_up();
