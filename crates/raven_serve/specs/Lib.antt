@@ -6,3 +6,4 @@ pub mod Codes
 pub mod Finishing
 pub mod Receipts
 pub mod Completeness
+pub mod Options

@@ -30,11 +30,12 @@ impl<'a, K: Keeper + Drop, C: Clock + Drop, G: Gate + Drop, D: Door + Drop> Job
             pass,
             site,
             door,
+            begin,
         } = self;
         match door {
             Some(door) => front(rt, turn, pass, site, door),
             None => {
-                let pass = pump(rt, site.alloc, turn, pass, &*site.clock, &*site.gate);
+                let pass = pump(rt, site.alloc, turn, pass, begin, &*site.clock, &*site.gate);
                 Outcome {
                     pass,
                     door: None,

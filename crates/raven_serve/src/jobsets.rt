@@ -23,6 +23,7 @@ fn work<'a, K: Keeper, C: Clock + Drop, G: Gate + Drop, D: Door + Drop>(
     rest: &mut Pass<Live<K>>,
     site: &Site<C, G>,
     door: Option<D>,
+    begin: u32,
 ) -> Result<Work<'a, K, C, G, D>, NoMemory>
     requires own { rest.old.turn ≡ turn.now.turn }
     requires shares { 2 ≤ rest.old.shares }
@@ -37,6 +38,7 @@ fn work<'a, K: Keeper, C: Clock + Drop, G: Gate + Drop, D: Door + Drop>(
         pass,
         site,
         door,
+        begin,
     })
 }
 
@@ -57,11 +59,11 @@ pub(crate) fn works<'a, K: Keeper + Drop, C: Clock + Drop, G: Gate + Drop, D: Do
 {
     let mut works = Vec::new(alloc);
     for door in doors {
-        let work = work(turn, rest, site, Some(door))?;
+        let work = work(turn, rest, site, Some(door), 0)?;
         works.push(work)?;
     }
-    for _ in 0..pumps {
-        let work = work(turn, rest, site, None)?;
+    for begin in 0..pumps {
+        let work = work(turn, rest, site, None, begin)?;
         works.push(work)?;
     }
     Ok(works)
@@ -121,6 +123,7 @@ pub(crate) fn handed_back<'a, K: Keeper + Drop, C: Clock + Drop, G: Gate + Drop,
             pass,
             site: _site,
             door,
+            begin: _,
         } = work;
         outs.push(Outcome {
             pass,

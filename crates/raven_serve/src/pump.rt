@@ -42,13 +42,14 @@ fn with_batch(round: Round, turned: Result<Turned, NoMemory>) -> Round {
     }
 }
 
-// Makes one batch for each index of the world of a look.
+// Makes one batch for each index of the world of a look, beginning with the one at this place, counted round.
 fn batches<R: Threads + Wait, K: Keeper, G: Gate, L: Ledger>(
     rt: &R,
     alloc: Global,
     turn: &Turn<Live<K>>,
     pass: &mut Pass<Live<K>>,
     shot: &Shot,
+    begin: u32,
     gate: &G,
     blank: Blank,
 ) -> Round
@@ -61,10 +62,15 @@ fn batches<R: Threads + Wait, K: Keeper, G: Gate, L: Ledger>(
     let mut steps = Steps::<L>::new(blank);
     let mut round = Round::Still;
     let seen = shot.world().snapshot();
-    for slot in seen.slots.list() {
+    let slots = seen.slots.list();
+    let mut at = begin as usize;
+    for _ in 0..slots.len() {
+        at %= slots.len();
+        let slot = &slots[at];
         let number = slot.number;
         let turned = turn_index(rt, alloc, turn, pass, number, BATCH, gate, &mut steps);
         round = with_batch(round, turned);
+        at += 1;
     }
     round
 }
@@ -75,6 +81,7 @@ fn make_round<R: Threads + Wait, K: Keeper + Drop, C: Clock, G: Gate>(
     alloc: Global,
     turn: &Turn<Live<K>>,
     pass: &mut Pass<Live<K>>,
+    begin: u32,
     clock: &C,
     gate: &G,
 ) -> Round
@@ -87,20 +94,21 @@ fn make_round<R: Threads + Wait, K: Keeper + Drop, C: Clock, G: Gate>(
     if shot.fronts() == 0 {
         return Round::Last;
     }
-    let made = batches::<R, K, G, Brand>(rt, alloc, turn, pass, &shot, gate, Blank::new(3));
+    let made = batches::<R, K, G, Brand>(rt, alloc, turn, pass, &shot, begin, gate, Blank::new(3));
     match tidy(rt, alloc, turn, pass, clock) {
         Ok(_) => made,
         Err(NoMemory) => Round::Lacking,
     }
 }
 
-/// Makes one batch for each index and then a Tidy, round after round, until no front is left. It naps after a round that published
-/// no batch or ran out of memory.
+/// Makes one batch for each index and then a Tidy, round after round, until no front is left. Each round begins with the index at this
+/// place, counted round. It naps after a round that published no batch or ran out of memory.
 pub(crate) fn pump<R: Threads + Wait, K: Keeper + Drop, C: Clock, G: Gate>(
     rt: &R,
     alloc: Global,
     turn: &Turn<Live<K>>,
     pass: Pass<Live<K>>,
+    begin: u32,
     clock: &C,
     gate: &G,
 ) -> Pass<Live<K>>
@@ -109,7 +117,7 @@ pub(crate) fn pump<R: Threads + Wait, K: Keeper + Drop, C: Clock, G: Gate>(
 {
     let mut pass = pass;
     for _ in rt.forever() {
-        match make_round(rt, alloc, turn, &mut pass, clock, gate) {
+        match make_round(rt, alloc, turn, &mut pass, begin, clock, gate) {
             Round::Last => return pass,
             Round::Moved => {}
             Round::Still | Round::Lacking => clock.nap(),

@@ -42,6 +42,8 @@ pub(crate) struct Work<'a, K: Keeper, C: Clock, G: Gate, D: Door> {
     pub(crate) pass: Pass<Live<K>>,
     pub(crate) site: Site<C, G>,
     pub(crate) door: Option<D>,
+    /// With which index a pump begins each round, so that pumps are not all at the same one.
+    pub(crate) begin: u32,
 }
 
 impl<'a, K: Keeper, C: Clock, G: Gate, D: Door> Model for Work<'a, K, C, G, D> {

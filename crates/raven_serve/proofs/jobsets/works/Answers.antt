@@ -27,17 +27,17 @@ loop-door-preserved g c =
       made = r.3 ∙ was.made;
     }
 
-pub loop-preserved : goal.loop-preserved
-loop-preserved g c =
-    let was = c.loop.invariant in
+pub loop-begin-preserved : goal.loop-begin-preserved
+loop-begin-preserved g c =
+    let was = c.loop-begin.invariant in
     let clock = g.C.Clock.moment c.args.site.now.clock.value in
     let name = c.args.site.now.name in
     let r = c.in_ok-work-2.ensures.rest in
     let p = c.args.rest.now in
     record {
       works = c.in_ok-push-2.ensures.items ∙ ap (λ l. l ++ c.in_ok-work-2.work ∷ []) was.works
-          ∙ ap (λ (w : Post). posts p clock name (places (map g.D.Door.state c.args.doors.items) c.loop.counter) ++ w ∷ []) (c.in_ok-work-2.ensures.work ∙ same_post p c.loop.rest clock name None was.turn was.seen)
-          ∙ sym (posts_pump p clock name (map g.D.Door.state c.args.doors.items) c.loop.counter);
+          ∙ ap (λ (w : Post). posts p clock name (places (map g.D.Door.state c.args.doors.items) c.loop-begin.begin) ++ w ∷ []) (c.in_ok-work-2.ensures.work ∙ same_post p c.loop-begin.rest clock name None was.turn was.seen)
+          ∙ sym (posts_pump p clock name (map g.D.Door.state c.args.doors.items) c.loop-begin.begin);
       own = r.0 ∙ was.own;
       turn = r.0 ∙ was.turn;
       shares = omega (arith, was.shares, r.1);

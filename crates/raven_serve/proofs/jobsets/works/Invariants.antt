@@ -17,12 +17,12 @@ invariant-loop-door g l = record {
   made : l.rest.made ≡ l.fn.rest.made;
 }
 
-abbrev pub invariant-loop : goal.invariant-loop
-invariant-loop g l = record {
-  works : l.works.items ≡ posts l.fn.rest (g.C.Clock.moment l.site.clock.value) l.site.name (places (map g.D.Door.state l.fn.doors.items) l.counter);
+abbrev pub invariant-loop-begin : goal.invariant-loop-begin
+invariant-loop-begin g l = record {
+  works : l.works.items ≡ posts l.fn.rest (g.C.Clock.moment l.site.clock.value) l.site.name (places (map g.D.Door.state l.fn.doors.items) l.begin);
   own : l.rest.turn ≡ l.turn.turn;
   turn : l.rest.turn ≡ l.fn.rest.turn;
-  shares : l.rest.shares + l.counter ≡ l.pumps + 1;
+  shares : l.rest.shares + l.begin ≡ l.pumps + 1;
   seen : l.rest.seen ≡ l.fn.rest.seen;
   made : l.rest.made ≡ l.fn.rest.made;
 }
