@@ -4,6 +4,7 @@
     tools/model.py [run] [--id BASE] < SCRIPT
     tools/model.py http [--db NAME] [--id BASE] [--pump N] < BYTES
     tools/model.py measure [--seed N] [--docs N] [--batch N]
+    tools/model.py serve [--port N] [--workers N] [--pumps N] [--connections N] [--db NAME] [--id BASE]
 
 It takes the arguments of the program but `--data`, and without a command it is `run`. What it writes to standard output and to
 standard error, and the status with which it ends, are those of the program.
@@ -13,10 +14,10 @@ import sys
 
 sys.dont_write_bytecode = True
 from raven_tools import model, programs
-from raven_tools.model import http_session, keeping, running
+from raven_tools.model import http_session, keeping, running, serving
 
 
-def served(arguments: tuple[str, ...]) -> str:
+def session(arguments: tuple[str, ...]) -> str:
     """A session, with each response as soon as its request is there."""
 
     def give(response: bytes) -> None:
@@ -24,6 +25,11 @@ def served(arguments: tuple[str, ...]) -> str:
         sys.stdout.buffer.flush()
 
     return http_session.serve(arguments, keeping.Keeper(), lambda: sys.stdin.buffer.read1(65_536), give)
+
+
+def served(arguments: tuple[str, ...]) -> str:
+    """A server, which says on which port it listens."""
+    return serving.serve(arguments, lambda port: print(f"raven: listening on 127.0.0.1:{port}", file=sys.stderr, flush=True))
 
 
 def answered(arguments: tuple[str, ...]) -> str:
@@ -39,7 +45,7 @@ def main() -> int:
     arguments = tuple(given if given and not given[0].startswith("-") else ["run", *given])
     if "--data" in arguments[1::2]:
         sys.exit("the model stores nothing, so it has no --data")
-    status = (served if arguments[0] == "http" else answered)(arguments)
+    status = {"http": session, "serve": served}.get(arguments[0], answered)(arguments)
     sys.stderr.write(running.message_of(status))
     return programs.NUMBERS[status.split(" ")[0]]
 

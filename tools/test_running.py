@@ -8,10 +8,12 @@ It needs no program. It ends with 0 if every test holds, and otherwise at the fi
 
 import itertools
 import json
+import subprocess
 import sys
 
 sys.dont_write_bytecode = True
 from raven_tools import case_file
+from raven_tools.checks import memory
 from raven_tools.model import keeping, measuring, running
 
 KEEPER = """\
@@ -256,6 +258,19 @@ def test_measure():
         assert (status, json.loads(written)) == ("Done", {"Batches": batches, "IsStale": False, **sums}), written
 
 
+def test_servers():
+    """The options of a server. Without a door it opens its database and ends."""
+    good = [(), ("--port", "0"), ("--port", "65535", "--workers", "64", "--pumps", "0000000016"), ("--connections", "1000000", "--db", "x-1")]
+    bad = [("x",), ("--port",), ("--port", "65536"), ("--port", "-1"), ("--workers", "0"), ("--workers", "65"), ("--pumps", "0")]
+    bad += [("--pumps", "17"), ("--connections", "0"), ("--connections", "1000001"), ("--port", "0", "--port", "0"), ("--pump", "1")]
+    bad += [("--db", "a b"), ("--id", "short"), ("--data", ""), ("--port", "00000000001"), ("--port", "1.0"), ("--port", "٠")]
+    for arguments in good:
+        assert running.run(running.Outside(("serve", *arguments)), keeping.Keeper()) == ("Done", b""), arguments
+        assert running.run(running.Outside(("serve", *arguments)), keeping.Keeper(fails=[1])) == ("KeptFault", b""), arguments
+    for arguments in bad:
+        assert running.run(running.Outside(("serve", *arguments)), keeping.Keeper()) == ("Usage", b""), arguments
+
+
 def test_messages():
     """What standard error has. The status of a session is found by its bytes."""
     for arguments, script, status, message in [
@@ -314,6 +329,42 @@ def test_what_is_left_open():
             continue
         raise AssertionError(written)
     assert case_file.printed(*case_file.read("== A\nreads 3\n| x\n")).startswith("== A\nstatus Done\n")
+
+
+# A script of which two lines write, with its replies and its rows.
+[SCRIPT] = case_file.read("== A\nrows\n> PUT a {}\n> STATS\n> PUT b {}\n")
+REPLIES = [
+    '> {"ChangeVector":"A:1-AAAAAAAAAAAAAAAAAAAAAA","Id":"a"}\n',
+    '> {"CountOfDocuments":1,"CountOfIndexes":0,"CountOfTombstones":0,"LastDocEtag":1}\n',
+    '> {"ChangeVector":"A:2-AAAAAAAAAAAAAAAAAAAAAA","Id":"b"}\n',
+]
+ROWS = ['row 1 0 "a" "@empty" {"@metadata":{}}\n', 'row 2 0 "b" "@empty" {"@metadata":{}}\n']
+
+
+def test_prefixes():
+    """If memory runs out, no reply is there without the changes of its line, and no change behind the line whose reply is missing."""
+    may_be = {(0, 0), (0, 1), (1, 1), (2, 1), (2, 2), (3, 2)}
+    found = memory.prefixes_of(SCRIPT, memory.stops_of(SCRIPT))
+    for replies, rows in itertools.product(range(4), range(3)):
+        printed = "== A\nstatus NoMemory\n" + "".join(REPLIES[:replies] + ROWS[:rows]) + "\n"
+        assert (printed.encode() in found) == ((replies, rows) in may_be), printed
+    assert len(found) == len(may_be)
+
+
+def test_ends_without_memory():
+    """A run ends with a prefix, or with everything, or the program of cases itself lacks memory. A crash is none of these."""
+    whole, prefix = case_file.printed(SCRIPT).encode(), b"== A\nstatus NoMemory\n\n"
+    for status, printed, end in [
+        (0, prefix, memory.NO_MEMORY),
+        (0, whole, memory.NOT_NEEDED),
+        (0, whole.replace(b"Done", b"NoMemory"), None),
+        (0, b"", None),
+        (1, b"", memory.OUTSIDE),
+        (1, whole[:30], memory.OUTSIDE),
+        (1, b"mistake in line 1\n", None),
+        (-11, b"", None),
+    ]:
+        assert memory.end_of(subprocess.CompletedProcess([], status, printed, b""), {prefix}, whole) == end, (status, printed)
 
 
 def main():

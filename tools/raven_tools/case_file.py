@@ -8,6 +8,9 @@ A case begins with `== NAME`. These lines come before its script, in any order:
     reads N .., writes N .., keeps N ..      the calls of the input, of the output and of the keeper that fail
     row ETAG MOMENT      a row that the keeper holds at the start, with `id`, `collection` and `body` lines behind it
     rows                 the rows that the keeper is left with are printed too
+    crew N ..            the calls of the crew that fail
+    door                 begins a door, with `accepts N ..` behind it, the accepts that fail
+    connection           begins a connection of the door begun last. `reads`, `writes` and what is read are its own from then on
 
 The script, or the bytes of a session over HTTP, has `> LINE`, a line with its LF; `< LINE`, one with CR LF; `>N LINE` and
 `<N LINE`, N such lines; and `| TEXT`, a piece without a line end. `again` begins a further run over the keeper that was handed
@@ -19,7 +22,7 @@ import dataclasses
 import re
 
 from raven_tools import model
-from raven_tools.model import keeping, running
+from raven_tools.model import keeping, outside, running
 
 MARK = re.compile(r"⟨(?:(?P<bytes>(?:[0-9a-f]{2})+)|(?P<count>[0-9]+)\*(?P<text>[^⟨⟩]*)|(?P<number>n))⟩|[⟨⟩]")
 LINE = re.compile(r"(?P<mark>[<>])(?P<count>[1-9][0-9]*)?(?: (?P<text>.*))?")
@@ -119,13 +122,18 @@ class Reader:
     def outside(self) -> running.Outside:
         return self.case.runs[-1].outside
 
+    @property
+    def ends(self) -> running.Outside:
+        """The connection that was begun last, or without a door the run."""
+        return self.outside.doors[-1].connections[-1] if self.outside.doors else self.outside
+
     def line(self, line: str) -> None:
         if not line or line.startswith("#"):
             return
         if line.startswith(("== ", ">", "<", "| ")):
             return self.part_of_script(line)
         word, _, value = line.partition(" ")
-        if word in ("rows", "again") and word == line:
+        if word in ("rows", "again", "door", "connection") and word == line:
             return self.alone(word)
         if word in ("id", "collection", "body"):
             return setattr(self.case.rows[-1], word, written_out(value).decode())
@@ -137,11 +145,15 @@ class Reader:
         if line.startswith("== "):
             self.cases.append(Case(line[3:], [Run(running.Outside())]))
         else:
-            self.outside.script += part_of(line)
+            self.ends.script += part_of(line)
 
     def alone(self, word):
         if word == "rows":
             self.case.runs[-1].shows_rows = True
+        elif word == "door":
+            self.outside.doors.append(outside.Door())
+        elif word == "connection":
+            self.outside.doors[-1].connections.append(running.Outside())
         else:
             self.case.runs.append(Run(running.Outside()))
 
@@ -158,7 +170,11 @@ class Reader:
         elif word == "gives":
             self.outside.gives = number_of(value)
         elif word in ("reads", "writes"):
-            setattr(self.outside, word, frozenset(numbers_of(value)))
+            setattr(self.ends, word, frozenset(numbers_of(value)))
+        elif word == "crew":
+            self.outside.crew = frozenset(numbers_of(value))
+        elif word == "accepts":
+            self.outside.doors[-1].accepts = frozenset(numbers_of(value))
         elif word == "keeps" and len(self.case.runs) == 1:
             self.case.keeps = numbers_of(value)
         else:
@@ -200,10 +216,18 @@ def printed_output(written: bytes) -> str:
     return "".join(map(printed_line, WRITTEN.findall(written)))
 
 
+def printed_door(door: outside.Door) -> str:
+    """The connections that came back, with what was written to them, and how many are left."""
+    back = "".join(f"connection\n{printed_output(written)}" for written in door.back)
+    left = len(door.connections) - len(door.back)
+    return f"door\n{back}" + (f"left {left}\n" if left else "")
+
+
 def printed_run(run: Run, keeper: keeping.Keeper) -> str:
     status, written = running.run(run.outside, keeper)
+    doors = "".join(map(printed_door, run.outside.doors))
     rows = "".join(map(printed_row, keeper.rows)) if run.shows_rows else ""
-    return f"status {status}\n" + printed_output(written) + rows
+    return f"status {status}\n" + printed_output(written) + doors + rows
 
 
 def printed(case: Case) -> str:

@@ -2,7 +2,7 @@
 
 import collections.abc
 import dataclasses
-import re
+import typing
 
 from raven_tools import model
 from raven_tools.model import http_answering, http_asking, http_reading, keeping, opening
@@ -10,10 +10,8 @@ from raven_tools.model.database import Reply
 from raven_tools.model.http_reading import HttpRequest, Reading
 from raven_tools.model.limits import MAX_BATCH, MAX_REQUESTS
 from raven_tools.model.lines import answer, pump_line
-from raven_tools.model.outside import LeftOpen, Outside, base_of, pairs_of
+from raven_tools.model.outside import NUMBER, LeftOpen, Outside, base_of, name_of, pairs_of
 
-NAME = re.compile(r"[A-Za-z0-9_-]{1,64}", re.ASCII)
-NUMBER = re.compile(r"[0-9]{1,10}", re.ASCII)
 # What gives the next bytes, or none at the end, and what takes a response.
 Taking = collections.abc.Callable[[], bytes]
 Giving = collections.abc.Callable[[bytes], object]
@@ -31,9 +29,9 @@ def options_of(arguments: tuple[str, ...]) -> Options | None:
     found = pairs_of(arguments, "http", {"--data", "--id", "--db", "--pump"})
     if found is None:
         return None
-    name, pump = found.get("--db", Options.name), found.get("--pump", str(Options.pump))
-    base = base_of(found)
-    is_valid = base and NAME.fullmatch(name) and NUMBER.fullmatch(pump) and int(pump) <= MAX_BATCH
+    base, name = base_of(found), name_of(found)
+    pump = found.get("--pump", str(Options.pump))
+    is_valid = base and name and NUMBER.fullmatch(pump) and int(pump) <= MAX_BATCH
     return Options(base, name, int(pump)) if is_valid else None
 
 
@@ -52,19 +50,25 @@ def go_on(database: model.Database, pump: int) -> None:
         tidy(database)
 
 
-def replied(database: model.Database, options: Options, request: HttpRequest) -> tuple[int, Reply]:
-    """The status and the reply."""
+def replied_by(name: str, request: HttpRequest, execute: collections.abc.Callable[[http_asking.Action], Reply]) -> tuple[int, Reply]:
+    """The status and the reply of a request to the database of this name. What reaches it is executed so."""
     try:
-        route = http_asking.route_of(request, options.name)
-        action = route.asking(request)
+        route = http_asking.route_of(request, name)
+        return route.status, execute(route.asking(request))
     except model.Refused as refused:
         return http_answering.refusal(refused)
-    try:
-        answered = route.status, action(database)
-    except model.Refused as refused:
-        answered = http_answering.refusal(refused)
-    go_on(database, options.pump)
-    return answered
+
+
+def replied(database: model.Database, options: Options, request: HttpRequest) -> tuple[int, Reply]:
+    """The status and the reply, and then what follows a request that reached the database."""
+
+    def execute(action: http_asking.Action) -> Reply:
+        try:
+            return action(database)
+        finally:
+            go_on(database, options.pump)
+
+    return replied_by(options.name, request, execute)
 
 
 def responses(database: model.Database, options: Options, reading: Reading) -> collections.abc.Iterator[bytes]:
@@ -125,8 +129,8 @@ def session(database: model.Database, options: Options, given: Outside) -> tuple
     return status_of(reading.end), b"".join(written)
 
 
-def opened(options: Options | None, keeper: keeping.Keeper) -> model.Database | str:
-    """The database that the session begins with, or the status if there is none. The causes come in this order."""
+def opened(options: typing.Any, keeper: keeping.Keeper) -> model.Database | str:
+    """The database of these options, which have a base id, or the status if there is none. The causes come in this order."""
     if options is None:
         return "Usage"
     try:
@@ -153,6 +157,11 @@ def serve(arguments: tuple[str, ...], keeper: keeping.Keeper, take: Taking, give
     database = opened(options, keeper)
     if isinstance(database, str):
         return database
+    return converse(take, give, lambda request: replied(database, options, request))
+
+
+def converse(take: Taking, give: Giving, replying: collections.abc.Callable[[HttpRequest], tuple[int, Reply]]) -> str:
+    """The status of a session whose requests are replied to so."""
     data, place, is_all = b"", 0, False
     number = 0
     while True:
@@ -161,14 +170,14 @@ def serve(arguments: tuple[str, ...], keeper: keeping.Keeper, take: Taking, give
         except http_reading.Stopped as stopped:
             if stopped.shown_by is None and not is_all:
                 more = take()
-                data, is_all = data + more, not more
+                data, place, is_all = data[place:] + more, 0, not more
                 continue
             last = http_answering.response_to_end(stopped.end)
             if last is not None:
                 give(last)
             return status_of(stopped.end)
         number += 1
-        status, reply = replied(database, options, request)
+        status, reply = replying(request)
         give(http_answering.response(status, reply, request.close or number == MAX_REQUESTS))
         if number == MAX_REQUESTS:
             return "Enough"

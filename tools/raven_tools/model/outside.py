@@ -7,6 +7,8 @@ import re
 from raven_tools import model
 
 BASE = re.compile(r"[A-Za-z0-9]{22}", re.ASCII)
+NAME = re.compile(r"[A-Za-z0-9_-]{1,64}", re.ASCII)
+NUMBER = re.compile(r"[0-9]{1,10}", re.ASCII)
 
 
 class LeftOpen(Exception):
@@ -31,6 +33,26 @@ class Outside:
     writes: frozenset[int] = frozenset()
     script: bytes = b""  # what is read, of whatever command
     gives: int | None = None  # the most bytes that a call of the input gives; None if it gives as many as it is asked for
+    crew: frozenset[int] = frozenset()
+    doors: list["Door"] = dataclasses.field(default_factory=list)
+
+
+@dataclasses.dataclass
+class Door:
+    """Its accepts that fail, its connections, each with what is read from it and which of its calls fail, and what was written to
+    those that came back."""
+
+    accepts: frozenset[int] = frozenset()
+    connections: list[Outside] = dataclasses.field(default_factory=list)
+    back: list[bytes] = dataclasses.field(default_factory=list)
+
+    def accepted(self) -> list[Outside]:
+        """The connections before the first accept that fails."""
+        first = min(self.accepts - {0}, default=len(self.connections) + 1)
+        return self.connections[: first - 1]
+
+    def is_failing(self) -> bool:
+        return len(self.accepted()) < len(self.connections)
 
 
 def pairs_of(
@@ -50,3 +72,9 @@ def base_of(options: dict[str, str]) -> str | None:
     """The base id among the options, or None if it cannot be one."""
     base = options.get("--id", model.BASE)
     return base if BASE.fullmatch(base) else None
+
+
+def name_of(options: dict[str, str]) -> str | None:
+    """The name of the database among the options, or None if it cannot be one."""
+    name = options.get("--db", "db")
+    return name if NAME.fullmatch(name) else None

@@ -3,13 +3,13 @@
 import collections.abc
 
 from raven_tools import model
-from raven_tools.model import http_session, keeping, measuring, opening
+from raven_tools.model import doors, http_session, keeping, measuring, opening
 from raven_tools.model.outside import Clock, LeftOpen, Outside, base_of, pairs_of
 
-# What a second line on standard error says of a status that names an etag or an end.
+# What a second line on standard error says of a status, with the etag or the end that it names.
 SECOND_LINES = {
-    "KeptBad": "the kept row of etag %s breaks the form of rows",
-    "HttpRefused": "the bytes are no further request: %s",
+    "KeptBad": "the kept row of etag {} breaks the form of rows",
+    "HttpRefused": "the bytes are no further request: {}",
 }
 
 
@@ -80,7 +80,7 @@ def executed(given: Outside, keeper: keeping.Keeper) -> tuple[str, bytes]:
     return answered(database, given)
 
 
-COMMANDS = {"run": executed, "http": http_session.run, "measure": measured}
+COMMANDS = {"run": executed, "http": http_session.run, "measure": measured, "serve": doors.run}
 
 
 def run(given: Outside, keeper: keeping.Keeper) -> tuple[str, bytes]:
@@ -92,5 +92,5 @@ def run(given: Outside, keeper: keeping.Keeper) -> tuple[str, bytes]:
 def message_of(status: str) -> str:
     """What is written to standard error."""
     name, _, detail = status.partition(" ")
-    second = f"{SECOND_LINES[name] % detail}\n" if name in SECOND_LINES else ""
+    second = f"{SECOND_LINES[name].format(detail)}\n" if name in SECOND_LINES else ""
     return f"raven: {name}\n{second}"
