@@ -2,36 +2,32 @@
 
 import collections.abc
 import dataclasses
+import datetime
 import math
 import os
 import pathlib
 import platform
+import re
 
 BEGIN = "<!-- figures: bench/run.py writes from here -->"
 END = "<!-- figures: to here -->"
-HEADS = ["Figure", "Relative to", "Before", "Now", "Aim", "Met"]
-COLUMNS = ("Before", "Now")
+HEADS = ["Figure", "Relative to", "Measured", "Aim", "Met"]
 EMPTY = "not measured"
 TOO_SMALL = "too small to tell"
 
 
 @dataclasses.dataclass(frozen=True)
 class Aim:
-    """What a figure has to be, or how many times its figure of before."""
+    """What a figure has to be."""
 
     kind: str  # `at least` or `at most`
     bound: float
-    of_before: bool = False
 
     def text(self) -> str:
-        return f"{self.kind} {self.bound:.3g}" + (" of before" if self.of_before else "")
+        return f"{self.kind} {self.bound:.3g}"
 
-    def is_met(self, figure: float, before: float | None) -> bool | None:
-        """None if that cannot be known."""
-        if self.of_before and before is None:
-            return None
-        bound = self.bound * before if self.of_before else self.bound
-        return figure >= bound if self.kind == "at least" else figure <= bound
+    def is_met(self, figure: float) -> bool:
+        return figure >= self.bound if self.kind == "at least" else figure <= self.bound
 
 
 @dataclasses.dataclass(frozen=True)
@@ -55,28 +51,34 @@ class Figure:
         return f"{rounded(self.ratio)} ({self.value})"
 
 
+# The lines of each group.
+Groups = collections.abc.Mapping[str, collections.abc.Iterable[Line]]
+
+
 @dataclasses.dataclass
 class Part:
-    """The part of a page: for each column on what machine it was measured, and its cells by line."""
+    """The part of a page: when and on what machine each group was measured, and the figures by line."""
 
-    machines: dict[str, str]
-    cells: dict[tuple[str, str], dict[str, str]]
+    runs: dict[str, str]
+    cells: dict[tuple[str, str], str]
 
-    def add(self, column: str, machine: str, figures: collections.abc.Iterable[Figure]) -> None:
-        self.machines[column] = machine
+    def add(self, group: str, run: str, figures: collections.abc.Iterable[Figure]) -> None:
         for figure in figures:
-            self.cells.setdefault((figure.line.what, figure.line.beside), {})[column] = figure.cell()
+            self.runs[group] = run
+            self.cells[figure.line.what, figure.line.beside] = figure.cell()
 
     def row(self, line: Line) -> list[str]:
-        cells = self.cells.get((line.what, line.beside), {})
-        before, now = (cells.get(column, EMPTY) for column in COLUMNS)
-        aim = line.aim.text() if line.aim else ""
-        return [line.what, line.beside, before, now, aim, verdict(line.aim, before, now)]
+        cell = self.cells.get((line.what, line.beside), EMPTY)
+        return [line.what, line.beside, cell, line.aim.text() if line.aim else "", verdict(line.aim, cell)]
 
-    def text(self, lines: collections.abc.Iterable[Line]) -> str:
+    def text(self, groups: Groups) -> str:
         """What stands between the marks. A line that is no longer measured is left out."""
-        machines = [f"- {column}: {self.machines.get(column, EMPTY)}." for column in COLUMNS]
-        return "\n".join(["", *machines, "", *table(HEADS, map(self.row, lines), COLUMNS), ""])
+        names: dict[str, list[str]] = {}
+        for group in groups:
+            names.setdefault(self.runs.get(group, EMPTY), []).append(f"`{group}`")
+        runs = [f"- {', '.join(some)}: {run}." for run, some in names.items()]
+        rows = [self.row(line) for lines in groups.values() for line in lines]
+        return "\n".join(["", *runs, "", *table(HEADS, rows, ("Measured",)), ""])
 
 
 def ratio(one: float, other: float) -> float:
@@ -100,12 +102,11 @@ def ratio_of(cell: str) -> float | None:
         return None
 
 
-def verdict(aim: Aim | None, before: str, now: str) -> str:
-    figure = ratio_of(now)
+def verdict(aim: Aim | None, cell: str) -> str:
+    figure = ratio_of(cell)
     if aim is None or figure is None:
         return ""
-    met = aim.is_met(figure, ratio_of(before))
-    return "" if met is None else "met" if met else "missed"
+    return "met" if aim.is_met(figure) else "missed"
 
 
 def duration(seconds: float) -> str:
@@ -143,12 +144,12 @@ def split(page: str) -> tuple[str, str, str]:
 def read(part: str) -> Part:
     found = Part({}, {})
     for line in part.splitlines():
-        for column in COLUMNS:
-            if line.startswith(f"- {column}: "):
-                found.machines[column] = line.removeprefix(f"- {column}: ").removesuffix(".")
+        run = re.match(r"- ((?:`\w+`(?:, )?)+): (.*)\.$", line)
+        for group in re.findall(r"`(\w+)`", run[1]) if run else ():
+            found.runs[group] = run[2]
         cells = [cell.strip() for cell in line.strip("|").split("|")]
         if line.startswith("|") and len(cells) == len(HEADS) and cells != HEADS and not cells[0].startswith("---"):
-            found.cells[cells[0], cells[1]] = dict(zip(COLUMNS, cells[2:4]))
+            found.cells[cells[0], cells[1]] = cells[2]
     return found
 
 
@@ -157,9 +158,9 @@ def replaced(page: str, part: str) -> str:
     return before + BEGIN + "\n" + part + "\n" + END + after
 
 
-def machine() -> str:
-    """What a table has to say of the machine."""
-    return f"{os.cpu_count()} cores, {processor()}; load of the machine at the start {os.getloadavg()[0]:.1f}"
+def run() -> str:
+    """What a table has to say of a run: its day, the load of the machine before it, and the machine."""
+    return f"{datetime.date.today()}, with a load of {os.getloadavg()[0]:.1f} at the start, on {os.cpu_count()} cores of {processor()}"
 
 
 def processor() -> str:

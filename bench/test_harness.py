@@ -52,39 +52,40 @@ def test_texts():
 
 
 def test_aims():
-    for aim, before, now, verdict in (
-        (Aim("at least", 0.8), "0.4 (a)", "0.8 (b)", "met"),
-        (Aim("at least", 0.8), "0.4 (a)", "0.79 (b)", "missed"),
-        (Aim("at most", 2), "-", "2.5 (b)", "missed"),
-        (Aim("at most", 0.33, of_before=True), "9 (a)", "2 (b)", "met"),
-        (Aim("at most", 0.33, of_before=True), "-", "2 (b)", ""),
-        (None, "1 (a)", "2 (b)", ""),
-        (Aim("at most", 2), "1 (a)", report.EMPTY, ""),
+    for aim, cell, verdict in (
+        (Aim("at least", 0.8), "0.8 (b)", "met"),
+        (Aim("at least", 0.8), "0.79 (b)", "missed"),
+        (Aim("at most", 2), "2.5 (b)", "missed"),
+        (Aim("at most", 2), "1,000 (b)", "missed"),
+        (None, "2 (b)", ""),
+        (Aim("at most", 2), report.EMPTY, ""),
     ):
-        assert report.verdict(aim, before, now) == verdict, (aim, before, now)
+        assert report.verdict(aim, cell) == verdict, (aim, cell)
 
 
 def test_page():
-    """What one run writes into the page the next one reads, and a run of some figures leaves the others."""
+    """What one run writes into the page the next one reads, and a run of some groups leaves the others."""
     one, two = Line("one", "a", Aim("at most", 2)), Line("two", "b")
     page = PAGE
-    for column, machine, figures in (
-        ("Before", "old", [Figure(one, 3.0, "x"), Figure(two, 1.0, "y")]),
-        ("Now", "new", [Figure(one, 1.5, "z")]),
-        ("Now", "newer", []),
+    for group, run, figures in (
+        ("first", "old", [Figure(one, 3.0, "x")]),
+        ("second", "old: load 1.5", [Figure(two, 1.0, "y")]),
+        ("first", "new", [Figure(one, 1.5, "z")]),
+        ("second", "newer", []),
     ):
         part = report.read(report.split(page)[1])
-        part.add(column, machine, figures)
-        page = report.replaced(page, part.text([one, two]))
+        part.add(group, run, figures)
+        page = report.replaced(page, part.text({"first": [one], "second": [two], "third": []}))
     assert page.startswith("# Page\n") and page.endswith("\nbehind\n"), page
-    assert "- Before: old.\n- Now: newer.\n" in page, page
-    assert "| one | a | 3.00 (x) | 1.50 (z) | at most 2 | met |\n" in page, page
-    assert f"| two | b | 1.00 (y) | {report.EMPTY} |  |  |\n" in page, page
+    assert f"- `first`: new.\n- `second`: old: load 1.5.\n- `third`: {report.EMPTY}.\n" in page, page
+    assert "| one | a | 1.50 (z) | at most 2 | met |\n" in page, page
+    assert "| two | b | 1.00 (y) |  |  |\n" in page, page
 
 
 def test_lines():
     """Each line of the table can be told from the others."""
-    assert len({(line.what, line.beside) for line in LINES}) == len(LINES)
+    lines = [line for group in LINES.values() for line in group]
+    assert len({(line.what, line.beside) for line in lines}) == len(lines)
 
 
 def test_documents():

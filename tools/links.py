@@ -1,34 +1,40 @@
 #!/usr/bin/env python3
-"""Tries what README.md and the pages of docs/ point at: each relative link, and each path of the repository in backticks.
+"""Tries what README.md and the pages of docs/ point at: each relative link, and each path and each name of the code in backticks.
 
     tools/links.py
 
-It prints each that leads nowhere; the status is then 1. What is made by a build, in a folder `out`, is passed over.
+It prints each that leads nowhere; the status is then 1. What is made by a build, in a folder `out`, is passed over. A name of the code
+is one with `_` or `::` in it. Each word of it has to stand somewhere in crates/, tools/ or bench/, so a law or a clause that was given another name
+is found. Parts of pages that are made are passed over too: tools/pages.py checks them.
 """
 
+import collections.abc
 import pathlib
 import re
 import sys
 
 TOP = pathlib.Path(__file__).resolve().parents[1]
+MADE = re.compile(r"<!-- (\w+): made.*?<!-- \1: end -->", re.DOTALL)
+NAME = re.compile(r"`(\w+(?:::\w+)+|[A-Za-z]\w*_\w+)`")
+CODE = {".rt", ".antt", ".py", ".sql", ".txt", ".edit", ""}
 BLOCK = re.compile(r"^```.*?^```$", re.MULTILINE | re.DOTALL)
 LINK = re.compile(r"\]\(([^)\s]+)\)")
 PATH = re.compile(r"`((?:\.ci|bench|crates|docs|examples|tools)/[^`\s]*)")
 
 
-def links_of(page, text):
+def links_of(page: pathlib.Path, text: str) -> list[tuple[str, pathlib.Path]]:
     """The files that the page links to, without those of other places."""
     targets = [target.partition("#")[0] for target in LINK.findall(text) if not re.match(r"[a-z]+:", target)]
     return [(target, page.parent / target) for target in targets if target]
 
 
-def anchors_in(page):
+def anchors_in(page: pathlib.Path) -> set[str]:
     """The anchors of the headings of a page, made of their text as hosts of such pages do."""
     heads = [line.lstrip("#").strip().lower() for line in page.read_text().splitlines() if line.startswith("#")]
     return {re.sub(r"[^\w\- ]", "", head).replace(" ", "-") for head in heads}
 
 
-def lost_anchors(page, text):
+def lost_anchors(page: pathlib.Path, text: str) -> collections.abc.Iterator[str]:
     """The links of the page that lead to a heading that is not there."""
     for target in LINK.findall(text):
         file, mark, anchor = target.partition("#")
@@ -37,20 +43,38 @@ def lost_anchors(page, text):
             yield target
 
 
-def paths_of(text):
+def paths_of(text: str) -> list[tuple[str, pathlib.Path]]:
     """The paths in backticks, each with what is there or the pattern that has to find something."""
     paths = [path.rstrip(".,:") for path in PATH.findall(text)]
     return [(path, TOP / path) for path in paths if "/out/" not in path]
 
 
-def is_there(target):
+def words_of_code() -> set[str]:
+    """Each word of the sources, and of the names of their files and folders."""
+    found: set[str] = set()
+    for folder in ("crates", "tools", "bench"):
+        for file in (TOP / folder).rglob("*"):
+            found |= set(re.findall(r"\w+", file.name))
+            if file.suffix in CODE and file.is_file() and "out" not in file.parts:
+                found |= set(re.findall(r"\w+", file.read_text()))
+    return found
+
+
+def lost_names(text: str, words: set[str]) -> collections.abc.Iterator[str]:
+    """The names of the code of which a word stands nowhere in it."""
+    for name in sorted(set(NAME.findall(MADE.sub("", text)))):
+        if not words.issuperset(name.split("::")):
+            yield name
+
+
+def is_there(target: pathlib.Path) -> bool:
     if "*" in target.name:
         return any(target.parent.glob(target.name))
     return target.exists()
 
 
-def main():
-    count, lost = 0, 0
+def main() -> int:
+    count, lost, words = 0, 0, words_of_code()
     for page in [TOP / "README.md", *sorted((TOP / "docs").glob("*.md"))]:
         text = BLOCK.sub("", page.read_text())
         for name, target in links_of(page, text) + paths_of(text):
@@ -61,6 +85,9 @@ def main():
         for name in lost_anchors(page, text):
             lost += 1
             print(f"{page.relative_to(TOP)}: {name} leads to no heading")
+        for name in lost_names(text, words):
+            lost += 1
+            print(f"{page.relative_to(TOP)}: {name} stands nowhere in the code")
     print(f"{lost} of {count} links and paths lead nowhere")
     return 1 if lost else 0
 

@@ -19,4 +19,4 @@ GROUPS = {
 }
 # What takes so long that it is measured only if it is asked for.
 LONG = {"million"}
-LINES = [line for group in GROUPS.values() for line in group.LINES]
+LINES = {name: group.LINES for name, group in GROUPS.items()}

@@ -12,7 +12,8 @@ from report import Aim, Figure, Line, ratio
 
 DOCUMENTS, PUTS = 16_000, 2_000
 COUNTED = ["valgrind", "--tool=cachegrind", "--cache-sim=no", "--cachegrind-out-file=/dev/null"]
-AIM = Aim("at most", 1 / 3, of_before=True)
+# A third of what the first program took, which was 3.06.
+AIM = Aim("at most", 1.02)
 PUT = Line("Instructions of a `PUT` among 16,000 documents in memory", "SQLite in memory, called by python3", AIM)
 LINES = (PUT,)
 

@@ -15,13 +15,14 @@ from figures import documents
 from harness import Bench, Lines, script_of
 from raven_tools import model
 from raven_tools.making.lines import ask, bulk, definition, put_command
-from report import Figure, Line, duration, ratio
+from report import Aim, Figure, Line, duration, ratio
 
 DOCUMENTS, PAGE, ROUNDS = 100_000, 20, 3
 INDEX = "Users/All"
 FIELDS = ["Amount", "Hundred", "Many", "Name", "One"]
 MAP = "from u in docs.Users select new { " + ", ".join(f"u.{field}" for field in FIELDS) + " }"
 BESIDE = f"PostgreSQL {postgres.VERSION}, `jsonb` and an index on an expression"
+AIM = Aim("at most", 1)
 # So many queries of a kind are asked at most in a round, and so many to see how long they take.
 MOST, FIRST = 10_000, 5
 Values = collections.abc.Callable[[int], int]
@@ -62,12 +63,12 @@ def number_of(field: str) -> str:
 
 
 def equal(count: int, field: str, values: Values) -> Kind:
-    line = Line(f"Time of a query for the {count:,} of 100,000 documents that have a value", BESIDE)
+    line = Line(f"Time of a query for the {count:,} of 100,000 documents that have a value", BESIDE, AIM)
     return Kind(line, f"from index '{INDEX}' where {field} = {{n}}", f"where {number_of(field)} = {{n}}", values, has_page=False)
 
 
 def paged(what: str, query: str, sql: str, values: Values = lambda users: users, **more: bool) -> Kind:
-    return Kind(Line(f"Time of a query for a page of {PAGE} of {what}", BESIDE), query, sql, values, **more)
+    return Kind(Line(f"Time of a query for a page of {PAGE} of {what}", BESIDE, AIM), query, sql, values, **more)
 
 
 RANGE = f"from index '{INDEX}' where Amount >= {{n}}"

@@ -18,6 +18,8 @@ STATUSES = {
     4: "WriteFault",
     5: "KeptFault",
     6: "KeptBad",
+    7: "DoorFault",
+    8: "NoThread",
     9: "InputTooLarge",
     10: "NoMemory",
     11: "HttpRefused",

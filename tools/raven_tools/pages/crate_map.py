@@ -1,0 +1,63 @@
+"""The made parts of docs/map.md: the crates by subject and by floor, the pages, and the tools."""
+
+import ast
+import pathlib
+import re
+
+from raven_tools.crates_file import floors_of, rows_of, subjects_of
+from raven_tools.pages import marks
+from raven_tools.pages.sources import first_sentence, purpose_of
+from raven_tools.places import TOP
+
+CRATES_FILE = TOP / "crates.txt"
+
+
+def subjects() -> str:
+    """Each subject with its crates and what they are."""
+    parts = [
+        f"**{subject}**\n\n" + "\n".join(f"- `{name}`: {purpose_of(name)}" for name in names)
+        for subject, names in subjects_of(CRATES_FILE).items()
+    ]
+    return "\n\n".join(parts)
+
+
+def floors() -> str:
+    """The floors, the highest first, each with its crates."""
+    rows, titles = rows_of(CRATES_FILE)
+    found, _ = floors_of(rows)
+    return "\n".join(
+        f"- {floor}, {titles.get(floor, '')}: {', '.join(f'`{row.name}`' for row in rows if found[row.name] == floor)}"
+        for floor in range(max(found.values()), 0, -1)
+    )
+
+
+def pages() -> str:
+    files = sorted((TOP / "docs").glob("*.md"))
+    heads = {file.name: re.search(r"^# (.*)$", file.read_text(), re.MULTILINE) for file in files}
+    return "\n".join(f"- [{name}]({name}): {head[1] if head else ''}" for name, head in heads.items())
+
+
+def said_of(file: pathlib.Path) -> str:
+    """The first sentence of the text at the head of a tool."""
+    text = file.read_text()
+    if file.suffix == ".py":
+        return first_sentence(" ".join((ast.get_docstring(ast.parse(text)) or "").split()))
+    comment = re.match(r"#!.*\n((?:#.*\n)*)", text)
+    return first_sentence(" ".join(comment[1].replace("#", " ").split())) if comment else ""
+
+
+def tools() -> str:
+    folder = TOP / "tools"
+    files = [file for file in folder.iterdir() if file.is_file()]
+    files += folder.glob("raven_tools/*/__init__.py")
+    names = {file: file.parent if file.name == "__init__.py" else file for file in files}
+    return "\n".join(f"- `{names[file].relative_to(TOP)}`: {said_of(file)}" for file in sorted(files))
+
+
+PARTS = {"subjects": subjects, "floors": floors, "pages": pages, "tools": tools}
+
+
+def page(text: str) -> str:
+    for name, made in PARTS.items():
+        text = marks.replaced(text, name, made())
+    return text
