@@ -59,7 +59,7 @@ impl<'a, T: Lookup> Scene<'a, T> {
         ensures words { IfOk result (λ entry. IfSome entry HasWords) }
         ensures fields { IfOk result (λ entry. record { outcome = entry; loads = map folded asked.new } ≡ from_there asked.old (fields_with (T.rows self.now.rows.now) (bindings_of self.now.bound.items) [] members.now)) }
     {
-        let mut entry = Entry::new(self.alloc);
+        let mut entry = Entry::with_room(self.alloc, members.len())?;
         for member in members {
             let Some(held) = self.evaluate(&member.value, asked)? else {
                 return Ok(None);

@@ -1,5 +1,5 @@
 //! The fields of an entry.
-ghost use Rattle.std.specs.Prelude.{◌≡◌, [], OnOk, OnErr, map, option_map};
+ghost use Rattle.std.specs.Prelude.{◌≡◌, [], IfOk, OnOk, OnErr, map, option_map};
 ghost use Rattle.spec_data.specs.Rising.{put};
 ghost use Rattle.raven_value.specs.ScalarView.{scalar_view};
 ghost use Rattle.index_tree.specs.Meaning.{field_named};
@@ -47,6 +47,15 @@ impl Entry {
         Entry {
             items: Vec::new(alloc),
         }
+    }
+
+    /// No fields, with room for so many.
+    pub fn with_room(alloc: Global, fields: usize) -> Result<Entry, NoMemory>
+        ensures { IfOk result (λ entry. entry ≡ []) }
+    {
+        Ok(Entry {
+            items: Vec::with_capacity(alloc, fields)?,
+        })
     }
 
     /// Puts a value at a name, in place of the one there.

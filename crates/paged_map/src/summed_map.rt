@@ -216,12 +216,16 @@ impl<K: Ord + Clone + Drop, V: Clone + Drop, S: Summary<V>> SummedMap<K, V, S> {
         ensures maps { steps.new.maps ≡ steps.old.maps }
         ensures reads { steps.new.reads ≡ steps.old.reads }
     {
-        let SummedMap { root, len } = self;
-        let more = if root.get(&key).is_some() { 0 } else { 1 };
-        let Some(len) = len.checked_add(more) else {
-            return Err(NoMemory);
-        };
-        let pages = put(alloc, summary, owned(alloc, root)?, key, value, steps)?;
+        let SummedMap { root, mut len } = self;
+        let pages = put(
+            alloc,
+            summary,
+            owned(alloc, root)?,
+            key,
+            value,
+            &mut len,
+            steps,
+        )?;
         Ok(SummedMap {
             root: root_of(alloc, summary, pages, steps)?,
             len,
@@ -248,6 +252,7 @@ impl<K: Ord + Clone + Drop, V: Clone + Drop, S: Summary<V>> SummedMap<K, V, S> {
         ensures reads { steps.new.reads ≡ steps.old.reads }
     {
         let SummedMap { root, len } = self;
+        // A key that is not there is only searched: no page is copied or made anew.
         if root.get(key).is_none() {
             return Ok(SummedMap { root, len });
         }

@@ -1,5 +1,5 @@
 //! From a value to its text.
-ghost use Rattle.std.specs.Prelude.{◌≡◌, ◌<◌, ◌≤◌, ◌++◌, OnOk, IfOk, Ok, IsUtf8, FitsSigned, false};
+ghost use Rattle.std.specs.Prelude.{◌≡◌, ◌<◌, ◌≤◌, ◌++◌, ◌∷◌, [], OnOk, IfOk, Ok, IsTrue, IsUtf8, FitsSigned, false, flat_map, length, take};
 ghost use Rattle.std.specs.Char.{digit_char};
 ghost use Rattle.std.specs.Fmt.{signed_decimal};
 ghost use Rattle.std.specs.Int.{w64};
@@ -43,14 +43,52 @@ fn write_byte(out: &mut Vec<u8>, byte: u8) -> Result<(), AllocError>
     Ok(())
 }
 
+// Whether the byte is written in a text as it is.
+fn is_plain(byte: u8) -> bool
+    ensures { IsTrue result → escaped byte ≡ byte ∷ [] }
+{
+    byte >= 32 && byte != b'"' && byte != b'\\'
+}
+
+// How many of the bytes, from the first on, are written as they are.
+#[tactic(auto, using(crate::proofs::Plain::plain_more))]
+fn plain_len(bytes: &[u8]) -> usize
+    ensures in_range { result ≤ length bytes.now }
+    ensures plain { flat_map escaped (take result bytes.now) ≡ take result bytes.now }
+{
+    let mut len = 0;
+    while len < bytes.len() && is_plain(bytes[len]) {
+        len += 1;
+    }
+    len
+}
+
+// Writes the bytes of a text: a run of plain ones at once.
+#[tactic(auto, using(crate::proofs::Plain::plain_run, crate::proofs::Plain::first_one))]
+fn write_escaped(out: &mut Vec<u8>, bytes: &[u8]) -> Result<(), AllocError>
+    ensures { OnOk result (out.new.items ≡ out.old.items ++ flat_map escaped bytes.now) }
+{
+    let mut done = 0;
+    while done < bytes.len() {
+        let rest = &bytes[done..];
+        let run = plain_len(rest);
+        if run > 0 {
+            out.extend_from_slice(&rest[..run])?;
+            done += run;
+        } else {
+            write_byte(out, bytes[done])?;
+            done += 1;
+        }
+    }
+    Ok(())
+}
+
 fn write_quoted(out: &mut Vec<u8>, text: &str) -> Result<(), AllocError>
     ensures text { OnOk result (out.new.items ≡ out.old.items ++ quoted text.now) }
     ensures utf8 { OnOk result (IsUtf8 text.now) }
 {
     out.push(b'"')?;
-    for byte in text.as_bytes() {
-        write_byte(out, *byte)?;
-    }
+    write_escaped(out, text.as_bytes())?;
     out.push(b'"')?;
     Ok(())
 }
