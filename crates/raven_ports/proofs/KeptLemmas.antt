@@ -1,14 +1,14 @@
 -- Etags still rise once rows are put in.
-use Rattle.std.proofs.Common.{◌≡◌, ℕ, zero, suc, ◌<◌, List, [], ◌∷◌, ◌++◌, Bool, true, false, cond, not, ◌||◌, nat_lt, Option, Some, None, IfSome, filter, take, drop, length, get_or, ◌+◌, refl, sym, ap, ◌∙◌, subst, arith}
+use Rattle.std.proofs.Common.{◌≡◌, ℕ, zero, suc, ◌<◌, List, [], ◌∷◌, ◌++◌, Bool, true, false, cond, not, ◌||◌, nat_lt, Option, Some, None, filter, take, refl, sym, ap, ◌∙◌, subst, arith}
 use Rattle.std.proofs.lemmas.Bool.{ltb-true}
-use Rattle.std.proofs.lemmas.List.{append_assoc, drop_more}
+use Rattle.std.proofs.lemmas.List.{append_assoc}
 use Rattle.std.proofs.lemmas.List.Elements.{filter-append}
 use Rattle.spec_data.specs.Folding.{same_key}
 use Rattle.spec_data.specs.Kept.{KeptRow, EtagsRise, is_past, kept_after, last_kept, keep, keep_all, kept_key}
-use Rattle.raven_ports.specs.Filed.{is_among}
+use Rattle.raven_ports.specs.Logged.{is_among}
 use Rattle.raven_ports.proofs.RisingLemmas.{IsPast, past_on}
 
-lower : (low : Option ℕ) (mid : ℕ) (ks : List KeptRow) → IsPast low mid → EtagsRise (Some mid) ks → EtagsRise low ks
+pub lower : (low : Option ℕ) (mid : ℕ) (ks : List KeptRow) → IsPast low mid → EtagsRise (Some mid) ks → EtagsRise low ks
 lower low mid [] a up = tt
 lower low mid (k ∷ ks) a up = (past_on low mid k.etag a up.0, up.1)
 
@@ -25,7 +25,7 @@ keep_rises low k (x ∷ held) up h =
       | false ↦ (up.0, keep_rises (Some x.etag) k held up.1 h)
     ]
 
-last_keep : (low : Option ℕ) (k : KeptRow) (held : List KeptRow) → last_kept low (keep k held) ≡ Some k.etag
+pub last_keep : (low : Option ℕ) (k : KeptRow) (held : List KeptRow) → last_kept low (keep k held) ≡ Some k.etag
 last_keep low k [] = refl
 last_keep low k (x ∷ held) =
     elim (same_key (kept_key k) (kept_key x)) as (λ b. last_kept low (cond (not b) (x ∷ filter (λ y. not (same_key (kept_key k) (kept_key y))) held) (filter (λ y. not (same_key (kept_key k) (kept_key y))) held) ++ k ∷ []) ≡ Some k.etag) [
@@ -34,37 +34,16 @@ last_keep low k (x ∷ held) =
     ]
 
 -- all of them
-keep_all_rises : (held ks : List KeptRow) → EtagsRise None held → EtagsRise (last_kept None held) ks → EtagsRise None (keep_all held ks)
+pub keep_all_rises : (held ks : List KeptRow) → EtagsRise None held → EtagsRise (last_kept None held) ks → EtagsRise None (keep_all held ks)
 keep_all_rises held [] up next = up
 keep_all_rises held (k ∷ ks) up next =
     keep_all_rises (keep k held) ks (keep_rises None k held up next.0) (subst (λ low. EtagsRise low ks) (sym (last_keep None k held)) next.1)
 
--- one after another
-pub kept_on : (all next ks total : List KeptRow) (i : ℕ) (k : KeptRow) → i < length ks → get_or ks i k ≡ k → next ≡ keep k all → keep_all all (drop i ks) ≡ total → EtagsRise (last_kept None all) (drop i ks)
-    → (keep_all next (drop (i + 1) ks) ≡ total) × EtagsRise (last_kept None next) (drop (i + 1) ks)
-kept_on all next ks total i k lt here is goes past =
-    let rest : drop i ks ≡ k ∷ drop (i + 1) ks = drop_more ks i k lt ∙ ap (λ x. x ∷ drop (i + 1) ks) here in
-    let up : EtagsRise (last_kept None all) (k ∷ drop (i + 1) ks) = subst (EtagsRise (last_kept None all)) rest past in
-    let on : EtagsRise (last_kept None (keep k all)) (drop (i + 1) ks) = subst (λ low. EtagsRise low (drop (i + 1) ks)) (sym (last_keep None k all)) up.1 in
-    (ap (λ l. keep_all l (drop (i + 1) ks)) is ∙ sym (ap (keep_all all) rest) ∙ goes, subst (λ l. EtagsRise (last_kept None l) (drop (i + 1) ks)) (sym is) on)
+-- ROWS, AND BEHIND THEM OTHERS
 
-pub all_rise : (held ks all : List KeptRow) → EtagsRise None held → EtagsRise (last_kept None held) ks → all ≡ keep_all held ks → EtagsRise None all
-all_rise held ks all up next is = subst (EtagsRise None) (sym is) (keep_all_rises held ks up next)
-
--- ROWS GIVEN, AND BEHIND THEM ROWS COMMITTED
-
-last_behind : (low : Option ℕ) (xs ys : List KeptRow) → last_kept low (xs ++ ys) ≡ last_kept (last_kept low xs) ys
+pub last_behind : (low : Option ℕ) (xs ys : List KeptRow) → last_kept low (xs ++ ys) ≡ last_kept (last_kept low xs) ys
 last_behind low [] ys = refl
 last_behind low (x ∷ xs) ys = last_behind (Some x.etag) xs ys
-
-rise_anyway : (low : Option ℕ) (ks : List KeptRow) → EtagsRise low ks → EtagsRise None ks
-rise_anyway low [] up = tt
-rise_anyway low (k ∷ ks) up = (tt, up.1)
-
--- what is past all rows is past the second of them
-pub rise_past : (given committed ks : List KeptRow) → EtagsRise (last_kept None (given ++ committed)) ks → EtagsRise (last_kept None committed) ks
-rise_past given [] ks up = rise_anyway (last_kept None (given ++ [])) ks up
-rise_past given (y ∷ ys) ks up = subst (λ low. EtagsRise low ks) (last_behind None given (y ∷ ys)) up
 
 abbrev beside : List KeptRow → KeptRow → Bool
 beside ks x = not (is_among ks x)
@@ -81,7 +60,7 @@ beside_more k ks (x ∷ rows) =
       | false ↦ ap (λ l. cond (not (is_among ks x)) (x ∷ l) l) (beside_more k ks rows)
     ]
 
--- what is committed takes out rows given, and goes behind the rows committed before
+-- further rows take out those of their ids among the first, and go behind the others
 pub kept_apart : (given committed ks : List KeptRow) → filter (λ x. not (is_among ks x)) given ++ keep_all committed ks ≡ keep_all (given ++ committed) ks
 kept_apart given committed [] = ap (λ l. l ++ committed) (beside_none given)
 kept_apart given committed (k ∷ ks) =
@@ -92,9 +71,6 @@ kept_apart given committed (k ∷ ks) =
     others : KeptRow → Bool
     others x = not (same_key (kept_key k) (kept_key x))
 
-pub committed_after : (given committed rows left added : List KeptRow) → left ≡ filter (λ x. not (is_among rows x)) given → added ≡ keep_all committed rows → left ++ added ≡ keep_all (given ++ committed) rows
-committed_after given committed rows left added a b = ap (λ l. l ++ added) a ∙ ap (λ l. filter (beside rows) given ++ l) b ∙ kept_apart given committed rows
-
 -- WHAT IS LOADED
 
 take_rises : (low : Option ℕ) (n : ℕ) (ks : List KeptRow) → EtagsRise low ks → EtagsRise low (take n ks)
@@ -102,7 +78,7 @@ take_rises low zero ks up = tt
 take_rises low (suc n) [] up = tt
 take_rises low (suc n) (k ∷ ks) up = (up.0, take_rises (Some k.etag) n ks up.1)
 
-filter_rises : (p : KeptRow → Bool) (low : Option ℕ) (ks : List KeptRow) → EtagsRise low ks → EtagsRise low (filter p ks)
+pub filter_rises : (p : KeptRow → Bool) (low : Option ℕ) (ks : List KeptRow) → EtagsRise low ks → EtagsRise low (filter p ks)
 filter_rises p low [] up = tt
 filter_rises p low (k ∷ ks) up =
     elim (p k) as (λ b. EtagsRise low (cond b (k ∷ filter p ks) (filter p ks))) [

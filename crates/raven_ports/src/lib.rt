@@ -3,8 +3,8 @@
 
 mod byte_conn;
 mod calls;
-mod committed;
 mod keeper;
+mod log;
 mod mem_keeper;
 mod memory;
 mod ports;
