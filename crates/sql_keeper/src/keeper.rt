@@ -3,6 +3,8 @@ ghost use Rattle.std.specs.Prelude.{◌≡◌, ◌≤◌, IfErr, IfOk, IsErrOf, 
 ghost use Rattle.spec_data.specs.Kept.{EtagsRise, is_past as spec_is_past};
 ghost use Rattle.raven_ports.specs.Faults.{Rose};
 
+use crate::fault::fault_of;
+use crate::file::open_file;
 use raven_base::{NoMemory, Sequence};
 use raven_ports::{Keeper, KeeperFault, KeptRow, KeptRows};
 use raven_value::Text;
@@ -13,8 +15,13 @@ use sqlite::{
 };
 use std::alloc::Global;
 
-/// The one table: a row for each id, under the id with its ASCII letters in lower case.
+/// The one table: a row for each id, under the id with its ASCII letters in lower case. The etag is the number of the row, so
+/// that there is one index beside the table.
 const TABLE: &str =
+    "CREATE TABLE kept (etag INTEGER PRIMARY KEY, key TEXT NOT NULL UNIQUE, id TEXT NOT NULL, collection TEXT NOT NULL, body TEXT, changed INTEGER NOT NULL) STRICT";
+
+/// The table of older files, which has the same columns and two indexes. The same statements serve it.
+const OLD_TABLE: &str =
     "CREATE TABLE kept (key TEXT NOT NULL PRIMARY KEY, etag INTEGER NOT NULL UNIQUE, id TEXT NOT NULL, collection TEXT NOT NULL, body TEXT, changed INTEGER NOT NULL) STRICT";
 
 /// What the database has, and the texts that made it; the indexes of the table have none.
@@ -56,23 +63,16 @@ impl<S: Alter + Drop> Drop for SqlKeeper<S> {
     }
 }
 
-fn fault_of(error: Error) -> KeeperFault {
-    match error {
-        Error::SqliteFailure(ErrorCode::OutOfMemory) => KeeperFault::NoMemory,
-        _ => KeeperFault::Failed,
-    }
-}
-
-// Whether the database has the table and nothing else, or nothing at all.
+// Whether the database has one of the two tables and nothing else, or nothing at all.
 fn is_ours(objects: &[Row]) -> Result<bool, Error> {
     let [table] = objects else {
         return Ok(objects.is_empty());
     };
     let text: String = table.get(0)?;
-    Ok(text.as_str() == TABLE)
+    Ok(text.as_str() == TABLE || text.as_str() == OLD_TABLE)
 }
 
-// Makes the table in a database that has nothing. Any other is left as it is, and refused unless it has just the table.
+// Makes the table in a database that has nothing. Any other is left as it is, and refused unless it has just one of the tables.
 fn make_table<S: Alter>(conn: &mut Connection<S>) -> Result<(), Error> {
     let objects = conn.query_all(OBJECTS, &[])?;
     if !is_ours(objects.as_slice())? {
@@ -274,9 +274,6 @@ impl<S: Alter + Drop> SqlKeeper<S> {
     }
 }
 
-/// A keeper in a file.
-pub type FileKeeper = SqlKeeper<FileStore<File>>;
-
 impl SqlKeeper<MemStore> {
     /// A keeper in memory, without rows.
     pub fn in_memory(alloc: Global) -> Result<SqlKeeper<MemStore>, KeeperFault> {
@@ -288,23 +285,19 @@ impl SqlKeeper<MemStore> {
 }
 
 impl SqlKeeper<FileStore<File>> {
-    /// A keeper in the file at a path, which is made if there is none. The keeper has the file for itself, with the log next to
-    /// it, whose name ends in `-wal`.
-    ///
-    /// It supposes that after a loss of power each byte that was being written over is the old one or the new one. So most commits
-    /// sync the log once.
-    ///
-    /// It fails if the file is no database of SQLite, is open elsewhere, or has anything but the table of a keeper.
-    pub fn in_file(rt: &HostRuntime, path: &str) -> Result<FileKeeper, KeeperFault> {
-        match Connection::open(rt, path) {
+    /// A keeper in the file at a path.
+    pub(crate) fn in_file(
+        rt: &HostRuntime,
+        path: &str,
+    ) -> Result<SqlKeeper<FileStore<File>>, KeeperFault> {
+        match open_file(rt, path) {
             Ok(conn) => SqlKeeper::over(rt.alloc(), conn),
-            Err(error) => Err(fault_of(error)),
+            Err(fault) => Err(fault),
         }
     }
 
-    /// Copies the log into the file, and closes both. A keeper that is dropped, and one for which this fails, leaves the log next to
-    /// the file, with the last commits; it is read again when the file is opened.
-    pub fn close(self) -> Result<(), KeeperFault> {
+    /// Copies the log into the file, and closes both.
+    pub(crate) fn close(self) -> Result<(), KeeperFault> {
         let SqlKeeper {
             alloc: _,
             conn,
