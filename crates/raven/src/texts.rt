@@ -36,6 +36,14 @@ fn id(alloc: Global) -> Arg<'static> {
         )
 }
 
+fn name(alloc: Global) -> Arg<'static> {
+    Arg::new(alloc, "db")
+        .long("db")
+        .value_name("NAME")
+        .default_value("db")
+        .help("The name of the database: 1 to 64 letters, digits, `_` or `-`")
+}
+
 fn number(alloc: Global, name: &'static str, default: &'static str) -> Arg<'static> {
     Arg::new(alloc, name)
         .long(name)
@@ -45,35 +53,53 @@ fn number(alloc: Global, name: &'static str, default: &'static str) -> Arg<'stat
 
 fn run(alloc: Global) -> Result<Command<'static>, NoMemory> {
     let run = Command::new(alloc, "run").about(
-        "Reads a script from standard input, and writes a reply for each line",
+        "Reads a script from standard input to its end, and then writes a reply for each line",
     );
     Ok(run.arg(data(alloc))?.arg(id(alloc))?)
 }
 
 fn http(alloc: Global) -> Result<Command<'static>, NoMemory> {
-    let name = Arg::new(alloc, "db")
-        .long("db")
-        .value_name("NAME")
-        .default_value("db")
-        .help("The name of the database: 1 to 64 letters, digits, `_` or `-`");
     let pump = number(alloc, "pump", "1024").help(
-        "The most documents that each index takes in after each request, up to 65536. 0: none",
+        "The most rows that each index takes in after each request, up to 65536. 0: none",
     );
     let http = Command::new(alloc, "http").about(
         "Serves one HTTP connection over standard input and output",
     );
     let http = http.arg(data(alloc))?.arg(id(alloc))?;
-    Ok(http.arg(name)?.arg(pump)?)
+    Ok(http.arg(name(alloc))?.arg(pump)?)
+}
+
+fn serve(alloc: Global) -> Result<Command<'static>, NoMemory> {
+    let port = number(alloc, "port", "8080").help(
+        "The port of 127.0.0.1 to listen at. 0: one that is free",
+    );
+    let workers = number(alloc, "workers", "4").help(
+        "How many connections are served at once, up to 64",
+    );
+    let pumps = number(alloc, "pumps", "2").help(
+        "How many threads let the indexes catch up, up to 16",
+    );
+    let connections = Arg::new(alloc, "connections")
+        .long("connections")
+        .value_name("N")
+        .help("Stop after so many connections, up to 1000000. Without it: never");
+    let serve = Command::new(alloc, "serve").about("Serves HTTP on a port of this machine");
+    let serve = serve
+        .arg(data(alloc))?
+        .arg(id(alloc))?
+        .arg(name(alloc))?
+        .arg(port)?;
+    Ok(serve.arg(workers)?.arg(pumps)?.arg(connections)?)
 }
 
 fn measure(alloc: Global) -> Result<Command<'static>, NoMemory> {
     let seed = number(alloc, "seed", "1").help("The seed of the orders, up to 2147483646");
     let docs = number(alloc, "docs", "2000").help("How many orders, up to 200000");
     let batch = number(alloc, "batch", "1024").help(
-        "How many orders are stored at once, up to 65536",
+        "The most rows that the index takes in a batch, up to 65536",
     );
     let measure = Command::new(alloc, "measure").about(
-        "Fills a database in memory with orders, and writes what an index over them comes to",
+        "Fills a database in memory with orders, and prints the totals of an index over them",
     );
     Ok(measure.arg(seed)?.arg(docs)?.arg(batch)?)
 }
@@ -85,6 +111,7 @@ fn program(alloc: Global) -> Result<Command<'static>, NoMemory> {
         .disable_help_subcommand(true)
         .subcommand_required(true);
     let program = program.subcommand(run(alloc)?)?;
+    let program = program.subcommand(serve(alloc)?)?;
     let program = program.subcommand(http(alloc)?)?;
     Ok(program.subcommand(measure(alloc)?)?)
 }
@@ -103,6 +130,7 @@ fn add(text: &mut String, command: Command<'static>, name: &str) -> Result<(), N
 pub fn help_text(alloc: Global) -> Result<String, NoMemory> {
     let mut text = program(alloc)?.render_help()?;
     add(&mut text, run(alloc)?, "raven run")?;
+    add(&mut text, serve(alloc)?, "raven serve")?;
     add(&mut text, http(alloc)?, "raven http")?;
     add(&mut text, measure(alloc)?, "raven measure")?;
     Ok(text)

@@ -1,3 +1,4 @@
 pub mod PairLemmas
 pub mod NumberLemmas
 pub mod Invoking
+pub mod Lost

@@ -6,6 +6,8 @@ use Rattle.raven_measure.specs.declared.measuring.MeasureEnd.{MeasureEnd}
 use Rattle.raven_measure.specs.declared.measuring.MeasureEnd.TheVariants as measure
 use Rattle.raven_run.specs.declared.run_end.RunEnd.{RunEnd}
 use Rattle.raven_run.specs.declared.run_end.RunEnd.TheVariants as run
+use Rattle.raven_serve.specs.declared.ends.ServeEnd as serve_end
+use Rattle.raven_serve.specs.declared.ends.ServeEnd.TheVariants as serve
 use Rattle.raven_console.specs.declared.status.Status.{Status}
 use Rattle.raven_console.specs.declared.status.Status.TheVariants as is
 
@@ -17,6 +19,8 @@ number_of is.ReadFault = 3
 number_of is.WriteFault = 4
 number_of is.KeptFault = 5
 number_of (is.KeptBad etag) = 6
+number_of is.DoorFault = 7
+number_of is.NoThread = 8
 number_of is.InputTooLarge = 9
 number_of is.NoMemory = 10
 number_of (is.HttpRefused end) = 11
@@ -31,6 +35,8 @@ name_of is.ReadFault = codes "ReadFault"
 name_of is.WriteFault = codes "WriteFault"
 name_of is.KeptFault = codes "KeptFault"
 name_of (is.KeptBad etag) = codes "KeptBad"
+name_of is.DoorFault = codes "DoorFault"
+name_of is.NoThread = codes "NoThread"
 name_of is.InputTooLarge = codes "InputTooLarge"
 name_of is.NoMemory = codes "NoMemory"
 name_of (is.HttpRefused end) = codes "HttpRefused"
@@ -66,3 +72,12 @@ status_of_session (http.KeptBad etag) = is.KeptBad etag
 status_of_session (http.Refused end) = is.HttpRefused end
 status_of_session http.Enough = is.Enough
 status_of_session http.NoMemory = is.NoMemory
+
+-- if it was `serve`
+abbrev pub status_of_server : serve_end.ServeEnd → Status
+status_of_server serve.Done = is.Done
+status_of_server serve.DoorFault = is.DoorFault
+status_of_server serve.NoThread = is.NoThread
+status_of_server serve.KeptFault = is.KeptFault
+status_of_server (serve.KeptBad etag) = is.KeptBad etag
+status_of_server serve.NoMemory = is.NoMemory

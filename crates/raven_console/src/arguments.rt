@@ -1,22 +1,58 @@
 //! What the caller of the program has to make.
-ghost use Rattle.std.specs.Prelude.{◌≡◌, IfOk, map, option_map, string_bytes};
-ghost use Rattle.raven_console.specs.ArgumentsView.{invocation_view, outside_of};
-ghost use Rattle.raven_console.specs.Invocations.{invoked_in};
+ghost use Rattle.std.specs.Prelude.{◌≡◌, IfOk, None, map, option_map, string_bytes};
+ghost use Rattle.raven_console.specs.ArgumentsView.{invocation_view, outside_of, serve_view};
+ghost use Rattle.raven_console.specs.Invocations.{Serve as is_serve, invoked_in};
 
-use crate::options::{HttpOptions, Invocation, Outside, RunOptions, invoked};
+use crate::options::{Counts, HttpOptions, Invocation, Outside, RunOptions, ServeOptions, invoked};
 use raven_base::NoMemory;
+use raven_value::Text;
 use std::alloc::Global;
 
-// What a command needs: a run and a session their file, and a measurement nothing.
+// What a command needs that does not listen.
+fn not_listening(file: Option<Text>) -> Outside
+    ensures { result ≡ record { file = file; port = 0; workers = 0; connections = None } }
+{
+    Outside {
+        file,
+        port: 0,
+        workers: 0,
+        connections: None,
+    }
+}
+
+fn needed_by_server(options: ServeOptions) -> Outside
+    ensures { result ≡ outside_of (is_serve (serve_view options)) }
+{
+    let ServeOptions {
+        file,
+        base: _base,
+        name: _name,
+        counts,
+    } = options;
+    let Counts {
+        port,
+        workers,
+        pumps: _pumps,
+        connections,
+    } = counts;
+    Outside {
+        file,
+        port,
+        workers,
+        connections,
+    }
+}
+
+// What a command needs: a run and a session their file, a measurement nothing, and a server its port too.
 fn needed(invocation: Invocation) -> Outside
     ensures { result ≡ outside_of (invocation_view invocation) }
 {
-    let file = match invocation {
+    match invocation {
         Invocation::Run(options) => {
             let RunOptions { file, base: _base } = options;
-            file
+            not_listening(file)
         }
-        Invocation::Measure(_options) => None,
+        Invocation::Measure(_options) => not_listening(None),
         Invocation::Http(options) => {
             let HttpOptions {
                 file,
@@ -24,14 +60,9 @@ fn needed(invocation: Invocation) -> Outside
                 name: _name,
                 pump: _pump,
             } = options;
-            file
+            not_listening(file)
         }
-    };
-    Outside {
-        file,
-        port: 0,
-        workers: 0,
-        connections: None,
+        Invocation::Serve(options) => needed_by_server(options),
     }
 }
 

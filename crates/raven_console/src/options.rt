@@ -3,10 +3,11 @@ ghost use Rattle.std.specs.Prelude.{◌≡◌, ◌≤◌, IfOk, IfSome, Some, le
 ghost use Rattle.std.specs.List.{list_all};
 ghost use Rattle.spec_http.specs.Options.{is_name as spec_is_name, is_of_name as spec_is_of_name, name_in, options_in as spec_http_options, pump_in};
 ghost use Rattle.spec_measure.specs.Options.{number_in as spec_number_in, number_up_to as spec_number_up_to, options_in as spec_measure_options};
+ghost use Rattle.raven_serve.specs.Options.{Range, counts_in, limit_in, number_or as spec_number_or, number_within as spec_number_within, options_in as spec_serve_options};
 ghost use Rattle.spec_server.specs.Options.{base_in, run_options as spec_run_options};
 ghost use Rattle.spec_server.specs.Script.{number_of as spec_number_of};
 ghost use Rattle.raven_measure.specs.OptionsView.{options_view as measure_view};
-ghost use Rattle.raven_console.specs.ArgumentsView.{FitsPump, http_view, invocation_view, pair_view, run_view, text_view};
+ghost use Rattle.raven_console.specs.ArgumentsView.{FitsPump, counts_view, http_view, invocation_view, pair_view, run_view, serve_view, text_view};
 ghost use Rattle.raven_console.specs.Invocations.{invoked_in};
 
 use crate::pairs::{are_valid, pairs_in, value_named};
@@ -42,12 +43,44 @@ pub(crate) struct HttpOptions {
     pub(crate) pump: u32,
 }
 
+/// The numbers among the options of `serve`.
+#[derive(Drop)]
+pub(crate) struct Counts {
+    /// The port to listen at, or 0 for any that is free.
+    pub(crate) port: u16,
+
+    /// How many connections are served at once.
+    pub(crate) workers: u8,
+
+    /// How many pumps make batches.
+    pub(crate) pumps: u32,
+
+    /// How many connections are accepted in all. Without a number there is no limit.
+    pub(crate) connections: Option<u32>,
+}
+
+/// The options of `serve`.
+#[derive(Drop)]
+pub(crate) struct ServeOptions {
+    /// The file of the documents. Without one they are stored in memory alone.
+    pub(crate) file: Option<Text>,
+
+    /// The base id of the database.
+    pub(crate) base: BaseId,
+
+    /// The name of the database.
+    pub(crate) name: Text,
+
+    pub(crate) counts: Counts,
+}
+
 /// A command with its options.
 #[derive(Drop)]
 pub(crate) enum Invocation {
     Run(RunOptions),
     Measure(Options),
     Http(HttpOptions),
+    Serve(ServeOptions),
 }
 
 /// What the arguments ask the caller to make before the program is called.
@@ -234,6 +267,90 @@ fn http_options(alloc: Global, pairs: &[(&str, &str)]) -> Result<Option<HttpOpti
     }))
 }
 
+// A number from the least to the most, which fits 32 bits.
+fn number_within(text: &str, least: u32, most: u32) -> Option<u32>
+    ensures number { result ≡ spec_number_within (record { least = least; most = most }) text.now }
+    ensures fits { IfSome result (λ n. n ≤ most) }
+{
+    if text.len() > MAX_DIGITS {
+        return None;
+    }
+    let number = number_of(text.as_bytes())?;
+    if u64::from(least) <= number && number <= u64::from(most) {
+        Some(number as u32)
+    } else {
+        None
+    }
+}
+
+fn number_or(text: Option<&str>, default: u32, least: u32, most: u32) -> Option<u32>
+    requires { default ≤ most }
+    ensures number { result ≡ spec_number_or default (record { least = least; most = most }) (text_view text.entry) }
+    ensures fits { IfSome result (λ n. n ≤ most) }
+{
+    match text {
+        Some(text) => number_within(text, least, most),
+        None => Some(default),
+    }
+}
+
+fn limit_of(text: Option<&str>) -> Option<Option<u32>>
+    ensures { result ≡ limit_in (text_view text.entry) }
+{
+    match text {
+        Some(text) => Some(Some(number_within(text, 1, 1_000_000)?)),
+        None => Some(None),
+    }
+}
+
+fn counts_of(pairs: &[(&str, &str)]) -> Option<Counts>
+    ensures { option_map counts_view result ≡ counts_in (map pair_view pairs.now) }
+{
+    let port = number_or(value_named(pairs, "--port"), 8_080, 0, 65_535)?;
+    let workers = number_or(value_named(pairs, "--workers"), 4, 1, 64)?;
+    let pumps = number_or(value_named(pairs, "--pumps"), 2, 1, 16)?;
+    let connections = limit_of(value_named(pairs, "--connections"))?;
+    Some(Counts {
+        port: port as u16,
+        workers: workers as u8,
+        pumps,
+        connections,
+    })
+}
+
+fn serve_options(alloc: Global, pairs: &[(&str, &str)]) -> Result<Option<ServeOptions>, NoMemory>
+    ensures { IfOk result (λ found. option_map serve_view found ≡ spec_serve_options (Some (map pair_view pairs.now))) }
+{
+    let names = [
+        "--data",
+        "--id",
+        "--db",
+        "--port",
+        "--workers",
+        "--pumps",
+        "--connections",
+    ];
+    if !are_valid(&names, pairs) {
+        return Ok(None);
+    }
+    let Some(counts) = counts_of(pairs) else {
+        return Ok(None);
+    };
+    let Some(base) = base_of(alloc, value_named(pairs, "--id"))? else {
+        return Ok(None);
+    };
+    let Some(name) = name_of(alloc, value_named(pairs, "--db"))? else {
+        return Ok(None);
+    };
+    let file = file_of(alloc, value_named(pairs, "--data"))?;
+    Ok(Some(ServeOptions {
+        file,
+        base,
+        name,
+        counts,
+    }))
+}
+
 /// What the arguments ask the program to do; none exactly if they are malformed.
 pub(crate) fn invoked(alloc: Global, arguments: &[String]) -> Result<Option<Invocation>, NoMemory>
     ensures asked { IfOk result (λ found. option_map invocation_view found ≡ invoked_in (map string_bytes arguments.now)) }
@@ -249,6 +366,7 @@ pub(crate) fn invoked(alloc: Global, arguments: &[String]) -> Result<Option<Invo
         "run" => Ok(run_options(alloc, &pairs)?.map(Invocation::Run)),
         "measure" => Ok(measure_options(&pairs).map(Invocation::Measure)),
         "http" => Ok(http_options(alloc, &pairs)?.map(Invocation::Http)),
+        "serve" => Ok(serve_options(alloc, &pairs)?.map(Invocation::Serve)),
         _ => Ok(None),
     }
 }

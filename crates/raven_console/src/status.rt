@@ -6,7 +6,7 @@ use http_read::HttpEnd;
 /// How the program ended.
 #[derive(Clone, Copy)]
 pub enum Status {
-    /// The input was read to its end, or to a request that closes the session, and all replies were written.
+    /// The input was read to its end, or to a request that closes the session, and all replies were written. Each door of a server is closed.
     Done,
 
     /// The arguments are malformed. Nothing was read or written.
@@ -26,6 +26,12 @@ pub enum Status {
         /// The etag of the first such row.
         etag: u64,
     },
+
+    /// A call of a door failed. The connections of the other doors were served.
+    DoorFault,
+
+    /// A thread could not be started. No connection was accepted.
+    NoThread,
 
     /// The input has more than 16,777,216 bytes. Nothing was written.
     InputTooLarge,
@@ -63,6 +69,8 @@ impl Status {
             Status::WriteFault => 4,
             Status::KeptFault => 5,
             Status::KeptBad { .. } => 6,
+            Status::DoorFault => 7,
+            Status::NoThread => 8,
             Status::InputTooLarge => 9,
             Status::NoMemory => 10,
             Status::HttpRefused { .. } => 11,
@@ -82,6 +90,8 @@ impl Status {
             Status::WriteFault => "WriteFault",
             Status::KeptFault => "KeptFault",
             Status::KeptBad { .. } => "KeptBad",
+            Status::DoorFault => "DoorFault",
+            Status::NoThread => "NoThread",
             Status::InputTooLarge => "InputTooLarge",
             Status::NoMemory => "NoMemory",
             Status::HttpRefused { .. } => "HttpRefused",

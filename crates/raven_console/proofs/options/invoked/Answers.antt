@@ -8,4 +8,4 @@ returns-in_default-2 c =
 
 pub returns-clause-asked : goal.returns-clause-asked
 returns-clause-asked c =
-    asks_nothing c.args.arguments.now c.in-Some.more.now c.in-Some.command.now (search rules) (search rules) (search rules) (search rules)
+    asks_nothing c.args.arguments.now c.in-Some.more.now c.in-Some.command.now (search rules) (search rules) (search rules) (search rules) (search rules)
