@@ -3,12 +3,14 @@ ghost use Rattle.std.specs.Prelude.{◌≡◌, ◌<◌, None};
 
 use raven_ports::Clock;
 use raven_value::END_OF_MOMENTS;
-use std::cell::Cell;
+use std::sync::atomic::AtomicU64;
+use std::sync::atomic::Ordering::SeqCst;
+use std::thread::yield_now;
 
 /// A clock that moves on by a step with each call, up to the last moment that there is. With a step of 0 it stands still.
 #[derive(Drop)]
 pub struct CaseClock {
-    next: Cell<u64>,
+    next: AtomicU64,
     step: u64,
 }
 
@@ -18,7 +20,7 @@ impl CaseClock {
         if first >= END_OF_MOMENTS {
             return None;
         }
-        let next = Cell::new(first);
+        let next = AtomicU64::new(first);
         Some(CaseClock { next, step })
     }
 }
@@ -27,10 +29,12 @@ impl Clock for CaseClock {
     ghost moment = { λ _. None };
 
     fn now(&self) -> u64 {
-        let moment = self.next.get().min(END_OF_MOMENTS - 1);
-        self.next.set(moment.saturating_add(self.step));
+        let moment = self.next.load(SeqCst).min(END_OF_MOMENTS - 1);
+        self.next.store(moment.saturating_add(self.step), SeqCst);
         moment
     }
 
-    fn nap(&self) {}
+    fn nap(&self) {
+        yield_now();
+    }
 }

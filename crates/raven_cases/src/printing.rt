@@ -5,6 +5,7 @@ use raven_base::NoMemory;
 use raven_console::Status;
 use raven_json::write_text;
 use raven_ports::KeptRow;
+use serve_ports::MemDoor;
 use std::alloc::Global;
 use std::io::{self, ErrorKind, Write};
 
@@ -69,6 +70,20 @@ fn end_of_body(line: &[u8]) -> usize
         }
     }
     0
+}
+
+/// Prints what was written to the connections that came back, in order, and how many are left.
+pub fn print_door<W: Write>(out: &mut W, door: &MemDoor) -> io::Result<()> {
+    writeln!(out, "door")?;
+    for conn in door.back() {
+        writeln!(out, "connection")?;
+        print_written(out, conn.held())?;
+    }
+    let left = door.left().len();
+    if left > 0 {
+        writeln!(out, "left {left}")?;
+    }
+    Ok(())
 }
 
 pub fn print_rows<W: Write>(alloc: Global, out: &mut W, rows: &[KeptRow]) -> io::Result<()> {

@@ -1,5 +1,5 @@
 //! From the text of a file to its cases.
-use crate::case::{Case, Run};
+use crate::case::{Case, CaseDoor, Ends, Run};
 use crate::fault::LineFault;
 use crate::marks::write_out;
 use crate::values::{arguments_in, clock_in, number_in, numbers_in, row_in, text_in};
@@ -128,19 +128,43 @@ impl Draft {
         match word {
             "arguments" => self.run.arguments = arguments_in(alloc, value)?,
             "clock" => self.run.clock = clock_in(value)?,
-            "reads" => self.run.reads = numbers_in(alloc, value)?,
-            "writes" => self.run.writes = numbers_in(alloc, value)?,
+            "reads" => self.ends()?.reads = numbers_in(alloc, value)?,
+            "writes" => self.ends()?.writes = numbers_in(alloc, value)?,
             "rows" if value.is_empty() => self.run.shows_rows = true,
             "gives" => self.run.gives = number_in(value)? as usize,
-            "|" => write_out(alloc, &mut self.run.bytes, value, None)?,
+            "crew" => self.run.crew = numbers_in(alloc, value)?,
+            "|" => write_out(alloc, &mut self.ends()?.bytes, value, None)?,
             "again" if value.is_empty() => self.begin_run(alloc)?,
+            _ => self.read_outside(alloc, word, value)?,
+        }
+        Ok(())
+    }
+
+    /// Reads what the doors of the run are, or what the keeper is given.
+    fn read_outside(&mut self, alloc: Global, word: &str, value: &str) -> Result<(), LineFault> {
+        match word {
+            "door" if value.is_empty() => self.run.doors.push(new_door(alloc))?,
+            "accepts" => self.last_door()?.accepts = numbers_in(alloc, value)?,
+            "connection" if value.is_empty() => self.last_door()?.conns.push(new_ends(alloc))?,
             _ if self.runs.is_empty() => self.read_kept(alloc, word, value)?,
             _ => return Err(LineFault::Mistake),
         }
         Ok(())
     }
 
-    /// Adds one line with this end to the input for `>`, and three numbered ones for `>3`.
+    fn last_door(&mut self) -> Result<&mut CaseDoor, LineFault> {
+        self.run.doors.last_mut().ok_or(LineFault::Mistake)
+    }
+
+    /// The connection that was begun last, or without a door the input and the output.
+    fn ends(&mut self) -> Result<&mut Ends, LineFault> {
+        match self.run.doors.last_mut() {
+            Some(door) => door.conns.last_mut().ok_or(LineFault::Mistake),
+            None => Ok(&mut self.run.ends),
+        }
+    }
+
+    /// Adds one line with this end to the bytes for `>`, and three numbered ones for `>3`.
     fn add_lines(
         &mut self,
         alloc: Global,
@@ -164,8 +188,9 @@ impl Draft {
         end: &[u8],
         number: Option<u64>,
     ) -> Result<(), LineFault> {
-        write_out(alloc, &mut self.run.bytes, line, number)?;
-        self.run.bytes.extend_from_slice(end)?;
+        let bytes = &mut self.ends()?.bytes;
+        write_out(alloc, bytes, line, number)?;
+        bytes.extend_from_slice(end)?;
         Ok(())
     }
 
@@ -198,10 +223,25 @@ fn new_run(alloc: Global) -> Result<Run, LineFault> {
     Ok(Run {
         arguments: arguments_in(alloc, "run")?,
         clock: clock_in("0")?,
-        reads: Numbers::new(alloc),
-        writes: Numbers::new(alloc),
+        ends: new_ends(alloc),
         gives: usize::MAX,
-        bytes: Vec::new(alloc),
+        crew: Numbers::new(alloc),
+        doors: Vec::new(alloc),
         shows_rows: false,
     })
+}
+
+fn new_door(alloc: Global) -> CaseDoor {
+    CaseDoor {
+        accepts: Numbers::new(alloc),
+        conns: Vec::new(alloc),
+    }
+}
+
+fn new_ends(alloc: Global) -> Ends {
+    Ends {
+        reads: Numbers::new(alloc),
+        writes: Numbers::new(alloc),
+        bytes: Vec::new(alloc),
+    }
 }
