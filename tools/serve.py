@@ -1,5 +1,5 @@
 #!/usr/bin/env python3
-"""Looks at what the clients of a server see, in memory and over files. The program has no command `serve` yet, so it is the model's server.
+"""Starts `raven serve` on free ports, in memory and over files, and looks at what its clients see.
 
     tools/serve.py [PROGRAM] [--rounds N] [--seed N]
     tools/serve.py --model [--rounds N] [--seed N]

@@ -283,7 +283,7 @@ def test_messages():
     ]:
         found, _ = running.run(running.Outside(arguments, script=script), keeping.Keeper())
         assert (found, running.message_of(found)) == (status, message), (arguments, found)
-    assert running.message_of("KeptBad 7") == "raven: KeptBad\nthe kept row of etag 7 breaks the form of rows\n"
+    assert running.message_of("KeptBad 7") == "raven: KeptBad\nthe stored row with etag 7 is not valid\n"
 
 
 def test_mistakes():

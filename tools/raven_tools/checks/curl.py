@@ -1,4 +1,4 @@
-"""Runs each command of docs/http.md against a listener, and what clients of the standard library of Python ask."""
+"""Runs each command of docs/http.md against the command `serve`, and what clients of the standard library of Python ask."""
 
 import argparse
 import http.client
@@ -9,15 +9,13 @@ import subprocess
 import sys
 import tempfile
 
-from raven_tools import http_page, listener, model, programs
-from raven_tools.listener import Listener
+from raven_tools import http_page, model, programs
 from raven_tools.places import PROGRAM, TOP
+from raven_tools.servers import MODEL, Client, Server, caught_up
 
 # What curl would read, and where it would ask someone else.
 LEFT_OUT = ("CURL_HOME", "XDG_CONFIG_HOME", "http_proxy", "HTTP_PROXY", "all_proxy", "ALL_PROXY", "https_proxy", "HTTPS_PROXY")
 VECTOR = "A:%d-" + model.BASE
-# The seconds that a client may take to send what is not read.
-PATIENCE = 30
 
 
 def plain(written: bytes) -> str:
@@ -60,7 +58,8 @@ def message_of(ended: subprocess.CompletedProcess[bytes]) -> str:
 
 
 def page(port: int, program: str | None) -> int:
-    """How many commands of the page write something else than what is beside them. They run one after another, over one database."""
+    """How many commands of the page write something else than what is beside them. They run one after another, over one database, whose
+    indexes have caught up before each."""
     wrong = 0
     examples = http_page.examples()
     with tempfile.TemporaryDirectory() as name:
@@ -70,6 +69,8 @@ def page(port: int, program: str | None) -> int:
             command = example.command.replace(http_page.ADDRESS, f"127.0.0.1:{port}")
             ended = shell(command, folder)
             wrong += differs(example.command.strip(), plain(example.written.encode()), plain(ended.stdout), message_of(ended))
+            with Client(port) as client:
+                caught_up(client)
     print(f"{wrong} of {len(examples)} commands of docs/http.md differ")
     return wrong
 
@@ -134,16 +135,12 @@ def large_bodies(port: int) -> int:
     return wrong
 
 
-def serving(program: str | None, folder: str) -> listener.Serve:
-    if program is None:
-        return listener.by_model([])
-    return listener.by_program(program, ["--data", os.path.join(folder, "kept")], subprocess.DEVNULL)
-
-
 def over(program: str | None, check, *more: object) -> int:
     """What a check finds over a database of its own."""
-    with tempfile.TemporaryDirectory() as folder, Listener(serving(program, folder), patience=PATIENCE) as listens:
-        return check(listens.port, *more)
+    with tempfile.TemporaryDirectory() as folder:
+        data = ["--data", os.path.join(folder, "kept")] if program else []
+        with Server([program] if program else MODEL, *data) as server:
+            return check(server.port, *more)
 
 
 def has_curl() -> bool:

@@ -19,6 +19,15 @@ COLUMNS = "key, etag, id, collection, body, changed"
 # One that has the name of ours, but not its columns.
 OTHER_COLUMNS = "CREATE TABLE kept (key TEXT PRIMARY KEY, etag INTEGER) STRICT"
 OTHER_TABLE = "CREATE TABLE other (a INTEGER) STRICT"
+# The table of the files that older programs made, letter by letter.
+OLD_TABLE = (
+    "CREATE TABLE kept (key TEXT NOT NULL PRIMARY KEY, etag INTEGER NOT NULL UNIQUE, id TEXT NOT NULL,"
+    " collection TEXT NOT NULL, body TEXT, changed INTEGER NOT NULL) STRICT"
+)
+# One that differs from it in a letter.
+NEARLY_OLD = OLD_TABLE.replace("etag INTEGER NOT NULL UNIQUE", "etag INTEGER NOT NULL unique")
+# The bytes of a page of a new file.
+SMALL = 512
 # More rows than are loaded at once.
 MANY = keeping.PAGE + 476
 # The greatest size of a file for a run that is to find its disk full, in bytes.
@@ -83,6 +92,60 @@ def many(program: str, folder: pathlib.Path) -> bool:
     return filled and answers(program, file, asked, database.opened(), "many rows opened again")
 
 
+def facts(file: pathlib.Path) -> tuple[str, int, str]:
+    """The text of the table, the bytes of a page, and what SQLite finds wrong in the file, or "ok"."""
+    with contextlib.closing(sqlite3.connect(file)) as connection:
+        (text,) = connection.execute("SELECT sql FROM sqlite_schema WHERE sql IS NOT NULL").fetchone()
+        (page,) = connection.execute("PRAGMA page_size").fetchone()
+        (check,) = connection.execute("PRAGMA integrity_check").fetchone()
+    return text, page, check
+
+
+def small(program: str, folder: pathlib.Path) -> bool:
+    """A new file has small pages, and so has one that was empty; SQLite finds nothing wrong in them, whatever was replaced."""
+    right = True
+    lines = [put(f"d/{number % 70}", f'{{"Number":{number},"Text":"{"x" * (number % 90 * 20)}"}}') for number in range(300)]
+    for name in ("new", "empty"):
+        file = folder / name
+        if name == "empty":
+            file.write_bytes(b"")
+        database = model.Database()
+        written = answers(program, file, lines, database, f"a {name} file") and answers(program, file, [get("D/7")], database.opened(), f"a {name} file again")
+        _, page, check = facts(file)
+        right &= written and is_so((page, check) == (SMALL, "ok"), f"the pages of a {name} file", (page, check))
+        right &= is_so(rows_in(file) == wanted_rows(database), f"the rows of a {name} file", rows_in(file)[:3])
+    return right
+
+
+def make_old(file: pathlib.Path, database: model.Database, mode: str) -> None:
+    """A file of an older program that stores this database."""
+    with contextlib.closing(sqlite3.connect(file)) as connection:
+        connection.execute("PRAGMA page_size = 4096")
+        connection.execute(f"PRAGMA journal_mode = {mode}")
+        connection.execute(OLD_TABLE)
+        for row in map(keeping.kept, database.store.rows.values()):
+            values = (model.folded(row.id), row.etag, row.id, row.collection, row.body, 63_000_000_000_000_000)
+            connection.execute(f"INSERT INTO kept ({COLUMNS}) VALUES (?, ?, ?, ?, ?, ?)", values)
+        connection.commit()
+
+
+def old(program: str, folder: pathlib.Path) -> bool:
+    """A file of an older program opens with what it stores, is written, opens again, and keeps its table."""
+    right = True
+    before = [put("Users/1", '{"Name":"Zoé"}'), *(put(f"d/{number}", "{}") for number in range(40)), delete("D/3"), put("users/1", "{}")]
+    more = [get("users/1"), get("d/3"), put("D/4", '{"Name":"Ada"}'), delete("d/5"), bulk(put_command("new"), put_command("d/3")), "STATS"]
+    for mode in ("DELETE", "WAL"):
+        file, database = folder / f"old-{mode}", model.Database()
+        model.replies(script_of(before), database)
+        make_old(file, database, mode)
+        database = database.opened()
+        right &= answers(program, file, more, database, "a file of an older program")
+        right &= answers(program, file, [get("d/4"), get("new"), "STATS"], database.opened(), "the same once more")
+        right &= is_so(rows_in(file) == wanted_rows(database), "its rows", rows_in(file)[:3])
+        right &= is_so(facts(file) == (OLD_TABLE, 4096, "ok"), "its table", facts(file))
+    return right
+
+
 def is_left(program: str, file: pathlib.Path) -> bool:
     """Whether a file is refused, and left byte for byte as it was."""
     before = file.read_bytes()
@@ -92,13 +155,14 @@ def is_left(program: str, file: pathlib.Path) -> bool:
 
 def others(program: str, folder: pathlib.Path) -> bool:
     """A file of another kind is left as it was."""
-    text, table, columns, ours = (folder / name for name in ("text", "table", "columns", "ours"))
+    text, table, columns, nearly, ours = (folder / name for name in ("text", "table", "columns", "nearly", "ours"))
     text.write_bytes(b"This is no database, but a text that goes on for a while.")
     make(table, OTHER_TABLE)
     make(columns, OTHER_COLUMNS)
+    make(nearly, NEARLY_OLD)
     made = answers(program, ours, [put("a")], model.Database(), "a file with another table")
     make(ours, OTHER_TABLE)
-    return made and all([is_left(program, file) for file in (text, table, columns, ours)])
+    return made and all([is_left(program, file) for file in (text, table, columns, nearly, ours)])
 
 
 def alone(program: str, folder: pathlib.Path) -> bool:
@@ -134,7 +198,7 @@ def whole(program: str, folder: pathlib.Path) -> bool:
 def files(program: str) -> int:
     """How many of these checks find something wrong."""
     wrong = 0
-    for check in (rows, many, others, alone, whole):
+    for check in (rows, many, small, old, others, alone, whole):
         with tempfile.TemporaryDirectory() as folder:
             wrong += not check(program, pathlib.Path(folder))
     return wrong

@@ -11,11 +11,16 @@ from raven_tools import model
 from raven_tools.checks.files import files
 from raven_tools.checks.sessions import sessions
 from raven_tools.making import MAKERS
+from raven_tools.model import running
 from raven_tools.programs import STATUSES, first_difference, run
 
 
 HELP = {
     "run": ["--data <FILE>", "--id <BASE>", "[default: AAAAAAAAAAAAAAAAAAAAAA]"],
+    "serve": [
+        *["--data <FILE>", "--id <BASE>", "--db <NAME>", "[default: db]", "--port <N>", "[default: 8080]", "--workers <N>", "[default: 4]"],
+        *["--pumps <N>", "[default: 2]", "--connections <N>"],
+    ],
     "http": ["--data <FILE>", "--id <BASE>", "--db <NAME>", "[default: db]", "--pump <N>", "[default: 1024]"],
     "measure": ["--seed <N>", "[default: 1]", "--docs <N>", "[default: 2000]", "--batch <N>", "[default: 1024]"],
 }
@@ -31,7 +36,7 @@ def lacks_help(text: str) -> list[str]:
 def helps(program: str) -> int:
     """How many of the calls for a text about the program are wrong."""
     wrong = 0
-    for arguments in (["--help"], ["-h"], ["run", "--help"], ["http", "-h"]):
+    for arguments in (["--help"], ["-h"], ["run", "--help"], ["http", "-h"], ["serve", "--help"]):
         ended = subprocess.run([program, *arguments], capture_output=True, timeout=60)
         if ended.returncode or ended.stderr or lacks_help(ended.stdout.decode()):
             wrong += 1
@@ -71,7 +76,7 @@ def has_status(program: str, arguments: list, wanted: int, name: str, given=None
     message = f"raven: {STATUSES[wanted]}".encode()
     first, _, rest = ended.stderr.partition(b"\n")
     # After malformed arguments stands the help.
-    is_whole = not lacks_help(rest.decode()) if wanted == 2 else not rest
+    is_whole = not lacks_help(rest.decode()) if wanted == 2 else ended.stderr.decode() == running.message_of(STATUSES[wanted])
     if ended.returncode == wanted and not ended.stdout and first == message and is_whole:
         return True
     print(f"{name}: status {ended.returncode} in place of {wanted}, {ended.stderr!r} in place of {message!r}, output {ended.stdout!r}")
@@ -87,6 +92,12 @@ def statuses(program: str) -> int:
     calls += [["HTTP"], ["http", "x"], ["http", "--db"], ["http", "--db", "db", "--db", "db"], ["http", "--port", "80"], ["run", "--pump", "1"]]
     calls += [["http", "--db", name] for name in ("", "-db", "a b", "a/b", "a.b", "\u00e9", "x" * 65)]
     calls += [["http", "--pump", number] for number in ("", "-1", "+1", "1.0", "x", "65537", "00000000001", "\u0663")]
+    calls += [["SERVE"], ["serve", "x"], ["serve", "--port"], ["serve", "--pump", "1"], ["serve", "--host", "x"], ["serve", "--port=0"]]
+    calls += [["serve", "--port", "0", "--port", "0"], ["serve", "--db", "a b"], ["serve", "--id", "short"], ["serve", "--data", ""]]
+    calls += [["serve", "--port", number] for number in ("65536", "-1", "", "x", "00000000000", "\u0660")]
+    calls += [["serve", "--workers", number] for number in ("0", "65", "4294967297", "1.0")]
+    calls += [["serve", "--pumps", number] for number in ("0", "17", "+1")]
+    calls += [["serve", "--connections", number] for number in ("0", "1000001", "99999999999")]
     wrong = sum(not has_status(program, arguments, 2, f"arguments {arguments}") for arguments in calls)
     with open("/dev/full", "wb") as full:
         wrong += not has_status(program, ["run"], 4, "a full output", taken=full)

@@ -8,8 +8,10 @@ from raven_tools.model.outside import Clock, LeftOpen, Outside, base_of, pairs_o
 
 # What a second line on standard error says of a status, with the etag or the end that it names.
 SECOND_LINES = {
-    "KeptBad": "the kept row of etag {} breaks the form of rows",
+    "KeptBad": "the stored row with etag {} is not valid",
     "HttpRefused": "the bytes are no further request: {}",
+    "KeptFault": "the file cannot be opened: no such folder, no permission, no database of raven, or in use",
+    "DoorFault": "no connection can be accepted: is the port in use?",
 }
 
 

@@ -20,6 +20,8 @@ STATS = b"GET /databases/db/stats HTTP/1.1\r\n\r\n"
 LARGE = b"GET /databases/db/docs?id=large HTTP/1.1\r\n\r\n"
 # The documents that are asked for and not taken have more bytes than the buffers of a connection.
 COPIES = 40
+# How often the server may wait so long for a client that takes nothing: Linux still makes some room in its buffers between two waits.
+WAITS = 4
 
 
 def opened(port: int) -> socket.socket:
@@ -63,7 +65,7 @@ def stuck(port: int) -> str | None:
     with opened(port) as connection:
         connection.setsockopt(socket.SOL_SOCKET, socket.SO_RCVBUF, 65_536)
         connection.sendall(LARGE * COPIES)
-        time.sleep(SILENCE + LAST_READS + SLACK)
+        time.sleep(WAITS * SILENCE + LAST_READS + SLACK)
         try:
             found = len(rest_of(connection))
         except ConnectionError:
