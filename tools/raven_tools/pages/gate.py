@@ -65,7 +65,7 @@ def measured(costs: list[pathlib.Path], log: pathlib.Path | None) -> Run:
                 seconds[words[0]] = [new or old for new, old in zip(found, seconds.get(words[0], [0] * len(KINDS)))]
     day = datetime.date.fromtimestamp(costs[-1].stat().st_mtime)
     said = log.read_text() if log else ""
-    kept = [crate for crate in KEPT.findall(said) if not seconds.get(crate, [0])[0]]
+    kept = [crate for crate in KEPT.findall(said) if not any(seconds.get(crate, []))]
     return Run(
         f"{day}, {wall:.1f} minutes on {processors} processors",
         lines_of_crates(),
