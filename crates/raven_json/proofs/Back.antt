@@ -164,7 +164,7 @@ items_of-list_of : (ds : Items) → items_of (list_of ds) ≡ ds
 items_of-list_of no_items = refl
 items_of-list_of (item d ds) = ap (item d) (items_of-list_of ds)
 
-entries_of-pairs_of : (ms : Entries) → entries_of (pairs_of ms) ≡ ms
+pub entries_of-pairs_of : (ms : Entries) → entries_of (pairs_of ms) ≡ ms
 entries_of-pairs_of no_entries = refl
 entries_of-pairs_of (entry k d ms) = ap (entry k d) (entries_of-pairs_of ms)
 

@@ -1,5 +1,5 @@
 -- Soundness, from the members of the program's values.
-use Rattle.std.proofs.Common.{◌≡◌, ℕ, zero, suc, ◌+◌, ◌<◌, List, [], ◌∷◌, length, get_or, drop, map, IsUtf8, refl, sym, ap, subst, arith, add-one}
+use Rattle.std.proofs.Common.{◌≡◌, ℕ, zero, suc, ◌+◌, ◌<◌, List, [], ◌∷◌, length, get_or, drop, map, IsUtf8, sym, subst, arith, add-one}
 use Rattle.spec_data.proofs.MemberLemmas.{pairs_of-entries_of}
 use Rattle.spec_data.specs.Data.{entries_of, pairs_of}
 use Rattle.spec_data.specs.Rising.{Pairs, IsRising}

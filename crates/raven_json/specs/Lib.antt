@@ -1,2 +1,4 @@
 pub mod Refusal
 pub mod PlaceView
+pub mod Shown
+pub mod ShownView

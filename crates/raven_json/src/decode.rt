@@ -1,5 +1,8 @@
 //! From bytes to a value.
-ghost use Rattle.std.specs.Prelude.{◌≡◌, Ok, IfOk, IfErr};
+ghost use Rattle.std.specs.Prelude.{◌≡◌, ◌≤◌, Ok, IfOk, IfErr};
+ghost use Rattle.spec_data.specs.Data.{depth};
+ghost use Rattle.spec_data.specs.Limits.{max_depth};
+ghost use Rattle.spec_data.specs.Sound.{IsSound};
 ghost use Rattle.spec_data.specs.Json.{reading};
 ghost use Rattle.raven_json.specs.Refusal.{Refuses};
 ghost use Rattle.raven_value.specs.View.{data_of};
@@ -34,6 +37,8 @@ pub enum JsonRefusal {
 /// The value that the bytes spell. Of members with the same name the last counts.
 pub fn read(alloc: Global, bytes: &[u8]) -> Result<Value, JsonRefusal>
     ensures ok { IfOk result (λ value. reading bytes.now ≡ Ok (data_of value)) }
+    ensures sound { IfOk result (λ value. IsSound (data_of value)) }
+    ensures shallow { IfOk result (λ value. depth (data_of value) ≤ max_depth) }
     ensures refused { IfErr result (λ refusal. Refuses refusal (reading bytes.now)) }
 {
     if is_too_deep(bytes) {

@@ -168,6 +168,7 @@ fn write_members(alloc: Global, out: &mut Vec<u8>, members: &Members) -> Result<
 pub fn write(alloc: Global, value: &Value) -> Result<Vec<u8>, NoMemory>
     ensures text { IfOk result (λ bytes. bytes.items ≡ text_of (data_of value.now)) }
     ensures utf8 { IfOk result (λ bytes. IsUtf8 bytes.items) }
+    ensures sound { IfOk result (λ bytes. IsSound (data_of value.now)) }
     ensures reads_back { IfOk result (λ bytes. depth (data_of value.now) ≤ max_depth → reading bytes.items ≡ Ok (data_of value.now)) }
 {
     let mut out = Vec::new(alloc);

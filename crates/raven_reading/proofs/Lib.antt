@@ -4,9 +4,5 @@ pub mod TokenLemmas
 pub mod AskedLemmas
 pub mod ByKind
 pub mod Clients
-pub mod Utf8Lemmas
-pub mod LexLemmas
-pub mod PairLemmas
-pub mod SoundLemmas
 pub mod LineLemmas
 pub mod Formed

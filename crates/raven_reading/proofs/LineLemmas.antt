@@ -26,9 +26,9 @@ use Rattle.index_lang.specs.Says.{Says}
 use Rattle.raven_reading.proofs.AskedLemmas.{query-asked}
 use Rattle.raven_reading.proofs.ByKind.{holds-by-kind}
 use Rattle.raven_reading.proofs.TextLemmas.{said-by}
-use Rattle.raven_reading.proofs.PairLemmas.{member-sound, member-depth}
-use Rattle.raven_reading.proofs.SoundLemmas.{AreFine, IsFine, reading-fine}
-use Rattle.raven_reading.proofs.Utf8Lemmas.{AreHigh, encode-high, utf8-one}
+use Rattle.raven_json.proofs.PairLemmas.{member-sound, member-depth}
+use Rattle.raven_json.proofs.SoundLemmas.{AreFine, IsFine, reading-fine}
+use Rattle.raven_json.proofs.Utf8Lemmas.{AreHigh, encode-high, utf8-one}
 
 -- ARGUMENTS OF A UTF-8 TEXT
 

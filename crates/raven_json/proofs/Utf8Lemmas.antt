@@ -7,7 +7,7 @@ use Rattle.std.proofs.lemmas.List.{length-append}
 use Rattle.std.proofs.lemmas.Str.{IsUtf8-append, IsUtf8-encode, IsUtf8-nil, IsUtf8-past_char, encode_ascii, length-encode, len_utf8_bounds}
 use Rattle.std.specs.Char.{IsScalar, is_digit, digit_value}
 use Rattle.json.specs.Text.{Within, plain, after_backslash, after_u, after_high, content, prepend, code_unit, short_escape, is_high_surrogate, is_low_surrogate, surrogate_pair}
-use Rattle.spec_store.proofs.StoreLemmas.{both_true}
+use Rattle.raven_json.proofs.Bools.{both_true}
 
 -- BYTES OF ONE CHARACTER
 

@@ -14,8 +14,8 @@ use Rattle.json.specs.Text.{content, plain}
 use Rattle.json.specs.Token.{Token}
 use Rattle.json.specs.Word.{head, is_operator, is_space, ends_word, word, literal, number_before, after_number, after_digits, after_minus, after_sign, after_whole, after_fraction, after_exponent}
 use Rattle.spec_data.specs.Scan.{Place as Stand, outside, in_text, escaped, place_after, open_after, is_too_deep}
-use Rattle.spec_store.proofs.StoreLemmas.{both_true, either_false}
-use Rattle.raven_reading.proofs.Utf8Lemmas.{content-utf8}
+use Rattle.raven_json.proofs.Bools.{both_true, either_false}
+use Rattle.raven_json.proofs.Utf8Lemmas.{content-utf8}
 
 -- GOOD TOKENS: from so many open brackets, no more than a hundred are ever open; nothing is said of what follows a bad token
 

@@ -22,10 +22,10 @@ use Rattle.spec_data.specs.Json.{JsonRefusal, reading, whole, or_refusal, number
 use Rattle.spec_data.specs.Rising.{Pairs, IsRising, put}
 use Rattle.spec_data.specs.Scan.{is_too_deep, outside}
 use Rattle.spec_data.specs.Sound.{IsSound, AreSound}
-use Rattle.spec_store.proofs.StoreLemmas.{both_true}
+use Rattle.raven_json.proofs.Bools.{both_true}
 use Rattle.spec_data.proofs.MemberLemmas.{IsRising-put}
-use Rattle.raven_reading.proofs.PairLemmas.{ArePairsSound, put-sound, put-depth, object-sound}
-use Rattle.raven_reading.proofs.LexLemmas.{AreGood, tokens-good}
+use Rattle.raven_json.proofs.PairLemmas.{ArePairsSound, put-sound, put-depth, object-sound}
+use Rattle.raven_json.proofs.LexLemmas.{AreGood, tokens-good}
 
 -- TREES: nested no deeper than n, with UTF-8 texts
 
