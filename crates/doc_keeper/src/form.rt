@@ -1,8 +1,10 @@
 //! Which stored rows are valid.
-ghost use Rattle.std.specs.Prelude.{◌≡◌, ◌&&◌, IfErr, IfOk, None, Some, if◌then◌else◌, length, map, nat_lt, option_map};
+ghost use Rattle.std.specs.Prelude.{◌≡◌, ◌≤◌, ◌&&◌, IfErr, IfOk, None, Some, if◌then◌else◌, length, map, nat_lt, option_map};
 ghost use Rattle.std.specs.List.{list_any};
 ghost use Rattle.std.specs.Str.{bytes_eq};
 ghost use Rattle.spec_data.specs.Faults.{is_fit, max_id};
+ghost use Rattle.spec_data.specs.Data.{depth};
+ghost use Rattle.spec_data.specs.Limits.{max_depth};
 ghost use Rattle.spec_data.specs.Moments.{moments_end};
 ghost use Rattle.spec_data.specs.Written.{text_of};
 ghost use Rattle.raven_value.specs.RowView.{body_of};
@@ -14,7 +16,7 @@ ghost use Rattle.doc_keeper.specs.Form.{IsRowFault};
 use doc_store::OpenFault;
 use doc_txn::is_own;
 use raven_base::NoMemory;
-use raven_json::{JsonRefusal, read, write};
+use raven_json::{JsonRefusal, document_in as written_document, read};
 use raven_ports::KeptRow;
 use raven_value::{
     Body, Document, END_OF_MOMENTS, Id, IdRefusal, MAX_BODY, MAX_ETAG, Row, Text, Value,
@@ -54,20 +56,13 @@ fn is_stored(value: &Value) -> bool
     }
 }
 
-// Whether this is the text that is written for the value.
-fn is_written(alloc: Global, value: &Value, text: &Text) -> Result<bool, NoMemory>
-    ensures { IfOk result (λ is. is ≡ bytes_eq (text_of (data_of value.now)) text.now) }
-{
-    let written = write(alloc, value)?;
-    Ok(written.as_slice() == text.as_str().as_bytes())
-}
-
 // The document, if the value is one and this is the text that is written for it.
-fn checked(alloc: Global, value: Value, text: &Text) -> Result<Option<Document>, NoMemory>
-    ensures { IfOk result (λ found. found ≡ (if spec_is_stored (data_of value) && bytes_eq (text_of (data_of value)) text.now then Some (data_of value) else None)) }
+fn checked(alloc: Global, value: &Value, text: &Text) -> Result<Option<Document>, NoMemory>
+    requires { depth (data_of value.now) ≤ max_depth }
+    ensures { IfOk result (λ found. found ≡ (if spec_is_stored (data_of value.now) && bytes_eq (text_of (data_of value.now)) text.now then Some (data_of value.now) else None)) }
 {
-    if is_stored(&value) && is_written(alloc, &value, text)? {
-        Ok(Some(Document::of(alloc, value)?))
+    if is_stored(value) {
+        written_document(alloc, value, text)
     } else {
         Ok(None)
     }
@@ -80,7 +75,7 @@ fn document_in(alloc: Global, text: &Text) -> Result<Option<Document>, NoMemory>
         return Ok(None);
     }
     match read(alloc, text.as_str().as_bytes()) {
-        Ok(value) => checked(alloc, value, text),
+        Ok(value) => checked(alloc, &value, text),
         Err(JsonRefusal::NoMemory) => Err(NoMemory),
         Err(_) => Ok(None),
     }

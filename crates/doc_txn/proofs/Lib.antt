@@ -2,3 +2,4 @@ pub mod Pairs
 pub mod RowTests
 pub mod Fits
 pub mod Taking
+pub mod Depths

@@ -1,5 +1,4 @@
 -- What the commands of the program are.
-use Rattle.raven_value.specs.View.{data_of}
 use Rattle.spec_store.specs.Commit as is
 use Rattle.doc_txn.specs.declared.command.Command.{Command}
 use Rattle.doc_txn.specs.declared.command.Command.TheVariants as c
@@ -17,5 +16,5 @@ expect_view e.Any = is.AnyVector
 expect_view (e.Vector vector) = is.Vector vector
 
 abbrev pub command_view : Command → is.Command
-command_view (c.Put id expected body) = is.Put id (expect_view expected) (data_of body)
+command_view (c.Put id expected body) = is.Put id (expect_view expected) body
 command_view (c.Delete id expected) = is.Delete id (expect_view expected)

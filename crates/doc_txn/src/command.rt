@@ -4,7 +4,7 @@ ghost use Rattle.spec_store.specs.Commit.{id_of};
 ghost use Rattle.doc_txn.specs.CommandView.{command_view};
 
 use raven_base::Sequence;
-use raven_value::{Id, Text, Value};
+use raven_value::{Id, Shallow, Text};
 
 /// Who writes. A client may not write the definitions of indexes.
 #[derive(Clone, Copy)]
@@ -33,7 +33,7 @@ pub enum Command {
         /// The vector that the document has to have.
         expected: Expect,
         /// The document.
-        body: Value,
+        body: Shallow,
     },
 
     /// Delete the document of this id, if there is one.

@@ -3,7 +3,6 @@ ghost use Rattle.std.specs.Prelude.{◌≡◌, ◌<◌, ◌≤◌, ◌^◌, ℕ,
 ghost use Rattle.spec_data.specs.Folding.{folded};
 ghost use Rattle.spec_data.specs.Limits.{max_etag};
 ghost use Rattle.spec_data.specs.Rows.{doc};
-ghost use Rattle.raven_value.specs.View.{data_of};
 ghost use Rattle.spec_store.specs.Store.{last as spec_last, row_at};
 ghost use Rattle.spec_store.specs.Commit.{Command as SpecCommand, differs, id_of, is_index_id as spec_is_index_id, live_vector as spec_live_vector, row_of as spec_row_of, with_option};
 ghost use Rattle.doc_store.specs.Bounds.{IsWithin};
@@ -20,8 +19,7 @@ use crate::limits::Limits;
 use crate::row::live;
 use doc_store::Store;
 use raven_base::NoMemory;
-use raven_json::text_len;
-use raven_value::{Body, Id, MAX_BODY, MAX_ETAG, Row, Text, Value, starts_folded};
+use raven_value::{Body, Document, Id, MAX_BODY, MAX_ETAG, Row, Text, starts_folded};
 use std::alloc::Global;
 
 /// What no command of a transaction changes.
@@ -58,26 +56,24 @@ fn reserved(writer: Writer, id: &Id, row: Option<&Row>) -> Option<TxnKind>
     }
 }
 
-fn too_long(body: &Value) -> Result<Option<TxnKind>, NoMemory>
-    ensures { IfOk result (λ kind. option_map kind_view kind ≡ large_body (doc (data_of body.now))) }
+fn too_long(document: &Document) -> Option<TxnKind>
+    ensures { option_map kind_view result ≡ large_body (doc document.now) }
 {
-    let len = text_len(body)?;
+    let len = document.len() as u64;
     if len > MAX_BODY as u64 {
-        Ok(Some(TxnKind::TooLarge { len }))
+        Some(TxnKind::TooLarge { len })
     } else {
-        Ok(None)
+        None
     }
 }
 
-fn too_large(row: Option<&Row>) -> Result<Option<TxnKind>, NoMemory>
-    ensures { IfOk result (λ kind. option_map kind_view kind ≡ large_row (option_copied row.entry)) }
+fn too_large(row: Option<&Row>) -> Option<TxnKind>
+    ensures { option_map kind_view result ≡ large_row (option_copied row.entry) }
 {
-    let Some(row) = row else {
-        return Ok(None);
-    };
+    let row = row?;
     match &row.body {
-        Body::Doc(document) => too_long(document.value()),
-        Body::Gone => Ok(None),
+        Body::Doc(document) => too_long(document),
+        Body::Gone => None,
     }
 }
 
@@ -167,7 +163,7 @@ pub fn refusal_of(
     ensures refused { IfOk result (λ kind. option_map kind_view kind ≡ refused_for (setting_in terms.entry.now) (writer_view terms.entry.now.writer) store.now id.now (expect_view expected.now) (option_copied row.entry)) }
 {
     let reserved = reserved(terms.writer, id, row);
-    let large = too_large(row)?;
+    let large = too_large(row);
     let changed = collection_changed(row, old)?;
     let conflict = conflict(alloc, terms.base, expected, live(old))?;
     let full = store_full(store, terms.limits, row, old);

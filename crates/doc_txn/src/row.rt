@@ -2,7 +2,6 @@
 ghost use Rattle.std.specs.Prelude.{◌≡◌, IfOk, Some, None, if◌then◌else◌, option_and_then, option_copied};
 ghost use Rattle.spec_data.specs.Folding.{folded};
 ghost use Rattle.spec_data.specs.Rows.{doc, is_document};
-ghost use Rattle.raven_value.specs.View.{data_of};
 ghost use Rattle.spec_store.specs.Store.{row_at};
 ghost use Rattle.spec_store.specs.Commit.{collection_of as spec_collection_of, expected_of, id_of, row_spelling, row_of as spec_row_of, stored_body as spec_stored, tombstone as spec_tombstone};
 ghost use Rattle.doc_txn.specs.CommandView.{command_view, expect_view};
@@ -11,7 +10,8 @@ use crate::command::{Command, Expect};
 use crate::document::{collection_of, stored};
 use doc_store::Store;
 use raven_base::NoMemory;
-use raven_value::{Body, Document, Id, Row, Value};
+use raven_json::document_of;
+use raven_value::{Body, Id, Row, Shallow};
 use std::alloc::Global;
 
 /// The row, if it holds a document.
@@ -34,11 +34,13 @@ pub fn spelling(id: &Id, old: Option<&Row>) -> Result<Id, NoMemory>
     }
 }
 
-fn document_row(alloc: Global, etag: u64, id: Id, body: Value, now: u64) -> Result<Row, NoMemory>
-    ensures { IfOk result (λ row. row ≡ record { etag = etag; id = id; collection = spec_collection_of (data_of body); body = doc (spec_stored (data_of body)); changed = now }) }
+#[tactic(auto, using(crate::proofs::Depths::depths))]
+fn document_row(alloc: Global, etag: u64, id: Id, body: Shallow, now: u64) -> Result<Row, NoMemory>
+    ensures { IfOk result (λ row. row ≡ record { etag = etag; id = id; collection = spec_collection_of body; body = doc (spec_stored body); changed = now }) }
 {
-    let collection = collection_of(alloc, &body)?;
-    let document = Document::of(alloc, stored(alloc, body)?)?;
+    let collection = collection_of(alloc, body.value())?;
+    let stored = stored(alloc, body.into_value())?;
+    let document = document_of(alloc, &stored)?;
     Ok(Row {
         etag,
         id,

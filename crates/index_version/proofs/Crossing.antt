@@ -12,10 +12,8 @@ use Rattle.raven_value.proofs.path.Path.TheSendSync as path
 use Rattle.raven_value.proofs.short.Short.TheSendSync as short
 use Rattle.raven_value.proofs.text.Held.TheSendSync as held
 use Rattle.raven_value.proofs.text.Text.TheSendSync as text
-use Rattle.raven_value.specs.contracts.row.Document as Document
+use Rattle.raven_value.proofs.row.Row.TheSendSync as stored
 use Rattle.raven_value.specs.contracts.row.Row as Row
-use Rattle.raven_value.specs.contracts.value.Value as Value
-use Rattle.raven_value.proofs.value.Members.TheLaws.TheKnot as value
 use Rattle.index_tree.proofs.expression.BinaryOp.TheSendSync as binary
 use Rattle.index_tree.proofs.expression.UnaryOp.TheSendSync as unary
 use Rattle.index_tree.proofs.expression.Expr.TheLaws.TheKnot as expression
@@ -33,29 +31,11 @@ use Rattle.index_version.specs.contracts.table.Table as Table
 
 ruleset texts = (short.the_send, short.the_sync, held.the_send, held.the_sync, held.the_field_send, held.the_field_sync, text.the_send, text.the_sync, folding.the_send, folding.the_sync, id.the_send, id.the_sync, name.the_send, name.the_sync, path.the_send, path.the_sync)
 
-value_send : IsSend Value.the_row
-value_send = search (sendable, crosses, texts, value.both_send-Values, value.both_send-Members) depth 60 fits 4000
-
-value_sync : IsSync Value.the_row
-value_sync = search (sendable, crosses, texts, value.both_sync-Values, value.both_sync-Members) depth 60 fits 4000
-
-document_send : IsSend Document.the_row
-document_send = search (sendable, crosses, value_send, value_sync) depth 60 fits 4000
-
-document_sync : IsSync Document.the_row
-document_sync = search (sendable, crosses, value_send, value_sync) depth 60 fits 4000
-
-row_send : IsSend Row.the_row
-row_send = search (sendable, crosses, id.the_send, text.the_send, document_send) depth 60 fits 4000
-
-pub row_sync : IsSync Row.the_row
-row_sync = search (sendable, crosses, id.the_sync, text.the_sync, document_sync) depth 60 fits 4000
-
 shared_send : IsSend (Shared.the_row Row.the_row)
-shared_send = shared.the_send Row.the_row row_send row_sync
+shared_send = shared.the_send Row.the_row stored.the_send stored.the_sync
 
 shared_sync : IsSync (Shared.the_row Row.the_row)
-shared_sync = shared.the_sync Row.the_row row_send row_sync
+shared_sync = shared.the_sync Row.the_row stored.the_send stored.the_sync
 
 pub table_sync : IsSync Table.the_row
 table_sync = search (sendable, crosses, id.the_send, id.the_sync, shared_send, shared_sync, page.both_send-Page, page.both_sync-Page) depth 20

@@ -3,7 +3,8 @@ use Rattle.std.specs.Prelude.{◌≡◌, pos, List, [], Option, Some, None, refl
 use Rattle.std.specs.FinMap.{get, empty}
 use Rattle.spec_data.specs.Members.{Path}
 use Rattle.spec_data.specs.Rising.{put}
-use Rattle.spec_data.specs.Rows.{Row, Body}
+use Rattle.spec_data.specs.Data.{Data}
+use Rattle.spec_data.specs.Rows.{Row, Body, doc, gone}
 use Rattle.spec_data.specs.Scalars.{number}
 use Rattle.index_tree.specs.Asking.{Lookup, AgreeAt}
 use Rattle.index_tree.specs.Local.{meaning_local}
@@ -30,6 +31,11 @@ abbrev pub Means : (Row → Lookup → Mapped) → Definition → Type 0
 Means meaning definition = (d : Row) (T : Table) → meaning d (get T) ≡ (mapper_of definition).meaning d T
 
 -- WHAT AN AUTOMATIC INDEX GIVES
+
+-- the body of a document, or of a tombstone
+abbrev pub body_with : Option Data → Body
+body_with None = gone
+body_with (Some d) = doc d
 
 -- with groups: these, a one, and what is summed
 abbrev pub grouped_fields : List Path → List Path → Body → Fields

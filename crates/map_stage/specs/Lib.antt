@@ -1,3 +1,4 @@
+pub mod LentView
 pub mod HeldView
 pub mod Reached
 pub mod FieldView

@@ -2,6 +2,7 @@
 ghost use Rattle.std.specs.Prelude.{◌≡◌, IfOk, IfSome, [], map, option_map};
 ghost use Rattle.spec_data.specs.Folding.{folded};
 ghost use Rattle.raven_value.specs.RowView.{body_of};
+ghost use Rattle.raven_value.specs.View.{data_of};
 ghost use Rattle.index_tree.specs.Evaluate.{document_of};
 ghost use Rattle.index_tree.specs.Meaning.{bound_after, bound_by, entry_of, fields_with, mapped};
 ghost use Rattle.map_stage.specs.MappedView.{outcome_view};
@@ -9,13 +10,14 @@ ghost use Rattle.map_stage.specs.Reached.{bindings_of, bound_if, from_there};
 ghost use Rattle.map_stage.specs.Words.{HasWords, OutcomeHasWords};
 
 use crate::fields::Entry;
+use crate::held::Held;
 use crate::load::document_of;
 use crate::lookup::Lookup;
 use crate::mapper::Outcome;
 use crate::scene::{Binding, Scene};
 use index_tree::{Clause, MapMember, MapQuery};
 use raven_base::NoMemory;
-use raven_value::{Ids, Row};
+use raven_value::{Ids, Row, Value};
 use std::alloc::Global;
 
 impl<'a, T: Lookup> Scene<'a, T> {
@@ -70,16 +72,16 @@ impl<'a, T: Lookup> Scene<'a, T> {
     }
 }
 
-/// What the map gives for a document. The ids that are looked up are added to those asked for before.
-pub fn outcome_of<T: Lookup>(
+// What the map gives for the value of a document. All that is lent has one lifetime, as a scene has it.
+fn outcome_on<'a, T: Lookup>(
     alloc: Global,
-    query: &MapQuery,
-    doc: &Row,
-    rows: &T,
+    query: &'a MapQuery,
+    document: &'a Value,
+    rows: &'a T,
     asked: &mut Ids,
 ) -> Result<Outcome, NoMemory>
     ensures words { IfOk result (λ outcome. OutcomeHasWords (outcome_view outcome)) }
-    ensures mapped { IfOk result (λ outcome. record { outcome = outcome_view outcome; loads = map folded asked.new } ≡ mapped (from_there asked.old (entry_of query.now (document_of doc.now.body) (T.rows rows.now)))) }
+    ensures mapped { IfOk result (λ outcome. record { outcome = outcome_view outcome; loads = map folded asked.new } ≡ mapped (from_there asked.old (entry_of query.now (data_of document.now) (T.rows rows.now)))) }
 {
     let mut scene = Scene {
         alloc,
@@ -88,7 +90,7 @@ pub fn outcome_of<T: Lookup>(
     };
     scene.bound.push(Binding {
         name: &query.var,
-        value: document_of(&doc.body),
+        value: Held::of(document),
     })?;
     let Some(goes) = scene.bind(query.clauses.as_slice(), asked)? else {
         return Ok(Outcome::Failed);
@@ -100,4 +102,19 @@ pub fn outcome_of<T: Lookup>(
         Some(entry) => Ok(Outcome::Entry(entry)),
         None => Ok(Outcome::Failed),
     }
+}
+
+/// What the map gives for a document. The ids that are looked up are added to those asked for before.
+pub fn outcome_of<T: Lookup>(
+    alloc: Global,
+    query: &MapQuery,
+    doc: &Row,
+    rows: &T,
+    asked: &mut Ids,
+) -> Result<Outcome, NoMemory>
+    ensures words { IfOk result (λ outcome. OutcomeHasWords (outcome_view outcome)) }
+    ensures mapped { IfOk result (λ outcome. record { outcome = outcome_view outcome; loads = map folded asked.new } ≡ mapped (from_there asked.old (entry_of query.now (document_of doc.now.body) (T.rows rows.now)))) }
+{
+    let document = document_of(alloc, &doc.body)?;
+    outcome_on(alloc, query, &document, rows, asked)
 }

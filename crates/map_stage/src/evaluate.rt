@@ -149,7 +149,7 @@ impl<'a, T: Lookup> Scene<'a, T> {
         let Some(held) = self.evaluate(holder, asked)? else {
             return Ok(None);
         };
-        Ok(Some(part_of(&held, name)))
+        Ok(Some(part_of(self.alloc, &held, name)?))
     }
 
     #[cycle(evaluate)]
@@ -164,6 +164,6 @@ impl<'a, T: Lookup> Scene<'a, T> {
         let Some(held) = self.evaluate(id, asked)? else {
             return Ok(None);
         };
-        Ok(Some(load(self.rows, collection, &held, asked)?))
+        Ok(Some(load(self.alloc, self.rows, collection, &held, asked)?))
     }
 }

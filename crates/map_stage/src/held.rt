@@ -8,18 +8,20 @@ ghost use Rattle.index_tree.specs.Operators.{is_true};
 ghost use Rattle.map_stage.specs.HeldView.{held_of};
 ghost use Rattle.map_stage.specs.Words.{IsWord};
 
-use raven_base::NoMemory;
+use crate::lent::Lent;
+use raven_base::{NoMemory, Shared};
 use raven_value::{Members, Scalar, Text, Value, Values};
+use std::alloc::Global;
 use std::borrow::Cow;
 
-/// A value that lies in a document, or that was computed. Only texts are both, since no operator makes lists and objects.
+/// A value that lies in the document, that was loaded, or that was computed. No operator makes lists and objects.
 pub enum Held<'a> {
     Null,
     Flag(bool),
     Num(i64),
     Text(Cow<'a, Text>),
-    List(&'a Values),
-    Map(&'a Members),
+    List(Lent<'a, Values>),
+    Map(Lent<'a, Members>),
 }
 
 // Opaque drop: see raven_base.
@@ -54,12 +56,26 @@ impl<'a> Held<'a> {
             Value::Flag(flag) => Held::Flag(*flag),
             Value::Num(number) => Held::Num(*number),
             Value::Text(text) => Held::Text(Cow::Borrowed(text)),
-            Value::List(items) => Held::List(items),
-            Value::Map(members) => Held::Map(members),
+            Value::List(items) => Held::List(Lent::Borrowed(items)),
+            Value::Map(members) => Held::Map(Lent::Borrowed(members)),
         }
     }
 
-    /// The same value. A text that was computed is shared.
+    /// The value, whose list or object is shared from now on.
+    pub fn of_value(alloc: Global, value: Value) -> Result<Held<'a>, NoMemory>
+        ensures { IfOk result (λ held. held_of held ≡ data_of value) }
+    {
+        Ok(match value {
+            Value::Null => Held::Null,
+            Value::Flag(flag) => Held::Flag(flag),
+            Value::Num(number) => Held::Num(number),
+            Value::Text(text) => Held::Text(Cow::Owned(text)),
+            Value::List(items) => Held::List(Lent::Shared(Shared::of(alloc, items)?)),
+            Value::Map(members) => Held::Map(Lent::Shared(Shared::of(alloc, members)?)),
+        })
+    }
+
+    /// The same value. What was computed or loaded is shared.
     pub fn copy(&self) -> Result<Held<'a>, NoMemory>
         ensures { IfOk result (λ held. held_of held ≡ held_of self.now) }
     {
@@ -68,8 +84,8 @@ impl<'a> Held<'a> {
             Held::Flag(flag) => Held::Flag(*flag),
             Held::Num(number) => Held::Num(*number),
             Held::Text(text) => Held::Text(text.clone()?),
-            Held::List(items) => Held::List(*items),
-            Held::Map(members) => Held::Map(*members),
+            Held::List(items) => Held::List(items.copy()?),
+            Held::Map(members) => Held::Map(members.copy()?),
         })
     }
 

@@ -7,6 +7,7 @@ mod evaluate;
 mod fields;
 mod held;
 mod lang_mapper;
+mod lent;
 mod load;
 mod lookup;
 mod mapper;

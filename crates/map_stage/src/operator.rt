@@ -1,13 +1,15 @@
 //! What the operators give.
 ghost use Rattle.std.specs.Prelude.{◌≡◌, ◌++◌, IfOk, option_map};
-ghost use Rattle.spec_data.specs.Data.{entries_of, items_of, num};
+ghost use Rattle.spec_data.specs.Data.{entries_of, items_of, num, object};
 ghost use Rattle.raven_value.specs.DataEq.{data_eq, entries_eq, items_eq};
 ghost use Rattle.index_tree.specs.Numbers.{difference, product, quotient, remainder, sum};
 ghost use Rattle.index_tree.specs.Operators.{arithmetic, binary, part_of, plus, standing, unary};
 ghost use Rattle.map_stage.specs.HeldView.{held_of};
+ghost use Rattle.map_stage.specs.LentView.{lent_value};
 
 use crate::date::date_part;
 use crate::held::Held;
+use crate::lent::Lent;
 use crate::number;
 use index_tree::{BinaryOp, UnaryOp};
 use raven_base::NoMemory;
@@ -16,20 +18,37 @@ use std::alloc::Global;
 use std::borrow::Cow;
 use std::cmp::Ordering;
 
+// The member of an object, or null. That of a shared object is copied.
+fn member_of<'a>(
+    alloc: Global,
+    members: &Lent<'a, Members>,
+    name: &Text,
+) -> Result<Held<'a>, NoMemory>
+    ensures { IfOk result (λ held. held_of held ≡ part_of name.now (object (entries_of (lent_value members.now)))) }
+{
+    match members {
+        Lent::Borrowed(members) => match members.get(name.as_str()) {
+            Some(value) => Ok(Held::of(value)),
+            None => Ok(Held::Null),
+        },
+        Lent::Shared(members) => match members.get().get(name.as_str()) {
+            Some(value) => Held::of_value(alloc, value.clone()?),
+            None => Ok(Held::Null),
+        },
+    }
+}
+
 /// The member of an object, or the part of a date that is a text. For all else, and if there is none, it is null.
-pub fn part_of<'a>(holder: &Held<'a>, name: &Text) -> Held<'a>
-    ensures { held_of result ≡ part_of name.now (held_of holder.now) }
+pub fn part_of<'a>(alloc: Global, holder: &Held<'a>, name: &Text) -> Result<Held<'a>, NoMemory>
+    ensures { IfOk result (λ held. held_of held ≡ part_of name.now (held_of holder.now)) }
 {
     match holder {
-        Held::Map(members) => match members.get(name.as_str()) {
-            Some(value) => Held::of(value),
-            None => Held::Null,
-        },
+        Held::Map(members) => member_of(alloc, members, name),
         Held::Text(text) => match date_part(name.as_str(), text.as_ref().as_str()) {
-            Some(number) => Held::Num(number),
-            None => Held::Null,
+            Some(number) => Ok(Held::Num(number)),
+            None => Ok(Held::Null),
         },
-        _ => Held::Null,
+        _ => Ok(Held::Null),
     }
 }
 
@@ -92,8 +111,8 @@ fn are_same(left: &Held, right: &Held) -> bool
         (Held::Flag(a), Held::Flag(b)) => *a == *b,
         (Held::Num(m), Held::Num(n)) => *m == *n,
         (Held::Text(s), Held::Text(t)) => *s.as_ref() == *t.as_ref(),
-        (Held::List(a), Held::List(b)) => have_same_items(a, b),
-        (Held::Map(a), Held::Map(b)) => have_same_members(a, b),
+        (Held::List(a), Held::List(b)) => have_same_items(a.get(), b.get()),
+        (Held::Map(a), Held::Map(b)) => have_same_members(a.get(), b.get()),
         _ => false,
     }
 }

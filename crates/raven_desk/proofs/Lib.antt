@@ -6,3 +6,4 @@ pub mod Pieces
 pub mod Courses
 pub mod Publications
 pub mod Picked
+pub mod Bodies

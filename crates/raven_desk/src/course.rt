@@ -1,7 +1,10 @@
 //! What a request does to a world: its reply, and its changes, which are not made yet.
-ghost use Rattle.std.specs.Prelude.{◌≡◌, ◌≤◌, IfOk, Some};
+ghost use Rattle.std.specs.Prelude.{◌≡◌, ◌≤◌, IfOk, Some, true};
+ghost use Rattle.raven_value.specs.View.{data_of};
+ghost use Rattle.spec_store.specs.Commit.{Put as PutOf};
+ghost use Rattle.doc_txn.specs.CommandView.{command_view, expect_view};
 ghost use Rattle.spec_server.specs.Machine.{Ask, Auto, Do, Find, course_of as spec_course_of, only_reply, pump_for};
-ghost use Rattle.spec_server.specs.WellFormed.{IsWellFormed};
+ghost use Rattle.spec_server.specs.WellFormed.{IsWellFormed, is_body};
 ghost use Rattle.raven_request.specs.RequestView.{request_view};
 ghost use Rattle.raven_world.specs.WorldView.{answer_view, change_view};
 ghost use Rattle.raven_reply.specs.ReplyView.{reply_view};
@@ -9,11 +12,11 @@ ghost use Rattle.raven_desk.specs.CourseView.{course_view};
 
 use crate::tidying::tidied;
 use doc_keeper::all_kept;
-use doc_txn::Command;
+use doc_txn::{Command, Expect};
 use raven_base::{NoMemory, Shared, Steps};
 use raven_ports::KeptRows;
 use raven_request::Request;
-use raven_value::{Name, Rows, Text};
+use raven_value::{Id, Name, Rows, Shallow, Text, Value};
 use raven_world::{Answered, Change, Reply, Snapshot, World, WorldFault};
 use rql_plan::QueryAsk;
 use std::alloc::Global;
@@ -212,6 +215,19 @@ pub(crate) fn course_of_query(
     asked::<Brand>(alloc, world, now, ask, Blank::new(3))
 }
 
+// The command that puts this document.
+#[tactic(auto, using(crate::proofs::Bodies::bodies))]
+fn putting(id: Id, expected: Expect, body: Value) -> Command
+    requires { is_body (data_of body) ≡ true }
+    ensures { command_view result ≡ PutOf id (expect_view expected) (data_of body) }
+{
+    Command::Put {
+        id,
+        expected,
+        body: Shallow::of(body),
+    }
+}
+
 /// What the request does to the world at this moment. Its documents are moved into the new world.
 pub fn course_of<R: Threads>(
     rt: &R,
@@ -226,7 +242,7 @@ pub fn course_of<R: Threads>(
     let seen = world.snapshot();
     match request {
         Request::Put { id, expected, body } => {
-            let command = Command::Put { id, expected, body };
+            let command = putting(id, expected, body);
             changed_or_refused(alloc, world.commit_one(alloc, command, now))
         }
         Request::Delete { id, expected } => {

@@ -20,6 +20,7 @@ use index_definition::{DefBody, Definition};
 use index_lang::of_row_body;
 use index_version::is_document;
 use raven_base::NoMemory;
+use raven_json::value_of;
 use raven_value::{Body, Id, Name, Row, Rows, starts_folded};
 use side_by_side::{Slot, Slots, index_id};
 use std::alloc::Global;
@@ -58,7 +59,7 @@ fn definition_in(alloc: Global, row: &Row) -> Result<Option<DefBody>, NoMemory>
         return Ok(None);
     }
     match &row.body {
-        Body::Doc(document) => of_row_body(alloc, document.value()),
+        Body::Doc(document) => of_row_body(alloc, &value_of(alloc, document)?),
         Body::Gone => Ok(None),
     }
 }

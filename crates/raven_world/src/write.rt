@@ -18,7 +18,7 @@ use doc_txn::{
 };
 use raven_base::NoMemory;
 use raven_reply::{BulkResult, BulkResults, Reply};
-use raven_value::{Text, Value};
+use raven_value::{Shallow, Text, Value};
 use std::alloc::Global;
 
 /// The reply to a transaction whose command at this place is refused.
@@ -123,7 +123,7 @@ fn without_document(command: &Command) -> Result<Command, NoMemory>
         Command::Put { id, .. } => Ok(Command::Put {
             id: id.clone()?,
             expected: Expect::Any,
-            body: Value::Null,
+            body: Shallow::of(Value::Null),
         }),
         Command::Delete { id, .. } => Ok(Command::Delete {
             id: id.clone()?,

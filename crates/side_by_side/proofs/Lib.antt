@@ -3,3 +3,4 @@ pub mod Ids
 pub mod Names
 pub mod Rising
 pub mod InOrder
+pub mod Depths

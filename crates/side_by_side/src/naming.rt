@@ -9,7 +9,7 @@ ghost use Rattle.index_definition.specs.DefinitionView.{definition_view};
 use doc_txn::{Command, Expect};
 use index_definition::{Definition, row_body};
 use raven_base::NoMemory;
-use raven_value::{Id, IdRefusal, Name, starts_folded};
+use raven_value::{Id, IdRefusal, Name, Shallow, starts_folded};
 use std::alloc::Global;
 
 /// Whether only the server gives such names.
@@ -41,6 +41,15 @@ pub fn index_id(alloc: Global, name: &Name) -> Result<Id, NoMemory>
     }
 }
 
+// The body of the row of a definition.
+#[tactic(auto, using(crate::proofs::Depths::depths))]
+fn body_of(alloc: Global, definition: &Definition) -> Result<Shallow, NoMemory>
+    ensures { IfOk result (λ body. body ≡ spec_row_body (definition_view definition.now.body)) }
+{
+    let body = row_body(alloc, definition)?;
+    Ok(Shallow::of(body))
+}
+
 /// The command by which the definition of a name is put.
 pub fn putting(alloc: Global, name: &Name, definition: &Definition) -> Result<Command, NoMemory>
     ensures { IfOk result (λ command. command_view command ≡ Put (spec_index_id name.now) AnyVector (spec_row_body (definition_view definition.now.body))) }
@@ -48,7 +57,7 @@ pub fn putting(alloc: Global, name: &Name, definition: &Definition) -> Result<Co
     Ok(Command::Put {
         id: index_id(alloc, name)?,
         expected: Expect::Any,
-        body: row_body(alloc, definition)?,
+        body: body_of(alloc, definition)?,
     })
 }
 

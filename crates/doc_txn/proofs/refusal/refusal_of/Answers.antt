@@ -12,7 +12,7 @@ use Rattle.doc_txn.proofs.refusal.refusal_of.Goals as goal
 
 -- the answer is the first of the tests
 first : (c : goal.After-or-5) →
-    c.or-5.result ≡ option_or (option_or (option_or (option_or (option_or c.reserved-reserved.result c.in_ok-large.large) c.in_ok-changed.changed) c.in_ok-conflict.conflict) c.store_full-full.result) c.etags_spent-spent.result
+    c.or-5.result ≡ option_or (option_or (option_or (option_or (option_or c.reserved-reserved.result c.too_large-large.result) c.in_ok-changed.changed) c.in_ok-conflict.conflict) c.store_full-full.result) c.etags_spent-spent.result
 first c =
     c.or-5.ensures
     ∙ ap (λ x. option_or x c.etags_spent-spent.result)
@@ -24,7 +24,7 @@ pub returns-clause-fits : goal.returns-clause-fits
 returns-clause-fits c = λ none now command is at.
     let s = setting_of c.args.terms.now.base.now c.args.terms.now.limits.now in
     let S = c.args.store.now in
-    let free = none-of c.reserved-reserved.result c.in_ok-large.large c.in_ok-changed.changed c.in_ok-conflict.conflict c.store_full-full.result c.etags_spent-spent.result (sym (first c) ∙ none) in
+    let free = none-of c.reserved-reserved.result c.too_large-large.result c.in_ok-changed.changed c.in_ok-conflict.conflict c.store_full-full.result c.etags_spent-spent.result (sym (first c) ∙ none) in
     row-fits s now S command (option_copied c.args.row) is
     (sym (c.store_full-full.ensures.full c.args.terms.now.base.now ∙ ap (full_for s S (option_copied c.args.row)) (c.requires ∙ ap (λ q. row_at (folded q) S.rows) at)) ∙ ap (option_map kind_view) free.0)
     (sym c.etags_spent-spent.ensures.spent ∙ ap (option_map kind_view) free.1)
@@ -37,6 +37,6 @@ returns-clause-refused c =
     let s = setting_of c.args.terms.now.base.now c.args.terms.now.limits.now in
     ap (option_map kind_view) (first c)
     ∙ refused-by-row s (writer_view c.args.terms.now.writer) c.args.store.now (option_copied c.args.row) c.args.id.now (option_copied c.args.old) (option_copied c.live.result)
-    (expect_view c.args.expected.now) c.reserved-reserved.result c.in_ok-large.large c.in_ok-changed.changed c.in_ok-conflict.conflict c.store_full-full.result c.etags_spent-spent.result
-    c.requires c.live.ensures c.reserved-reserved.ensures c.in_ok-large.ensures c.in_ok-changed.ensures c.in_ok-conflict.ensures
+    (expect_view c.args.expected.now) c.reserved-reserved.result c.too_large-large.result c.in_ok-changed.changed c.in_ok-conflict.conflict c.store_full-full.result c.etags_spent-spent.result
+    c.requires c.live.ensures c.reserved-reserved.ensures c.too_large-large.ensures c.in_ok-changed.ensures c.in_ok-conflict.ensures
     (c.store_full-full.ensures.full c.args.terms.now.base.now) c.etags_spent-spent.ensures.spent

@@ -7,15 +7,16 @@ use Rattle.std.proofs.Common.{subst}
 use Rattle.std.specs.FinMap.{get}
 use Rattle.std.proofs.Crossing.{crosses, sync}
 use Rattle.raven_value.proofs.id.Id.TheSendSync as id
+use Rattle.raven_value.proofs.row.Row.TheSendSync as stored
 use Rattle.spec_data.specs.Rows.{Row}
 use Rattle.index_version.specs.Asked.{IsAnswer}
-use Rattle.index_version.proofs.Crossing.{row_sync, table_sync}
+use Rattle.index_version.proofs.Crossing.{table_sync}
 use Rattle.index_version.proofs.Zips.{zip_weaker}
 use Rattle.index_version.proofs.asking.answer_all.Goals as goal
 
 -- what a thread is given may be given to it
 asked_send : (g : Over) (κs : Lfts 9) → IsSend (arg-0-1 g.row.R g.row.M g.R.laws g.M.laws g.R.Threads-dict g.M.Mapper-dict κs)
-asked_send g κs = search (sendable, crosses, row_sync, id.the_sync) depth 60 fits 4000
+asked_send g κs = search (sendable, crosses, stored.the_sync, id.the_sync) depth 60 fits 4000
 
 closure_sync : (g : Over) (κs : Lfts 9) → IsSync (M-row g.row.R g.row.M) → IsSync (arg-0-2 g.row.R g.row.M g.R.laws g.M.laws g.R.Threads-dict g.M.Mapper-dict κs)
 closure_sync g κs mapper_sync = search (sendable, crosses, sync, table_sync) depth 60 fits 4000
