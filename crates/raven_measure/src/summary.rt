@@ -1,5 +1,5 @@
 //! The summary of a measurement.
-ghost use Rattle.std.specs.Prelude.{◌≡◌, FitsSigned, IfOk, codes, map, string_bytes};
+ghost use Rattle.std.specs.Prelude.{◌≡◌, FitsSigned, IfOk, codes, string_bytes};
 ghost use Rattle.std.specs.Int.{w64};
 ghost use Rattle.spec_measure.specs.Requests.{rows_ask as spec_rows_ask};
 ghost use Rattle.raven_measure.specs.Defining.{MakesNothing};
@@ -14,6 +14,7 @@ ghost use Rattle.raven_measure.specs.Summaries.{summary_view};
 use crate::definition::INDEX;
 use crate::making::Measured;
 use raven_base::NoMemory;
+use raven_json::Shown;
 use raven_ports::Keeper;
 use raven_request::Request;
 use raven_value::{Members, Paths, Text, Value};
@@ -71,14 +72,15 @@ fn total_at(row: &Value) -> i128
     }
 }
 
-fn total_of(rows: &[Value]) -> i128
-    ensures { result ≡ spec_total_of (map data_of rows.now) }
+fn total_of(alloc: Global, rows: &[Shown]) -> Result<i128, NoMemory>
+    ensures { IfOk result (λ total. total ≡ spec_total_of rows.now) }
 {
     let mut total = 0;
     for row in rows {
-        total += total_at(row);
+        let value = row.to_value(alloc)?;
+        total += total_at(&value);
     }
-    total
+    Ok(total)
 }
 
 // How many documents there are but for those of the server.
@@ -90,8 +92,8 @@ fn documents_of(world: &World) -> u64
 }
 
 // The summary after so many batches and with so many documents, by the answer to the query for all rows.
-fn summary_by(batches: u64, docs: u64, answer: &Reply) -> Summary
-    ensures { summary_view result ≡ spec_summary_by batches docs (reply_view answer.now) }
+fn summary_by(alloc: Global, batches: u64, docs: u64, answer: &Reply) -> Result<Summary, NoMemory>
+    ensures { IfOk result (λ summary. summary_view summary ≡ spec_summary_by batches docs (reply_view answer.now)) }
 {
     match answer {
         Reply::Answer {
@@ -99,20 +101,20 @@ fn summary_by(batches: u64, docs: u64, answer: &Reply) -> Summary
             results,
             total_results,
             ..
-        } => Summary {
+        } => Ok(Summary {
             batches,
             docs,
             groups: *total_results,
             is_stale: *is_stale,
-            total: total_of(results.as_slice()),
-        },
-        _ => Summary {
+            total: total_of(alloc, results.as_slice())?,
+        }),
+        _ => Ok(Summary {
             batches,
             docs,
             groups: 0,
             is_stale: false,
             total: 0,
-        },
+        }),
     }
 }
 
@@ -127,7 +129,7 @@ fn summary_of<R: Threads, K: Keeper>(
     let ask = rows_ask(alloc)?;
     let course = live.course(rt, alloc, 0, Request::Ask { ask })?;
     let docs = documents_of(live.world());
-    Ok(summary_by(measured.batches(), docs, &course.reply))
+    summary_by(alloc, measured.batches(), docs, &course.reply)
 }
 
 // A summary as one line.

@@ -1,3 +1,2 @@
 pub mod Printed
 pub mod Moments
-pub mod Shown

@@ -5,7 +5,7 @@ use Rattle.spec_server.specs.Replies as is
 use Rattle.index_definition.specs.RefusalView.{refusal_view}
 use Rattle.rql_grammar.specs.Kinds.{query_refusal}
 use Rattle.raven_value.specs.View.{data_of}
-use Rattle.raven_reply.specs.Shown.{shown_with}
+use Rattle.raven_json.specs.Shown.{shown_with}
 use Rattle.raven_reply.specs.declared.reply.BulkResult.{BulkResult}
 use Rattle.raven_reply.specs.declared.reply.BulkResult.TheVariants as b
 use Rattle.raven_reply.specs.declared.reply.Reply.{Reply}

@@ -1,7 +1,6 @@
 //! Replies, and what is printed of them.
 #![tactic(auto)]
 
-mod document;
 mod error;
 mod moment;
 mod piece;

@@ -6,8 +6,8 @@ ghost use Rattle.raven_reply.specs.Pieces.{piece_data};
 
 use crate::values::{write_list, write_map};
 use raven_base::NoMemory;
-use raven_json::{write_text, write_to};
-use raven_value::{Members, Value, Values};
+use raven_json::{ShownList, ShownMembers, write_text, write_to};
+use raven_value::Value;
 use std::alloc::Global;
 
 /// The value of a member.
@@ -17,8 +17,8 @@ pub enum Piece<'a> {
     Number(u64),
     Flag(bool),
     Json(&'a Value),
-    List(&'a Values),
-    Map(&'a Members),
+    List(&'a ShownList),
+    Map(&'a ShownMembers),
 }
 
 /// Adds these bytes.

@@ -1,7 +1,8 @@
 //! Replies.
 use index_definition::{LangKind, Part};
 use raven_base::Sequence;
-use raven_value::{Document, Id, Ids, Members, Name, Text, Value, Values};
+use raven_json::{ShownList, ShownMembers};
+use raven_value::{Document, Id, Ids, Name, Text, Value};
 use rql_grammar::RqlKind;
 use std::marker::Model;
 
@@ -130,7 +131,7 @@ pub enum Reply {
     /// What was found by a query.
     Answer {
         /// The included documents under their ids.
-        includes: Members,
+        includes: ShownMembers,
 
         /// How far the index is that was asked.
         index_etag: u64,
@@ -142,7 +143,7 @@ pub enum Reply {
         is_stale: bool,
 
         /// What is shown of the rows of the page, in order.
-        results: Values,
+        results: ShownList,
 
         /// How many rows meet the condition, on the page or not.
         total_results: u64,

@@ -5,7 +5,6 @@ ghost use Rattle.spec_data.specs.Written.{items_text, text_of};
 ghost use Rattle.spec_server.specs.Replies.{Bulk, Deleted, Found as FoundIds, Held, Index, Indexes as IndexesAll, Published, Pumped as PumpedAll, Put as PutOne, Removed, Stale, Stats, Switched, Tidied, listing_data, pumping_data, reply_data, result_data};
 ghost use Rattle.raven_reply.specs.ReplyView.{reply_view, result_view};
 
-use crate::document::write_document;
 use crate::error::{
     write_conflict, write_error, write_error_at, write_error_at_with, write_error_with, write_lang,
     write_not_fresh, write_rql,
@@ -13,7 +12,7 @@ use crate::error::{
 use crate::piece::{Piece, write_bytes, write_object, write_piece};
 use crate::reply::{BulkResult, Listing, Pumping, Reply};
 use raven_base::NoMemory;
-use raven_json::write_text;
+use raven_json::{write_shown, write_text};
 use raven_value::{Id, Name};
 use std::alloc::Global;
 
@@ -328,7 +327,7 @@ fn write_reply(alloc: Global, out: &mut Vec<u8>, reply: &Reply) -> Result<(), No
         }
         Reply::Deleted { deleted, id } => write_deleted(alloc, out, *deleted, id.as_str()),
         Reply::Bulk { results } => write_bulk(alloc, out, results.as_slice()),
-        Reply::Document { document, metadata } => write_document(alloc, out, document, metadata),
+        Reply::Document { document, metadata } => write_shown(alloc, out, document, metadata),
         Reply::Index { name } => write_index(alloc, out, name.as_str()),
         Reply::Removed { name } => write_removed(alloc, out, name.as_str()),
         Reply::Pumped { pumped } => write_pumped(alloc, out, pumped.as_slice()),

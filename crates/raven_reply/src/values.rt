@@ -1,24 +1,23 @@
 //! Lists and objects that are printed where they are kept.
-ghost use Rattle.std.specs.Prelude.{◌≡◌, ◌++◌, ◌∷◌, OnOk, false, map};
+ghost use Rattle.std.specs.Prelude.{◌≡◌, ◌++◌, ◌∷◌, OnOk, false};
 ghost use Rattle.spec_data.specs.Data.{array, entries_of, items_of, object};
 ghost use Rattle.spec_data.specs.Written.{entries_text, items_text, quoted, text_of};
-ghost use Rattle.raven_value.specs.View.{data_of, pair_of};
 
 use crate::piece::write_bytes;
 use raven_base::NoMemory;
-use raven_json::{write_text, write_to};
-use raven_value::{Members, Text, Value, Values};
+use raven_json::{Shown, ShownList, ShownMembers, write_text};
+use raven_value::Text;
 use std::alloc::Global;
 
-fn write_items(alloc: Global, out: &mut Vec<u8>, items: &[Value]) -> Result<(), NoMemory>
-    ensures { OnOk result (out.new.items ≡ out.old.items ++ items_text false (items_of (map data_of items.now))) }
+fn write_items(alloc: Global, out: &mut Vec<u8>, items: &[Shown]) -> Result<(), NoMemory>
+    ensures { OnOk result (out.new.items ≡ out.old.items ++ items_text false (items_of items.now)) }
 {
     let mut later = false;
     for item in items {
         if later {
             write_bytes(out, b",")?;
         }
-        write_to(alloc, out, item)?;
+        item.write_to(alloc, out)?;
         later = true;
     }
     Ok(())
@@ -26,7 +25,7 @@ fn write_items(alloc: Global, out: &mut Vec<u8>, items: &[Value]) -> Result<(), 
 
 /// Adds the values as a list.
 #[tactic(auto, using(crate::proofs::Printed::printed))]
-pub fn write_list(alloc: Global, out: &mut Vec<u8>, values: &Values) -> Result<(), NoMemory>
+pub fn write_list(alloc: Global, out: &mut Vec<u8>, values: &ShownList) -> Result<(), NoMemory>
     ensures { OnOk result (out.new.items ≡ out.old.items ++ text_of (array (items_of values.now))) }
 {
     write_bytes(out, b"[")?;
@@ -35,20 +34,20 @@ pub fn write_list(alloc: Global, out: &mut Vec<u8>, values: &Values) -> Result<(
 }
 
 #[tactic(auto, using(crate::proofs::Printed::printed))]
-fn write_entry(alloc: Global, out: &mut Vec<u8>, name: &str, value: &Value) -> Result<(), NoMemory>
-    ensures { OnOk result (out.new.items ≡ out.old.items ++ (quoted name.now ++ 58 ∷ text_of (data_of value.now))) }
+fn write_entry(alloc: Global, out: &mut Vec<u8>, name: &str, shown: &Shown) -> Result<(), NoMemory>
+    ensures { OnOk result (out.new.items ≡ out.old.items ++ (quoted name.now ++ 58 ∷ text_of shown.now)) }
 {
     write_text(out, name)?;
     write_bytes(out, b":")?;
-    write_to(alloc, out, value)
+    shown.write_to(alloc, out)
 }
 
 fn write_entries(
     alloc: Global,
     out: &mut Vec<u8>,
-    entries: &[(Text, Value)],
+    entries: &[(Text, Shown)],
 ) -> Result<(), NoMemory>
-    ensures { OnOk result (out.new.items ≡ out.old.items ++ entries_text false (entries_of (map pair_of entries.now))) }
+    ensures { OnOk result (out.new.items ≡ out.old.items ++ entries_text false (entries_of entries.now)) }
 {
     let mut later = false;
     for entry in entries {
@@ -63,7 +62,7 @@ fn write_entries(
 
 /// Adds the members as an object.
 #[tactic(auto, using(crate::proofs::Printed::printed))]
-pub fn write_map(alloc: Global, out: &mut Vec<u8>, members: &Members) -> Result<(), NoMemory>
+pub fn write_map(alloc: Global, out: &mut Vec<u8>, members: &ShownMembers) -> Result<(), NoMemory>
     ensures { OnOk result (out.new.items ≡ out.old.items ++ text_of (object (entries_of members.now))) }
 {
     write_bytes(out, b"{")?;

@@ -3,3 +3,4 @@ pub mod Maps
 pub mod Querying
 pub mod Requesting
 pub mod Refused
+pub mod Depths

@@ -1,7 +1,8 @@
 //! Ids and bodies.
-ghost use Rattle.std.specs.Prelude.{◌≡◌, IfOk, OnOk, option_map};
-ghost use Rattle.spec_data.specs.Data.{entries_of};
+ghost use Rattle.std.specs.Prelude.{◌≡◌, ◌≤◌, IfOk, OnOk, option_map};
+ghost use Rattle.spec_data.specs.Data.{depth, entries_of};
 ghost use Rattle.spec_data.specs.Json.{reading};
+ghost use Rattle.spec_data.specs.Limits.{max_depth};
 ghost use Rattle.spec_data.specs.Members.{member};
 ghost use Rattle.spec_data.specs.Rising.{without};
 ghost use Rattle.spec_server.specs.Script.{delete_read, id_read, json_read, name_read, object_read, put_read};
@@ -40,7 +41,8 @@ pub fn name_of(alloc: Global, text: &str) -> Result<Name, ReadRefusal>
 
 /// The value of this JSON.
 pub fn json_of(alloc: Global, json: &[u8]) -> Result<Value, ReadRefusal>
-    ensures { Reads (λ value. data_of value) result (json_read (reading json.now)) }
+    ensures value { Reads (λ value. data_of value) result (json_read (reading json.now)) }
+    ensures shallow { IfOk result (λ value. depth (data_of value) ≤ max_depth) }
 {
     match read(alloc, json) {
         Ok(value) => Ok(value),

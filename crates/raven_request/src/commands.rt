@@ -1,7 +1,8 @@
 //! The commands of a transaction, in JSON.
-ghost use Rattle.std.specs.Prelude.{Some, codes, map, option_map};
-ghost use Rattle.spec_data.specs.Data.{array, entries_of, items_of};
+ghost use Rattle.std.specs.Prelude.{◌≤◌, IfSome, Some, codes, map, option_map};
+ghost use Rattle.spec_data.specs.Data.{array, depth, entries_of, items_depth, items_of, object};
 ghost use Rattle.spec_data.specs.Json.{reading};
+ghost use Rattle.spec_data.specs.Limits.{max_depth};
 ghost use Rattle.spec_data.specs.Members.{member};
 ghost use Rattle.spec_server.specs.Script.{bulk_read, command_read, commands_of as spec_commands_of, commands_read as spec_commands_read, delete_command as spec_delete_command, id_member as spec_id_member, list_member, object_read, put_command as spec_put_command, typed_command as spec_typed_command, vector_member as spec_vector_member};
 ghost use Rattle.raven_value.specs.View.{data_of};
@@ -11,7 +12,7 @@ ghost use Rattle.raven_request.specs.RequestView.{Reads, request_view};
 use crate::body::{bad_member, id_of, json_of, object_of, taken};
 use crate::request::{ReadRefusal, Request};
 use doc_txn::{Command, Commands, Expect};
-use raven_value::{Id, Members, Value, Values};
+use raven_value::{Id, Members, Shallow, Value, Values};
 use std::alloc::Global;
 
 #[tactic(auto, using(crate::proofs::Readings::members))]
@@ -35,15 +36,21 @@ fn vector_member(alloc: Global, value: Option<&Value>) -> Result<Expect, ReadRef
     }
 }
 
-fn document_member(alloc: Global, mut members: Members) -> Result<Value, ReadRefusal>
-    ensures { Reads (λ document. data_of document) result (object_read (codes "Document") (member (codes "Document") (entries_of members))) }
+#[tactic(auto, using(crate::proofs::Depths::depths))]
+fn document_member(alloc: Global, mut members: Members) -> Result<Shallow, ReadRefusal>
+    requires { depth (object (entries_of members)) ≤ max_depth }
+    ensures { Reads (λ document. document) result (object_read (codes "Document") (member (codes "Document") (entries_of members))) }
 {
-    object_of(alloc, "Document", taken(alloc, &mut members, "Document")?)
+    match object_of(alloc, "Document", taken(alloc, &mut members, "Document")?) {
+        Ok(document) => Ok(Shallow::of(document)),
+        Err(refusal) => Err(refusal),
+    }
 }
 
 // A put, into which the document is moved.
 #[tactic(auto, using(crate::proofs::Readings::readings))]
 fn put_command(alloc: Global, members: Members) -> Result<Command, ReadRefusal>
+    requires { depth (object (entries_of members)) ≤ max_depth }
     ensures { Reads command_view result (spec_put_command (entries_of members)) }
 {
     let id = match id_member(alloc, members.get("Id")) {
@@ -76,6 +83,7 @@ fn delete_command(alloc: Global, members: &Members) -> Result<Command, ReadRefus
 
 #[tactic(auto, using(crate::proofs::Readings::members))]
 fn typed_command(alloc: Global, members: Members) -> Result<Command, ReadRefusal>
+    requires { depth (object (entries_of members)) ≤ max_depth }
     ensures { Reads command_view result (spec_typed_command (member (codes "Type") (entries_of members)) (entries_of members)) }
 {
     let Some(Value::Text(text)) = members.get("Type") else {
@@ -94,6 +102,7 @@ fn typed_command(alloc: Global, members: Members) -> Result<Command, ReadRefusal
 
 #[tactic(auto, using(crate::proofs::Readings::members))]
 fn command_of(alloc: Global, value: Value) -> Result<Command, ReadRefusal>
+    requires { depth (data_of value) ≤ max_depth }
     ensures { Reads command_view result (command_read (data_of value)) }
 {
     match value {
@@ -102,8 +111,9 @@ fn command_of(alloc: Global, value: Value) -> Result<Command, ReadRefusal>
     }
 }
 
-#[tactic(auto, using(crate::proofs::Readings::lists))]
+#[tactic(auto, using(crate::proofs::Readings::lists, crate::proofs::Depths::list_depths))]
 fn commands_read(alloc: Global, values: Vec<Value>) -> Result<Vec<Command>, ReadRefusal>
+    requires { items_depth (items_of (map data_of values.items)) ≤ max_depth }
     ensures { Reads (λ commands. map command_view commands.items) result (spec_commands_read (map data_of values.items)) }
 {
     let mut commands = Vec::new(alloc);
@@ -121,6 +131,7 @@ fn commands_read(alloc: Global, values: Vec<Value>) -> Result<Vec<Command>, Read
 
 #[tactic(auto, using(crate::proofs::Readings::members))]
 fn listed(alloc: Global, values: Values) -> Result<Commands, ReadRefusal>
+    requires { depth (array (items_of values)) ≤ max_depth }
     ensures { Reads (λ commands. map command_view commands) result (list_member (Some (array (items_of values)))) }
 {
     match commands_read(alloc, values.into_vec()) {
@@ -131,6 +142,7 @@ fn listed(alloc: Global, values: Values) -> Result<Commands, ReadRefusal>
 
 #[tactic(auto, using(crate::proofs::Readings::members))]
 fn commands_in(alloc: Global, value: Option<Value>) -> Result<Commands, ReadRefusal>
+    requires { IfSome (option_map (λ v. data_of v) value) (λ d. depth d ≤ max_depth) }
     ensures { Reads (λ commands. map command_view commands) result (list_member (option_map (λ v. data_of v) value)) }
 {
     match value {
@@ -139,9 +151,10 @@ fn commands_in(alloc: Global, value: Option<Value>) -> Result<Commands, ReadRefu
     }
 }
 
-/// The commands of a body that has them in its member `Commands`. Their documents are moved out of the body.
-#[tactic(auto, using(crate::proofs::Readings::members))]
-pub fn commands_of(alloc: Global, value: Value) -> Result<Commands, ReadRefusal>
+// The commands of a body that has them in its member `Commands`. Their documents are moved out of the body.
+#[tactic(auto, using(crate::proofs::Readings::members, crate::proofs::Depths::depths))]
+fn commands_of(alloc: Global, value: Value) -> Result<Commands, ReadRefusal>
+    requires { depth (data_of value) ≤ max_depth }
     ensures { Reads (λ commands. map command_view commands) result (spec_commands_of (data_of value)) }
 {
     match value {

@@ -9,7 +9,7 @@ mod refusal;
 mod request;
 
 pub use body::{bad_member, delete_of, id_of, json_of, name_of, object_of, put_of};
-pub use commands::{bulk_of, commands_of};
+pub use commands::bulk_of;
 pub use definition::{define_of, definition_of};
 pub use query::{ask_of, query_of, query_of_json};
 pub use refusal::reply_to_refusal;

@@ -13,20 +13,18 @@ use doc_txn::{BaseId, spelling};
 use index_definition::definition_value;
 use raven_base::NoMemory;
 use raven_reply::{Listing, Listings, Reply};
-use raven_value::{Body, Document, Id, Name, Row, Text, Value};
+use raven_value::{Body, Document, Id, Name, Row, Text};
 use side_by_side::Slot;
 use std::alloc::Global;
 
 // The reply that shows a document. It shares the document that is stored.
-#[tactic(auto, using(crate::proofs::Shown::documents))]
 fn shown(alloc: Global, base: &BaseId, row: &Row, document: &Document) -> Result<Reply, NoMemory>
     ensures { IfOk result (λ reply. reply_view reply ≡ DocumentOf (spec_shown base.now row.now document.now)) }
 {
-    let value = document.value();
-    let metadata = shown_metadata(alloc, base, row, value.get("@metadata"))?;
+    let metadata = shown_metadata(alloc, base, row, document)?;
     Ok(Reply::Document {
         document: document.clone()?,
-        metadata: Value::Map(metadata),
+        metadata,
     })
 }
 

@@ -10,7 +10,8 @@ use crate::page::page_of;
 use crate::reading::entries_of;
 use map_stage::{Entry, Lookup};
 use raven_base::{NoMemory, Steps};
-use raven_value::{Id, Ids, Members, Values};
+use raven_json::{ShownList, ShownMembers};
+use raven_value::{Id, Ids};
 use rql_filter::{Entries, matching};
 use rql_plan::{Condition, Plan};
 use rql_results::{Show, documents_of, included, results_of};
@@ -25,9 +26,9 @@ pub struct Found {
     /// How many entries meet the condition.
     pub total: u64,
     /// What is shown of the documents of the page.
-    pub results: Values,
+    pub results: ShownList,
     /// The included documents under their ids.
-    pub includes: Members,
+    pub includes: ShownMembers,
 }
 
 fn ids_of(alloc: Global, entries: &[(&Id, &Entry)]) -> Result<Ids, NoMemory>

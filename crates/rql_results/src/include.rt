@@ -8,7 +8,8 @@ use crate::documents::{Found, document_at};
 use crate::show::Show;
 use map_stage::Lookup;
 use raven_base::NoMemory;
-use raven_value::{Id, IdRefusal, Members, Path, Text, Value};
+use raven_json::{ShownMembers, value_of};
+use raven_value::{Document, Id, IdRefusal, Path, Text, Value};
 use std::alloc::Global;
 
 /// The text at a path, if there is one.
@@ -26,8 +27,8 @@ fn with_document<W: Show>(
     alloc: Global,
     show: &W,
     document: Option<Found>,
-    mut included: Members,
-) -> Result<Members, NoMemory>
+    mut included: ShownMembers,
+) -> Result<ShownMembers, NoMemory>
     ensures { IfOk result (λ members. members ≡ spec_with_document (W.shown show.now) (option_map found_in document.entry) included) }
 {
     if let Some(found) = document {
@@ -44,8 +45,8 @@ pub(crate) fn with_named<T: Lookup, W: Show>(
     rows: &T,
     show: &W,
     text: Option<&Text>,
-    included: Members,
-) -> Result<Members, NoMemory>
+    included: ShownMembers,
+) -> Result<ShownMembers, NoMemory>
     ensures { IfOk result (λ members. members ≡ spec_with_named (W.shown show.now) (T.rows rows.now) (option_map (λ text. text.now) text.entry) included) }
 {
     let Some(text) = text else {
@@ -65,14 +66,32 @@ fn with_included<T: Lookup, W: Show>(
     show: &W,
     document: &Value,
     paths: &[Path],
-    mut included: Members,
-) -> Result<Members, NoMemory>
+    mut included: ShownMembers,
+) -> Result<ShownMembers, NoMemory>
     ensures { IfOk result (λ members. members ≡ spec_with_included (W.shown show.now) (T.rows rows.now) (text_in_document (data_of document.now)) paths.now included) }
 {
     for path in paths {
         included = with_named(alloc, rows, show, text_at(document, path), included)?;
     }
     Ok(included)
+}
+
+/// With the documents to which a document leads by these paths. If there are any, its text is read.
+fn with_those_of<T: Lookup, W: Show>(
+    alloc: Global,
+    rows: &T,
+    show: &W,
+    document: &Document,
+    paths: &[Path],
+    included: ShownMembers,
+) -> Result<ShownMembers, NoMemory>
+    ensures { IfOk result (λ members. members ≡ spec_with_included (W.shown show.now) (T.rows rows.now) (text_in_document document.now) paths.now included) }
+{
+    if paths.is_empty() {
+        return Ok(included);
+    }
+    let value = value_of(alloc, document)?;
+    with_included(alloc, rows, show, &value, paths, included)
 }
 
 /// The documents to which these documents lead: those whose ids are the texts at the paths, each under its id. What is no id, or
@@ -83,13 +102,12 @@ pub fn included<T: Lookup, W: Show>(
     show: &W,
     documents: &[Found],
     paths: &[Path],
-) -> Result<Members, NoMemory>
+) -> Result<ShownMembers, NoMemory>
     ensures { IfOk result (λ members. members ≡ spec_included (W.shown show.now) (T.rows rows.now) paths.now (map found_in documents.now) []) }
 {
-    let mut members = Members::new(alloc);
+    let mut members = ShownMembers::new(alloc);
     for found in documents {
-        let document = found.document.value();
-        members = with_included(alloc, rows, show, document, paths, members)?;
+        members = with_those_of(alloc, rows, show, found.document, paths, members)?;
     }
     Ok(members)
 }

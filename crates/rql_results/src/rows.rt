@@ -13,7 +13,8 @@ use crate::show::Show;
 use index_definition::joined_name;
 use map_stage::{Entry, Lookup};
 use raven_base::NoMemory;
-use raven_value::{Members, Path, Scalar, Text, Value, Values};
+use raven_json::{Shown, ShownList, ShownMembers};
+use raven_value::{Members, Path, Scalar, Text, Value};
 use rql_plan::{Selected, field_name};
 use rql_tree::Field;
 use std::alloc::Global;
@@ -73,13 +74,13 @@ fn members_of(alloc: Global, row: &Entry, columns: &[Selected]) -> Result<Member
 }
 
 /// An object of all fields of the row, or of the columns.
-fn result_of(alloc: Global, row: &Entry, columns: &[Selected]) -> Result<Value, NoMemory>
-    ensures { IfOk result (λ value. data_of value ≡ spec_row_result columns.now row.now) }
+fn result_of(alloc: Global, row: &Entry, columns: &[Selected]) -> Result<Shown, NoMemory>
+    ensures { IfOk result (λ shown. shown ≡ spec_row_result columns.now row.now) }
 {
     if columns.is_empty() {
-        return Ok(Value::Map(all_members(alloc, row)?));
+        return Ok(Shown::of_value(Value::Map(all_members(alloc, row)?)));
     }
-    Ok(Value::Map(members_of(alloc, row, columns)?))
+    Ok(Shown::of_value(Value::Map(members_of(alloc, row, columns)?)))
 }
 
 /// What is shown of each of these rows: an object of all its fields, or of the columns.
@@ -87,10 +88,10 @@ pub fn results_of_rows(
     alloc: Global,
     rows: &[&Entry],
     columns: &[Selected],
-) -> Result<Values, NoMemory>
+) -> Result<ShownList, NoMemory>
     ensures { IfOk result (λ results. results ≡ map (spec_row_result columns.now) (map (λ r. r.now) rows.now)) }
 {
-    let mut results = Values::new(alloc);
+    let mut results = ShownList::new(alloc);
     for row in rows {
         results.push(result_of(alloc, row, columns)?)?;
     }
@@ -115,8 +116,8 @@ fn with_row<T: Lookup, W: Show>(
     show: &W,
     row: &Entry,
     paths: &[Path],
-    mut included: Members,
-) -> Result<Members, NoMemory>
+    mut included: ShownMembers,
+) -> Result<ShownMembers, NoMemory>
     ensures { IfOk result (λ members. members ≡ spec_with_included (W.shown show.now) (T.rows rows.now) (spec_text_in_row row.now) paths.now included) }
 {
     for path in paths {
@@ -133,10 +134,10 @@ pub fn included_by_rows<T: Lookup, W: Show>(
     show: &W,
     found: &[&Entry],
     paths: &[Path],
-) -> Result<Members, NoMemory>
+) -> Result<ShownMembers, NoMemory>
     ensures { IfOk result (λ members. members ≡ spec_included_by (W.shown show.now) (T.rows rows.now) paths.now (map (λ r. r.now) found.now) []) }
 {
-    let mut members = Members::new(alloc);
+    let mut members = ShownMembers::new(alloc);
     for row in found {
         members = with_row(alloc, rows, show, row, paths, members)?;
     }

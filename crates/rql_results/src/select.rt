@@ -8,7 +8,8 @@ ghost use Rattle.rql_results.specs.Documents.{found_in, result_of as spec_result
 use crate::documents::Found;
 use crate::show::Show;
 use raven_base::NoMemory;
-use raven_value::{Document, Members, Value, Values};
+use raven_json::{Shown, ShownList, value_of};
+use raven_value::{Document, Members, Value};
 use rql_plan::Selected;
 use rql_tree::Field;
 use std::alloc::Global;
@@ -36,20 +37,29 @@ fn members_of(alloc: Global, document: &Value, columns: &[Selected]) -> Result<M
     Ok(members)
 }
 
+// The columns of a document, whose text is read.
+fn members_in(alloc: Global, document: &Document, columns: &[Selected]) -> Result<Members, NoMemory>
+    ensures { IfOk result (λ members. members ≡ spec_members_of (spec_in_document document.now) columns.now []) }
+{
+    let value = value_of(alloc, document)?;
+    members_of(alloc, &value, columns)
+}
+
 /// The whole document, or an object of the columns.
 fn result_of<W: Show>(
     alloc: Global,
     show: &W,
     found: &Found,
     columns: &[Selected],
-) -> Result<Value, NoMemory>
-    ensures { IfOk result (λ value. data_of value ≡ spec_result_of (W.shown show.now) columns.now (found_in found.now)) }
+) -> Result<Shown, NoMemory>
+    ensures { IfOk result (λ shown. shown ≡ spec_result_of (W.shown show.now) columns.now (found_in found.now)) }
 {
     let document: &Document = found.document;
     if columns.is_empty() {
         return show.show(alloc, found.row, document);
     }
-    Ok(Value::Map(members_of(alloc, document.value(), columns)?))
+    let members = members_in(alloc, document, columns)?;
+    Ok(Shown::of_value(Value::Map(members)))
 }
 
 /// What is shown of each of these documents: the whole document, or an object of the columns.
@@ -58,10 +68,10 @@ pub fn results_of<W: Show>(
     show: &W,
     documents: &[Found],
     columns: &[Selected],
-) -> Result<Values, NoMemory>
+) -> Result<ShownList, NoMemory>
     ensures { IfOk result (λ results. results ≡ map (spec_result_of (W.shown show.now) columns.now) (map found_in documents.now)) }
 {
-    let mut results = Values::new(alloc);
+    let mut results = ShownList::new(alloc);
     for found in documents {
         results.push(result_of(alloc, show, found, columns)?)?;
     }

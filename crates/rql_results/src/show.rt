@@ -2,10 +2,10 @@
 ghost use Rattle.std.specs.Prelude.{◌≡◌, IfOk};
 ghost use Rattle.spec_data.specs.Data.{Data};
 ghost use Rattle.spec_data.specs.Rows as is;
-ghost use Rattle.raven_value.specs.View.{data_of};
 
 use raven_base::NoMemory;
-use raven_value::{Document, Row, Value};
+use raven_json::Shown;
+use raven_value::{Document, Row};
 use std::alloc::Global;
 
 /// How a whole document is shown to a client.
@@ -14,6 +14,6 @@ pub trait Show {
     ghost shown: { Self → is.Row → Data → Data };
 
     /// What is shown of a row and its document.
-    fn show(&self, alloc: Global, row: &Row, document: &Document) -> Result<Value, NoMemory>
-        ensures { IfOk result (λ value. data_of value ≡ shown self.now row.now document.now) };
+    fn show(&self, alloc: Global, row: &Row, document: &Document) -> Result<Shown, NoMemory>
+        ensures { IfOk result (λ found. found ≡ shown self.now row.now document.now) };
 }

@@ -22,8 +22,8 @@ returns-in-EtagsSpent c = subst (λ r. OnOk c.write_error_at_with-in-EtagsSpent.
     (sym c.in-EtagsSpent.is) c.write_error_at_with-in-EtagsSpent.ensures
 
 pub returns-in-Document : goal.returns-in-Document
-returns-in-Document c = subst (λ r. OnOk c.write_document.result (c.write_document.new.out.items ≡ c.args.out.now.items ++ text_of (reply_data (reply_view r))))
-    (sym c.in-Document.is) c.write_document.ensures
+returns-in-Document c = subst (λ r. OnOk c.write_shown.result (c.write_shown.new.out.items ≡ c.args.out.now.items ++ text_of (reply_data (reply_view r))))
+    (sym c.in-Document.is) c.write_shown.ensures
 
 pub returns-in-Answer : goal.returns-in-Answer
 returns-in-Answer c =

@@ -1,8 +1,7 @@
-use Rattle.std.proofs.Common.{◌≡◌, ◌++◌, drop, false, map}
+use Rattle.std.proofs.Common.{◌≡◌, ◌++◌, drop, false}
 use Rattle.spec_data.specs.Data.{items_of}
 use Rattle.spec_data.specs.Written.{items_text}
-use Rattle.raven_value.specs.View.{data_of}
 use Rattle.raven_reply.proofs.values.write_items.Given as goal
 
 abbrev pub invariant-loop-item : goal.invariant-loop-item
-invariant-loop-item l = l.out.items ++ items_text l.later (items_of (map data_of (drop l.item-index l.items))) ≡ l.fn.out.items ++ items_text false (items_of (map data_of l.items))
+invariant-loop-item l = l.out.items ++ items_text l.later (items_of (drop l.item-index l.items)) ≡ l.fn.out.items ++ items_text false (items_of l.items)
