@@ -1,11 +1,12 @@
 #!/usr/bin/env python3
-"""Tries what README.md and the pages of docs/ point at: each relative link, and each path and each name of the code in backticks.
+"""Tries what README.md, that of bench/ and the pages of docs/ point at: each relative link, and each path and each name of the code in backticks.
 
     tools/links.py
 
 It prints each that leads nowhere; the status is then 1. What is made by a build, in a folder `out`, is passed over. A name of the code
 is one with `_` or `::` in it. Each word of it has to stand somewhere in crates/, tools/ or bench/, so a law or a clause that was given another name
-is found. Parts of pages that are made are passed over too: tools/pages.py checks them.
+is found. A call of a type, as `Live::open`, has to be among the public calls of docs/calls.md. Parts of pages that are made are passed over
+too: tools/pages.py checks them.
 """
 
 import collections.abc
@@ -16,6 +17,8 @@ import sys
 TOP = pathlib.Path(__file__).resolve().parents[1]
 MADE = re.compile(r"<!-- (\w+): made.*?<!-- \1: end -->", re.DOTALL)
 NAME = re.compile(r"`(\w+(?:::\w+)+|[A-Za-z]\w*_\w+)`")
+CALL = re.compile(r"`([A-Z]\w*::\w+)(?:\(|`)")
+LISTED = re.compile(r"^- `([\w:]+)`", re.MULTILINE)
 CODE = {".rt", ".antt", ".py", ".sql", ".txt", ".edit", ""}
 BLOCK = re.compile(r"^```.*?^```$", re.MULTILINE | re.DOTALL)
 LINK = re.compile(r"\]\(([^)\s]+)\)")
@@ -67,6 +70,11 @@ def lost_names(text: str, words: set[str]) -> collections.abc.Iterator[str]:
             yield name
 
 
+def lost_calls(text: str, listed: set[str]) -> list[str]:
+    """The calls of types that are not among those listed."""
+    return sorted(set(CALL.findall(MADE.sub("", text))) - listed)
+
+
 def is_there(target: pathlib.Path) -> bool:
     if "*" in target.name:
         return any(target.parent.glob(target.name))
@@ -75,7 +83,8 @@ def is_there(target: pathlib.Path) -> bool:
 
 def main() -> int:
     count, lost, words = 0, 0, words_of_code()
-    for page in [TOP / "README.md", *sorted((TOP / "docs").glob("*.md"))]:
+    listed = set(LISTED.findall((TOP / "docs/calls.md").read_text()))
+    for page in [TOP / "README.md", TOP / "bench/README.md", *sorted((TOP / "docs").glob("*.md"))]:
         text = BLOCK.sub("", page.read_text())
         for name, target in links_of(page, text) + paths_of(text):
             count += 1
@@ -88,6 +97,9 @@ def main() -> int:
         for name in lost_names(text, words):
             lost += 1
             print(f"{page.relative_to(TOP)}: {name} stands nowhere in the code")
+        for name in lost_calls(text, listed):
+            lost += 1
+            print(f"{page.relative_to(TOP)}: {name} is no public call")
     print(f"{lost} of {count} links and paths lead nowhere")
     return 1 if lost else 0
 

@@ -26,8 +26,8 @@ use Rattle.raven_lines.specs.SaysQuery.{SaysQuery}
 use Rattle.index_lang.specs.Says.{Says}
 use Rattle.raven_reading.proofs.AskedLemmas.{query-asked}
 use Rattle.raven_reading.proofs.Formed.{query-formed}
-use Rattle.raven_reading.proofs.PairLemmas.{member-depth, member-sound}
-use Rattle.raven_reading.proofs.SoundLemmas.{IsFine, reading-fine}
+use Rattle.raven_json.proofs.PairLemmas.{member-depth, member-sound}
+use Rattle.raven_json.proofs.SoundLemmas.{IsFine, reading-fine}
 use Rattle.raven_reading.proofs.TextLemmas.{said-by}
 use Rattle.http_front.specs.Asked.{IsFormedRequest}
 use Rattle.http_front.proofs.Utf8.{lossy-utf8}

@@ -23,7 +23,7 @@ use Rattle.spec_store.proofs.StoreLemmas.{both_true}
 use Rattle.spec_data.proofs.MemberLemmas.{IsRising-put, pairs_of-entries_of}
 use Rattle.index_lang.specs.Openings.{IsOfForm}
 use Rattle.raven_reading.specs.Requests.{AreAll, ArePaths, IsPart, IsPath, IsRequestBody}
-use Rattle.raven_reading.proofs.PairLemmas.{ArePairsSound, member-depth, member-sound, object-sound, put-depth, put-sound}
+use Rattle.raven_json.proofs.PairLemmas.{ArePairsSound, member-depth, member-sound, object-sound, put-depth, put-sound}
 use Rattle.raven_reopening.specs.Form.{IsStorable, AreKept, IsKept}
 use Rattle.raven_reopening.proofs.ReadLemmas.{IsReadBack, document-back}
 

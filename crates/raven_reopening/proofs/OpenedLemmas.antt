@@ -23,7 +23,7 @@ use Rattle.raven_laws.proofs.SlotLemmas.{Has-append}
 use Rattle.index_lang.specs.Openings.{AreReadRows, IsInBody, IsOpened, IsOpenedBy, IsReadIf, IsReadRow}
 use Rattle.raven_reopening.proofs.ReadLemmas.{IsReadBack, IsBodyBack, IsBack}
 use Rattle.raven_reopening.proofs.RightLemmas.{IsRight}
-use Rattle.raven_reading.proofs.SoundLemmas.{reading-fine}
+use Rattle.raven_json.proofs.SoundLemmas.{reading-fine}
 use Rattle.raven_reading.proofs.TextLemmas.{body-told}
 use Rattle.raven_reading.specs.Requests.{IsRequestBody}
 use Rattle.raven_reopening.proofs.BodyLemmas.{static-stored, stored-kept}

@@ -15,16 +15,14 @@ use Rattle.raven_base.specs.contracts.shared.Shared as Shared
 use Rattle.raven_value.proofs.id.Id.TheSendSync as id
 use Rattle.raven_value.proofs.name.Name.TheSendSync as name
 use Rattle.raven_value.proofs.path.Path.TheSendSync as path
+use Rattle.raven_value.proofs.row.Row.TheSendSync as stored
 use Rattle.raven_value.proofs.scalar.Scalar.TheSendSync as scalar
 use Rattle.raven_value.proofs.short.Short.TheSendSync as short
 use Rattle.raven_value.proofs.text.Held.TheSendSync as held
 use Rattle.raven_value.proofs.text.Text.TheSendSync as text
-use Rattle.raven_value.proofs.value.Members.TheLaws.TheKnot as value
 use Rattle.raven_value.specs.contracts.path.Path as Path
-use Rattle.raven_value.specs.contracts.row.Document as Document
 use Rattle.raven_value.specs.contracts.row.Row as Row
 use Rattle.raven_value.specs.contracts.text.Text as Text
-use Rattle.raven_value.specs.contracts.value.Value as Value
 use Rattle.index_tree.proofs.expression.BinaryOp.TheSendSync as binary
 use Rattle.index_tree.proofs.expression.UnaryOp.TheSendSync as unary
 use Rattle.index_tree.proofs.expression.Expr.TheLaws.TheKnot as expression
@@ -81,29 +79,11 @@ module _ (K V : RattleType) (o : ord.Ghosts K.Denot) (e : eq.Ghosts K.Denot) (p 
   paged_sync : IsSend K → IsSync K → IsSend V → IsSync V → IsSync (PagedMap.the_field K V o e p).row
   paged_sync ks ky vs vy = search (sendable, crosses, pages) depth 60 fits 4000
 
-value_send : IsSend Value.the_row
-value_send = search (sendable, crosses, texts, value.both_send-Values, value.both_send-Members) depth 60 fits 4000
-
-value_sync : IsSync Value.the_row
-value_sync = search (sendable, crosses, texts, value.both_sync-Values, value.both_sync-Members) depth 60 fits 4000
-
-document_send : IsSend Document.the_row
-document_send = search (sendable, crosses, value_send, value_sync) depth 60 fits 4000
-
-document_sync : IsSync Document.the_row
-document_sync = search (sendable, crosses, value_send, value_sync) depth 60 fits 4000
-
-row_send : IsSend Row.the_row
-row_send = search (sendable, crosses, id.the_send, text.the_send, document_send) depth 60 fits 4000
-
-row_sync : IsSync Row.the_row
-row_sync = search (sendable, crosses, id.the_sync, text.the_sync, document_sync) depth 60 fits 4000
-
 shared_row_send : IsSend (Shared.the_row Row.the_row)
-shared_row_send = shared.the_send Row.the_row row_send row_sync
+shared_row_send = shared.the_send Row.the_row stored.the_send stored.the_sync
 
 shared_row_sync : IsSync (Shared.the_row Row.the_row)
-shared_row_sync = shared.the_sync Row.the_row row_send row_sync
+shared_row_sync = shared.the_sync Row.the_row stored.the_send stored.the_sync
 
 by_etag_send : IsSend RowsByEtag.the_row
 by_etag_send = search (sendable, crosses, shared_row_send, shared_row_sync, pages) depth 60 fits 4000

@@ -6,6 +6,8 @@ mod batches;
 #[cfg(test)]
 mod crew;
 #[cfg(test)]
+mod documents;
+#[cfg(test)]
 mod job;
 #[cfg(test)]
 mod keepers;

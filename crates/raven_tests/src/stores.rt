@@ -4,8 +4,8 @@ ghost use Rattle.std.specs.Prelude.{◌≡◌, ◌≤◌};
 use doc_store::Store;
 use doc_txn::{BaseId, Command, Commands, Expect, Limits, TxnFault, TxnKind, Writer, commit};
 use raven_base::{NoMemory, Steps};
-use raven_json::read;
-use raven_value::{Body, Document, Id, Row, Rows, Scope, Text};
+use raven_json::{document_of, read};
+use raven_value::{Body, Id, Row, Rows, Scope, Shallow, Text};
 use std::alloc::Global;
 use std::marker::Brand;
 use std::sync::ledger::{Blank, Ledger};
@@ -16,7 +16,7 @@ fn body(alloc: Global, json: &str) -> Result<Body, Fail> {
         return Ok(Body::Gone);
     }
     let value = read(alloc, json.as_bytes())?;
-    Ok(Body::Doc(Document::of(alloc, value)?))
+    Ok(Body::Doc(document_of(alloc, &value)?))
 }
 
 fn row(alloc: Global, etag: u64, id: &str, collection: &str, json: &str) -> Result<Row, Fail> {
@@ -131,7 +131,7 @@ fn puts(alloc: Global, ids: &[&str]) -> Result<Commands, Fail> {
         commands.push(Command::Put {
             id: Id::new(alloc, id)?,
             expected: Expect::Any,
-            body: read(alloc, b"{}")?,
+            body: Shallow::of(read(alloc, b"{}")?),
         })?;
     }
     Ok(commands)

@@ -1,4 +1,4 @@
-use Rattle.raven_reading.proofs.SoundLemmas.{reading-fine}
+use Rattle.raven_json.proofs.SoundLemmas.{reading-fine}
 use Rattle.raven_reopening.proofs.kept.what_is_read_is_sound.Goals as goal
 
 pub returns-clause-sound : goal.returns-clause-sound
