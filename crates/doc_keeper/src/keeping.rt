@@ -3,9 +3,10 @@ ghost use Rattle.std.specs.Prelude.{◌≡◌, IfOk};
 ghost use Rattle.spec_data.specs.Kept.{all_kept as spec_all_kept, body_text as spec_body_text, kept as spec_kept};
 ghost use Rattle.raven_value.specs.RowView.{body_of};
 
+use doc_store::Rows;
 use raven_base::{NoMemory, Sequence};
 use raven_ports::{KeptRow, KeptRows};
-use raven_value::{Body, Row, Rows, Text};
+use raven_value::{Body, Row, Text};
 use std::alloc::Global;
 
 // The text of the document, which is shared.
@@ -37,7 +38,7 @@ pub fn all_kept(alloc: Global, rows: &Rows) -> Result<KeptRows, NoMemory>
 {
     let mut all = Sequence::new(alloc);
     for row in rows.as_slice() {
-        all.push(kept(row)?)?;
+        all.push(kept(row.get())?)?;
     }
     Ok(all)
 }

@@ -10,11 +10,11 @@ ghost use Rattle.raven_ports.specs.Faults.{Rose};
 ghost use Rattle.raven_ports.specs.Plan.{one_later};
 
 use crate::form::row_of;
-use doc_store::{OpenFault, Store};
+use doc_store::{OpenFault, Rows, Store};
 use doc_txn::Limits;
-use raven_base::{NoMemory, Sequence};
+use raven_base::{NoMemory, Sequence, Shared};
 use raven_ports::{Keeper, KeeperFault, KeptRow, KeptRows};
-use raven_value::{Row, Rows};
+use raven_value::Row;
 use std::alloc::Global;
 use thiserror::Error;
 
@@ -49,11 +49,11 @@ impl From<NoMemory> for LoadFault {
 }
 
 // The etag of the last row, or 0.
-fn last_of(rows: &[Row]) -> u64
+fn last_of(rows: &[Shared<Row>]) -> u64
     ensures { result ≡ spec_last_of 0 rows.now }
 {
     match rows.last() {
-        Some(row) => row.etag,
+        Some(row) => row.get().etag,
         None => 0,
     }
 }
@@ -82,7 +82,7 @@ fn add_row(
     if !has_place(rows, &row, max) {
         return Ok(Some(kept.etag));
     }
-    rows.push(row)?;
+    rows.push(Shared::of(alloc, row)?)?;
     Ok(None)
 }
 

@@ -41,7 +41,7 @@ never q other (x ∷ rows) =
 
 -- BY ID
 
-keyed : (ids : List (List ℕ × Row)) → IsRising id_cmp ids → AreFiled ids → AreKeyed (rows_in ids)
+pub keyed : (ids : List (List ℕ × Row)) → IsRising id_cmp ids → AreFiled ids → AreKeyed (rows_in ids)
 keyed [] up filed = tt
 keyed (e ∷ []) up filed = (tt, tt)
 keyed (e ∷ d ∷ ids) up filed = (ap (λ k. key_cmp k (key d.1)) (sym filed.0) ∙ ap (key_cmp (folded e.0)) (sym filed.1.0) ∙ up.0.0, keyed (d ∷ ids) up.1 filed.1)
@@ -52,7 +52,7 @@ found_in q (e ∷ ids) filed =
     ap (λ b. cond b (Some e.1) (row_at (folded q) (rows_in ids))) (ap (same_key (folded q)) (sym filed.0) ∙ sym (is_eq-slice_cmp (folded q) (folded e.0)))
     ∙ ap (cond (is_eq (id_cmp q e.0)) (Some e.1)) (found_in q ids filed.1)
 
-same_rows : (ids : List (List ℕ × Row)) (rows : List Row) → AreFiled ids → ((q : List ℕ) → lookup (is_at (id_cmp q)) ids ≡ row_at (folded q) rows)
+pub same_rows : (ids : List (List ℕ × Row)) (rows : List Row) → AreFiled ids → ((q : List ℕ) → lookup (is_at (id_cmp q)) ids ≡ row_at (folded q) rows)
     → (q : List ℕ) → row_at q (rows_in ids) ≡ row_at q rows
 same_rows ids rows filed is q =
     elim (same_key q (folded q)) as (λ b. same_key q (folded q) ≡ b → row_at q (rows_in ids) ≡ row_at q rows) [
@@ -84,7 +84,7 @@ AreKeyed-filter p (r ∷ rows) up =
       | false ↦ AreKeyed-filter p rows up.1
     ]
 
-keyed_apart : (rows : List Row) → AreKeyed rows → AreApart rows
+pub keyed_apart : (rows : List Row) → AreKeyed rows → AreApart rows
 keyed_apart [] up = tt
 keyed_apart (r ∷ rows) up = (row_at-below (key r) rows up.0 up.1, keyed_apart rows up.1)
 

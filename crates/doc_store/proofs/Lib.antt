@@ -1,8 +1,10 @@
 pub mod Grown
 pub mod FilterLemmas
 pub mod MapLemmas
+pub mod CountLemmas
 pub mod WalkLemmas
 pub mod NewestLemmas
 pub mod IdLemmas
+pub mod OrderLemmas
 pub mod OpeningLemmas
 pub mod SortLemmas

@@ -12,26 +12,27 @@ use Rattle.std.proofs.lemmas.List.Elements.{filter-append}
 use Rattle.std.proofs.lemmas.Map.Text.{is_eq-slice_cmp}
 use Rattle.std.proofs.lemmas.Slice.Eq.{bytes_eq-Decides}
 use Rattle.spec_data.specs.Folding.{folded, key_cmp, same_key}
-use Rattle.spec_data.specs.Rows.{Row, key}
+use Rattle.spec_data.specs.Rows.{Row, is_document, key}
 use Rattle.spec_store.specs.Store.{row_at, put, last_of, AreRising, AreApart, Store, IsStore, with_row}
 use Rattle.spec_store.proofs.StoreLemmas.{row_at-put, found_etag, found_passing, passing_found, none_still, same_means, same_row, last_of-put, AreRising-put, AreApart-put, AreRising-filter, last_of-append, last_of-filter}
 use Rattle.spec_store.proofs.KeyedLemmas.{key_ties}
 use Rattle.paged_map.specs.Pairs.{AllAnswer, IsRising}
 use Rattle.paged_map.proofs.Laws.{lookup-insert_entry, lookup-remove_entry, insert_last}
-use Rattle.doc_store.specs.Maps.{id_cmp, AreFiled, rows_in, by_etag, without_etag, etag_at, is_of, rows_of, ShowsByEtag, Shows}
+use Rattle.paged_map.proofs.Rising.{rising_insert}
+use Rattle.doc_store.specs.Maps.{id_cmp, AreFiled, rows_in, by_etag, without_etag, etag_in, is_of, rows_of, ShowsByEtag, Shows}
 use Rattle.doc_store.specs.Steps.{MayStand}
 use Rattle.doc_store.specs.Bounds.{IsWithin}
 use Rattle.doc_store.proofs.FilterLemmas.{filter-swap}
 
 -- NUMBERS
 
-less : (m n : ℕ) → m < n → nat_cmp m n ≡ Less
+pub less : (m n : ℕ) → m < n → nat_cmp m n ≡ Less
 less m n h = sym (nat_cmp_is m n Less h)
 
-equal : (m n : ℕ) → m ≡ n → nat_cmp m n ≡ Equal
+pub equal : (m n : ℕ) → m ≡ n → nat_cmp m n ≡ Equal
 equal m n h = sym (nat_cmp_is m n Equal h)
 
-greater : (m n : ℕ) → n < m → nat_cmp m n ≡ Greater
+pub greater : (m n : ℕ) → n < m → nat_cmp m n ≡ Greater
 greater m n h = sym (nat_cmp_is m n Greater h)
 
 -- BY ETAG
@@ -90,7 +91,7 @@ put-beside : (r : Row) (rows : List Row) → AreRising 0 rows → last_of 0 rows
 put-beside r rows up h = appended r (filter (other (key r)) rows) (AreRising-filter 0 (other (key r)) rows up) (below (key r) rows r.etag up h)
 
 -- the pairs without the etag of an id's row are the rows beside that of the id
-without-beside : (k : List ℕ) (rows : List Row) → IsStore (record { rows = rows }) → without_etag (etag_at k rows) (by_etag rows) ≡ by_etag (filter (λ x. not (same_key k (key x))) rows)
+without-beside : (k : List ℕ) (rows : List Row) → IsStore (record { rows = rows }) → without_etag (etag_in (row_at k rows)) (by_etag rows) ≡ by_etag (filter (λ x. not (same_key k (key x))) rows)
 without-beside k rows s =
     elim (row_at k rows) as (λ o. row_at k rows ≡ o → without_etag (option_map (λ (x : Row). x.etag) o) (by_etag rows) ≡ by_etag (filter (λ x. not (same_key k (key x))) rows)) [
       | None ↦ λ none. ap by_etag (sym (none_out k rows none))
@@ -98,21 +99,22 @@ without-beside k rows s =
     ] refl
 
 pub put_is : (rows : List Row) (r : Row) (pairs : List (ℕ × Row)) → IsStore (record { rows = rows }) → last_of 0 rows < r.etag
-    → pairs ≡ insert_entry nat_cmp (without_etag (etag_at (key r) rows) (by_etag rows)) r.etag r → pairs ≡ by_etag (put r rows)
+    → pairs ≡ insert_entry nat_cmp (without_etag (etag_in (row_at (key r) rows)) (by_etag rows)) r.etag r → pairs ≡ by_etag (put r rows)
 put_is rows r pairs s newer is = is ∙ ap (λ es. insert_entry nat_cmp es r.etag r) (without-beside (key r) rows s) ∙ put-beside r rows s.rising newer
 
 pub IsStore-put : (rows : List Row) (r : Row) → IsStore (record { rows = rows }) → last_of 0 rows < r.etag → IsStore (record { rows = put r rows })
 IsStore-put rows r s newer = record { rising = AreRising-put 0 r rows s.rising newer; apart = AreApart-put r rows s.apart }
 
-pub shown_by_etag : (pairs : List (ℕ × Row)) (last : ℕ) (rows : List Row) → rows_in pairs ≡ rows → ShowsByEtag pairs last (rows_in pairs) → ShowsByEtag pairs last rows
-shown_by_etag pairs last rows is s = subst (ShowsByEtag pairs last) is s
+pub shown_by_etag : (pairs : List (ℕ × Row)) (last documents : ℕ) (rows : List Row) → rows_in pairs ≡ rows → ShowsByEtag pairs last documents (rows_in pairs) → ShowsByEtag pairs last documents rows
+shown_by_etag pairs last documents rows is s = subst (ShowsByEtag pairs last documents) is s
 
-pub put_shown : (rows : List Row) (r : Row) (pairs : List (ℕ × Row)) (last : ℕ) → IsStore (record { rows = rows }) → last_of 0 rows < r.etag → pairs ≡ by_etag (put r rows) → last ≡ r.etag
-    → ShowsByEtag pairs last (rows_in pairs)
-put_shown rows r pairs last s newer is e = subst (ShowsByEtag pairs last) (sym (ap rows_in is ∙ rows_in-by_etag (put r rows))) (record {
+pub put_shown : (rows : List Row) (r : Row) (pairs : List (ℕ × Row)) (last documents : ℕ) → IsStore (record { rows = rows }) → last_of 0 rows < r.etag → pairs ≡ by_etag (put r rows) → last ≡ r.etag
+    → documents ≡ length (filter is_document (put r rows)) → ShowsByEtag pairs last documents (rows_in pairs)
+put_shown rows r pairs last documents s newer is e d = subst (ShowsByEtag pairs last documents) (sym (ap rows_in is ∙ rows_in-by_etag (put r rows))) (record {
   store = IsStore-put rows r s newer;
   pairs = is;
   last_is = e ∙ sym (last_of-put 0 r rows);
+  documents_are = d;
 })
 
 -- all rows at once
@@ -134,8 +136,10 @@ pub by_etag-rises : (low : ℕ) (rows : List Row) → AreRising low rows → IsR
 by_etag-rises low [] up = tt
 by_etag-rises low (r ∷ rows) up = (all_above r.etag r.etag rows (omega arith) up.1, by_etag-rises r.etag rows up.1)
 
-pub all_shown : (pairs : List (ℕ × Row)) (last : ℕ) (rows : List Row) → IsStore (record { rows = rows }) → pairs ≡ by_etag rows → last ≡ last_of 0 rows → ShowsByEtag pairs last (rows_in pairs)
-all_shown pairs last rows s is e = subst (ShowsByEtag pairs last) (sym (ap rows_in is ∙ rows_in-by_etag rows)) (record { store = s; pairs = is; last_is = e })
+pub all_shown : (pairs : List (ℕ × Row)) (last documents : ℕ) (rows : List Row) → IsStore (record { rows = rows }) → pairs ≡ by_etag rows → last ≡ last_of 0 rows → documents ≡ length (filter is_document rows)
+    → ShowsByEtag pairs last documents (rows_in pairs)
+all_shown pairs last documents rows s is e d =
+    subst (ShowsByEtag pairs last documents) (sym (ap rows_in is ∙ rows_in-by_etag rows)) (record { store = s; pairs = is; last_is = e; documents_are = d })
 
 -- BY ID
 
@@ -207,52 +211,54 @@ collections-with collections changed r rows apart same h is c =
     is c ∙ ap (λ xs. cond (is_of c r) (put r xs) xs) (h c) ∙ sym (filter-put (is_of c) r rows apart (λ x old. ap (λ w. bytes_eq w c) (same x old)))
 
 -- the row of an id is among those of its collection
-pub etag_at-of : (rows : List Row) (r : Row) → AreApart rows → ((x : Row) → row_at (key r) rows ≡ Some x → x.collection ≡ r.collection)
-    → etag_at (key r) rows ≡ etag_at (key r) (filter (is_of r.collection) rows)
-etag_at-of rows r apart same =
-    elim (row_at (key r) rows) as (λ o. row_at (key r) rows ≡ o → option_map (λ (x : Row). x.etag) o ≡ etag_at (key r) (filter (is_of r.collection) rows)) [
-      | None ↦ λ is. ap (option_map (λ (x : Row). x.etag)) (sym (none_still (is_of r.collection) (key r) rows apart is))
-      | Some x ↦ λ is. ap (option_map (λ (x : Row). x.etag)) (sym (passing_found (is_of r.collection) (key r) rows x apart is ((bytes_eq-Decides x.collection r.collection).1 (same x is))))
+row_at-of : (rows : List Row) (r : Row) → AreApart rows → ((x : Row) → row_at (key r) rows ≡ Some x → x.collection ≡ r.collection) → row_at (key r) rows ≡ row_at (key r) (filter (is_of r.collection) rows)
+row_at-of rows r apart same =
+    elim (row_at (key r) rows) as (λ o. row_at (key r) rows ≡ o → o ≡ row_at (key r) (filter (is_of r.collection) rows)) [
+      | None ↦ λ is. sym (none_still (is_of r.collection) (key r) rows apart is)
+      | Some x ↦ λ is. sym (passing_found (is_of r.collection) (key r) rows x apart is ((bytes_eq-Decides x.collection r.collection).1 (same x is)))
     ] refl
 
 -- IN THE CODE'S WORDS
 
-pub shown : (ids : List (List ℕ × Row)) (collections : List (List ℕ × List Row)) (rows : List Row) (S : Store) → record { rows = rows } ≡ S
-    → Shows ids collections rows → Shows ids collections S.rows
-shown ids collections rows S is s = subst (λ (T : Store). Shows ids collections T.rows) is s
+pub shown : (ids : List (List ℕ × Row)) (collections : List (List ℕ × List Row)) (last : ℕ) (rows : List Row) (S : Store) → record { rows = rows } ≡ S
+    → Shows ids collections last rows → Shows ids collections last S.rows
+shown ids collections last rows S is s = subst (λ (T : Store). Shows ids collections last T.rows) is s
 
 -- what the row has to meet among those of its collection
-pub replaced_among : (ids : List (List ℕ × Row)) (collections : List (List ℕ × List Row)) (S : Store) (r : Row) (replaced : Option ℕ)
-    → Shows ids collections S.rows → MayStand S r → replaced ≡ etag_at (key r) S.rows → replaced ≡ etag_at (key r) (rows_of collections r.collection)
-replaced_among ids collections S r replaced s m e =
-    e ∙ etag_at-of S.rows r s.kept.store.apart m.same ∙ ap (etag_at (key r)) (sym (s.by_collections r.collection))
+pub replaced_among : (ids : List (List ℕ × Row)) (collections : List (List ℕ × List Row)) (last : ℕ) (S : Store) (r : Row) (replaced : Option Row)
+    → Shows ids collections last S.rows → MayStand S r → replaced ≡ row_at (key r) S.rows → replaced ≡ row_at (key r) (rows_of collections r.collection)
+replaced_among ids collections last S r replaced s m e =
+    e ∙ row_at-of S.rows r s.kept.store.apart m.same ∙ ap (row_at (key r)) (sym (s.by_collections r.collection))
 
-pub newer_than : (ids : List (List ℕ × Row)) (collections : List (List ℕ × List Row)) (S : Store) (r : Row)
-    → Shows ids collections S.rows → MayStand S r → last_of 0 (rows_of collections r.collection) < r.etag
-newer_than ids collections S r s m =
+pub newer_than : (ids : List (List ℕ × Row)) (collections : List (List ℕ × List Row)) (last : ℕ) (S : Store) (r : Row)
+    → Shows ids collections last S.rows → MayStand S r → last_of 0 (rows_of collections r.collection) < r.etag
+newer_than ids collections last S r s m =
     let same = ap (last_of 0) (s.by_collections r.collection) in
     let no_more = last_of-filter 0 0 (is_of r.collection) S.rows s.kept.store.rising (omega arith) in
     let newer = m.newer in omega arith
 
-pub grown : (ids : List (List ℕ × Row)) (collections : List (List ℕ × List Row)) (S : Store) (r : Row) (ids2 : List (List ℕ × Row)) (collections2 : List (List ℕ × List Row)) (rows2 : List Row)
-    → Shows ids collections S.rows → MayStand S r → IsWithin (with_row S r) → ids2 ≡ insert_entry id_cmp ids r.id r
-    → ((c : List ℕ) → rows_of collections2 c ≡ cond (is_of c r) (put r (rows_of collections c)) (rows_of collections c)) → rows2 ≡ put r S.rows
-    → Shows ids2 collections2 rows2
-grown ids collections S r ids2 collections2 rows2 s m w a b c =
-    subst (Shows ids2 collections2) (sym c) (record {
-      kept = record { store = IsStore-put S.rows r s.kept.store m.newer; within = w };
-      by_ids = λ q. ap (lookup (is_at (id_cmp q))) a ∙ ids-with ids r S.rows s.by_ids q;
-      filed = subst AreFiled (sym a) (AreFiled-with ids r s.filed);
-      by_collections = collections-with collections collections2 r S.rows s.kept.store.apart m.same s.by_collections b;
-    })
+pub grown : (ids : List (List ℕ × Row)) (collections : List (List ℕ × List Row)) (last : ℕ) (S : Store) (r : Row) (ids2 : List (List ℕ × Row)) (collections2 : List (List ℕ × List Row)) (last2 : ℕ)
+    → Shows ids collections last S.rows → MayStand S r → IsWithin (with_row S r) → ids2 ≡ insert_entry id_cmp ids r.id r
+    → ((c : List ℕ) → rows_of collections2 c ≡ cond (is_of c r) (put r (rows_of collections c)) (rows_of collections c)) → last2 ≡ r.etag
+    → Shows ids2 collections2 last2 (put r S.rows)
+grown ids collections last S r ids2 collections2 last2 s m w a b e = record {
+  kept = record { store = IsStore-put S.rows r s.kept.store m.newer; within = w };
+  rising = subst (IsRising id_cmp) (sym a) (rising_insert id_cmp id_total r.id r ids s.rising);
+  filed = subst AreFiled (sym a) (AreFiled-with ids r s.filed);
+  by_ids = λ q. ap (lookup (is_at (id_cmp q))) a ∙ ids-with ids r S.rows s.by_ids q;
+  by_collections = collections-with collections collections2 r S.rows s.kept.store.apart m.same s.by_collections b;
+  last_is = e ∙ sym (last_of-put 0 r S.rows);
+}
 
 -- maps that are made of all rows at once
-pub all_show : (pairs ids : List (List ℕ × Row)) (collections : List (List ℕ × List Row)) (rows shared all : List Row) → all ≡ rows → shared ≡ rows → IsStore (record { rows = rows }) → IsWithin (record { rows = rows }) → ids ≡ pairs
-    → ((q : List ℕ) → lookup (is_at (id_cmp q)) pairs ≡ row_at (folded q) shared) → AreFiled pairs → ((c : List ℕ) → rows_of collections c ≡ filter (is_of c) shared) → Shows ids collections all
-all_show pairs ids collections rows shared all is same s w made found filed by_collections =
-    subst (Shows ids collections) (sym is) (record {
-      kept = record { store = s; within = w };
-      by_ids = λ q. ap (lookup (is_at (id_cmp q))) made ∙ found q ∙ ap (row_at (folded q)) same;
-      filed = subst AreFiled (sym made) filed;
-      by_collections = λ c. by_collections c ∙ ap (filter (is_of c)) same;
-    })
+pub all_show : (pairs ids : List (List ℕ × Row)) (collections : List (List ℕ × List Row)) (last : ℕ) (rows shared : List Row) → shared ≡ rows → IsStore (record { rows = rows }) → IsWithin (record { rows = rows }) → ids ≡ pairs
+    → ((q : List ℕ) → lookup (is_at (id_cmp q)) pairs ≡ row_at (folded q) shared) → AreFiled pairs → IsRising id_cmp pairs → ((c : List ℕ) → rows_of collections c ≡ filter (is_of c) shared) → last ≡ last_of 0 rows
+    → Shows ids collections last rows
+all_show pairs ids collections last rows shared same s w made found filed up by_collections e = record {
+  kept = record { store = s; within = w };
+  rising = subst (IsRising id_cmp) (sym made) up;
+  filed = subst AreFiled (sym made) filed;
+  by_ids = λ q. ap (lookup (is_at (id_cmp q))) made ∙ found q ∙ ap (row_at (folded q)) same;
+  by_collections = λ c. by_collections c ∙ ap (filter (is_of c)) same;
+  last_is = e;
+}

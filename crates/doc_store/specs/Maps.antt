@@ -1,12 +1,14 @@
 -- How the maps of a store show its rows.
-use Rattle.std.specs.Prelude.{◌≡◌, ℕ, List, [], ◌∷◌, Bool, false, Option, Some, None, if◌then◌else◌, nat_lt, map, filter, option_map, unwrap_or}
+use Rattle.std.specs.Prelude.{◌≡◌, ℕ, ◌+◌, List, [], ◌∷◌, Bool, false, Option, Some, None, if◌then◌else◌, nat_lt, map, filter, length, option_map, unwrap_or}
 use Rattle.std.specs.Str.{bytes_eq}
 use Rattle.std.specs.Ordering.{is_lt, nat_cmp, on}
 use Rattle.std.specs.declared.cmp.Ordering.{Ordering}
+use Rattle.std.specs.FinMap.{from_entries, values}
 use Rattle.std.specs.Map.{lookup, remove_entry}
 use Rattle.std.specs.BTreeMap.{is_at}
+use Rattle.paged_map.specs.Pairs.{IsRising}
 use Rattle.spec_data.specs.Folding.{folded, key_cmp}
-use Rattle.spec_data.specs.Rows.{Row, key}
+use Rattle.spec_data.specs.Rows.{Row, is_document, key}
 use Rattle.spec_store.specs.Store.{IsStore, row_at, last_of}
 use Rattle.doc_store.specs.Bounds.{IsKept}
 
@@ -31,14 +33,18 @@ by_id rows = map (λ r. (r.id, r)) rows
 abbrev pub by_etag : List Row → List (ℕ × Row)
 by_etag rows = map (λ r. (r.etag, r)) rows
 
+-- rows in order of etag
+unfoldable pub ordered_by_etag : List Row → List Row
+ordered_by_etag rows = values (from_entries {R = nat_cmp} (by_etag rows))
+
 -- the pairs without the one at an etag, if one is given
 abbrev pub without_etag : Option ℕ → List (ℕ × Row) → List (ℕ × Row)
 without_etag None pairs = pairs
 without_etag (Some etag) pairs = remove_entry (is_at (nat_cmp etag)) pairs
 
--- the etag of the row of a folded id, if there is one
-abbrev pub etag_at : List ℕ → List Row → Option ℕ
-etag_at q rows = option_map (λ r. r.etag) (row_at q rows)
+-- the etag of a row, if there is one
+abbrev pub etag_in : Option Row → Option ℕ
+etag_in row = option_map (λ r. r.etag) row
 
 -- of two rows the one with the lower etag, or the only one
 abbrev pub earlier : Option Row → Option Row → Option Row
@@ -46,12 +52,22 @@ earlier None b = b
 earlier (Some a) None = Some a
 earlier (Some a) (Some b) = if nat_lt b.etag a.etag then Some b else Some a
 
+-- there is a row, and it is a document
+abbrev pub is_document_in : Option Row → Bool
+is_document_in None = false
+is_document_in (Some r) = is_document r
+
 abbrev pub is_of : List ℕ → Row → Bool
 is_of collection r = bytes_eq r.collection collection
 
 -- the rows that a map has for a collection
 abbrev pub rows_of : List (List ℕ × List Row) → List ℕ → List Row
 rows_of collections c = unwrap_or (lookup (is_at (key_cmp c)) collections) []
+
+-- how many rows of the other collections pass a test
+abbrev pub passing_beside : (Row → Bool) → List ℕ → List (List ℕ × List Row) → ℕ
+passing_beside p c [] = 0
+passing_beside p c (e ∷ es) = (if bytes_eq e.0 c then 0 else length (filter p e.1)) + passing_beside p c es
 
 -- no row is of a collection below this one
 abbrev pub NoneBelow : List ℕ → List Row → Type 0
@@ -63,15 +79,18 @@ abbrev pub AreByCollection : List Row → Type 0
 AreByCollection [] = Unit {0}
 AreByCollection (r ∷ rows) = NoneBelow r.collection rows × AreByCollection rows
 
--- a map shows these rows under their etags, and the etag of the last of them is this
-pub record ShowsByEtag (etags : List (ℕ × Row)) (last : ℕ) (rows : List Row) : Type 0 where
+-- a map shows these rows under their etags, the etag of the last of them is this, and so many are documents
+pub record ShowsByEtag (etags : List (ℕ × Row)) (last documents : ℕ) (rows : List Row) : Type 0 where
   pub store : IsStore (record { rows = rows })
   pub pairs : etags ≡ by_etag rows
   pub last_is : last ≡ last_of 0 rows
+  pub documents_are : documents ≡ length (filter is_document rows)
 
--- the maps show these rows: by id each row, and by collection the list of its rows
-pub record Shows (ids : List (List ℕ × Row)) (collections : List (List ℕ × List Row)) (rows : List Row) : Type 0 where
+-- the maps show these rows: by id each row, and by collection the list of its rows; and the etag of the last of them is this
+pub record Shows (ids : List (List ℕ × Row)) (collections : List (List ℕ × List Row)) (last : ℕ) (rows : List Row) : Type 0 where
   pub kept : IsKept (record { rows = rows })
-  pub by_ids : (q : List ℕ) → lookup (is_at (id_cmp q)) ids ≡ row_at (folded q) rows
+  pub rising : IsRising id_cmp ids
   pub filed : AreFiled ids
+  pub by_ids : (q : List ℕ) → lookup (is_at (id_cmp q)) ids ≡ row_at (folded q) rows
   pub by_collections : (c : List ℕ) → rows_of collections c ≡ filter (is_of c) rows
+  pub last_is : last ≡ last_of 0 rows

@@ -3,9 +3,10 @@ ghost use Rattle.std.specs.Prelude.{◌≡◌, ◌<◌, ◌^◌, [], None, IfErr
 ghost use Rattle.doc_store.specs.declared.opening.OpenFault.TheVariants.{NoMemory as OutOfMemory};
 ghost use Rattle.doc_store.specs.Opening.{Tells, are_next as spec_are_next, first_bad, is_next as spec_is_next, is_sound_after as spec_is_sound_after};
 
+use crate::Rows;
 use crate::store::Store;
-use raven_base::NoMemory;
-use raven_value::{END_OF_MOMENTS, MAX_ETAG, Row, Rows};
+use raven_base::{NoMemory, Shared};
+use raven_value::{END_OF_MOMENTS, MAX_ETAG, Row};
 use std::alloc::Global;
 use thiserror::Error;
 
@@ -43,15 +44,15 @@ fn is_next(last: u64, row: &Row) -> bool
 }
 
 /// Whether each row may follow the one before, if its id is new.
-fn are_next(rows: &[Row]) -> bool
+fn are_next(rows: &[Shared<Row>]) -> bool
     ensures { result ≡ spec_are_next 0 rows.now }
 {
     let mut last = 0;
     for row in rows {
-        if !is_next(last, row) {
+        if !is_next(last, row.get()) {
             return false;
         }
-        last = row.etag;
+        last = row.get().etag;
     }
     true
 }
@@ -87,7 +88,7 @@ impl Store {
     }
 
     /// As `open`, but the rows are put in one after another, which finds the first bad one.
-    fn open_each(alloc: Global, rows: &[Row]) -> Result<Store, OpenFault>
+    fn open_each(alloc: Global, rows: &[Shared<Row>]) -> Result<Store, OpenFault>
         requires few { length rows.now < 2 ^ 32 }
         ensures opened { IfOk result (λ store. store ≡ record { rows = rows.now }) }
         ensures sound { IfOk result (λ _. first_bad [] rows.now ≡ None) }
@@ -95,10 +96,12 @@ impl Store {
     {
         let mut store = Store::empty(alloc)?;
         for row in rows {
-            if !is_sound_after(&store, row) {
-                return Err(OpenFault::KeptBad { etag: row.etag });
+            if !is_sound_after(&store, row.get()) {
+                return Err(OpenFault::KeptBad {
+                    etag: row.get().etag,
+                });
             }
-            store = store.put_copy(alloc, row)?;
+            store = store.put_lent(alloc, row)?;
         }
         Ok(store)
     }

@@ -1,14 +1,14 @@
 //! Walks over the rows of a store's maps.
-ghost use Rattle.std.specs.Prelude.{◌≡◌, ◌<◌, ◌^◌, ◌&&◌, ℕ, List, IfOk, filter, if◌then◌else◌, length, nat_lt, not};
+ghost use Rattle.std.specs.Prelude.{◌≡◌, ◌<◌, ◌^◌, ◌&&◌, ℕ, List, IfOk, filter, if◌then◌else◌, nat_lt, not};
 ghost use Rattle.std.specs.List.{find};
 ghost use Rattle.std.specs.BTreeMap.{insert_entry};
 ghost use Rattle.std.specs.Option.{option_copied};
 ghost use Rattle.std.specs.Str.{bytes_eq};
 ghost use Rattle.raven_base.specs.Counts.{one_read_more};
 ghost use Rattle.spec_data.specs.Rows.{is_document, key};
-ghost use Rattle.spec_store.specs.Store.{last_of, put};
+ghost use Rattle.spec_store.specs.Store.{last_of, put, row_at};
 ghost use Rattle.spec_store.specs.Stale.{up_to};
-ghost use Rattle.doc_store.specs.Maps.{earlier, etag_at, id_cmp, is_of, rows_in, rows_of};
+ghost use Rattle.doc_store.specs.Maps.{earlier, id_cmp, is_of, passing_beside, rows_in, rows_of};
 
 use crate::rows_by_etag::RowsByEtag;
 use paged_map::{PagedMap, Pairs};
@@ -18,54 +18,61 @@ use std::alloc::Global;
 use std::sync::ledger::Ledger;
 
 /// The etag of the last row, or 0 if there is none.
-pub fn last_etag(rows: &[Row]) -> u64
+pub fn last_etag(rows: &[Shared<Row>]) -> u64
     ensures { result ≡ last_of 0 rows.now }
 {
     let mut etag = 0;
     for row in rows {
-        etag = row.etag;
+        etag = row.get().etag;
     }
     etag
 }
 
-/// Copies of all rows.
-pub fn copies(alloc: Global, rows: Pairs<'_, Id, Shared<Row>>) -> Result<Vec<Row>, NoMemory>
-    ensures { IfOk result (λ copies. copies.items ≡ rows_in rows.entry) }
+/// All rows.
+pub fn all_of(alloc: Global, rows: Pairs<'_, Id, Shared<Row>>) -> Result<Vec<Shared<Row>>, NoMemory>
+    ensures { IfOk result (λ all. all.items ≡ rows_in rows.entry) }
 {
-    let mut copies = Vec::new(alloc);
+    let mut all = Vec::new(alloc);
     for pair in rows {
-        copies.push(pair.1.get().clone()?)?;
+        all.push(pair.1.clone()?)?;
     }
-    Ok(copies)
+    Ok(all)
 }
 
-/// Copies of those rows that are documents of a collection.
+/// Those rows that are documents of a collection.
 pub fn documents_of(
     alloc: Global,
     rows: Pairs<'_, Id, Shared<Row>>,
     collection: &str,
-) -> Result<Vec<Row>, NoMemory>
+) -> Result<Vec<Shared<Row>>, NoMemory>
     ensures { IfOk result (λ documents. documents.items ≡ filter (λ r. bytes_eq r.collection collection.now && is_document r) (rows_in rows.entry)) }
 {
     let mut documents = Vec::new(alloc);
     for pair in rows {
         let row = pair.1.get();
         if row.collection.as_str() == collection && matches!(row.body, Body::Doc(_)) {
-            documents.push(row.clone()?)?;
+            documents.push(pair.1.clone()?)?;
         }
     }
     Ok(documents)
 }
 
 /// Of two rows the one with the lower etag, or the only one.
-pub fn earlier<'a>(a: Option<&'a Row>, b: Option<&'a Row>) -> Option<&'a Row>
+pub fn earlier<'a>(
+    a: Option<&'a Shared<Row>>,
+    b: Option<&'a Shared<Row>>,
+) -> Option<&'a Shared<Row>>
     ensures { option_copied result ≡ earlier (option_copied a.entry) (option_copied b.entry) }
 {
     let Some(first) = a else {
         return b;
     };
     match b {
-        Some(second) => if second.etag < first.etag { b } else { a },
+        Some(second) => if second.get().etag < first.get().etag {
+            b
+        } else {
+            a
+        },
         None => a,
     }
 }
@@ -97,15 +104,15 @@ pub fn put_under_id(
     rows.put(alloc, id, shared)
 }
 
-/// The rows of all collections, with this one put among those of its collection, in place of the one of its id, whose etag is
-/// given. Its etag is past theirs.
+/// The rows of all collections, with this one put among those of its collection, in place of the given one, which is that of its
+/// id. Its etag is past theirs.
 pub fn put_among(
     alloc: Global,
     collections: PagedMap<Text, RowsByEtag>,
     row: Shared<Row>,
-    replaced: Option<u64>,
+    replaced: &Option<Shared<Row>>,
 ) -> Result<PagedMap<Text, RowsByEtag>, NoMemory>
-    requires replaced { replaced ≡ etag_at (key row) (rows_of collections row.collection) }
+    requires replaced { replaced.now ≡ row_at (key row) (rows_of collections row.collection) }
     requires newer { last_of 0 (rows_of collections row.collection) < row.etag }
     ensures { IfOk result (λ changed. (c : List ℕ) → rows_of changed c ≡ (if is_of c row then put row (rows_of collections c) else rows_of collections c)) }
 {
@@ -123,7 +130,7 @@ pub fn first_of<'a, L: Ledger>(
     collection: &Text,
     etag: u64,
     steps: &mut Steps<L>,
-) -> Option<&'a Row>
+) -> Option<&'a Shared<Row>>
     ensures row { option_copied result ≡ find (λ r. nat_lt etag r.etag) (rows_of collections.now collection.now) }
     ensures counted { steps.new ≡ one_read_more steps.old }
 {
@@ -155,21 +162,19 @@ pub struct Counts {
     pub tombstones: u32,
 }
 
-/// How many of these rows are documents and tombstones of other collections than this one.
-pub fn counts_of(rows: Pairs<'_, u64, Shared<Row>>, collection: &str) -> Counts
-    requires { length (rows_in rows) < 2 ^ 32 }
-    ensures documents { result.documents ≡ length (filter (λ r. not (bytes_eq r.collection collection.now) && is_document r) (rows_in rows.entry)) }
-    ensures tombstones { result.tombstones ≡ length (filter (λ r. not (bytes_eq r.collection collection.now) && not (is_document r)) (rows_in rows.entry)) }
+/// How many documents and tombstones are in other collections than this one. It looks at no row.
+pub fn counts_beside(collections: Pairs<'_, Text, RowsByEtag>, collection: &str) -> Counts
+    requires documents { passing_beside is_document collection.now collections < 2 ^ 32 }
+    requires tombstones { passing_beside (λ r. not (is_document r)) collection.now collections < 2 ^ 32 }
+    ensures documents { result.documents ≡ passing_beside is_document collection.now collections.entry }
+    ensures tombstones { result.tombstones ≡ passing_beside (λ r. not (is_document r)) collection.now collections.entry }
 {
     let mut documents = 0;
     let mut tombstones = 0;
-    for pair in rows {
-        let row = pair.1.get();
-        if row.collection.as_str() != collection {
-            match row.body {
-                Body::Doc(_) => documents += 1,
-                Body::Gone => tombstones += 1,
-            }
+    for pair in collections {
+        if pair.0.as_str() != collection {
+            documents += pair.1.documents() as u32;
+            tombstones += pair.1.tombstones() as u32;
         }
     }
     Counts {

@@ -1,15 +1,16 @@
 //! Rows by etag.
-ghost use Rattle.std.specs.Prelude.{◌≡◌, ◌↔◌, ◌<◌, [], IfOk, IsTrue, filter, length, nat_le, nat_lt, option_map};
+ghost use Rattle.std.specs.Prelude.{◌≡◌, ◌≤◌, ◌<◌, ◌+◌, ◌-◌, ◌^◌, [], IfOk, filter, length, nat_le, nat_lt, not, option_map};
 ghost use Rattle.std.specs.Option.{option_copied};
+ghost use Rattle.std.specs.Int.{from_bool};
 ghost use Rattle.std.specs.List.{find};
-ghost use Rattle.spec_data.specs.Rows.{key};
-ghost use Rattle.spec_store.specs.Store.{AreRising, IsStore, last_of, put};
+ghost use Rattle.spec_data.specs.Rows.{is_document as spec_is_document, key};
+ghost use Rattle.spec_store.specs.Store.{AreRising, IsStore, last_of, put, row_at};
 ghost use Rattle.spec_store.specs.Stale.{up_to};
-ghost use Rattle.doc_store.specs.Maps.{etag_at, rows_in, without_etag};
+ghost use Rattle.doc_store.specs.Maps.{etag_in, is_document_in as spec_is_document_in, rows_in, without_etag};
 
-use paged_map::{PagedMap, Pairs};
+use paged_map::PagedMap;
 use raven_base::{NoMemory, Shared};
-use raven_value::Row;
+use raven_value::{Body, Row};
 use std::alloc::{AllocError, Global};
 use std::marker::Model;
 
@@ -21,6 +22,8 @@ pub struct RowsByEtag {
     rows: PagedMap<u64, Shared<Row>>,
     /// The greatest etag, or 0.
     last: u64,
+    /// How many of the rows are documents.
+    documents: u64,
 }
 
 impl Model for RowsByEtag {
@@ -36,15 +39,15 @@ impl Model for RowsByEtag {
 
     ghost view = { λ a. rows_in a.rows };
 
-    ghost invariant = { λ a. ShowsByEtag a.rows a.last (rows_in a.rows) };
+    ghost invariant = { λ a. ShowsByEtag a.rows a.last a.documents (rows_in a.rows) };
 }
 
 /// The row in a map.
-fn row_of(pair: Option<&(u64, Shared<Row>)>) -> Option<&Row>
+fn row_of(pair: Option<&(u64, Shared<Row>)>) -> Option<&Shared<Row>>
     ensures { option_copied result ≡ option_map (λ e. e.1) (option_copied pair.entry) }
 {
     match pair {
-        Some(pair) => Some(pair.1.get()),
+        Some(pair) => Some(&pair.1),
         None => None,
     }
 }
@@ -63,6 +66,55 @@ fn without_etag(
     }
 }
 
+/// Whether a row is a document, and no tombstone.
+fn is_document(row: &Row) -> bool
+    ensures { result ≡ spec_is_document row.now }
+{
+    matches!(row.body, Body::Doc(_))
+}
+
+/// How many of these rows are documents.
+fn documents_among(rows: &[Shared<Row>]) -> u64
+    ensures { result ≡ length (filter spec_is_document rows.now) }
+{
+    let mut documents = 0;
+    for row in rows {
+        if is_document(row.get()) {
+            documents += 1;
+        }
+    }
+    documents
+}
+
+/// The etag of a row, if there is one.
+fn etag_in(row: &Option<Shared<Row>>) -> Option<u64>
+    ensures { result ≡ etag_in row.now }
+{
+    match row {
+        Some(row) => Some(row.get().etag),
+        None => None,
+    }
+}
+
+/// Whether there is a row, and it is a document.
+fn is_document_in(row: &Option<Shared<Row>>) -> bool
+    ensures { result ≡ spec_is_document_in row.now }
+{
+    match row {
+        Some(row) => is_document(row.get()),
+        None => false,
+    }
+}
+
+/// How many documents there are with a row in place of an earlier one, or with one more.
+fn documents_with(documents: u64, replaced: &Option<Shared<Row>>, row: &Row) -> u64
+    requires some { from_bool (spec_is_document_in replaced.now) ≤ documents }
+    requires few { documents + 1 < 2 ^ 64 }
+    ensures { result ≡ documents - from_bool (spec_is_document_in replaced.now) + from_bool (spec_is_document row.now) }
+{
+    documents - u64::from(is_document_in(replaced)) + u64::from(is_document(row))
+}
+
 impl RowsByEtag {
     /// No rows.
     pub fn new(alloc: Global) -> Result<RowsByEtag, NoMemory>
@@ -71,6 +123,7 @@ impl RowsByEtag {
         Ok(RowsByEtag {
             rows: PagedMap::new(alloc)?,
             last: 0,
+            documents: 0,
         })
     }
 
@@ -88,43 +141,30 @@ impl RowsByEtag {
         Ok(RowsByEtag {
             rows: PagedMap::from_sorted(alloc, pairs)?,
             last,
+            documents: documents_among(rows),
         })
     }
 
-    /// How many rows there are.
-    pub fn len(&self) -> u64
-        ensures { result ≡ length self.now }
+    /// How many of the rows are documents. It looks at none.
+    pub fn documents(&self) -> u64
+        ensures { result ≡ length (filter spec_is_document self.now) }
     {
-        self.rows.len()
+        self.documents
     }
 
-    /// Whether there are no rows.
-    pub fn is_empty(&self) -> bool
-        ensures { IsTrue result ↔ (self.now ≡ []) }
+    /// How many of the rows are tombstones. It looks at none.
+    pub fn tombstones(&self) -> u64
+        ensures { result ≡ length (filter (λ r. not (spec_is_document r)) self.now) }
     {
-        self.rows.is_empty()
-    }
-
-    /// All rows, in order.
-    pub fn iter(&self) -> Pairs<'_, u64, Shared<Row>>
-        ensures { rows_in result ≡ self.now }
-    {
-        self.rows.iter()
+        self.rows.len() - self.documents
     }
 
     /// The first row past an etag.
-    pub fn first_after(&self, etag: u64) -> Option<&Row>
+    pub fn first_after(&self, etag: u64) -> Option<&Shared<Row>>
         ensures row { option_copied result ≡ find (λ r. nat_lt etag r.etag) self.now }
         ensures rising { AreRising 0 self.now }
     {
         row_of(self.rows.first_after(&etag))
-    }
-
-    /// The greatest etag, or 0.
-    pub fn last(&self) -> u64
-        ensures { result ≡ last_of 0 self.now }
-    {
-        self.last
     }
 
     /// The greatest etag up to a bound, or 0.
@@ -151,30 +191,36 @@ impl RowsByEtag {
         while low < high {
             let middle = low + (high - low) / 2;
             match self.first_after(middle) {
-                Some(row) if row.etag <= high => low = row.etag,
+                Some(row) if row.get().etag <= high => low = row.get().etag,
                 _ => high = middle,
             }
         }
         low
     }
 
-    /// The rows with this one at the end, in place of the one of its id, whose etag is given. Its etag is past theirs.
+    /// The rows with this one at the end, in place of the given one, which is that of its id. Its etag is past theirs.
     pub fn put(
         self,
         alloc: Global,
         row: Shared<Row>,
-        replaced: Option<u64>,
+        replaced: &Option<Shared<Row>>,
     ) -> Result<RowsByEtag, NoMemory>
-        requires replaced { replaced ≡ etag_at (key row) self }
+        requires replaced { replaced.now ≡ row_at (key row) self }
         requires newer { last_of 0 self < row.etag }
         ensures { IfOk result (λ rows. rows ≡ put row self) }
     {
-        let RowsByEtag { rows, .. } = self;
+        let RowsByEtag {
+            rows,
+            documents,
+            ..
+        } = self;
         let etag = row.get().etag;
-        let beside = without_etag(alloc, rows, replaced)?;
+        let documents = documents_with(documents, replaced, row.get());
+        let beside = without_etag(alloc, rows, etag_in(replaced))?;
         Ok(RowsByEtag {
             rows: beside.put(alloc, etag, row)?,
             last: etag,
+            documents,
         })
     }
 }
@@ -186,6 +232,7 @@ impl Clone for RowsByEtag {
         Ok(RowsByEtag {
             rows: self.rows.clone()?,
             last: self.last,
+            documents: self.documents,
         })
     }
 }

@@ -13,13 +13,13 @@ use raven_base::{NoMemory, Shared};
 use raven_value::{Id, Row, Text};
 use std::alloc::Global;
 
-/// Copies of the rows, which maps can share.
-pub fn all_shared(alloc: Global, rows: &[Row]) -> Result<Vec<Shared<Row>>, NoMemory>
+/// The same rows in a list of their own.
+pub fn all_shared(alloc: Global, rows: &[Shared<Row>]) -> Result<Vec<Shared<Row>>, NoMemory>
     ensures { IfOk result (λ shared. shared.items ≡ rows.now) }
 {
     let mut shared = Vec::with_capacity(alloc, rows.len())?;
     for row in rows {
-        shared.push(Shared::of(alloc, row.clone()?)?)?;
+        shared.push(row.clone()?)?;
     }
     Ok(shared)
 }

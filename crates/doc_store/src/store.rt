@@ -11,17 +11,18 @@ ghost use Rattle.spec_store.specs.Stale.{newest, past, stale, batch_rows};
 ghost use Rattle.spec_data.specs.Tables.{in_scope, table_of};
 ghost use Rattle.std.specs.FinMap.{values};
 ghost use Rattle.doc_store.specs.Bounds.{IsWithin};
-ghost use Rattle.doc_store.specs.Maps.{etag_at};
 ghost use Rattle.doc_store.specs.Steps.{MayStand};
 
+use crate::Rows;
 use crate::rows::{
-    Counts, copies, counts_of, documents_of, earlier, first_of, newest_of, put_among, put_under_id,
+    Counts, all_of, counts_beside, documents_of, earlier, first_of, last_etag, newest_of,
+    put_among, put_under_id,
 };
 use crate::rows_by_etag::RowsByEtag;
 use crate::sorting::{all_shared, by_collection, sorted_by_id};
 use paged_map::{PagedMap, is_rising};
 use raven_base::{NoMemory, Shared, Steps};
-use raven_value::{Id, Row, Rows, Scope, Text};
+use raven_value::{Id, Row, Scope, Text};
 use std::alloc::{AllocError, Global};
 use std::marker::Model;
 use std::sync::ledger::Ledger;
@@ -33,9 +34,10 @@ use std::sync::ledger::Ledger;
 /// and memory that grow with the logarithm of the number of rows.
 pub struct Store {
     by_id: PagedMap<Id, Shared<Row>>,
-    by_etag: RowsByEtag,
     /// The rows of each collection, so that an index reads no rows but those in its scope.
     by_collection: PagedMap<Text, RowsByEtag>,
+    /// The greatest etag, or 0.
+    last: u64,
 }
 
 // Opaque drop: see raven_base.
@@ -43,8 +45,8 @@ impl Drop for Store {
     fn drop(self) {
         let Store {
             by_id: _by_id,
-            by_etag: _by_etag,
             by_collection: _by_collection,
+            last: _last,
         } = self;
     }
 }
@@ -52,15 +54,15 @@ impl Drop for Store {
 impl Model for Store {
     ghost use Rattle.spec_store.specs.Store as stores;
     ghost use Rattle.spec_store.specs.Codes.{store_code};
-    ghost use Rattle.doc_store.specs.Maps.{Shows};
+    ghost use Rattle.doc_store.specs.Maps.{Shows, ordered_by_etag, rows_in};
 
     ghost Value = { stores.Store };
 
     ghost coded = { store_code };
 
-    ghost view = { λ a. record { rows = a.by_etag } };
+    ghost view = { λ a. record { rows = ordered_by_etag (rows_in a.by_id) } };
 
-    ghost invariant = { λ a. Shows a.by_id a.by_collection a.by_etag };
+    ghost invariant = { λ a. Shows a.by_id a.by_collection a.last (ordered_by_etag (rows_in a.by_id)) };
 }
 
 impl Store {
@@ -70,15 +72,15 @@ impl Store {
     {
         Ok(Store {
             by_id: PagedMap::new(alloc)?,
-            by_etag: RowsByEtag::new(alloc)?,
             by_collection: PagedMap::new(alloc)?,
+            last: 0,
         })
     }
 
     /// The store of these rows, or nothing if two of them have one id. The rows are in order of etag.
     ///
     /// Each map is made of a sorted list, and not by one change after another.
-    pub(crate) fn of(alloc: Global, rows: &[Row]) -> Result<Option<Store>, NoMemory>
+    pub(crate) fn of(alloc: Global, rows: &[Shared<Row>]) -> Result<Option<Store>, NoMemory>
         requires rising { AreRising 0 rows.now }
         requires within { IsWithin (record { rows = rows.now }) }
         ensures made { IfOk result (λ store. IfSome store (λ s. s ≡ record { rows = rows.now })) }
@@ -91,8 +93,8 @@ impl Store {
         }
         Ok(Some(Store {
             by_id: PagedMap::from_sorted(alloc, ids)?,
-            by_etag: RowsByEtag::of(alloc, &shared)?,
             by_collection: by_collection(alloc, shared)?,
+            last: last_etag(rows),
         }))
     }
 
@@ -112,36 +114,37 @@ impl Store {
         ensures bound { result ≤ max_etag }
         ensures store { IsStore self.now }
     {
-        self.by_etag.last()
+        self.last
     }
 
     /// How many rows there are, tombstones among them.
     pub fn len(&self) -> u32
         ensures { result ≡ length self.now.rows }
     {
-        self.by_etag.len() as u32
+        self.by_id.len() as u32
     }
 
     /// Whether there are no rows.
     pub fn is_empty(&self) -> bool
         ensures { IsTrue result ↔ (self.now ≡ empty_store) }
     {
-        self.by_etag.is_empty()
+        self.by_id.is_empty()
     }
 
-    /// How many documents and tombstones there are in all collections but this one.
+    /// How many documents and tombstones there are in all collections but this one. It looks at no row, and takes time that
+    /// grows with the number of collections.
     pub fn counts_beside(&self, collection: &str) -> Counts
         ensures documents { result.documents ≡ length (filter (λ r. not (bytes_eq r.collection collection.now) && is_document r) self.now.rows) }
         ensures tombstones { result.tombstones ≡ length (filter (λ r. not (bytes_eq r.collection collection.now) && not (is_document r)) self.now.rows) }
     {
-        counts_of(self.by_etag.iter(), collection)
+        counts_beside(self.by_collection.iter(), collection)
     }
 
     /// All rows, in order of their folded ids.
     pub fn rows(&self, alloc: Global) -> Result<Rows, NoMemory>
         ensures { IfOk result (λ rows. rows ≡ values (table_of self.now.rows)) }
     {
-        Ok(Rows::of(copies(alloc, self.by_id.iter())?))
+        Ok(Rows::of(all_of(alloc, self.by_id.iter())?))
     }
 
     /// The documents of a collection, in order of their folded ids. It looks at all rows.
@@ -178,13 +181,18 @@ impl Store {
                 return Ok((found, true));
             }
             found.push(row.clone()?)?;
-            after = row.etag;
+            after = row.get().etag;
         }
         Ok((found, false))
     }
 
     /// The first row in scope past an etag. It takes no memory.
-    fn first_past<L: Ledger>(&self, etag: u64, scope: &[Text], steps: &mut Steps<L>) -> Option<&Row>
+    fn first_past<L: Ledger>(
+        &self,
+        etag: u64,
+        scope: &[Text],
+        steps: &mut Steps<L>,
+    ) -> Option<&Shared<Row>>
         ensures row { option_copied result ≡ find (λ r. in_scope scope.now r && nat_lt etag r.etag) self.now.rows }
         ensures sound { IsStore self.now }
         ensures maps { steps.new.maps ≡ steps.old.maps }
@@ -228,13 +236,13 @@ impl Store {
         newest
     }
 
-    /// The etag of the row of an id.
-    fn etag_of(&self, id: &Id) -> Option<u64>
-        ensures { result ≡ etag_at (folded id.now) self.now.rows }
+    /// The row of an id, shared with this store.
+    fn shared_at(&self, id: &Id) -> Result<Option<Shared<Row>>, NoMemory>
+        ensures { IfOk result (λ row. row ≡ row_at (folded id.now) self.now.rows) }
     {
-        match self.get(id) {
-            Some(row) => Some(row.etag),
-            None => None,
+        match self.by_id.get(id) {
+            Some(row) => Ok(Some(row.clone()?)),
+            None => Ok(None),
         }
     }
 
@@ -243,45 +251,44 @@ impl Store {
     ///
     /// Pages that no other store has are changed in place, and the others are copied. If it runs out of memory, this store is
     /// gone, and its clones stay.
-    pub fn put_row(self, alloc: Global, row: Row) -> Result<Store, NoMemory>
+    pub fn put_row(self, alloc: Global, row: Shared<Row>) -> Result<Store, NoMemory>
         requires stands { MayStand self row }
         requires within { IsWithin (with_row self row) }
         ensures { IfOk result (λ store. store ≡ with_row self row) }
     {
-        let replaced = self.etag_of(&row.id);
-        self.put_shared(alloc, Shared::of(alloc, row)?, replaced)
+        let replaced = self.shared_at(&row.get().id)?;
+        self.put_shared(alloc, row, &replaced)
     }
 
-    /// As `put_row`, of a row that the maps share, in place of the one with this etag.
+    /// As `put_row`, in place of the given row, which is that of its id.
     fn put_shared(
         self,
         alloc: Global,
         row: Shared<Row>,
-        replaced: Option<u64>,
+        replaced: &Option<Shared<Row>>,
     ) -> Result<Store, NoMemory>
-        requires replaced { replaced ≡ etag_at (key row) self.rows }
+        requires replaced { replaced.now ≡ row_at (key row) self.rows }
         requires stands { MayStand self row }
         requires within { IsWithin (with_row self row) }
         ensures { IfOk result (λ store. store ≡ with_row self row) }
     {
         let Store {
             by_id,
-            by_etag,
             by_collection,
+            last: _last,
         } = self;
-        let under_etag = row.clone()?;
+        let last = row.get().etag;
         let ids = put_under_id(alloc, by_id, &row)?;
-        let etags = by_etag.put(alloc, under_etag, replaced)?;
         let collections = put_among(alloc, by_collection, row, replaced)?;
         Ok(Store {
             by_id: ids,
-            by_etag: etags,
             by_collection: collections,
+            last,
         })
     }
 
-    /// As `put_row`, of a copy of the row.
-    pub(crate) fn put_copy(self, alloc: Global, row: &Row) -> Result<Store, NoMemory>
+    /// As `put_row`, of a row that is lent.
+    pub(crate) fn put_lent(self, alloc: Global, row: &Shared<Row>) -> Result<Store, NoMemory>
         requires stands { MayStand self row.now }
         requires within { IsWithin (with_row self row.now) }
         ensures { IfOk result (λ store. store ≡ with_row self row.now) }
@@ -297,7 +304,7 @@ impl Store {
     {
         let mut store = self.clone()?;
         for row in rows.as_slice() {
-            store = store.put_copy(alloc, row)?;
+            store = store.put_lent(alloc, row)?;
         }
         Ok(store)
     }
@@ -309,8 +316,8 @@ impl Clone for Store {
     fn clone(&self) -> Result<Store, AllocError> {
         Ok(Store {
             by_id: self.by_id.clone()?,
-            by_etag: self.by_etag.clone()?,
             by_collection: self.by_collection.clone()?,
+            last: self.last,
         })
     }
 }

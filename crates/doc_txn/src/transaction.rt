@@ -16,9 +16,9 @@ use crate::fault::{TxnFault, TxnKind};
 use crate::limits::Limits;
 use crate::refusal::{Terms, refusal_of};
 use crate::row::draft_of;
-use doc_store::Store;
-use raven_base::{NoMemory, Sequence};
-use raven_value::{Row, Rows};
+use doc_store::{Rows, Store};
+use raven_base::{NoMemory, Sequence, Shared};
+use raven_value::Row;
 use std::alloc::Global;
 
 /// The etags that commands took, if any, in order.
@@ -61,9 +61,10 @@ impl Transaction {
             mut etags,
         } = self;
         etags.push(Some(row.etag))?;
-        rows.push(row.clone()?)?;
+        let shared = Shared::of(alloc, row)?;
+        rows.push(shared.clone()?)?;
         Ok(Transaction {
-            store: store.put_row(alloc, row)?,
+            store: store.put_row(alloc, shared)?,
             rows,
             etags,
         })

@@ -2,8 +2,8 @@ use Rattle.std.proofs.Common.{◌≡◌, ◌<◌, ◌∙◌, ap, sym, subst}
 use Rattle.std.specs.BTreeMap.{insert_entry}
 use Rattle.spec_data.specs.Folding.{key_cmp}
 use Rattle.spec_data.specs.Rows.{Row, key}
-use Rattle.spec_store.specs.Store.{last_of}
-use Rattle.doc_store.specs.Maps.{etag_at, rows_of}
+use Rattle.spec_store.specs.Store.{last_of, row_at}
+use Rattle.doc_store.specs.Maps.{rows_of}
 use Rattle.doc_store.proofs.MapLemmas.{put_among_is}
 use Rattle.doc_store.proofs.rows.put_among.Goals as goal
 use Rattle.doc_store.proofs.rows.put_among.Goals.{In_ok-rows}
@@ -15,7 +15,7 @@ rows_are : (c : In_ok-rows) → c.in_ok-rows.rows ≡ rows_of c.args.collections
 rows_are c = c.in_ok-rows.ensures ∙ ap (rows_of c.args.collections) (name_is c)
 
 pub put-requires-clause-replaced : goal.put-requires-clause-replaced
-put-requires-clause-replaced c = c.requires.replaced ∙ ap (etag_at (key c.args.row)) (sym (rows_are (goal.at.put-requires-clause-replaced c).In_ok-rows))
+put-requires-clause-replaced c = c.requires.replaced ∙ ap (row_at (key c.args.row)) (sym (rows_are (goal.at.put-requires-clause-replaced c).In_ok-rows))
 
 pub put-requires-clause-newer : goal.put-requires-clause-newer
 put-requires-clause-newer c = subst (λ rows. last_of 0 rows < c.args.row.etag) (sym (rows_are (goal.at.put-requires-clause-newer c).In_ok-rows)) c.requires.newer

@@ -22,7 +22,7 @@ from_sorted-requires-clause-rising c =
 pub invariant_of-result : goal.invariant_of-result
 invariant_of-result c =
     let all = take_all c.loop-row.row-index c.args.rows.now c.loop-row-test.false in
-    all_shown _ _ c.args.rows.now c.requires (c.in_ok-from_sorted.ensures ∙ c.loop-row.invariant.pairs ∙ ap by_etag all) (c.loop-row.invariant.last ∙ ap (last_of 0) all)
+    all_shown _ _ _ c.args.rows.now c.requires (c.in_ok-from_sorted.ensures ∙ c.loop-row.invariant.pairs ∙ ap by_etag all) (c.loop-row.invariant.last ∙ ap (last_of 0) all) c.documents_among.ensures
 
 pub returns : goal.returns
 returns c =

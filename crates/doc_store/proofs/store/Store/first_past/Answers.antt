@@ -7,7 +7,7 @@ use Rattle.doc_store.proofs.store.Store.first_past.Goals as goal
 
 pub loop-collection-preserved : goal.loop-collection-preserved
 loop-collection-preserved g c =
-    let s : Shows c.self.inside.by_id c.self.inside.by_collection c.args.self.now.rows = shown _ _ _ _ c.self.view_is c.self.invariant in
+    let s : Shows c.self.inside.by_id c.self.inside.by_collection c.self.inside.last c.args.self.now.rows = shown _ _ _ _ _ c.self.view_is c.self.invariant in
     record {
       first = first_step c.args.scope.now c.args.etag c.args.self.now.rows c.loop-collection.collection-index c.collection-item.result _ _ _ s.kept.store.rising c.loop-collection-test.true (sym c.collection-item.is)
           (c.first_of.ensures.row ∙ first_in_map c.self.inside.by_collection c.args.self.now.rows c.collection-item.result c.args.etag (s.by_collections c.collection-item.result))

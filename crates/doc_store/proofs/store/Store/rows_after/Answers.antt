@@ -47,13 +47,13 @@ returns-in_err-push-clause-reads g c = few_looks g (goal.at.returns-in_err-push-
 pub loop-row-smaller : goal.loop-row-smaller
 loop-row-smaller g c =
     let less = ap length (next g (goal.at.loop-row-smaller g c).In-Some) in
-    let same = ap (λ (x : Row). length (past c.as_slice-collections.result.now x.etag c.args.self.now)) c.row.view_is in
+    let same = ap (λ (x : Row). length (past c.as_slice-collections.result.now x.etag c.args.self.now)) (c.behind-row.view_is ∙ c.get.ensures) in
     omega arith
 
 pub loop-row-preserved : goal.loop-row-preserved
 loop-row-preserved g c = record {
   all = walked c.loop-row.found _ _ _ c.in-Some.row.now _ _ c.in_ok-push.ensures.ok c.in_ok-clone.ensures.cases
-      (next g (goal.at.loop-row-preserved g c).In-Some ∙ ap (λ (x : Row). c.in-Some.row.now ∷ past c.as_slice-collections.result.now x.etag c.args.self.now) (sym c.row.view_is))
+      (next g (goal.at.loop-row-preserved g c).In-Some ∙ ap (λ (x : Row). c.in-Some.row.now ∷ past c.as_slice-collections.result.now x.etag c.args.self.now) (sym (c.behind-row.view_is ∙ c.get.ensures)))
       c.loop-row.invariant.all;
   few =
       let more = ap length c.in_ok-push.ensures.ok in
