@@ -84,6 +84,14 @@ impl<K: Ord + Drop, V: Drop, S: Summary<V>> SummedMap<K, V, S> {
 }
 
 impl<K: Ord, V, S: Summary<V>> SummedMap<K, V, S> {
+    /// The page above all others.
+    pub(crate) fn root(&self) -> &Page<K, V, S>
+        ensures pairs { result.now.pairs ≡ self.now.pairs }
+        ensures rising { IsRising K.cmp self.now.pairs }
+    {
+        &self.root
+    }
+
     /// How many pairs it has.
     pub fn len(&self) -> u64
         ensures count { result ≡ length self.now.pairs }

@@ -32,3 +32,8 @@ module _ {X : Type 0} where
   pub length-cut : (start : ℕ) (size : Option ℕ) (xs : List X) → length (up_to size (drop start xs)) ≤ length xs
   length-cut start None xs = omega (arith, length-drop start xs)
   length-cut start (Some n) xs = omega (arith, length-take n (drop start xs), length-drop start xs)
+
+-- pages of lists of one length have one length
+pub same-cut : {X Y : Type 0} (start : ℕ) (size : Option ℕ) (xs : List X) (ys : List Y) → length xs ≡ length ys → length (up_to size (drop start xs)) ≡ length (up_to size (drop start ys))
+same-cut start None xs ys h = omega (arith, h, length-drop start xs, length-drop start ys)
+same-cut start (Some n) xs ys h = omega (arith, h, length-take n (drop start xs), length-drop start xs, length-take n (drop start ys), length-drop start ys)

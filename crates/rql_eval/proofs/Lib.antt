@@ -1,6 +1,7 @@
 pub mod ReadBack
 pub mod Cutting
 pub mod Paging
+pub mod Walking
 pub mod Finds
 pub mod Wholes
 mod Examples

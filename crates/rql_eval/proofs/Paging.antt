@@ -1,5 +1,5 @@
 -- The entries of a page, from the ids of the entries that meet the condition.
-use Rattle.std.proofs.Common.{◌≡◌, ℕ, suc, ◌≤◌, ◌==◌, List, [], ◌∷◌, length, drop, Option, filter, map, true, false, refl, sym, ap, ◌∙◌, arith}
+use Rattle.std.proofs.Common.{◌≡◌, ℕ, suc, ◌+◌, ◌≤◌, ◌==◌, List, [], ◌∷◌, length, drop, Option, filter, map, true, false, refl, sym, ap, ◌∙◌, arith}
 use Rattle.std.proofs.lemmas.Bool.Decides.{nat_tests}
 use Rattle.raven_base.specs.Counts.{Counts}
 use Rattle.spec_data.specs.Folding.{folded}
@@ -11,12 +11,20 @@ use Rattle.reference_track.specs.Sets.{AreInOrder}
 use Rattle.rql_filter.specs.Entries.{EntryList, ids_of}
 use Rattle.rql_order.proofs.Stable.{map-sorted}
 use Rattle.rql_eval.specs.Pages.{ReadsAtMost, entries_of}
-use Rattle.rql_eval.proofs.Cutting.{map-cut, unsorted}
+use Rattle.rql_eval.proofs.Cutting.{length-cut, map-cut, same-cut, unsorted}
 use Rattle.rql_eval.proofs.ReadBack.{all_are, are-cut, are-filter, read_back}
 
 length-map : {X Y : Type 0} (f : X → Y) (xs : List X) → length (map f xs) ≡ length xs
 length-map f [] = refl
 length-map f (x ∷ xs) = ap suc (length-map f xs)
+
+-- without keys the page is cut from the entries that meet the condition
+module _ (q : Plan) (entries : EntryList) where
+  pub plain_page : q.order ≡ [] → page q entries ≡ up_to q.size (drop q.start (meeting q entries))
+  plain_page plain = ap (λ l. up_to q.size (drop q.start l)) (ap (λ keys. sorted (λ (a b : List ℕ × Fields). keys_order keys a.1 b.1) (meeting q entries)) plain ∙ unsorted (meeting q entries))
+
+  pub page_no_longer : q.order ≡ [] → length (page q entries) ≤ length (meeting q entries)
+  page_no_longer plain = let same = ap length (plain_page plain) in omega (arith, same, length-cut q.start q.size (meeting q entries))
 
 module _ (q : Plan) (entries : EntryList) (ids : List (List ℕ)) where
   -- they are the ids of these entries, but for the spellings
@@ -40,7 +48,13 @@ module _ (q : Plan) (entries : EntryList) (ids : List (List ℕ)) where
   page_read up are plain =
       read_back entries (cut ids) (cut (meeting q entries)) (are-cut q.start q.size entries (meeting q entries) (are-filter (λ e. meets q.condition false e.1) entries entries (all_are entries up)))
       (map-cut folded q.start q.size ids ∙ (ap cut are ∙ (sym (map-cut folded q.start q.size (ids_of (meeting q entries))) ∙ ap (map folded) (sym (map-cut (λ e. e.0) q.start q.size (meeting q entries))))))
-      ∙ ap cut (sym (ap (λ keys. sorted (λ (a b : List ℕ × Fields). keys_order keys a.1 b.1) (meeting q entries)) plain ∙ unsorted (meeting q entries)))
+      ∙ sym (plain_page q entries plain)
+
+  pub reads_of_page : (read : List (List ℕ)) (before after : Counts) → AreMeeting → read ≡ ids → q.order ≡ [] → ReadsAtMost (length (up_to q.size (drop q.start read))) before after → ReadsAtMost (length (page q entries)) before after
+  reads_of_page read before after are same plain h =
+      let long : length (up_to q.size (drop q.start read)) ≡ length (page q entries) =
+      ap (λ l. length (cut l)) same ∙ (same-cut q.start q.size ids (meeting q entries) (total_is are) ∙ ap length (sym (plain_page q entries plain))) in
+      record { reads = omega (arith, long, h.reads); maps = h.maps; merges = h.merges }
 
   -- with keys it is cut from the sorted entries
   pub page_sorted : AreInOrder (ids_of entries) → AreMeeting → cut (sorted (λ a b. keys_order q.order a.1 b.1) (entries_of entries ids)) ≡ page q entries
@@ -59,11 +73,17 @@ cut_sorted q view found ordered cuts seen are sorts is =
 pub reads_less : (m n : ℕ) (before after : Counts) → m ≤ n → ReadsAtMost m before after → ReadsAtMost n before after
 reads_less m n before after le h = record { reads = omega arith; maps = h.maps; merges = h.merges }
 
+pub reads_same : (m n : ℕ) (before after : Counts) → m ≡ n → ReadsAtMost m before after → ReadsAtMost n before after
+reads_same m n before after same h = record { reads = omega (arith, same, h.reads); maps = h.maps; merges = h.merges }
+
 pub no_reads : (n : ℕ) (counts : Counts) → ReadsAtMost n counts counts
 no_reads n counts = record { reads = omega arith; maps = refl; merges = refl }
 
 pub reads_of : (q : Plan) (entries : EntryList) (ids read : List (List ℕ)) (before after : Counts) → AreMeeting q entries ids → read ≡ ids → ReadsAtMost (length read) before after → ReadsAtMost (length (meeting q entries)) before after
 reads_of q entries ids read before after are same h = let count : length read ≡ length (meeting q entries) = ap length same ∙ total_is q entries ids are in reads_less (length read) (length (meeting q entries)) before after (omega arith) h
+
+pub reads_in_turn : (m n : ℕ) (before between after : Counts) → ReadsAtMost m before between → ReadsAtMost n between after → ReadsAtMost (m + n) before after
+reads_in_turn m n before between after h g = record { reads = omega (arith, h.reads, g.reads); maps = g.maps ∙ h.maps; merges = g.merges ∙ h.merges }
 
 -- THE CODE'S PAGES
 

@@ -59,7 +59,7 @@ pub fn ids_that_meet<E: Entries, L: Ledger>(
 
 /// What a query finds in an index without a reduce. `rows` are those of the store from which the documents come.
 ///
-/// An entry is read only if it meets the condition, and at most once.
+/// No more entries are read than meet the condition. What is read is said at `page_of`.
 pub fn find<E: Entries, T: Lookup, W: Show, L: Ledger>(
     alloc: Global,
     plan: &Plan,

@@ -5,6 +5,7 @@ mod finding;
 mod page;
 mod reading;
 mod rows;
+mod walk;
 mod whole;
 
 pub use finding::{Found, find, ids_that_meet};

@@ -1,14 +1,15 @@
 //! The entries of a page.
-ghost use Rattle.std.specs.Prelude.{◌≡◌, IfOk, drop, length, map};
+ghost use Rattle.std.specs.Prelude.{◌≡◌, [], IfOk, drop, length, map};
 ghost use Rattle.spec_query.specs.Plan.{meeting, page, up_to};
 ghost use Rattle.spec_query.specs.Sorting.{keys_order, sorted};
 ghost use Rattle.rql_eval.specs.Pages.{ReadsAtMost, entries_of as spec_entries_of};
 
 use crate::reading::entries_of;
+use crate::walk::walked_page;
 use map_stage::Entry;
 use raven_base::{NoMemory, Steps};
 use raven_value::Id;
-use rql_filter::{Entries, matching};
+use rql_filter::{Entries, count, matching};
 use rql_order::in_order;
 use rql_plan::Plan;
 use std::alloc::Global;
@@ -45,7 +46,7 @@ fn plain_page<'e, E: Entries, L: Ledger>(
     steps: &mut Steps<L>,
 ) -> Result<Vec<(&'e Id, &'e Entry)>, NoMemory>
     ensures entries { IfOk result (λ found. map (λ e. (e.0.now, e.1.now)) found.items ≡ spec_entries_of (E.entries entries.now) (up_to plan.now.size (drop plan.now.start ids.now))) }
-    ensures reads { ReadsAtMost (length ids.now) steps.old steps.new }
+    ensures reads { ReadsAtMost (length (up_to plan.now.size (drop plan.now.start ids.now))) steps.old steps.new }
 {
     entries_of(alloc, entries, cut(ids, plan.start(), plan.size()), steps)
 }
@@ -66,8 +67,53 @@ fn sorted_page<'e, E: Entries, L: Ledger>(
     Ok(Vec::from_slice(alloc, cut(&ordered, plan.start(), plan.size()))?)
 }
 
-/// The page that a query asks for. An entry is read only if it meets the condition: those of the page if the query asks for no
-/// order, and otherwise all of them, each once.
+/// The page of a query without an order. Its entries alone are read.
+fn gathered_page<'e, E: Entries, L: Ledger>(
+    alloc: Global,
+    plan: &Plan,
+    entries: &'e E,
+    steps: &mut Steps<L>,
+) -> Result<Page<'e>, NoMemory>
+    requires { plan.now.order ≡ [] }
+    ensures entries { IfOk result (λ found. map (λ e. (e.0.now, e.1.now)) found.entries.items ≡ page plan.now (E.entries entries.now)) }
+    ensures total { IfOk result (λ found. found.total ≡ length (meeting plan.now (E.entries entries.now))) }
+    ensures reads { ReadsAtMost (length (page plan.now (E.entries entries.now))) steps.old steps.new }
+{
+    let ids = matching(alloc, entries, plan.condition())?;
+    let entries = plain_page(alloc, plan, entries, ids.as_slice(), steps)?;
+    Ok(Page {
+        entries,
+        total: ids.len() as u64,
+    })
+}
+
+/// The page of a query without an order: from a walk over the entries, if that is short, or else from the ids of all that meet the
+/// condition.
+fn page_by_id<'e, E: Entries, L: Ledger>(
+    alloc: Global,
+    plan: &Plan,
+    entries: &'e E,
+    steps: &mut Steps<L>,
+) -> Result<Page<'e>, NoMemory>
+    requires { plan.now.order ≡ [] }
+    ensures entries { IfOk result (λ found. map (λ e. (e.0.now, e.1.now)) found.entries.items ≡ page plan.now (E.entries entries.now)) }
+    ensures total { IfOk result (λ found. found.total ≡ length (meeting plan.now (E.entries entries.now))) }
+    ensures reads { ReadsAtMost (length (meeting plan.now (E.entries entries.now))) steps.old steps.new }
+{
+    let Some(total) = count(alloc, entries, plan.condition())? else {
+        return gathered_page(alloc, plan, entries, steps);
+    };
+    match walked_page(alloc, plan, entries, total, steps)? {
+        Some(entries) => Ok(Page { entries, total }),
+        None => gathered_page(alloc, plan, entries, steps),
+    }
+}
+
+/// The page that a query asks for, and how many entries meet its condition.
+///
+/// If the query asks for an order, the entries that meet the condition are read, each once. If not, an entry is read only if the
+/// page has it; or entries are walked from the first on, if it is known without a walk how many meet the condition, and then no more
+/// are read than meet it.
 pub fn page_of<'e, E: Entries, L: Ledger>(
     alloc: Global,
     plan: &Plan,
@@ -78,16 +124,11 @@ pub fn page_of<'e, E: Entries, L: Ledger>(
     ensures total { IfOk result (λ found. found.total ≡ length (meeting plan.now (E.entries entries.now))) }
     ensures reads { ReadsAtMost (length (meeting plan.now (E.entries entries.now))) steps.old steps.new }
 {
+    if plan.order().is_empty() {
+        return page_by_id(alloc, plan, entries, steps);
+    }
     let ids = matching(alloc, entries, plan.condition())?;
     let total = ids.len() as u64;
-    let met = ids.as_slice();
-    if plan.order().is_empty() {
-        let entries = plain_page(alloc, plan, entries, met, steps)?;
-        return Ok(Page { entries, total });
-    }
-    let ordered = sorted_page(alloc, plan, entries, met, steps)?;
-    Ok(Page {
-        entries: ordered,
-        total,
-    })
+    let entries = sorted_page(alloc, plan, entries, ids.as_slice(), steps)?;
+    Ok(Page { entries, total })
 }

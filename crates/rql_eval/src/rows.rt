@@ -27,8 +27,8 @@ fn passes(row: &Entry, field: &Text, test: &Test, exact: bool) -> bool
     }
 }
 
-// Whether a row meets a condition. Texts are compared by their bytes if it is inside an `exact`.
-fn is_met(condition: &Condition, exact: bool, row: &Entry) -> bool
+/// Whether a row meets a condition. Texts are compared by their bytes if it is inside an `exact`.
+pub(crate) fn is_met(condition: &Condition, exact: bool, row: &Entry) -> bool
     ensures { result ≡ meets condition.now exact row.now }
 {
     match condition.kind() {

@@ -8,18 +8,18 @@ ghost use Rattle.rql_eval.specs.Rows.{ids_of_rows, without_fields};
 use crate::finding::Found;
 use crate::page::cut;
 use map_stage::Lookup;
-use raven_base::NoMemory;
+use raven_base::{NoMemory, Shared};
 use raven_value::{Ids, Row};
 use rql_plan::Plan;
 use rql_results::{Show, documents_of, included, results_of};
 use std::alloc::Global;
 
-fn ids_of(alloc: Global, rows: &[Row]) -> Result<Ids, NoMemory>
+fn ids_of(alloc: Global, rows: &[Shared<Row>]) -> Result<Ids, NoMemory>
     ensures { IfOk result (λ ids. ids ≡ ids_of_rows rows.now) }
 {
     let mut ids = Ids::new(alloc);
     for row in rows {
-        ids.push(row.id.clone()?)?;
+        ids.push(row.get().id.clone()?)?;
     }
     Ok(ids)
 }
@@ -29,7 +29,7 @@ fn ids_of(alloc: Global, rows: &[Row]) -> Result<Ids, NoMemory>
 pub fn find_all<T: Lookup, W: Show>(
     alloc: Global,
     plan: &Plan,
-    documents: &[Row],
+    documents: &[Shared<Row>],
     rows: &T,
     show: &W,
 ) -> Result<Found, NoMemory>

@@ -1,2 +1,4 @@
 pub mod Conditions
 pub mod Sets
+pub mod Counting
+pub mod TestCounts

@@ -1,7 +1,8 @@
 -- The entries of an index under the ids of their documents, and their terms.
-use Rattle.std.specs.Prelude.{◌≡◌, ℕ, List, Bool, false, Option, find, map}
+use Rattle.std.specs.Prelude.{◌≡◌, ℕ, List, Bool, true, false, Option, find, map}
+use Rattle.std.specs.Ordering.{is_lt}
 use Rattle.std.specs.Option.{option_and_then, option_map_or}
-use Rattle.spec_data.specs.Folding.{folded, same_key}
+use Rattle.spec_data.specs.Folding.{folded, key_cmp, same_key}
 use Rattle.index_tree.specs.Meaning.{Fields, field_named}
 use Rattle.spec_query.specs.Condition.{Condition, meets}
 use Rattle.reference_track.specs.Sets.{AreInOrder}
@@ -16,6 +17,10 @@ ids_of entries = map (λ e. e.0) entries
 -- the entry of a folded id, if there is one
 abbrev pub entry_at : List ℕ → EntryList → Option (List ℕ × Fields)
 entry_at q entries = find (λ e. same_key q (folded e.0)) entries
+
+-- the id is past a folded id, as each is if there is none
+abbrev pub is_past : Option (List ℕ) → List ℕ → Bool
+is_past after id = option_map_or (λ q. is_lt (key_cmp q (folded id))) after true
 
 -- there is an entry, and it meets the condition
 abbrev pub is_met : Condition → Bool → Option (List ℕ × Fields) → Bool

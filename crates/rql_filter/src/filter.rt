@@ -1,5 +1,5 @@
 //! The ids of the entries that meet a condition.
-ghost use Rattle.std.specs.Prelude.{◌≡◌, ℕ, List, IfOk, false, filter, is_some, map};
+ghost use Rattle.std.specs.Prelude.{◌≡◌, ℕ, List, IfOk, IfSome, false, filter, is_some, length, map};
 ghost use Rattle.spec_data.specs.Folding.{folded};
 ghost use Rattle.spec_query.specs.Condition.{Has as HasTest, meets};
 ghost use Rattle.raven_value.specs.ScalarView.{test_view};
@@ -90,4 +90,59 @@ pub fn matching<E: Entries>(
 {
     let terms = entries.terms();
     Ok(ids_that_meet(alloc, entries, terms, condition, false)?)
+}
+
+/// How many entries have a field that meets a test, if that is known without a walk.
+fn count_of_test<E: Entries>(
+    alloc: Global,
+    entries: &E,
+    terms: &Terms,
+    field: &Text,
+    test: &Test,
+    exact: bool,
+) -> Result<Option<u64>, NoMemory>
+    requires { AreTermsOf (E.entries entries.now) terms.now }
+    ensures { IfOk result (λ count. IfSome count (λ n. n ≡ length (filter (λ e. meets (HasTest field.now (test_view test.now)) exact e.1) (E.entries entries.now)))) }
+{
+    Ok(terms.count(alloc, field.as_str(), test, exact)?)
+}
+
+/// How many entries meet a condition, if that is known without a walk. Texts are compared by their bytes if it is inside an
+/// `exact`.
+fn count_of<E: Entries>(
+    alloc: Global,
+    entries: &E,
+    terms: &Terms,
+    condition: &Condition,
+    exact: bool,
+) -> Result<Option<u64>, NoMemory>
+    requires { AreTermsOf (E.entries entries.now) terms.now }
+    ensures { IfOk result (λ count. IfSome count (λ n. n ≡ length (filter (λ e. meets condition.now exact e.1) (E.entries entries.now)))) }
+{
+    match condition.kind() {
+        ConditionKind::Always => Ok(Some(entries.len())),
+        ConditionKind::Has(field, test) => {
+            Ok(count_of_test(alloc, entries, terms, field, test, exact)?)
+        }
+        ConditionKind::Exact(inner) => Ok(count_of(alloc, entries, terms, inner, true)?),
+        ConditionKind::Not(inner) => match count_of(alloc, entries, terms, inner, exact)? {
+            Some(met) => Ok(Some(entries.len() - met)),
+            None => Ok(None),
+        },
+        ConditionKind::Or(_, _) | ConditionKind::And(_, _) => Ok(None),
+    }
+}
+
+/// How many entries meet a condition, if that is known without a walk: for `Always`, for a test that `Terms::count` counts, and
+/// for `not` and `exact` of these. It reads no entry.
+pub fn count<E: Entries>(
+    alloc: Global,
+    entries: &E,
+    condition: &Condition,
+) -> Result<Option<u64>, NoMemory>
+    ensures count { IfOk result (λ count. IfSome count (λ n. n ≡ length (filter (λ e. meets condition.now false e.1) (E.entries entries.now)))) }
+    ensures rising { AreInOrder (ids_of (E.entries entries.now)) }
+{
+    let terms = entries.terms();
+    Ok(count_of(alloc, entries, terms, condition, false)?)
 }

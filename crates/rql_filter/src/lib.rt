@@ -5,4 +5,4 @@ mod entries;
 mod filter;
 
 pub use entries::Entries;
-pub use filter::matching;
+pub use filter::{count, matching};

@@ -77,7 +77,7 @@ module _ (test : Test) (exact : Bool) where
   members_onto q (k.After v) es a is = is
   members_onto q k.End es a is = is
 
-  passing_members : (q : List ℕ) (es : Pairs) → AreApart (held es) → is_one_of q (passing test exact es) ≡ passes test exact (find key_cmp (folded q) (held es))
+  pub passing_members : (q : List ℕ) (es : Pairs) → AreApart (held es) → is_one_of q (passing test exact es) ≡ passes test exact (find key_cmp (folded q) (held es))
   passing_members q [] a = refl
   passing_members q (e ∷ es) a = members_onto q e.0 es a (passing_members q es (apart-onto e.0 (held es) a).1)
 

@@ -5,3 +5,5 @@ pub mod Ranges
 pub mod Runs
 pub mod Found
 pub mod Ordered
+pub mod Spans
+pub mod Counts

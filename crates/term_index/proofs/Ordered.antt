@@ -65,7 +65,7 @@ up_from (x ∷ xs) h = (none_below_from x xs (λ j d lt. h 0 (suc j) d (omega ar
 up_from_sorted : (xs : Ids) → IsSorted id_cmp xs → IsUp xs
 up_from_sorted xs s = up_from xs (sorted_far (λ x y. is_lt (id_cmp x y)) (ranks_by id_total (λ (x : List ℕ). x)) xs s)
 
-greater : (x k : List ℕ) (r : Ordering) → id_cmp x k ≡ r → is_lt (id_cmp x k) ≡ false → is_id x k ≡ false → id_cmp k x ≡ Less
+pub greater : (x k : List ℕ) (r : Ordering) → id_cmp x k ≡ r → is_lt (id_cmp x k) ≡ false → is_id x k ≡ false → id_cmp k x ≡ Less
 greater x k Less e h n = let two : true ≡ false = sym (ap is_lt e) ∙ h in absurd cc
 greater x k Equal e h n = let two : true ≡ false = sym (ap is_eq e) ∙ (is_eq-id_cmp x k ∙ n) in absurd cc
 greater x k Greater e h n = id_total.antisymm k x ∙ ap ordering_reverse e
@@ -111,7 +111,7 @@ apart_below : (x : List ℕ) (ys : Ids) → IsBelowAll x ys → is_one_of x ys �
 apart_below x [] h = refl
 apart_below x (y ∷ ys) h = ap (λ b. b || is_one_of x ys) (sym (is_eq-id_cmp x y) ∙ ap is_eq h.0) ∙ apart_below x ys h.1
 
-below_too : (x y : List ℕ) (zs : Ids) → id_cmp x y ≡ Less → IsBelowAll y zs → IsBelowAll x zs
+pub below_too : (x y : List ℕ) (zs : Ids) → id_cmp x y ≡ Less → IsBelowAll y zs → IsBelowAll x zs
 below_too x y [] h b = tt
 below_too x y (z ∷ zs) h b = (id_total.trans x y z h b.0, below_too x y zs h b.1)
 

@@ -61,3 +61,25 @@ high_edge There exact = past_all
 abbrev pub is_past : Test → Scalar → Bool
 is_past (Starts t) v = not (holds (Starts t) false v)
 is_past other v = false
+
+-- numbers are in the order of their terms with numbers, and texts with texts unless they are compared exactly
+abbrev pub are_in_line : Bool → Scalar → Scalar → Bool
+are_in_line exact (number m) (number n) = true
+are_in_line exact (words s) (words t) = not exact
+are_in_line exact a b = false
+
+-- all terms of the values that equal this one follow one another, and no others are among them
+abbrev pub is_one_run : Bool → Scalar → Bool
+is_one_run exact (words s) = not exact
+is_one_run exact other = true
+
+-- each value between the edges meets the test
+abbrev pub is_span : Test → Bool → Bool
+is_span (Is a) exact = is_one_run exact a
+is_span (Below a) exact = are_in_line exact a a
+is_span (AtMost a) exact = are_in_line exact a a
+is_span (Above a) exact = are_in_line exact a a
+is_span (AtLeast a) exact = are_in_line exact a a
+is_span (Between a b) exact = are_in_line exact a b
+is_span There exact = true
+is_span other exact = false

@@ -1,11 +1,11 @@
 -- What the terms of a field say: which id has which value.
-use Rattle.std.specs.Prelude.{◌≡◌, ℕ, List, [], ◌∷◌, Bool, false, if◌then◌else◌, Option, Some, None}
+use Rattle.std.specs.Prelude.{◌≡◌, ℕ, List, [], ◌∷◌, length, Bool, false, if◌then◌else◌, Option, Some, None}
 use Rattle.std.specs.FinMap.{FinMap, insert, remove, find}
 use Rattle.std.specs.Option.{option_map_or}
 use Rattle.spec_data.specs.Folding.{folded, key_cmp}
 use Rattle.spec_data.specs.Scalars.{Scalar, Test, holds}
 use Rattle.raven_value.specs.ScalarView.{scalar_view}
-use Rattle.reference_track.specs.Sets.{is_id}
+use Rattle.reference_track.specs.Sets.{is_id, is_one_of, AreInOrder}
 use Rattle.term_index.specs.declared.key.Key.{Key}
 use Rattle.term_index.specs.declared.key.Key.TheVariants as k
 
@@ -52,3 +52,19 @@ passing test exact (e ∷ es) = passing_onto test exact e.0 (passing test exact 
 abbrev pub is_first : List ℕ → List (List ℕ) → Bool
 is_first x [] = false
 is_first x (y ∷ ys) = is_id x y
+
+abbrev pub IsTerm : Key → Type 0
+IsTerm (k.At t) = Unit {0}
+IsTerm edge = ⊥
+
+-- no key is an edge
+abbrev pub AreTerms : Pairs → Type 0
+AreTerms [] = Unit {0}
+AreTerms (e ∷ es) = IsTerm e.0 × AreTerms es
+
+-- so many ids pass: as many as a list in order has that has these ids and no others
+pub record IsCountOf (passes : List ℕ → Bool) (n : ℕ) : Type 0 where
+  pub ids : List (List ℕ)
+  pub order : AreInOrder ids
+  pub members : (q : List ℕ) → is_one_of q ids ≡ passes q
+  pub count : length ids ≡ n

@@ -1,17 +1,17 @@
 //! The values of one field.
-ghost use Rattle.std.specs.Prelude.{◌≡◌, ℕ, List, None, IfOk, IsTrue, cond, map, option_map};
+ghost use Rattle.std.specs.Prelude.{◌≡◌, ℕ, List, None, IfOk, IfSome, IsTrue, cond, map, option_map};
 ghost use Rattle.std.specs.FinMap.{empty, find, get};
 ghost use Rattle.std.specs.Ordering.{eq_by_cmp};
 ghost use Rattle.spec_data.specs.Folding.{folded, key_cmp};
 ghost use Rattle.spec_data.specs.Scalars.{In, Is};
 ghost use Rattle.raven_value.specs.ScalarView.{scalar_view, test_view};
 ghost use Rattle.reference_track.specs.Sets.{AreInOrder, is_one_of};
-ghost use Rattle.term_index.specs.Held.{AreApart, held, passes, set_value};
+ghost use Rattle.term_index.specs.Held.{AreApart, AreTerms, IsCountOf, held, passes, set_value};
 ghost use Rattle.term_index.specs.KeyView.{term_of};
 
 use crate::key::{Key, Term};
 use crate::sets::{add, in_order};
-use crate::walks::{TermSet, ids_of_value, ids_passing};
+use crate::walks::{TermSet, count_passing, ids_of_value, ids_passing};
 use paged_map::PagedMap;
 use raven_base::{NoMemory, Shared};
 use raven_value::{Id, Ids, Scalar, Test};
@@ -33,7 +33,7 @@ impl Drop for Column {
 impl Model for Column {
     ghost use Rattle.std.specs.FinMap.{code, from_entries};
     ghost use Rattle.spec_data.specs.Codes.{text_code, scalar_code};
-    ghost use Rattle.term_index.specs.Held.{AreApart, Values, held};
+    ghost use Rattle.term_index.specs.Held.{AreApart, AreTerms, Values, held};
 
     ghost Value = { Values };
 
@@ -41,7 +41,7 @@ impl Model for Column {
 
     ghost view = { λ a. from_entries (held a.terms) };
 
-    ghost invariant = { λ a. AreApart (held a.terms) };
+    ghost invariant = { λ a. AreApart (held a.terms) × AreTerms a.terms };
 }
 
 /// Whether two values are the same, or both are missing.
@@ -69,42 +69,46 @@ fn term_at(alloc: Global, id: &Shared<Id>, value: &Scalar) -> Result<Key, NoMemo
 /// The terms with a value of an id that has none.
 fn with_value(
     alloc: Global,
-    terms: &TermSet,
+    terms: TermSet,
     id: &Shared<Id>,
     value: Option<&Scalar>,
 ) -> Result<TermSet, NoMemory>
-    requires apart { AreApart (held terms.now) }
-    requires new { find key_cmp (folded id.now) (held terms.now) ≡ None }
-    ensures values { IfOk result (λ m. (q : List ℕ) → find key_cmp q (held m) ≡ cond (eq_by_cmp key_cmp q (folded id.now)) (option_map (λ v. scalar_view v.now) value.entry) (find key_cmp q (held terms.now))) }
+    requires apart { AreApart (held terms) }
+    requires terms { AreTerms terms }
+    requires new { find key_cmp (folded id.now) (held terms) ≡ None }
+    ensures values { IfOk result (λ m. (q : List ℕ) → find key_cmp q (held m) ≡ cond (eq_by_cmp key_cmp q (folded id.now)) (option_map (λ v. scalar_view v.now) value.entry) (find key_cmp q (held terms))) }
     ensures apart { IfOk result (λ m. AreApart (held m)) }
+    ensures terms { IfOk result (λ m. AreTerms m) }
 {
     match value {
         Some(value) => {
             let term = term_at(alloc, id, value)?;
-            Ok(terms.with(alloc, term, ())?)
+            Ok(terms.put(alloc, term, ())?)
         }
-        None => Ok(terms.clone()?),
+        None => Ok(terms),
     }
 }
 
 /// The terms without the value of an id.
 fn without_value(
     alloc: Global,
-    terms: &TermSet,
+    terms: TermSet,
     id: &Shared<Id>,
     value: Option<&Scalar>,
 ) -> Result<TermSet, NoMemory>
-    requires apart { AreApart (held terms.now) }
-    requires old { find key_cmp (folded id.now) (held terms.now) ≡ option_map (λ v. scalar_view v.now) value }
-    ensures values { IfOk result (λ m. (q : List ℕ) → find key_cmp q (held m) ≡ cond (eq_by_cmp key_cmp q (folded id.now)) None (find key_cmp q (held terms.now))) }
+    requires apart { AreApart (held terms) }
+    requires terms { AreTerms terms }
+    requires old { find key_cmp (folded id.now) (held terms) ≡ option_map (λ v. scalar_view v.now) value }
+    ensures values { IfOk result (λ m. (q : List ℕ) → find key_cmp q (held m) ≡ cond (eq_by_cmp key_cmp q (folded id.now)) None (find key_cmp q (held terms))) }
     ensures apart { IfOk result (λ m. AreApart (held m)) }
+    ensures terms { IfOk result (λ m. AreTerms m) }
 {
     match value {
         Some(value) => {
             let term = term_at(alloc, id, value)?;
-            Ok(terms.without(alloc, &term)?)
+            Ok(terms.take_out(alloc, &term)?)
         }
-        None => Ok(terms.clone()?),
+        None => Ok(terms),
     }
 }
 
@@ -119,34 +123,35 @@ impl Column {
     }
 
     fn replaced(
-        &self,
+        self,
         alloc: Global,
         id: &Shared<Id>,
         old: Option<&Scalar>,
         new: Option<&Scalar>,
     ) -> Result<Column, NoMemory>
-        requires { get self.now (folded id.now) ≡ option_map (λ v. scalar_view v.now) old }
-        ensures { IfOk result (λ column. column ≡ set_value (folded id.now) (option_map (λ v. scalar_view v.now) new.entry) self.now) }
+        requires { get self (folded id.now) ≡ option_map (λ v. scalar_view v.now) old }
+        ensures { IfOk result (λ column. column ≡ set_value (folded id.now) (option_map (λ v. scalar_view v.now) new.entry) self) }
     {
-        let less = without_value(alloc, &self.terms, id, old)?;
+        let Column { terms } = self;
+        let less = without_value(alloc, terms, id, old)?;
         Ok(Column {
-            terms: with_value(alloc, &less, id, new)?,
+            terms: with_value(alloc, less, id, new)?,
         })
     }
 
-    /// The column with the new value of an id in place of the old one. It is a clone if they are the same.
+    /// The column with the new value of an id in place of the old one. If they are the same, nothing is done.
     pub fn replace(
-        &self,
+        self,
         alloc: Global,
         id: &Shared<Id>,
         old: Option<&Scalar>,
         new: Option<&Scalar>,
     ) -> Result<Column, NoMemory>
-        requires { get self.now (folded id.now) ≡ option_map (λ v. scalar_view v.now) old }
-        ensures { IfOk result (λ column. column ≡ set_value (folded id.now) (option_map (λ v. scalar_view v.now) new.entry) self.now) }
+        requires { get self (folded id.now) ≡ option_map (λ v. scalar_view v.now) old }
+        ensures { IfOk result (λ column. column ≡ set_value (folded id.now) (option_map (λ v. scalar_view v.now) new.entry) self) }
     {
         if are_same(old, new) {
-            Ok(self.clone()?)
+            Ok(self)
         } else {
             self.replaced(alloc, id, old, new)
         }
@@ -190,6 +195,13 @@ impl Column {
             Test::In(values) => self.equal_to_one(alloc, values.as_slice(), exact),
             test => self.passing(alloc, test, exact),
         }
+    }
+
+    /// How many ids have values that meet a test, if that is known without a walk over them.
+    pub fn count(&self, alloc: Global, test: &Test, exact: bool) -> Result<Option<u64>, NoMemory>
+        ensures { IfOk result (λ count. IfSome count (IsCountOf (λ q. passes (test_view test.now) exact (get self.now (folded q))))) }
+    {
+        Ok(count_passing(alloc, &self.terms, test, exact)?)
     }
 }
 

@@ -121,3 +121,37 @@ pub fn high_edge(alloc: Global, test: &Test, exact: bool) -> Result<Key, NoMemor
         Test::Not(_) | Test::In(_) | Test::Starts(_) | Test::There => Ok(Key::End),
     }
 }
+
+fn are_in_line(exact: bool, a: &Scalar, b: &Scalar) -> bool
+    ensures { result ≡ edge.are_in_line exact (scalar_view a.now) (scalar_view b.now) }
+{
+    match (a, b) {
+        (Scalar::Num(_), Scalar::Num(_)) => true,
+        (Scalar::Text(_), Scalar::Text(_)) => !exact,
+        _ => false,
+    }
+}
+
+fn is_one_run(exact: bool, value: &Scalar) -> bool
+    ensures { result ≡ edge.is_one_run exact (scalar_view value.now) }
+{
+    match value {
+        Scalar::Text(_) => !exact,
+        _ => true,
+    }
+}
+
+/// Whether each value between the edges of a test meets it.
+pub fn is_span(test: &Test, exact: bool) -> bool
+    ensures { result ≡ edge.is_span (test_view test.now) exact }
+{
+    match test {
+        Test::Is(value) => is_one_run(exact, value),
+        Test::Below(bound) | Test::AtMost(bound) | Test::Above(bound) | Test::AtLeast(bound) => {
+            are_in_line(exact, bound, bound)
+        }
+        Test::Between(low, high) => are_in_line(exact, low, high),
+        Test::There => true,
+        Test::Not(_) | Test::In(_) | Test::Starts(_) => false,
+    }
+}

@@ -1,5 +1,5 @@
 //! The values of all fields.
-ghost use Rattle.std.specs.Prelude.{◌≡◌, ℕ, List, IfOk, option_map};
+ghost use Rattle.std.specs.Prelude.{◌≡◌, ℕ, List, IfOk, IfSome, option_map};
 ghost use Rattle.std.specs.Map.{lookup};
 ghost use Rattle.std.specs.Option.{option_copied};
 ghost use Rattle.std.specs.Str.{bytes_eq};
@@ -8,7 +8,7 @@ ghost use Rattle.spec_data.specs.Scalars.{Is};
 ghost use Rattle.raven_value.specs.ScalarView.{scalar_view, test_view};
 ghost use Rattle.reference_track.specs.Sets.{AreInOrder, is_one_of};
 ghost use Rattle.term_index.specs.Columns.{HasFields, fields_of, no_values, value_at, value_of, with_fields};
-ghost use Rattle.term_index.specs.Held.{passes};
+ghost use Rattle.term_index.specs.Held.{IsCountOf, passes};
 
 use crate::column::Column;
 use raven_base::{NoMemory, Shared};
@@ -20,8 +20,7 @@ use std::marker::Model;
 ///
 /// Of each field it keeps the terms, pairs of a value and an id, in shared pages, ordered by the kind of the value, its number, its
 /// folded text and the folded id. So the ids whose values meet a test are found between two terms, and those of one value are in
-/// order. A change makes new terms and leaves the old ones, with which they share most of their pages and all other terms; a field
-/// whose value is unchanged is shared as a whole.
+/// order. A clone shares all pages, and a change copies only pages that others have too; a field whose value is unchanged stays as it is.
 pub struct Terms {
     columns: Vec<(Shared<Text>, Column)>,
 }
@@ -69,25 +68,27 @@ impl Terms {
 
     /// The terms with the new fields of an id in place of the old ones. An id without an entry has no fields.
     ///
-    /// For each field whose value changes it takes time and memory that grow with the logarithm of the number of ids.
+    /// For each field whose value changes it takes time and memory that grow with the logarithm of the number of ids. If it runs out of
+    /// memory, these terms are gone, and their clones stay.
     pub fn replace(
-        &self,
+        self,
         alloc: Global,
         id: &Id,
         old: &[(Text, Scalar)],
         new: &[(Text, Scalar)],
     ) -> Result<Terms, NoMemory>
-        requires { HasFields (folded id.now) (fields_of old.now) self.now }
-        ensures { IfOk result (λ terms. terms ≡ with_fields (folded id.now) (fields_of new.now) self.now) }
+        requires { HasFields (folded id.now) (fields_of old.now) self }
+        ensures { IfOk result (λ terms. terms ≡ with_fields (folded id.now) (fields_of new.now) self) }
     {
+        let Terms { columns: all } = self;
         let id = Shared::of(alloc, id.clone()?)?;
-        let mut columns = Vec::new(alloc);
-        for column in &self.columns {
-            let name = column.0.get().as_str();
-            let values = column
-                .1
-                .replace(alloc, &id, value_of(old, name), value_of(new, name))?;
-            columns.push((column.0.clone()?, values))?;
+        let mut columns = Vec::with_capacity(alloc, all.len())?;
+        for column in all {
+            let (name, values) = column;
+            let before = value_of(old, name.get().as_str());
+            let after = value_of(new, name.get().as_str());
+            let values = values.replace(alloc, &id, before, after)?;
+            columns.push((name, values))?;
         }
         Ok(Terms { columns })
     }
@@ -140,6 +141,25 @@ impl Terms {
         match self.column(field) {
             Some(column) => column.range(alloc, test, exact),
             None => Ok(Ids::new(alloc)),
+        }
+    }
+
+    /// How many ids have values in a field that meet a test, if that is known without a walk over them.
+    ///
+    /// It is known for a value, for all others, for `There`, and for bounds that are numbers, or texts that are not compared
+    /// exactly. It costs two searches. It is not known for `In` and `Starts`, and for texts that are compared exactly.
+    pub fn count(
+        &self,
+        alloc: Global,
+        field: &str,
+        test: &Test,
+        exact: bool,
+    ) -> Result<Option<u64>, NoMemory>
+        ensures { IfOk result (λ count. IfSome count (IsCountOf (λ q. passes (test_view test.now) exact (value_at field.now (folded q) self.now)))) }
+    {
+        match self.column(field) {
+            Some(column) => column.count(alloc, test, exact),
+            None => Ok(Some(0)),
         }
     }
 }

@@ -1,14 +1,14 @@
 //! Walks over the terms of a field, from one edge to another.
-ghost use Rattle.std.specs.Prelude.{◌≡◌, IfOk};
-ghost use Rattle.spec_data.specs.Scalars.{Is};
+ghost use Rattle.std.specs.Prelude.{◌≡◌, IfOk, IfSome, length};
+ghost use Rattle.spec_data.specs.Scalars.{Is, Not};
 ghost use Rattle.raven_value.specs.ScalarView.{scalar_view, test_view};
 ghost use Rattle.paged_map.specs.Range.{between};
 ghost use Rattle.reference_track.specs.Sets.{AreInOrder};
 ghost use Rattle.term_index.specs.Edges as edge;
-ghost use Rattle.term_index.specs.Held.{passing};
+ghost use Rattle.term_index.specs.Held.{AreTerms, passing};
 ghost use Rattle.term_index.specs.KeyView.{by_mark, mark_of};
 
-use crate::edges::{high_edge, low_edge};
+use crate::edges::{high_edge, is_span, low_edge};
 use crate::key::Key;
 use paged_map::PagedMap;
 use raven_base::NoMemory;
@@ -83,4 +83,55 @@ pub fn ids_of_value(
     let _terms = terms.len();
     let test = Test::Is(value.clone()?);
     Ok(ids_passing(alloc, terms, &test, exact)?)
+}
+
+/// How many terms meet a test, if all terms between its edges do.
+fn count_in_span(
+    alloc: Global,
+    terms: &TermSet,
+    test: &Test,
+    exact: bool,
+) -> Result<Option<u64>, NoMemory>
+    requires { AreTerms terms.now }
+    ensures { IfOk result (λ count. IfSome count (λ n. n ≡ length (passing (test_view test.now) exact terms.now))) }
+{
+    if !is_span(test, exact) {
+        return Ok(None);
+    }
+    let low = low_edge(alloc, test, exact)?;
+    let high = high_edge(alloc, test, exact)?;
+    Ok(Some(terms.count_between(&low, &high)))
+}
+
+/// How many terms have another value than this one, if its own terms are counted.
+fn count_of_others(
+    alloc: Global,
+    terms: &TermSet,
+    value: &Scalar,
+    exact: bool,
+) -> Result<Option<u64>, NoMemory>
+    requires { AreTerms terms.now }
+    ensures { IfOk result (λ count. IfSome count (λ n. n ≡ length (passing (Not (scalar_view value.now)) exact terms.now))) }
+{
+    let test = Test::Is(value.clone()?);
+    match count_in_span(alloc, terms, &test, exact)? {
+        Some(same) => Ok(Some(terms.len() - same)),
+        None => Ok(None),
+    }
+}
+
+/// How many terms meet a test, if that is known without a walk.
+pub fn count_passing(
+    alloc: Global,
+    terms: &TermSet,
+    test: &Test,
+    exact: bool,
+) -> Result<Option<u64>, NoMemory>
+    requires { AreTerms terms.now }
+    ensures { IfOk result (λ count. IfSome count (λ n. n ≡ length (passing (test_view test.now) exact terms.now))) }
+{
+    match test {
+        Test::Not(value) => count_of_others(alloc, terms, value, exact),
+        test => count_in_span(alloc, terms, test, exact),
+    }
 }

@@ -11,5 +11,5 @@ use Rattle.term_index.proofs.column.Column.equal.Goals as goal
 pub returns-clause-members : goal.returns-clause-members
 returns-clause-members c = λ q.
     ap (is_one_of q) c.in_ok-ids_of_value.ensures.ids
-    ∙ (found_members (Is (scalar_view c.args.value.now)) c.args.exact c.self.inside.terms c.self.invariant q
+    ∙ (found_members (Is (scalar_view c.args.value.now)) c.args.exact c.self.inside.terms c.self.invariant.0 q
     ∙ ap (λ m. passes (Is (scalar_view c.args.value.now)) c.args.exact (get m (folded q))) c.self.view_is)

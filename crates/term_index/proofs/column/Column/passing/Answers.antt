@@ -11,5 +11,5 @@ pub returns-clause-members : goal.returns-clause-members
 returns-clause-members c = λ q.
     c.in_order.ensures.members q
     ∙ (ap (is_one_of q) (c.into_vec.ensures ∙ c.in_ok-ids.ensures)
-    ∙ (found_members (test_view c.args.test.now) c.args.exact c.self.inside.terms c.self.invariant q
+    ∙ (found_members (test_view c.args.test.now) c.args.exact c.self.inside.terms c.self.invariant.0 q
     ∙ ap (λ m. passes (test_view c.args.test.now) c.args.exact (get m (folded q))) c.self.view_is))

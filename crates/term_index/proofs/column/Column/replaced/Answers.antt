@@ -14,5 +14,5 @@ with_value-requires-clause-new c = c.in_ok-less.ensures.values (folded c.args.id
 
 pub returns : goal.returns
 returns c =
-    replaced (folded c.args.id.now) (option_map (λ v. scalar_view v.now) c.args.new) (held c.self.inside.terms) (held c.in_ok-less.less) (held c.in_ok-with_value.field-0) c.args.self.now
+    replaced (folded c.args.id.now) (option_map (λ v. scalar_view v.now) c.args.new) (held c.self.inside.terms) (held c.in_ok-less.less) (held c.in_ok-with_value.field-0) c.args.self
     c.self.view_is c.in_ok-less.ensures.values c.in_ok-with_value.ensures.values
