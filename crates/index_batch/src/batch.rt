@@ -13,13 +13,13 @@ ghost use Rattle.index_version.specs.Renewed.{touched_documents};
 use doc_store::{Store, last_etag};
 use index_version::IndexVersion;
 use map_stage::Mapper;
-use raven_base::{NoMemory, Steps};
+use raven_base::{NoMemory, Shared, Steps};
 use raven_value::Row;
 use std::alloc::Global;
 use std::sync::ledger::Ledger;
 use std::thread::Threads;
 
-fn etag_after(taken: &[Row], more: bool, store: &Store) -> u64
+fn etag_after(taken: &[Shared<Row>], more: bool, store: &Store) -> u64
     ensures { result ≡ cond more (last_of 0 taken.now) (last store.now) }
 {
     if more { last_etag(taken) } else { store.last() }

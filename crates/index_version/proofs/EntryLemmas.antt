@@ -1,11 +1,11 @@
 -- The entries from scratch are found under their ids, and by their terms.
-use Rattle.std.proofs.Common.{◌≡◌, ℕ, List, [], ◌∷◌, Bool, true, false, cond, ◌||◌, Option, Some, None, find, map, refl, sym, ap, ◌∙◌, subst}
+use Rattle.std.proofs.Common.{◌≡◌, ℕ, List, [], ◌∷◌, Bool, true, false, cond, ◌||◌, Option, Some, None, filter, is_some, find, map, refl, sym, ap, ◌∙◌, subst}
 use Rattle.std.specs.declared.cmp.Ordering.TheVariants.{Less, Equal, Greater}
 use Rattle.std.specs.FinMap.{FinMap, get, entries, find as found_at, get-entries}
-use Rattle.std.specs.List.{list_any}
+use Rattle.std.specs.List.{cons_option, filter_map, list_any, slice_get}
 use Rattle.std.specs.Map.{lookup, values_of}
-use Rattle.std.specs.Option.{option_and_then}
-use Rattle.std.specs.Ordering.{is_eq}
+use Rattle.std.specs.Option.{option_and_then, option_map_or}
+use Rattle.std.specs.Ordering.{is_eq, is_lt}
 use Rattle.std.specs.Str.{bytes_eq}
 use Rattle.std.proofs.lemmas.Slice.Eq.{bytes_eq-Decides}
 use Rattle.spec_data.specs.Folding.{folded, key_cmp, same_key}
@@ -20,10 +20,13 @@ use Rattle.index_definition.specs.Reading.{fields}
 use Rattle.index_definition.specs.declared.definition.DefBody.{DefBody}
 use Rattle.spec_index.specs.Mapping.{entry_of, scratch}
 use Rattle.paged_map.specs.Pairs.{AllAnswer, IsRising}
+use Rattle.reference_track.specs.Folded.{folded_entries}
 use Rattle.reference_track.specs.Sets.{AreInOrder, IsBelowAll}
 use Rattle.reference_track.specs.Tracks.{Track}
 use Rattle.term_index.specs.Columns.{Columns, HasFields, value_at, value_of}
+use Rattle.index_version.specs.Entries.{is_past}
 use Rattle.index_version.specs.Kept.{AreKept, Given, entry_given, given_of, outcome_fields}
+use Rattle.index_version.specs.Reduced.{reduce_of}
 use Rattle.index_version.specs.Termed.{AreTermed, given_fields, names_of}
 use Rattle.index_version.proofs.FieldNames.{not_in_entry}
 use Rattle.index_version.proofs.Keeping.{entries_kept}
@@ -34,7 +37,7 @@ EntryPair = List ℕ × Fields
 
 -- UNDER ITS OWN ID
 
-abbrev AreOwn : List (List ℕ × Given) → Type 0
+abbrev pub AreOwn : List (List ℕ × Given) → Type 0
 AreOwn [] = Unit {0}
 AreOwn (e ∷ es) = (folded e.1.id ≡ e.0) × AreOwn es
 
@@ -94,7 +97,7 @@ values_in_order [] up ids = tt
 values_in_order (p ∷ ps) up ids = (below_values p.1.0 p.0 ps ids.0 up.0 ids.1, values_in_order ps up.1 ids.1)
 
 module _ (m : Mapper) (T : Table) (G : FinMap key_cmp Given) (L : Track) (kept : AreKept m T G L) where
-  own : AreOwn (entries G)
+  pub own : AreOwn (entries G)
   own = all_own (entries G) (entries_rise G) (λ q g h. own_id m T G L kept q g (get-entries G q ∙ h))
 
   from_scratch : values_of (derived entry_given (entries G)) ≡ scratch m T
@@ -111,6 +114,33 @@ module _ (m : Mapper) (T : Table) (G : FinMap key_cmp Given) (L : Track) (kept :
   pub entries_in_order : AreInOrder (map (λ (e : EntryPair). e.0) (scratch m T))
   entries_in_order = subst (λ es. AreInOrder (map (λ (e : EntryPair). e.0) es)) from_scratch
       (values_in_order (derived entry_given (entries G)) (derived-rising entry_given (entries G) (entries_rise G)) (have_ids (entries G) own))
+
+-- the first entry of those that are kept past an id is the first past it
+module _ (q : Option (List ℕ)) where
+  past_own : (x k : List ℕ) → folded x ≡ k → is_past q x ≡ option_map_or (λ r. is_lt (key_cmp r k)) q true
+  past_own x k is = ap (λ f. option_map_or (λ r. is_lt (key_cmp r f)) q true) is
+
+  pub first_past : (pairs : List (List ℕ × Given)) → AreOwn (folded_entries pairs) → slice_get (filter_map entry_given (values_of (filter (λ e. is_past q e.0) pairs))) 0 ≡ find (λ (e : EntryPair). is_past q e.0) (filter_map entry_given (values_of pairs))
+  first_past [] _ = refl
+  first_past (e ∷ es) under =
+      let here = past_own e.1.id (folded e.0) under.0 in
+      let rest = first_past es under.1 in
+      elim (is_past q e.0) as (λ b. is_past q e.0 ≡ b → slice_get (filter_map entry_given (values_of (cond b (e ∷ filter (λ e. is_past q e.0) es) (filter (λ e. is_past q e.0) es)))) 0 ≡ find (λ (e : EntryPair). is_past q e.0) (cons_option (entry_given e.1) (filter_map entry_given (values_of es)))) [
+        | true ↦ λ h. kept e.1.mapped.outcome (here ∙ h) rest
+        | false ↦ λ h. passed e.1.mapped.outcome (here ∙ h) rest
+      ] refl
+    where
+      kept : (o : Outcome) → is_past q e.1.id ≡ true → slice_get (filter_map entry_given (values_of (filter (λ e. is_past q e.0) es))) 0 ≡ find (λ (e : EntryPair). is_past q e.0) (filter_map entry_given (values_of es))
+          → slice_get (cons_option (entry_of e.1.id o) (filter_map entry_given (values_of (filter (λ e. is_past q e.0) es)))) 0 ≡ find (λ (e : EntryPair). is_past q e.0) (cons_option (entry_of e.1.id o) (filter_map entry_given (values_of es)))
+      kept (Entry fs) h rest = ap (λ b. cond b (Some (e.1.id, fs)) (find (λ (e : EntryPair). is_past q e.0) (filter_map entry_given (values_of es)))) (sym h)
+      kept NoEntry h rest = rest
+      kept Failed h rest = rest
+
+      passed : (o : Outcome) → is_past q e.1.id ≡ false → slice_get (filter_map entry_given (values_of (filter (λ e. is_past q e.0) es))) 0 ≡ find (λ (e : EntryPair). is_past q e.0) (filter_map entry_given (values_of es))
+          → slice_get (filter_map entry_given (values_of (filter (λ e. is_past q e.0) es))) 0 ≡ find (λ (e : EntryPair). is_past q e.0) (cons_option (entry_of e.1.id o) (filter_map entry_given (values_of es)))
+      passed (Entry fs) h rest = rest ∙ ap (λ b. cond b (Some (e.1.id, fs)) (find (λ (e : EntryPair). is_past q e.0) (filter_map entry_given (values_of es)))) (sym h)
+      passed NoEntry h rest = rest
+      passed Failed h rest = rest
 
 -- BY THEIR TERMS
 
@@ -150,9 +180,9 @@ given_none field body T (Some d) none = by (is_mapped (mapper_of (definition_vie
     by false = refl
 
 pub value_found : (body : DefBody) (T : Table) (G : FinMap key_cmp Given) (L : Track) (terms : Columns) → AreKept (mapper_of (definition_view body)) T G L → AreTermed body G terms
-    → (field q : List ℕ) → value_at field q terms ≡ option_and_then (λ (e : EntryPair). field_named field e.1) (find (λ (e : EntryPair). same_key q (folded e.0)) (scratch (mapper_of (definition_view body)) T))
-value_found body T G L terms kept are field q =
+    → reduce_of (definition_view body) ≡ None → (field q : List ℕ) → value_at field q terms ≡ option_and_then (λ (e : EntryPair). field_named field e.1) (find (λ (e : EntryPair). same_key q (folded e.0)) (scratch (mapper_of (definition_view body)) T))
+value_found body T G L terms kept are plain field q =
     value-fields field q (given_fields (get G q)) terms (are.values q) (λ none.
-    ap (λ o. field_named field (given_fields o)) (kept.results q) ∙ given_none field body T (get T q) (sym (ap (list_any (bytes_eq field)) are.names) ∙ none))
+    ap (λ o. field_named field (given_fields o)) (kept.results q) ∙ given_none field body T (get T q) (sym (ap (list_any (bytes_eq field)) (are.names ∙ ap (λ o. cond (is_some o) [] (fields body)) plain)) ∙ none))
     ∙ of_given field (get G q)
     ∙ ap (option_and_then (λ (e : EntryPair). field_named field e.1)) (sym (entry_found (mapper_of (definition_view body)) T G L kept q))

@@ -1,11 +1,14 @@
 -- The terms of an index are of what its map gives, and a batch changes those of few ids.
-use Rattle.std.proofs.Common.{◌≡◌, ℕ, zero, suc, ◌||◌, List, [], ◌∷◌, drop, Bool, true, false, cond, Option, Some, None, refl, sym, ap, ◌∙◌, subst}
+use Rattle.std.proofs.Common.{◌≡◌, ℕ, zero, suc, ◌||◌, List, [], ◌∷◌, drop, Bool, true, false, cond, Option, Some, None, is_some, option_map, refl, sym, ap, ◌∙◌, subst}
 use Rattle.std.specs.FinMap.{FinMap, empty, get, get-empty, get-insert, get-remove}
 use Rattle.spec_data.specs.Folding.{folded, key_cmp, same_key}
 use Rattle.spec_data.specs.Scalars.{Scalar}
 use Rattle.index_tree.specs.Meaning.{Fields}
+use Rattle.index_definition.specs.DefinitionView.{definition_view}
 use Rattle.index_definition.specs.Reading.{fields}
 use Rattle.index_definition.specs.declared.definition.DefBody.{DefBody}
+use Rattle.index_tree.specs.declared.reduce_query.ReduceQuery.{ReduceQuery}
+use Rattle.index_groups.specs.Groups.{Grouped}
 use Rattle.spec_store.proofs.TableLemmas.{tied}
 use Rattle.spec_store.proofs.StoreLemmas.{same_itself, same_means}
 use Rattle.reference_track.specs.Sets.{AreInOrder, IsBelowAll}
@@ -13,7 +16,8 @@ use Rattle.reference_track.proofs.FoldedMaps.{total}
 use Rattle.term_index.specs.Columns.{Columns, HasFields, no_values, value_of, with_fields}
 use Rattle.term_index.specs.Held.{Values, set_value}
 use Rattle.index_version.specs.Kept.{Given}
-use Rattle.index_version.specs.Termed.{AreTermed, HaveTerms, given_fields, names_of}
+use Rattle.index_version.specs.Reduced.{AreReduced, no_entries, reduce_of}
+use Rattle.index_version.specs.Termed.{AreTermed, HaveTerms, given_fields, names_of, term_names}
 use Rattle.index_version.proofs.GroupChanges.{any_of}
 use Rattle.index_version.proofs.Touching.{below_none}
 
@@ -79,12 +83,33 @@ no_names : (names : List (List ℕ)) → names_of (no_values names) ≡ names
 no_names [] = refl
 no_names (n ∷ names) = ap (λ ns. n ∷ ns) (no_names names)
 
-pub nothing_termed : (body : DefBody) (given : FinMap key_cmp Given) (terms : Columns) → given ≡ empty → terms ≡ no_values (fields body) → AreTermed body given terms
-nothing_termed body given terms none is = record {
-  names = ap names_of is ∙ no_names (fields body);
+-- there are groups if there is a reduce
+grouped : (query : Option ReduceQuery) → is_some (option_map no_entries query) ≡ is_some query
+grouped None = refl
+grouped (Some query) = refl
+
+pub nothing_termed : (body : DefBody) (given : FinMap key_cmp Given) (groups : Option Grouped) (b : Bool) (terms : Columns) → given ≡ empty → groups ≡ option_map no_entries (reduce_of (definition_view body)) → b ≡ is_some groups
+    → terms ≡ no_values (cond b [] (fields body)) → AreTermed body given terms
+nothing_termed body given groups b terms none are has is = record {
+  names = ap names_of is ∙ no_names (cond b [] (fields body)) ∙ ap (λ x. cond x [] (fields body)) (has ∙ ap is_some are ∙ grouped (reduce_of (definition_view body)));
   values = λ q. subst (HasFields q (given_fields (get given q))) (sym is)
-      (subst (λ o. HasFields q (given_fields o) (no_values (fields body))) (sym (ap (λ (G : FinMap key_cmp Given). get G q) none ∙ get-empty key_cmp q)) (no_fields (fields body) q));
+      (subst (λ o. HasFields q (given_fields o) (no_values (cond b [] (fields body)))) (sym (ap (λ (G : FinMap key_cmp Given). get G q) none ∙ get-empty key_cmp q)) (no_fields (cond b [] (fields body)) q));
 }
 
 pub still_termed : (body shared : DefBody) (before after : FinMap key_cmp Given) (terms new : Columns) → AreTermed body before terms → shared ≡ body → names_of new ≡ names_of terms → HaveTerms after new → AreTermed shared after new
-still_termed body shared before after terms new are same names values = record { names = names ∙ are.names ∙ ap fields (sym same); values = values }
+still_termed body shared before after terms new are same names values = record { names = names ∙ are.names ∙ ap term_names (sym same); values = values }
+
+-- WITH A REDUCE
+
+pub no_columns : (given : FinMap key_cmp Given) (terms : Columns) → names_of terms ≡ [] → HaveTerms given terms
+no_columns given [] none = λ q. tt
+no_columns given (c ∷ cs) none = absurd cc
+
+queried : (groups : Option Grouped) (query : Option ReduceQuery) → option_map (λ g. g.query) groups ≡ query → is_some groups ≡ is_some query
+queried None query is = ap is_some is
+queried (Some groups) query is = ap is_some is
+
+pub reduce_terms : (body : DefBody) (given : FinMap key_cmp Given) (groups : Option Grouped) (terms : Columns) (b : Bool) → AreReduced (reduce_of (definition_view body)) given groups → AreTermed body given terms → b ≡ is_some groups
+    → b ≡ true → names_of terms ≡ []
+reduce_terms body given groups terms b reduced are has holds =
+    are.names ∙ ap (λ x. cond x [] (fields body)) (sym (queried groups (reduce_of (definition_view body)) reduced.queries) ∙ sym has ∙ holds)

@@ -1,7 +1,7 @@
 //! What an index stores besides its documents.
-ghost use Rattle.std.specs.Prelude.{◌≡◌, ℕ, List, None, Some, IfOk, false, length, cond, map, option_map};
+ghost use Rattle.std.specs.Prelude.{◌≡◌, ℕ, List, None, Some, IfOk, false, filter, length, cond, map, option_map};
 ghost use Rattle.std.specs.FinMap.{empty, get};
-ghost use Rattle.std.specs.List.{count_by, filter_map};
+ghost use Rattle.std.specs.List.{count_by, filter_map, slice_get};
 ghost use Rattle.spec_data.specs.Folding.{folded, same_key};
 ghost use Rattle.spec_index.specs.Mapping.{has_failed};
 ghost use Rattle.std.specs.BTreeMap.{is_at};
@@ -11,12 +11,14 @@ ghost use Rattle.paged_map.specs.Pairs.{IsRising};
 ghost use Rattle.reference_track.specs.Sets.{id_cmp, is_id};
 ghost use Rattle.reference_track.specs.Tracks.{is_pair};
 ghost use Rattle.reference_track.specs.Folded.{by_folded};
+ghost use Rattle.index_version.specs.Entries.{is_past};
 ghost use Rattle.index_version.specs.Kept.{entry_given, is_loaded};
 
 use crate::given::Given;
 use crate::results::Results;
 use map_stage::Entry;
-use raven_base::NoMemory;
+use paged_map::Pairs;
+use raven_base::{NoMemory, Shared};
 use raven_value::{Id, Ids};
 use reference_track::Referrers;
 use std::alloc::Global;
@@ -138,4 +140,36 @@ impl Kept {
             None => None,
         }
     }
+
+    /// How many documents it has something for.
+    pub fn len(&self) -> u64
+        ensures count { result ≡ length self.now.given }
+        ensures rising { IsRising id_cmp self.now.given }
+    {
+        self.given.len()
+    }
+
+    /// The first entry whose document has an id past this one, or the first of all. Documents without an entry are passed over.
+    pub fn entry_after(&self, id: Option<&Id>) -> Option<(&Id, &Entry)>
+        ensures entry { option_map (λ e. (e.0.now, e.1.now)) result ≡ slice_get (filter_map entry_given (values_of (filter (λ e. is_past (option_map (λ i. folded i.now) id.entry) e.0) self.now.given))) 0 }
+        ensures rising { IsRising id_cmp self.now.given }
+    {
+        match id {
+            Some(id) => first_entry(self.given.after(id)),
+            None => first_entry(self.given.iter()),
+        }
+    }
+}
+
+/// The first entry of a walk.
+#[tactic(auto, using(crate::proofs::Walking::first_step))]
+fn first_entry<'a>(pairs: Pairs<'a, Id, Shared<Given>>) -> Option<(&'a Id, &'a Entry)>
+    ensures { option_map (λ e. (e.0.now, e.1.now)) result ≡ slice_get (filter_map entry_given (values_of pairs.entry)) 0 }
+{
+    for pair in pairs {
+        if let Some(entry) = pair.1.get().entry() {
+            return Some(entry);
+        }
+    }
+    None
 }

@@ -82,7 +82,7 @@ fn shape_entry(alloc: Global, shape: &Shape, body: &Body) -> Result<Entry, NoMem
     let value = value_in(alloc, body)?;
     let paths = shape.fields.as_slice();
     match &shape.groups {
-        None => auto_entry(alloc, paths, value.as_ref()),
+        None => auto_entry(alloc, paths.len(), paths, value.as_ref()),
         Some(groups) => grouped_entry(alloc, groups.as_slice(), paths, value.as_ref()),
     }
 }
@@ -97,7 +97,8 @@ fn grouped_entry(
     ensures fields { IfOk result (λ entry. entry ≡ grouped_fields groups.now sums.now (body_with (option_map (λ v. data_of v.now) value.entry))) }
     ensures words { IfOk result HasWords }
 {
-    let mut entry = auto_entry(alloc, groups, value)?;
+    let room = groups.len() + 1 + sums.len();
+    let mut entry = auto_entry(alloc, room, groups, value)?;
     entry.put(Text::of(alloc, COUNT_NAME)?, Scalar::Num(1))?;
     for sum in sums {
         entry.put(sum_name(alloc, sum)?, field_at(value, sum)?)?;
@@ -105,11 +106,17 @@ fn grouped_entry(
     Ok(entry)
 }
 
-fn auto_entry(alloc: Global, paths: &[Path], value: Option<&Value>) -> Result<Entry, NoMemory>
+// The fields at these paths, in an entry with room for so many fields.
+fn auto_entry(
+    alloc: Global,
+    room: usize,
+    paths: &[Path],
+    value: Option<&Value>,
+) -> Result<Entry, NoMemory>
     ensures fields { IfOk result (λ entry. entry ≡ fields_at (body_with (option_map (λ v. data_of v.now) value.entry)) [] paths.now) }
     ensures words { IfOk result HasWords }
 {
-    let mut entry = Entry::new(alloc);
+    let mut entry = Entry::with_room(alloc, room)?;
     for path in paths {
         entry.put(joined_name(alloc, path)?, field_at(value, path)?)?;
     }

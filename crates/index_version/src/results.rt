@@ -1,9 +1,10 @@
 //! What the map of an index has given, counted.
-ghost use Rattle.std.specs.Prelude.{◌≡◌, [], length, IfOk};
+ghost use Rattle.std.specs.Prelude.{◌≡◌, [], filter, length, IfOk};
 ghost use Rattle.std.specs.List.{count_by, filter_map};
 ghost use Rattle.std.specs.Map.{lookup, remove_entry, values_of};
 ghost use Rattle.std.specs.Option.{option_copied};
 ghost use Rattle.std.specs.BTreeMap.{insert_entry, is_at};
+ghost use Rattle.std.specs.Ordering.{is_lt};
 ghost use Rattle.paged_map.specs.Pairs.{IsRising};
 ghost use Rattle.reference_track.specs.Sets.{id_cmp};
 ghost use Rattle.spec_index.specs.Mapping.{has_failed};
@@ -113,6 +114,14 @@ impl Results {
         self.given.get(id)
     }
 
+    /// How many there are.
+    pub fn len(&self) -> u64
+        ensures count { result ≡ length self.now }
+        ensures rising { IsRising id_cmp self.now }
+    {
+        self.given.len()
+    }
+
     /// How many entries there are.
     pub fn entries(&self) -> u64
         ensures count { result ≡ length (filter_map entry_given (values_of self.now)) }
@@ -135,6 +144,14 @@ impl Results {
         ensures rising { IsRising id_cmp self.now }
     {
         self.given.iter()
+    }
+
+    /// Those past an id, in order of their folded ids.
+    pub fn after(&self, id: &Id) -> Pairs<'_, Id, Shared<Given>>
+        ensures pairs { result ≡ filter (λ e. is_lt (id_cmp id.now e.0)) self.now }
+        ensures rising { IsRising id_cmp self.now }
+    {
+        self.given.after(id)
     }
 }
 

@@ -50,7 +50,7 @@ impl Table {
     }
 
     /// Puts each document of these rows in, and removes the id of each tombstone.
-    pub fn after(&self, alloc: Global, taken: &[Row]) -> Result<Table, NoMemory>
+    pub fn after(&self, alloc: Global, taken: &[Shared<Row>]) -> Result<Table, NoMemory>
         ensures { IfOk result (λ table. table ≡ note_rows self.now taken.now) }
     {
         Ok(Table {
@@ -90,7 +90,7 @@ pub fn is_document(row: &Row) -> bool
 fn all_noted(
     alloc: Global,
     rows: &PagedMap<Id, Shared<Row>>,
-    taken: &[Row],
+    taken: &[Shared<Row>],
 ) -> Result<PagedMap<Id, Shared<Row>>, NoMemory>
     ensures { IfOk result (λ new. by_folded new ≡ note_rows (by_folded rows.now) taken.now) }
 {
@@ -104,14 +104,16 @@ fn all_noted(
 fn noted(
     alloc: Global,
     rows: PagedMap<Id, Shared<Row>>,
-    row: &Row,
+    row: &Shared<Row>,
 ) -> Result<PagedMap<Id, Shared<Row>>, NoMemory>
     ensures { IfOk result (λ new. by_folded new ≡ note_row (by_folded rows) row.now) }
 {
-    if is_document(row) {
-        let shared = Shared::of(alloc, row.clone()?)?;
-        Ok(rows.put(alloc, row.id.clone()?, shared)?)
+    let taken = row.get();
+    if is_document(taken) {
+        let id = taken.id.clone()?;
+        let shared = row.clone()?;
+        Ok(rows.put(alloc, id, shared)?)
     } else {
-        Ok(rows.take_out(alloc, &row.id)?)
+        Ok(rows.take_out(alloc, &taken.id)?)
     }
 }

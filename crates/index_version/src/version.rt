@@ -1,5 +1,5 @@
 //! How far an index has come.
-ghost use Rattle.std.specs.Prelude.{◌≡◌, ◌+◌, ◌*◌, ◌≤◌, ℕ, List, None, IfOk, length, map, option_map};
+ghost use Rattle.std.specs.Prelude.{◌≡◌, ◌+◌, ◌*◌, ◌≤◌, ℕ, List, None, IfOk, find, length, map, option_map};
 ghost use Rattle.std.specs.List.{slice_get};
 ghost use Rattle.std.specs.Option.{option_and_then};
 ghost use Rattle.raven_base.specs.Counts.{one_read_more};
@@ -12,7 +12,7 @@ ghost use Rattle.index_definition.specs.DefinitionView.{definition_view};
 ghost use Rattle.index_tree.specs.Meaning.{field_named};
 ghost use Rattle.reference_track.specs.Sets.{AreInOrder};
 ghost use Rattle.term_index.specs.Columns.{value_at};
-ghost use Rattle.index_version.specs.Entries.{all_entries, entry_at};
+ghost use Rattle.index_version.specs.Entries.{all_entries, entry_at, is_past};
 ghost use Rattle.index_version.specs.Meaning.{Means};
 ghost use Rattle.index_version.specs.Reduced.{HasSmallGroups, KeepCollections, reduce_of, rows_of};
 ghost use Rattle.index_version.specs.Renewed.{touched_documents};
@@ -25,7 +25,7 @@ use crate::terms::{no_terms, retermed};
 use crate::touched::touched_ids;
 use index_definition::{Definition, scope};
 use map_stage::{Entry, Mapper};
-use raven_base::{NoMemory, Sequence, Steps};
+use raven_base::{NoMemory, Sequence, Shared, Steps};
 use raven_value::{Id, Ids, Row, Scope};
 use std::alloc::Global;
 use std::marker::Model;
@@ -100,7 +100,7 @@ impl IndexVersion {
         ensures version { IfOk result (λ index. index.version ≡ new_version (definition_view definition.value.body)) }
     {
         let groups = no_groups(alloc, &definition)?;
-        let terms = no_terms(alloc, &definition)?;
+        let terms = no_terms(alloc, &definition, groups.is_some())?;
         let scope = scope(alloc, &definition)?;
         Ok(IndexVersion {
             definition,
@@ -124,7 +124,7 @@ impl IndexVersion {
         &self,
         rt: &R,
         alloc: Global,
-        taken: &[Row],
+        taken: &[Shared<Row>],
         etag: u64,
         mapper: &M,
         steps: &mut Steps<L>,
@@ -147,7 +147,14 @@ impl IndexVersion {
             rt, alloc, &self.kept, ids, &table, definition, mapper, steps,
         )?;
         let groups = regrouped(alloc, &self.groups, &self.kept, &kept, ids, steps)?;
-        let terms = retermed(alloc, &self.terms, &self.kept.given, &kept.given, ids)?;
+        let terms = retermed(
+            alloc,
+            &self.terms,
+            self.groups.is_some(),
+            &self.kept.given,
+            &kept.given,
+            ids,
+        )?;
         Ok(IndexVersion {
             definition: share(definition)?,
             scope,
@@ -202,10 +209,11 @@ impl IndexVersion {
         self.kept.errors()
     }
 
-    /// The values of the fields of all its entries, by which those that meet a test are found.
+    /// The values of the fields of all its entries, by which those that meet a test are found. If the definition has a reduce, it has none:
+    /// a query on it reads its rows.
     pub fn terms(&self) -> &Terms
         ensures order { AreInOrder (map (λ e. e.0) (all_entries self.now.version)) }
-        ensures values { (field id : List ℕ) → value_at field (folded id) result.now ≡ option_and_then (λ e. field_named field e.1) (entry_at self.now.version (folded id)) }
+        ensures values { reduce_of self.now.version.definition ≡ None → (field id : List ℕ) → value_at field (folded id) result.now ≡ option_and_then (λ e. field_named field e.1) (entry_at self.now.version (folded id)) }
     {
         &self.terms
     }
@@ -224,6 +232,27 @@ impl IndexVersion {
     {
         steps.row_read();
         self.kept.entry_of(id)
+    }
+
+    /// The first entry whose document has an id past this one, or the first of all if there is no id. It counts as a row read, and
+    /// passes over documents without an entry.
+    pub fn entry_after<L: Ledger>(
+        &self,
+        id: Option<&Id>,
+        steps: &mut Steps<L>,
+    ) -> Option<(&Id, &Entry)>
+        ensures entry { option_map (λ e. (e.0.now, e.1.now)) result ≡ find (λ e. is_past (option_map (λ i. folded i.now) id.entry) e.0) (all_entries self.now.version) }
+        ensures read { steps.new ≡ one_read_more steps.old }
+    {
+        steps.row_read();
+        self.kept.entry_after(id)
+    }
+
+    /// How many documents a walk over all entries passes, those without an entry too.
+    pub fn walk_len(&self) -> u64
+        ensures { length (all_entries self.now.version) ≤ result }
+    {
+        self.kept.len()
     }
 
     /// How many rows it has, 0 if the definition has no reduce.

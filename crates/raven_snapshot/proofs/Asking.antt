@@ -10,6 +10,7 @@ use Rattle.spec_data.specs.Scalars.{Is, Scalar, words}
 use Rattle.spec_data.specs.Tables.{Table, table_of}
 use Rattle.spec_store.specs.Stale.{stale}
 use Rattle.spec_store.specs.Store.{Store, last, row_at}
+use Rattle.index_tree.specs.Definitions.{Definition}
 use Rattle.index_tree.specs.Mapper.{mapper_of}
 use Rattle.index_tree.specs.Meaning.{Fields, field_named}
 use Rattle.index_tree.specs.declared.reduce_query.ReduceQuery.{ReduceQuery}
@@ -57,6 +58,14 @@ groups_them collection None fields = refl
 groups_them collection (Some groups) fields = refl
 
 pub ruleset grouped = (groups_them)
+
+-- the entries of a version are asked for where it has no reduce
+pub no_reduce : (d : Definition) → has_reduce d ≡ false → reduce_of d ≡ None
+no_reduce d h = by (reduce_of d) h
+  where
+    by : (o : Option ReduceQuery) → is_some o ≡ false → o ≡ None
+    by None h = refl
+    by (Some query) h = absurd cc
 
 pub by_rows : (v : Version) (show : Row → Data → Data) (q : Plan) (S : Store) (found : Found) (groups : List Fields) → has_reduce v.definition ≡ true → groups ≡ rows_of v.definition v.table
     → found ≡ find_rows show (λ id. row_at id S.rows) q (without_ids groups) → found ≡ found_by (reduce_of v.definition) show q (all_entries v) S

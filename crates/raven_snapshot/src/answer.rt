@@ -110,7 +110,7 @@ impl<'w> Snapshot<'w> {
         Ok(Reply::Indexes { results })
     }
 
-    /// How much the database has.
+    /// How much the database has. It looks at no row, and takes time that grows with the number of collections.
     pub fn stats(&self) -> Reply
         ensures { reply_view result ≡ answer_stats self.now }
     {

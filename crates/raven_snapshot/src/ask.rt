@@ -110,7 +110,7 @@ fn found_in<L: Ledger>(
         let groups = version.rows(alloc)?;
         return find_in_rows(alloc, plan, groups.as_slice(), &rows, &show);
     }
-    let entries = IndexEntries { version };
+    let entries = IndexEntries::of(version);
     find(alloc, plan, &entries, &rows, &show, steps)
 }
 
@@ -234,7 +234,7 @@ impl<'w> Snapshot<'w> {
     /// cutoff. A query on a whole collection is answered from the store itself, and another one on a collection by the automatic index that
     /// was picked, or by none if one has to be made.
     ///
-    /// In an index that does not group an entry is read only if it meets the condition, so no more rows are read than are counted.
+    /// In an index that does not group no more entries are read than meet the condition, so no more rows are read than are counted.
     #[tactic(auto, using(crate::proofs::Asking::origins))]
     pub fn ask<L: Ledger>(
         &self,

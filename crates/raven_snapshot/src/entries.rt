@@ -1,5 +1,7 @@
 //! The entries of a version of an index.
+ghost use Rattle.std.specs.Prelude.{◌≡◌, None};
 ghost use Rattle.index_version.specs.Entries.{all_entries};
+ghost use Rattle.index_version.specs.Reduced.{reduce_of};
 
 use index_version::IndexVersion;
 use map_stage::Entry;
@@ -7,17 +9,44 @@ use raven_base::{NoMemory, Steps};
 use raven_value::{Id, Ids};
 use rql_filter::Entries;
 use std::alloc::Global;
+use std::marker::Model;
 use std::sync::ledger::Ledger;
 use term_index::Terms;
 
-/// The entries that a version of an index has, under the ids of their documents.
+/// The entries that a version of an index without a reduce has, under the ids of their documents. A version with a reduce has no terms of
+/// them.
 #[derive(Drop)]
 pub(crate) struct IndexEntries<'v> {
-    pub(crate) version: &'v IndexVersion,
+    version: &'v IndexVersion,
+}
+
+impl<'v> Model for IndexEntries<'v> {
+    ghost use Rattle.std.specs.Prelude.{◌≡◌, None};
+    ghost use Rattle.spec_index.specs.Codes.{version_code};
+    ghost use Rattle.spec_index.specs.World.{Version};
+    ghost use Rattle.index_version.specs.Reduced.{reduce_of};
+
+    ghost Value = { Version };
+
+    ghost coded = { version_code };
+
+    ghost view = { λ a. a.version.now.version };
+
+    ghost invariant = { λ a. reduce_of a.version.now.version.definition ≡ None };
+}
+
+impl<'v> IndexEntries<'v> {
+    /// Those of this version.
+    pub(crate) fn of(version: &'v IndexVersion) -> IndexEntries<'v>
+        requires { reduce_of version.now.version.definition ≡ None }
+        ensures { result ≡ version.now.version }
+    {
+        IndexEntries { version }
+    }
 }
 
 impl<'v> Entries for IndexEntries<'v> {
-    ghost entries = { λ e. all_entries e.version.now.version };
+    ghost entries = { all_entries };
 
     fn terms(&self) -> &Terms {
         self.version.terms()
@@ -25,6 +54,22 @@ impl<'v> Entries for IndexEntries<'v> {
 
     fn ids(&self, alloc: Global) -> Result<Ids, NoMemory> {
         self.version.ids(alloc)
+    }
+
+    fn len(&self) -> u64 {
+        self.version.entries()
+    }
+
+    fn walk_len(&self) -> u64 {
+        self.version.walk_len()
+    }
+
+    fn entry_after<L: Ledger>(
+        &self,
+        id: Option<&Id>,
+        steps: &mut Steps<L>,
+    ) -> Option<(&Id, &Entry)> {
+        self.version.entry_after(id, steps)
     }
 
     fn entry_of<L: Ledger>(&self, id: &Id, steps: &mut Steps<L>) -> Option<(&Id, &Entry)> {

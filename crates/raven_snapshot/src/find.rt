@@ -52,7 +52,7 @@ fn ids_found<L: Ledger>(
     }
     let test = Test::Is(Scalar::Text(words.clone()?));
     let condition = Condition::of(alloc, ConditionKind::Has(field.clone()?, test))?;
-    let entries = IndexEntries { version };
+    let entries = IndexEntries::of(version);
     ids_that_meet(alloc, &entries, &condition, steps)
 }
 

@@ -22,7 +22,8 @@ use std::sync::ledger::Ledger;
 /// Entries in groups, each group under its key, with the row that the entries of each have together. There is no group without
 /// entries.
 ///
-/// A change gives new groups and leaves the old ones as they were. The two share all trees that did not change.
+/// A change gives new groups and leaves the old ones as they were. The two share all trees that did not change, and what several changes
+/// have in common is copied once: pages of the map of groups, and not of a group's tree.
 pub struct Groups<G: Ord, K: Ord, E, F: Fold<E>> {
     fold: Shared<F>,
     trees: PagedMap<G, Shared<ReduceTree<K, E, F>>>,
@@ -94,7 +95,8 @@ impl<G: Ord + Exact + Drop, K: Ord + Exact + Drop, E: Exact + Drop, F: Fold<E>> 
         ensures maps { steps.new.maps ≡ steps.old.maps }
         ensures reads { steps.new.reads ≡ steps.old.reads }
     {
-        let left = self.without_all(alloc, removals, steps)?;
+        let copy = self.clone()?;
+        let left = copy.without_all(alloc, removals, steps)?;
         let groups = left.with_all(alloc, insertions, steps)?;
         // The proof needs both: small groups have low trees.
         let _before = self.len();
@@ -104,64 +106,66 @@ impl<G: Ord + Exact + Drop, K: Ord + Exact + Drop, E: Exact + Drop, F: Fold<E>> 
 
     /// The groups with this entry in one of them.
     fn with<L: Ledger>(
-        &self,
+        self,
         alloc: Global,
         group: &G,
         key: &K,
         entry: &E,
         steps: &mut Steps<L>,
     ) -> Result<Groups<G, K, E, F>, NoMemory>
-        ensures fold { IfOk result (λ r. r.fold ≡ self.now.fold) }
-        ensures entries { IfOk result (λ r. (q : G) → entries_at G.cmp q r.trees ≡ cond (is_eq (G.cmp q group.now)) (insert_entry K.cmp (entries_at G.cmp q self.now.trees) key.now entry.now) (entries_at G.cmp q self.now.trees)) }
-        ensures merges { IfOk result (λ r. (h : ℕ) → AllLevels h r.trees → AllLevels h self.now.trees × MergesAtMost (64 * (h + 1)) steps.old steps.new) }
+        ensures fold { IfOk result (λ r. r.fold ≡ self.fold) }
+        ensures entries { IfOk result (λ r. (q : G) → entries_at G.cmp q r.trees ≡ cond (is_eq (G.cmp q group.now)) (insert_entry K.cmp (entries_at G.cmp q self.trees) key.now entry.now) (entries_at G.cmp q self.trees)) }
+        ensures merges { IfOk result (λ r. (h : ℕ) → AllLevels h r.trees → AllLevels h self.trees × MergesAtMost (64 * (h + 1)) steps.old steps.new) }
         ensures maps { steps.new.maps ≡ steps.old.maps }
         ensures reads { steps.new.reads ≡ steps.old.reads }
     {
-        let tree = tree_with(alloc, &self.fold, &self.trees, group, key, entry, steps)?;
+        let Groups { fold, trees } = self;
+        let tree = tree_with(alloc, &fold, &trees, group, key, entry, steps)?;
         Ok(Groups {
-            fold: self.fold.clone()?,
-            trees: trees_with(alloc, &self.fold, &self.trees, group, tree)?,
+            trees: trees_with(alloc, &fold, trees, group, tree)?,
+            fold,
         })
     }
 
     /// The groups without the entry at this key of one of them.
     fn without<L: Ledger>(
-        &self,
+        self,
         alloc: Global,
         group: &G,
         key: &K,
         steps: &mut Steps<L>,
     ) -> Result<Groups<G, K, E, F>, NoMemory>
-        ensures fold { IfOk result (λ r. r.fold ≡ self.now.fold) }
-        ensures entries { IfOk result (λ r. (q : G) → entries_at G.cmp q r.trees ≡ cond (is_eq (G.cmp q group.now)) (remove_entry (is_at (K.cmp key.now)) (entries_at G.cmp q self.now.trees)) (entries_at G.cmp q self.now.trees)) }
-        ensures merges { IfOk result (λ r. (h : ℕ) → AllLevels h self.now.trees → AllLevels h r.trees × MergesAtMost (64 * (h + 1)) steps.old steps.new) }
+        ensures fold { IfOk result (λ r. r.fold ≡ self.fold) }
+        ensures entries { IfOk result (λ r. (q : G) → entries_at G.cmp q r.trees ≡ cond (is_eq (G.cmp q group.now)) (remove_entry (is_at (K.cmp key.now)) (entries_at G.cmp q self.trees)) (entries_at G.cmp q self.trees)) }
+        ensures merges { IfOk result (λ r. (h : ℕ) → AllLevels h self.trees → AllLevels h r.trees × MergesAtMost (64 * (h + 1)) steps.old steps.new) }
         ensures maps { steps.new.maps ≡ steps.old.maps }
         ensures reads { steps.new.reads ≡ steps.old.reads }
     {
-        let Some(tree) = self.trees.get(group) else {
-            return Ok(self.clone()?);
+        let Groups { fold, trees } = self;
+        let Some(tree) = trees.get(group) else {
+            return Ok(Groups { fold, trees });
         };
         let left = tree.get().without(alloc, key, steps)?;
         Ok(Groups {
-            fold: self.fold.clone()?,
-            trees: trees_with(alloc, &self.fold, &self.trees, group, left)?,
+            trees: trees_with(alloc, &fold, trees, group, left)?,
+            fold,
         })
     }
 
     /// The groups without these entries.
     fn without_all<L: Ledger>(
-        &self,
+        self,
         alloc: Global,
         removals: &[(G, K)],
         steps: &mut Steps<L>,
     ) -> Result<Groups<G, K, E, F>, NoMemory>
-        ensures fold { IfOk result (λ r. r.fold ≡ self.now.fold) }
-        ensures entries { IfOk result (λ r. (q : G) → entries_at G.cmp q r.trees ≡ after_removals G.cmp K.cmp q (entries_at G.cmp q self.now.trees) removals.now) }
-        ensures merges { IfOk result (λ r. (h : ℕ) → AllLevels h self.now.trees → AllLevels h r.trees × MergesAtMost (length removals.now * (64 * (h + 1))) steps.old steps.new) }
+        ensures fold { IfOk result (λ r. r.fold ≡ self.fold) }
+        ensures entries { IfOk result (λ r. (q : G) → entries_at G.cmp q r.trees ≡ after_removals G.cmp K.cmp q (entries_at G.cmp q self.trees) removals.now) }
+        ensures merges { IfOk result (λ r. (h : ℕ) → AllLevels h self.trees → AllLevels h r.trees × MergesAtMost (length removals.now * (64 * (h + 1))) steps.old steps.new) }
         ensures maps { steps.new.maps ≡ steps.old.maps }
         ensures reads { steps.new.reads ≡ steps.old.reads }
     {
-        let mut groups = self.clone()?;
+        let mut groups = self;
         for change in removals {
             groups = groups.without(alloc, &change.0, &change.1, steps)?;
         }
@@ -170,18 +174,18 @@ impl<G: Ord + Exact + Drop, K: Ord + Exact + Drop, E: Exact + Drop, F: Fold<E>> 
 
     /// The groups with these entries.
     fn with_all<L: Ledger>(
-        &self,
+        self,
         alloc: Global,
         insertions: &[(G, (K, E))],
         steps: &mut Steps<L>,
     ) -> Result<Groups<G, K, E, F>, NoMemory>
-        ensures fold { IfOk result (λ r. r.fold ≡ self.now.fold) }
-        ensures entries { IfOk result (λ r. (q : G) → entries_at G.cmp q r.trees ≡ after_insertions G.cmp K.cmp q (entries_at G.cmp q self.now.trees) insertions.now) }
-        ensures merges { IfOk result (λ r. (h : ℕ) → AllLevels h r.trees → AllLevels h self.now.trees × MergesAtMost (length insertions.now * (64 * (h + 1))) steps.old steps.new) }
+        ensures fold { IfOk result (λ r. r.fold ≡ self.fold) }
+        ensures entries { IfOk result (λ r. (q : G) → entries_at G.cmp q r.trees ≡ after_insertions G.cmp K.cmp q (entries_at G.cmp q self.trees) insertions.now) }
+        ensures merges { IfOk result (λ r. (h : ℕ) → AllLevels h r.trees → AllLevels h self.trees × MergesAtMost (length insertions.now * (64 * (h + 1))) steps.old steps.new) }
         ensures maps { steps.new.maps ≡ steps.old.maps }
         ensures reads { steps.new.reads ≡ steps.old.reads }
     {
-        let mut groups = self.clone()?;
+        let mut groups = self;
         for change in insertions {
             groups = groups.with(alloc, &change.0, &change.1.0, &change.1.1, steps)?;
         }

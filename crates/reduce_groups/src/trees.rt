@@ -51,22 +51,22 @@ pub fn tree_with<
 pub fn trees_with<G: Ord + Exact + Drop, K: Ord + Drop, E: Drop, F: Fold<E>>(
     alloc: Global,
     fold: &Shared<F>,
-    trees: &PagedMap<G, Shared<ReduceTree<K, E, F>>>,
+    trees: PagedMap<G, Shared<ReduceTree<K, E, F>>>,
     group: &G,
     tree: ReduceTree<K, E, F>,
 ) -> Result<PagedMap<G, Shared<ReduceTree<K, E, F>>>, NoMemory>
-    requires sound { AreSound fold.now trees.now }
+    requires sound { AreSound fold.now trees }
     requires fold { tree.fold ≡ fold.now }
     requires filled { IsFilledTree tree }
     ensures sound { IfOk result (AreSound fold.now) }
-    ensures entries { IfOk result (λ ts. (q : G) → entries_at G.cmp q ts ≡ cond (is_eq (G.cmp q group.now)) tree.entries (entries_at G.cmp q trees.now)) }
-    ensures lower { IfOk result (λ ts. (h : ℕ) → tree.levels ≤ h → AllLevels h trees.now → AllLevels h ts) }
-    ensures upper { IfOk result (λ ts. (h : ℕ) → 0 < length tree.entries → levels_at G.cmp group.now trees.now ≤ tree.levels → AllLevels h ts → (tree.levels ≤ h) × AllLevels h trees.now) }
+    ensures entries { IfOk result (λ ts. (q : G) → entries_at G.cmp q ts ≡ cond (is_eq (G.cmp q group.now)) tree.entries (entries_at G.cmp q trees)) }
+    ensures lower { IfOk result (λ ts. (h : ℕ) → tree.levels ≤ h → AllLevels h trees → AllLevels h ts) }
+    ensures upper { IfOk result (λ ts. (h : ℕ) → 0 < length tree.entries → levels_at G.cmp group.now trees ≤ tree.levels → AllLevels h ts → (tree.levels ≤ h) × AllLevels h trees) }
 {
     // The proof needs it: the entries can be counted.
     let _entries = tree.len();
     if tree.is_empty() {
-        return trees.without(alloc, group);
+        return trees.take_out(alloc, group);
     }
     trees_and(alloc, trees, group, tree)
 }
@@ -74,13 +74,13 @@ pub fn trees_with<G: Ord + Exact + Drop, K: Ord + Drop, E: Drop, F: Fold<E>>(
 /// The trees with this one for a group.
 fn trees_and<G: Ord + Exact + Drop, K: Ord + Drop, E: Drop, F: Fold<E>>(
     alloc: Global,
-    trees: &PagedMap<G, Shared<ReduceTree<K, E, F>>>,
+    trees: PagedMap<G, Shared<ReduceTree<K, E, F>>>,
     group: &G,
     tree: ReduceTree<K, E, F>,
 ) -> Result<PagedMap<G, Shared<ReduceTree<K, E, F>>>, NoMemory>
-    ensures { IfOk result (λ ts. ts ≡ insert_entry G.cmp trees.now group.now tree) }
+    ensures { IfOk result (λ ts. ts ≡ insert_entry G.cmp trees group.now tree) }
 {
-    trees.with(alloc, group.clone()?, Shared::of(alloc, tree)?)
+    trees.put(alloc, group.clone()?, Shared::of(alloc, tree)?)
 }
 
 /// The row at a place, under the key of its group. There is none if there are no more rows than that.

@@ -7,7 +7,7 @@ use Rattle.reference_track.proofs.FoldedMaps.{get-by_folded}
 use Rattle.term_index.specs.Columns.{HasFields}
 use Rattle.index_version.specs.Termed.{given_fields, names_of}
 use Rattle.index_version.proofs.GroupChanges.{next_is}
-use Rattle.index_version.proofs.Terming.{in_order_left, mixed, names_kept, old_fields, terms_before, terms_more}
+use Rattle.index_version.proofs.Terming.{in_order_left, mixed, names_kept, no_columns, old_fields, terms_before, terms_more}
 use Rattle.index_version.proofs.terms.retermed.Goals as goal
 
 pub loop-id-init : goal.loop-id-init
@@ -47,3 +47,6 @@ loop-id-preserved c =
 pub returns-clause-terms : goal.returns-clause-terms
 returns-clause-terms c = λ q.
     subst (λ ids. HasFields q (mixed (by_folded c.args.before.now) (by_folded c.args.after.now) ids q) c.loop-id.new) (drop_all c.loop-id.id-index c.args.ids.now c.loop-id-test.false) (c.loop-id.invariant.values q)
+
+pub returns-then-has_reduce-clause-terms : goal.returns-then-has_reduce-clause-terms
+returns-then-has_reduce-clause-terms c = no_columns (by_folded c.args.after.now) _ (ap names_of c.in_ok-clone.ensures.cases ∙ c.requires.reduce c.if-has_reduce.true)

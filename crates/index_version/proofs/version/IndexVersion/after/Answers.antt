@@ -6,7 +6,7 @@ use Rattle.spec_index.specs.World.{Version}
 use Rattle.reference_track.specs.Folded.{by_folded}
 use Rattle.index_version.specs.Named.{NamedVersion}
 use Rattle.index_version.proofs.Reducing.{merges_taken, others_taken, plain_taken, reduced_taken}
-use Rattle.index_version.proofs.Terming.{still_termed}
+use Rattle.index_version.proofs.Terming.{reduce_terms, still_termed}
 use Rattle.index_version.proofs.Taking.{kept_taken, maps_taken}
 use Rattle.index_version.proofs.version.IndexVersion.after.Goals as goal
 
@@ -89,3 +89,6 @@ invariant_of-result g c = (
 
 pub retermed-requires-clause-others : goal.retermed-requires-clause-others
 retermed-requires-clause-others g c = others_taken (mapper_of (definition_view c.deref.result.now.body)) _ _ _ _ c.in_ok-kept.ensures.results
+
+pub retermed-requires-clause-reduce : goal.retermed-requires-clause-reduce
+retermed-requires-clause-reduce g c = reduce_terms c.self.inside.definition.value.body _ c.self.inside.groups c.self.inside.terms c.is_some.result c.self.invariant.1 c.self.invariant.2 c.is_some.ensures

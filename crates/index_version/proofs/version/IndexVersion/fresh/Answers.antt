@@ -1,4 +1,4 @@
-use Rattle.std.proofs.Common.{option_map, ap, ◌∙◌}
+use Rattle.std.proofs.Common.{[], cond, option_map, ap, ◌∙◌}
 use Rattle.index_tree.specs.Mapper.{mapper_of, scope_of}
 use Rattle.index_definition.specs.declared.definition.Definition.{Definition}
 use Rattle.index_definition.specs.DefinitionView.{definition_view}
@@ -15,6 +15,8 @@ invariant_of-result c = (
   nothing_kept (mapper_of (definition_view c.args.definition.value.body)) _ _ _ c.in_ok-new.ensures c.in_ok-new-2.ensures.results c.in_ok-new-2.ensures.pairs,
   nothing_grouped (reduce_of (definition_view c.args.definition.value.body)) _ c.in_ok-groups.groups c.in_ok-new-2.ensures.results
       (c.in_ok-groups.ensures ∙ ap (λ (d : Definition). option_map no_entries (reduce_of (definition_view d.body))) c.deref.ensures),
-  nothing_termed c.args.definition.value.body _ c.in_ok-terms.terms c.in_ok-new-2.ensures.results (c.in_ok-terms.ensures ∙ ap (λ (d : Definition). no_values (fields d.body)) c.deref-2.ensures),
+  nothing_termed c.args.definition.value.body _ c.in_ok-groups.groups _ c.in_ok-terms.terms c.in_ok-new-2.ensures.results
+      (c.in_ok-groups.ensures ∙ ap (λ (d : Definition). option_map no_entries (reduce_of (definition_view d.body))) c.deref.ensures) c.is_some.ensures
+      (c.in_ok-terms.ensures ∙ ap (λ (d : Definition). no_values (cond c.is_some.result [] (fields d.body))) c.deref-2.ensures),
   c.in_ok-scope.ensures ∙ ap (λ (d : Definition). scope_of (mapper_of (definition_view d.body))) c.deref-3.ensures,
 )

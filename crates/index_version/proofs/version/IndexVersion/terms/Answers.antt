@@ -8,6 +8,7 @@ use Rattle.reference_track.specs.Folded.{by_folded}
 use Rattle.reference_track.specs.Sets.{AreInOrder}
 use Rattle.index_version.specs.Entries.{all_entries, entry_at}
 use Rattle.index_version.specs.Named.{NamedVersion}
+use Rattle.index_version.specs.Reduced.{reduce_of}
 use Rattle.index_version.proofs.EntryLemmas.{entries_in_order, value_found}
 use Rattle.index_version.proofs.Walking.{ids_of}
 use Rattle.index_version.proofs.version.IndexVersion.terms.Goals as goal
@@ -18,6 +19,7 @@ returns-clause-order c =
     (entries_in_order (mapper_of (definition_view c.self.inside.definition.value.body)) c.self.inside.table (by_folded c.self.inside.kept.given) c.self.inside.kept.referrers c.self.invariant.0)
 
 pub returns-clause-values : goal.returns-clause-values
-returns-clause-values c = λ field id.
-    value_found c.self.inside.definition.value.body c.self.inside.table (by_folded c.self.inside.kept.given) c.self.inside.kept.referrers c.self.inside.terms c.self.invariant.0 c.self.invariant.2 field (folded id)
+returns-clause-values c = λ plain field id.
+    value_found c.self.inside.definition.value.body c.self.inside.table (by_folded c.self.inside.kept.given) c.self.inside.kept.referrers c.self.inside.terms c.self.invariant.0 c.self.invariant.2
+    (ap (λ (v : NamedVersion). reduce_of v.version.definition) c.self.view_is ∙ plain) field (folded id)
     ∙ ap (λ (v : NamedVersion). option_and_then (λ (e : List ℕ × Fields). field_named field e.1) (entry_at v.version (folded id))) c.self.view_is

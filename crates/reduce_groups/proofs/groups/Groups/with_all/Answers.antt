@@ -1,19 +1,11 @@
-use Rattle.std.proofs.Common.{◌≡◌, ◌*◌, ◌+◌, ◌∷◌, [], length, drop, refl, sym, ap, subst, ◌∙◌, arith}
+use Rattle.std.proofs.Common.{◌≡◌, ◌*◌, ◌+◌, ◌∷◌, [], length, drop, refl, sym, ap, ◌∙◌, arith}
 use Rattle.std.proofs.lemmas.List.{drop_more, drop_all}
-use Rattle.reduce_groups.specs.Groups.{AllLevels, entries_at, after_insertions}
+use Rattle.reduce_groups.specs.Groups.{entries_at, after_insertions}
 use Rattle.reduce_groups.proofs.TreeLemmas.{none_yet, one_more, all_done}
 use Rattle.reduce_groups.proofs.groups.Groups.with_all.Goals as goal
 
 pub loop-change-init : goal.loop-change-init
-loop-change-init g c =
-    let e = c.in_ok-groups.ensures.cases in
-    record {
-      fold = ap (λ t. t.fold) e;
-      entries = λ q. ap (λ t. after_insertions g.G.Ord.cmp g.K.Ord.cmp q (entries_at g.G.Ord.cmp q t.trees) c.args.insertions.now) e;
-      merges = λ h a. (subst (λ t. AllLevels h t.trees) e a, none_yet c.args.steps.now (64 * (h + 1)));
-      maps = refl;
-      reads = refl;
-    }
+loop-change-init g c = record { fold = refl; entries = λ q. refl; merges = λ h a. (a, none_yet c.args.steps.now (64 * (h + 1))); maps = refl; reads = refl }
 
 pub loop-change-preserved : goal.loop-change-preserved
 loop-change-preserved g c =
@@ -25,14 +17,14 @@ loop-change-preserved g c =
     let old = c.loop-change.groups.trees in
     let rest : drop i cs ≡ d ∷ drop (i + 1) cs = drop_more cs i d c.loop-change-test.true ∙ ap (λ x. x ∷ drop (i + 1) cs) (sym c.change-item.is) in
     record {
-      fold = c.in_ok-groups-2.ensures.fold ∙ c.loop-change.invariant.fold;
-      entries = λ q. ap (λ es. after_insertions R S q es (drop (i + 1) cs)) (c.in_ok-groups-2.ensures.entries q) ∙ sym (ap (after_insertions R S q (entries_at R q old)) rest) ∙ c.loop-change.invariant.entries q;
+      fold = c.in_ok-groups.ensures.fold ∙ c.loop-change.invariant.fold;
+      entries = λ q. ap (λ es. after_insertions R S q es (drop (i + 1) cs)) (c.in_ok-groups.ensures.entries q) ∙ sym (ap (after_insertions R S q (entries_at R q old)) rest) ∙ c.loop-change.invariant.entries q;
       merges = λ h a.
-          let step = c.in_ok-groups-2.ensures.merges h a in
+          let step = c.in_ok-groups.ensures.merges h a in
           let before = c.loop-change.invariant.merges h step.0 in
           (before.0, one_more i (64 * (h + 1)) before.1 step.1);
-      maps = c.in_ok-groups-2.ensures.maps ∙ c.loop-change.invariant.maps;
-      reads = c.in_ok-groups-2.ensures.reads ∙ c.loop-change.invariant.reads;
+      maps = c.in_ok-groups.ensures.maps ∙ c.loop-change.invariant.maps;
+      reads = c.in_ok-groups.ensures.reads ∙ c.loop-change.invariant.reads;
     }
 
 pub returns : goal.returns
