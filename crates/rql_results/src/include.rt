@@ -1,11 +1,13 @@
 //! Documents that a query includes.
-ghost use Rattle.std.specs.Prelude.{◌≡◌, [], IfOk, map, option_map};
+ghost use Rattle.std.specs.Prelude.{◌≡◌, ◌++◌, [], IfOk, map, option_map};
 ghost use Rattle.spec_query.specs.Results.{text_in_document};
 ghost use Rattle.raven_value.specs.View.{data_of};
-ghost use Rattle.rql_results.specs.Documents.{found_in, included as spec_included, with_document as spec_with_document, with_included as spec_with_included, with_named as spec_with_named};
+ghost use Rattle.rql_results.specs.Documents.{found_in, included as spec_included};
+ghost use Rattle.rql_results.specs.Led.{led_by, led_to as spec_led_to};
 
 use crate::documents::{Found, document_at};
 use crate::show::Show;
+use crate::under_ids::shown_under_ids;
 use map_stage::Lookup;
 use raven_base::NoMemory;
 use raven_json::{ShownMembers, value_of};
@@ -22,80 +24,61 @@ fn text_at<'v>(document: &'v Value, path: &Path) -> Option<&'v Text>
     }
 }
 
-/// With a document, under the id as its row spells it.
-fn with_document<W: Show>(
-    alloc: Global,
-    show: &W,
-    document: Option<Found>,
-    mut included: ShownMembers,
-) -> Result<ShownMembers, NoMemory>
-    ensures { IfOk result (λ members. members ≡ spec_with_document (W.shown show.now) (option_map found_in document.entry) included) }
-{
-    if let Some(found) = document {
-        let row = found.row;
-        let shown = show.show(alloc, row, found.document)?;
-        included.put(row.id.text().clone()?, shown)?;
-    }
-    Ok(included)
-}
-
-/// With the document whose id the text is.
-pub(crate) fn with_named<T: Lookup, W: Show>(
-    alloc: Global,
-    rows: &T,
-    show: &W,
+/// The document whose id the text is, if there is one.
+pub(crate) fn led_to<'r, T: Lookup>(
+    rows: &'r T,
     text: Option<&Text>,
-    included: ShownMembers,
-) -> Result<ShownMembers, NoMemory>
-    ensures { IfOk result (λ members. members ≡ spec_with_named (W.shown show.now) (T.rows rows.now) (option_map (λ text. text.now) text.entry) included) }
+) -> Result<Option<Found<'r>>, NoMemory>
+    ensures { IfOk result (λ found. option_map found_in found ≡ spec_led_to (T.rows rows.now) (option_map (λ text. text.now) text.entry)) }
 {
     let Some(text) = text else {
-        return Ok(included);
+        return Ok(None);
     };
     match Id::of(text) {
-        Ok(id) => with_document(alloc, show, document_at(rows, &id), included),
+        Ok(id) => Ok(document_at(rows, &id)),
         Err(IdRefusal::NoMemory) => Err(NoMemory),
-        Err(_) => Ok(included),
+        Err(_) => Ok(None),
     }
 }
 
 /// With the documents to which a document leads by these paths.
-fn with_included<T: Lookup, W: Show>(
-    alloc: Global,
-    rows: &T,
-    show: &W,
+fn with_led<'r, T: Lookup>(
+    rows: &'r T,
     document: &Value,
     paths: &[Path],
-    mut included: ShownMembers,
-) -> Result<ShownMembers, NoMemory>
-    ensures { IfOk result (λ members. members ≡ spec_with_included (W.shown show.now) (T.rows rows.now) (text_in_document (data_of document.now)) paths.now included) }
+    mut led: Vec<Found<'r>>,
+) -> Result<Vec<Found<'r>>, NoMemory>
+    ensures { IfOk result (λ all. map found_in all.items ≡ map found_in led.entry.items ++ led_by (T.rows rows.now) (text_in_document (data_of document.now)) paths.now) }
 {
     for path in paths {
-        included = with_named(alloc, rows, show, text_at(document, path), included)?;
+        if let Some(found) = led_to(rows, text_at(document, path))? {
+            led.push(found)?;
+        }
     }
-    Ok(included)
+    Ok(led)
 }
 
 /// With the documents to which a document leads by these paths. If there are any, its text is read.
-fn with_those_of<T: Lookup, W: Show>(
+fn with_those_of<'r, T: Lookup>(
     alloc: Global,
-    rows: &T,
-    show: &W,
+    rows: &'r T,
     document: &Document,
     paths: &[Path],
-    included: ShownMembers,
-) -> Result<ShownMembers, NoMemory>
-    ensures { IfOk result (λ members. members ≡ spec_with_included (W.shown show.now) (T.rows rows.now) (text_in_document document.now) paths.now included) }
+    led: Vec<Found<'r>>,
+) -> Result<Vec<Found<'r>>, NoMemory>
+    ensures { IfOk result (λ all. map found_in all.items ≡ map found_in led.entry.items ++ led_by (T.rows rows.now) (text_in_document document.now) paths.now) }
 {
     if paths.is_empty() {
-        return Ok(included);
+        return Ok(led);
     }
     let value = value_of(alloc, document)?;
-    with_included(alloc, rows, show, &value, paths, included)
+    with_led(rows, &value, paths, led)
 }
 
 /// The documents to which these documents lead: those whose ids are the texts at the paths, each under its id. What is no id, or
 /// the id of no document, leads to none.
+///
+/// It takes time that grows with their number and its logarithm.
 pub fn included<T: Lookup, W: Show>(
     alloc: Global,
     rows: &T,
@@ -105,9 +88,9 @@ pub fn included<T: Lookup, W: Show>(
 ) -> Result<ShownMembers, NoMemory>
     ensures { IfOk result (λ members. members ≡ spec_included (W.shown show.now) (T.rows rows.now) paths.now (map found_in documents.now) []) }
 {
-    let mut members = ShownMembers::new(alloc);
+    let mut led = Vec::new(alloc);
     for found in documents {
-        members = with_those_of(alloc, rows, show, found.document, paths, members)?;
+        led = with_those_of(alloc, rows, found.document, paths, led)?;
     }
-    Ok(members)
+    shown_under_ids(alloc, show, led)
 }

@@ -6,6 +6,7 @@ mod include;
 mod rows;
 mod select;
 mod show;
+mod under_ids;
 
 pub use documents::{Found, documents_of};
 pub use include::included;

@@ -1,15 +1,18 @@
 //! Rows of a reduce: what is shown of them, and which documents they include.
-ghost use Rattle.std.specs.Prelude.{◌≡◌, [], IfOk, map, option_map};
+ghost use Rattle.std.specs.Prelude.{◌≡◌, ◌++◌, [], IfOk, map, option_map};
 ghost use Rattle.spec_data.specs.Scalars.{number as spec_number};
 ghost use Rattle.spec_query.specs.Results.{in_row as spec_in_row, members_of as spec_members_of, row_members, scalar_data, text_in_row as spec_text_in_row};
 ghost use Rattle.raven_value.specs.ScalarView.{scalar_view};
 ghost use Rattle.raven_value.specs.View.{data_of};
 ghost use Rattle.rql_tree.specs.View.{field_of};
-ghost use Rattle.rql_results.specs.Documents.{with_included as spec_with_included};
+ghost use Rattle.rql_results.specs.Documents.{found_in};
+ghost use Rattle.rql_results.specs.Led.{led_by};
 ghost use Rattle.rql_results.specs.Rows.{included_by as spec_included_by, row_result as spec_row_result};
 
-use crate::include::with_named;
+use crate::documents::Found;
+use crate::include::led_to;
 use crate::show::Show;
+use crate::under_ids::shown_under_ids;
 use index_definition::joined_name;
 use map_stage::{Entry, Lookup};
 use raven_base::NoMemory;
@@ -110,21 +113,21 @@ fn text_in_row<'e>(alloc: Global, row: &'e Entry, path: &Path) -> Result<Option<
 }
 
 /// With the documents to which a row leads by these paths.
-fn with_row<T: Lookup, W: Show>(
+fn with_row<'r, T: Lookup>(
     alloc: Global,
-    rows: &T,
-    show: &W,
+    rows: &'r T,
     row: &Entry,
     paths: &[Path],
-    mut included: ShownMembers,
-) -> Result<ShownMembers, NoMemory>
-    ensures { IfOk result (λ members. members ≡ spec_with_included (W.shown show.now) (T.rows rows.now) (spec_text_in_row row.now) paths.now included) }
+    mut led: Vec<Found<'r>>,
+) -> Result<Vec<Found<'r>>, NoMemory>
+    ensures { IfOk result (λ all. map found_in all.items ≡ map found_in led.entry.items ++ led_by (T.rows rows.now) (spec_text_in_row row.now) paths.now) }
 {
     for path in paths {
-        let text = text_in_row(alloc, row, path)?;
-        included = with_named(alloc, rows, show, text, included)?;
+        if let Some(found) = led_to(rows, text_in_row(alloc, row, path)?)? {
+            led.push(found)?;
+        }
     }
-    Ok(included)
+    Ok(led)
 }
 
 /// The documents to which these rows lead: those whose ids are the texts of the fields at the paths, each under its id.
@@ -137,9 +140,9 @@ pub fn included_by_rows<T: Lookup, W: Show>(
 ) -> Result<ShownMembers, NoMemory>
     ensures { IfOk result (λ members. members ≡ spec_included_by (W.shown show.now) (T.rows rows.now) paths.now (map (λ r. r.now) found.now) []) }
 {
-    let mut members = ShownMembers::new(alloc);
+    let mut led = Vec::new(alloc);
     for row in found {
-        members = with_row(alloc, rows, show, row, paths, members)?;
+        led = with_row(alloc, rows, row, paths, led)?;
     }
-    Ok(members)
+    shown_under_ids(alloc, show, led)
 }

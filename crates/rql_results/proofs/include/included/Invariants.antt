@@ -1,6 +1,7 @@
-use Rattle.std.proofs.Common.{◌≡◌, drop, map, []}
-use Rattle.rql_results.specs.Documents.{found_in, included}
+use Rattle.std.proofs.Common.{◌≡◌, ◌++◌, drop, map}
+use Rattle.rql_results.specs.Documents.{found_in}
+use Rattle.rql_results.specs.Led.{led_by_documents}
 use Rattle.rql_results.proofs.include.included.Given as goal
 
 abbrev pub invariant-loop-found : goal.invariant-loop-found
-invariant-loop-found g l = included (g.W.Show.shown l.show) (g.T.Lookup.rows l.rows) l.paths (map found_in (drop l.found-index l.documents)) l.members ≡ included (g.W.Show.shown l.show) (g.T.Lookup.rows l.rows) l.paths (map found_in l.documents) []
+invariant-loop-found g l = map found_in l.led.items ++ led_by_documents (g.T.Lookup.rows l.rows) l.paths (map found_in (drop l.found-index l.documents)) ≡ led_by_documents (g.T.Lookup.rows l.rows) l.paths (map found_in l.documents)

@@ -1,7 +1,8 @@
-use Rattle.std.proofs.Common.{◌≡◌, drop}
+use Rattle.std.proofs.Common.{◌≡◌, ◌++◌, drop, map}
 use Rattle.spec_query.specs.Results.{text_in_row}
-use Rattle.rql_results.specs.Documents.{with_included}
+use Rattle.rql_results.specs.Documents.{found_in}
+use Rattle.rql_results.specs.Led.{led_by}
 use Rattle.rql_results.proofs.rows.with_row.Given as goal
 
 abbrev pub invariant-loop-path : goal.invariant-loop-path
-invariant-loop-path g l = with_included (g.W.Show.shown l.show) (g.T.Lookup.rows l.rows) (text_in_row l.row) (drop l.path-index l.paths) l.included ≡ with_included (g.W.Show.shown l.show) (g.T.Lookup.rows l.rows) (text_in_row l.row) l.paths l.fn.included
+invariant-loop-path g l = map found_in l.led.items ++ led_by (g.T.Lookup.rows l.rows) (text_in_row l.row) (drop l.path-index l.paths) ≡ map found_in l.fn.led.items ++ led_by (g.T.Lookup.rows l.rows) (text_in_row l.row) l.paths

@@ -1,8 +1,0 @@
-use Rattle.std.proofs.Common.{◌≡◌, drop}
-use Rattle.spec_query.specs.Results.{text_in_document}
-use Rattle.raven_value.specs.View.{data_of}
-use Rattle.rql_results.specs.Documents.{with_included}
-use Rattle.rql_results.proofs.include.with_included.Given as goal
-
-abbrev pub invariant-loop-path : goal.invariant-loop-path
-invariant-loop-path g l = with_included (g.W.Show.shown l.show) (g.T.Lookup.rows l.rows) (text_in_document (data_of l.document)) (drop l.path-index l.paths) l.included ≡ with_included (g.W.Show.shown l.show) (g.T.Lookup.rows l.rows) (text_in_document (data_of l.document)) l.paths l.fn.included
