@@ -1,5 +1,5 @@
 -- What a desk answers to a request over HTTP.
-use Rattle.std.proofs.Common.{◌≡◌, ℕ, ◌≤◌, List, Bool, Option, Some, Result, Ok, Err, IfOk, refl, subst}
+use Rattle.std.proofs.Common.{◌≡◌, ℕ, ◌≤◌, List, Bool, Some, Result, Ok, Err, IfOk, refl, subst}
 use Rattle.spec_server.specs.Machine.{Do}
 use Rattle.http_read.specs.declared.request.HttpRequest.{HttpRequest}
 use Rattle.spec_http.specs.Requests as is
@@ -13,11 +13,11 @@ use Rattle.http_front.specs.Asked.{AsksOverHttp}
 use Rattle.http_front.specs.declared.refusal.HttpRefusal.{HttpRefusal}
 use Rattle.http_front.specs.declared.refusal.HttpRefusal.TheVariants as refusal
 use Rattle.spec_desk.specs.Lived.{Lived}
-use Rattle.spec_desk.specs.Receipts.{IsAsked, Onward, looks_of}
+use Rattle.spec_desk.specs.Receipts.{GoesOn, IsAsked, Standing, looks_of}
 use Rattle.raven_desk.specs.ReceiptView.{receipt_view}
 use Rattle.raven_desk.specs.declared.receipt.Receipt.{Receipt}
 use Rattle.spec_server.specs.Replies.{Reply}
-use Rattle.http_desk.specs.Standings.{GivesReceipt, standing}
+use Rattle.http_desk.specs.Standings.{GivesReceipt}
 use Rattle.http_desk.specs.Answers.{AnswersOverHttp}
 use Rattle.http_desk.proofs.Looks.{http-looks}
 
@@ -30,11 +30,11 @@ looks-here database r request h = by (asked_over_http database r) refl h
     by is.NoDatabase e k = absurd k
     by (is.Asks asked) e k = http-looks database r asked (request_view request) e k
 
-module _ {D : Type 0} (Link : Lived → Lived → Type 0) (seen : D → List Lived) (made : D → ℕ) (clock : D → Option ℕ) (pump : D → ℕ) where
+module _ {D : Type 0} (Link : Lived → Lived → Type 0) (stands : D → Standing) where
   -- the desk was asked
   received : (a : is.HttpAsked) (request : Request) (x : D) (receipt : Receipt) (close : Bool) (bytes : List ℕ) (y : D) → AsksOverHttp a (Ok request)
-      → GivesReceipt Link (standing seen made clock pump x) (request_view request) (receipt_view receipt) (standing seen made clock pump y)
-      → bytes ≡ response_to close (reply_view receipt.reply) → AnswersOverHttp Link (standing seen made clock pump) x a close bytes y
+      → GivesReceipt Link (stands x) (request_view request) (receipt_view receipt) (stands y)
+      → bytes ≡ response_to close (reply_view receipt.reply) → AnswersOverHttp Link stands x a close bytes y
   received is.NoRoute request x receipt close bytes y h given e = absurd h
   received is.NoDatabase request x receipt close bytes y h given e = absurd h
   received (is.Asks what) request x receipt close bytes y h given e = record {
@@ -44,15 +44,15 @@ module _ {D : Type 0} (Link : Lived → Lived → Type 0) (seen : D → List Liv
   }
 
   pub from-desk : (a : is.HttpAsked) (request : Request) (x : D) (receipt : Receipt) (close : Bool) {E : Type 0} (result : Result (List ℕ) E) (y : D) → AsksOverHttp a (Ok request)
-      → IsAsked Link (clock x) (pump x) (seen x) (made x) (request_view request) (receipt_view receipt) (seen y) (made y) → Onward (seen x) (seen y) → clock y ≡ clock x → pump y ≡ pump x
-      → IfOk result (λ bytes. bytes ≡ response_to close (reply_view receipt.reply)) → IfOk result (λ bytes. AnswersOverHttp Link (standing seen made clock pump) x a close bytes y)
-  from-desk a request x receipt close (Err fault) y h asked onward c p e = tt
-  from-desk a request x receipt close (Ok bytes) y h asked onward c p e =
-      received a request x receipt close bytes y h (record { asked = asked; goes_on = record { onward = onward; clock = c; pump = p } }) e
+      → IsAsked Link (stands x) (request_view request) (receipt_view receipt) (stands y) → GoesOn (stands x) (stands y)
+      → IfOk result (λ bytes. bytes ≡ response_to close (reply_view receipt.reply)) → IfOk result (λ bytes. AnswersOverHttp Link stands x a close bytes y)
+  from-desk a request x receipt close (Err fault) y h asked goes_on e = tt
+  from-desk a request x receipt close (Ok bytes) y h asked goes_on e =
+      received a request x receipt close bytes y h (record { asked = asked; goes_on = goes_on }) e
 
   -- it was not
   refused : (a : is.HttpAsked) (why : HttpRefusal) (x : D) (close : Bool) (bytes : List ℕ) → AsksOverHttp a (Err why) → AnswersRefusal why close bytes
-      → AnswersOverHttp Link (standing seen made clock pump) x a close bytes x
+      → AnswersOverHttp Link stands x a close bytes x
   refused is.NoRoute refusal.NoRoute x close bytes h e = (e, refl)
   refused is.NoRoute refusal.NoDatabase x close bytes h e = absurd h
   refused is.NoRoute (refusal.Unread why) x close bytes h e = absurd h
@@ -66,6 +66,6 @@ module _ {D : Type 0} (Link : Lived → Lived → Type 0) (seen : D → List Liv
       record { read = Err told.refused.refusal; comes = told.refused.comes; answers = (subst (λ (reply : Reply). bytes ≡ response_to close reply) told.refused.reply_is told.bytes_are, refl) }
 
   pub from-refusal : (a : is.HttpAsked) (why : HttpRefusal) (x : D) (close : Bool) {E : Type 0} (result : Result (List ℕ) E) → AsksOverHttp a (Err why) → IfOk result (λ bytes. AnswersRefusal why close bytes)
-      → IfOk result (λ bytes. AnswersOverHttp Link (standing seen made clock pump) x a close bytes x)
+      → IfOk result (λ bytes. AnswersOverHttp Link stands x a close bytes x)
   from-refusal a why x close (Err fault) h e = tt
   from-refusal a why x close (Ok bytes) h e = refused a why x close bytes h e

@@ -14,9 +14,9 @@ use Rattle.spec_desk.specs.Receipts.{CatchesUp, IsTrueReceipt, Onward}
 use Rattle.spec_desk.specs.Receipts.Onward.{same, on}
 use Rattle.spec_desk.proofs.Later.{same-follows}
 use Rattle.spec_desk.proofs.Onwards.{head}
-use Rattle.raven_desk.specs.Desks.{Alone}
+use Rattle.raven_desk.specs.Desks.{Alone, stands_alone}
 use Rattle.http_desk.specs.Answers.{AnswersOverHttp, AnswersRead, IsReceived}
-use Rattle.http_desk.specs.Chains.{AnswersAlone, Chain, Found, Given, IsChained, KeepsAlone, Leads, stands_alone}
+use Rattle.http_desk.specs.Chains.{AnswersAlone, Chain, Found, Given, IsChained, KeepsAlone, Leads}
 
 -- one more is asked
 longer : (clock : Option ℕ) (pump : ℕ) (x : Lived) (given : List Given) (y : Lived) (n : ℕ) (g : Given) (z : Lived) (k : ℕ) → Chain clock pump x given y n → Leads clock pump y g z k

@@ -7,8 +7,8 @@ use Rattle.spec_http.specs.Requests.{HttpAsked, NoRoute, NoDatabase, Asks, asked
 use Rattle.spec_http.specs.Answers.{no_database, no_route, response_to}
 use Rattle.raven_lines.specs.Lines.{Comes}
 use Rattle.spec_desk.specs.Lived.{Lived}
-use Rattle.spec_desk.specs.Receipts.{Receipt}
-use Rattle.http_desk.specs.Standings.{GivesReceipt, GoesOn, Standing}
+use Rattle.spec_desk.specs.Receipts.{GoesOn, Receipt, Standing}
+use Rattle.http_desk.specs.Standings.{GivesReceipt}
 
 -- Of a desk of any kind, where a look may find what is linked to what was seen last, and a desk stands as it shows.
 module _ {D : Type 0} (Link : Lived → Lived → Type 0) (stands : D → Standing) where

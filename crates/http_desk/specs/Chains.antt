@@ -1,28 +1,34 @@
 -- The receipts of a session over the desk of one caller.
-use Rattle.std.specs.Prelude.{◌≡◌, ℕ, ◌+◌, ◌-◌, List, [], ◌∷◌, Bool, Option}
+use Rattle.std.specs.Prelude.{◌≡◌, ℕ, ◌+◌, ◌-◌, List, [], ◌∷◌, Bool, Option, IfSome}
+use Rattle.raven_ports.specs.States.{SinkState, SourceState}
 use Rattle.http_read.specs.declared.request.HttpRequest.{HttpRequest}
+use Rattle.http_session.specs.Sessions.{Finishes}
+use Rattle.http_session.specs.declared.why.Why.{Why}
 use Rattle.spec_server.specs.Machine.{Request}
 use Rattle.spec_desk.specs.Lived.{Follows, Lived, etags}
 use Rattle.spec_desk.specs.Receipts.{CatchesUp, IsTrueReceipt, Receipt}
-use Rattle.raven_desk.specs.Desks.{Alone}
-use Rattle.http_desk.specs.Standings.{Standing}
+use Rattle.raven_desk.specs.Desks.{Alone, stands_alone}
 use Rattle.http_desk.specs.Answers.{AnswersWith, Keeps}
 
 -- where such a desk saw a value last, it finds this very value
 abbrev pub Found : Lived → Lived → Type 0
 Found x y = y ≡ x
 
--- it has seen its value, and made the etags of it
-abbrev pub stands_alone : Alone → Standing
-stands_alone d = record { seen = d.live ∷ []; made = etags d.live; clock = d.moment; pump = d.pump }
+-- with the name of its database
+abbrev pub NamedDesk : Type 0
+NamedDesk = Alone × List ℕ
 
 -- it answers a request with these bytes
-abbrev pub AnswersAlone : Alone × List ℕ → HttpRequest → Bool → List ℕ → Alone × List ℕ → Type 0
+abbrev pub AnswersAlone : NamedDesk → HttpRequest → Bool → List ℕ → NamedDesk → Type 0
 AnswersAlone = AnswersWith Found stands_alone
 
 -- and this holds of it and of the name of its database also if memory ran out
-abbrev pub KeepsAlone : Alone × List ℕ → Alone × List ℕ → Type 0
+abbrev pub KeepsAlone : NamedDesk → NamedDesk → Type 0
 KeepsAlone = Keeps (λ d e. Unit {0}) stands_alone
+
+-- a session over it finishes so, if the input reports its bytes
+abbrev pub FinishesAlone : SourceState → NamedDesk → SinkState → Why → NamedDesk → SinkState → Type 0
+FinishesAlone input first output why last output' = IfSome input.left (λ bytes. Finishes AnswersAlone KeepsAlone first bytes output.held why last output'.held)
 
 -- what a desk was asked, and what it gave
 pub record Given : Type 0 where

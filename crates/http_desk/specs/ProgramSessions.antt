@@ -1,19 +1,18 @@
 -- A session over the input and the output of a program.
-use Rattle.std.specs.Prelude.{◌≡◌, ℕ, List, Option, IfSome, ◌⊎◌}
+use Rattle.std.specs.Prelude.{◌≡◌, ℕ, List, Option, ◌⊎◌}
 use Rattle.raven_ports.specs.Faults.{Rose}
 use Rattle.raven_ports.specs.States.{KeeperState, SinkState, SourceState}
 use Rattle.doc_keeper.specs.declared.loading.LoadFault.{LoadFault}
 use Rattle.doc_keeper.specs.declared.loading.LoadFault.TheVariants as load
-use Rattle.http_session.specs.Sessions.{Finishes}
 use Rattle.http_session.specs.Steps.{IsOfBytes}
 use Rattle.http_session.specs.declared.why.Why.{Why}
 use Rattle.http_session.specs.declared.why.Why.TheVariants as why
 use Rattle.spec_server.specs.Options.{setting_with}
 use Rattle.spec_desk.specs.Keepers as desk
 use Rattle.spec_desk.specs.Lived.{Lived, machine_in}
-use Rattle.raven_desk.specs.Desks.{Alone, alone}
+use Rattle.raven_desk.specs.Desks.{alone}
 use Rattle.raven_desk.specs.Openings.{IsBad, Loads, Opens}
-use Rattle.http_desk.specs.Chains.{AnswersAlone, KeepsAlone}
+use Rattle.http_desk.specs.Chains.{FinishesAlone, KeepsAlone, NamedDesk}
 use Rattle.http_desk.specs.declared.serving.ServeEnd.{ServeEnd}
 use Rattle.http_desk.specs.declared.serving.ServeEnd.TheVariants.{Done, Enough, KeptBad, KeptFault, NoMemory, ReadFault, Refused, WriteFault}
 
@@ -37,7 +36,7 @@ pub record Session : Type 0 where
   pub after : Devices
 
 -- its desk with this value, and the name of the database
-abbrev pub desk_of : Session → Lived → Alone × List ℕ
+abbrev pub desk_of : Session → Lived → NamedDesk
 desk_of s x = (alone x s.clock s.pump, s.name)
 
 -- the output and the keeper hold what they held
@@ -52,7 +51,7 @@ pub record Serves (how : Why) (s : Session) : Type 0 where
   pub opens : Opens (setting_with s.base) s.before.keeper.held (machine_in first)
   pub loads : Loads s.before.keeper first.keeper
   pub fronts : first.fronts ≡ 0
-  pub finishes : IfSome s.before.input.left (λ bytes. Finishes AnswersAlone KeepsAlone (desk_of s first) bytes s.before.output.held how (desk_of s last) s.after.output.held)
+  pub finishes : FinishesAlone s.before.input (desk_of s first) s.before.output how (desk_of s last) s.after.output
   pub kept : KeepsAlone (desk_of s first) (desk_of s last)
   pub keeper : s.after.keeper ≡ last.keeper
   pub holds : desk.Keeps s.after.keeper.held (machine_in last)

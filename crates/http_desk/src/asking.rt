@@ -1,8 +1,7 @@
 //! One request over HTTP.
-ghost use Rattle.std.specs.Prelude.{◌≡◌, IfOk};
+ghost use Rattle.std.specs.Prelude.{IfOk};
 ghost use Rattle.spec_http.specs.Requests.{asked_over_http};
-ghost use Rattle.spec_desk.specs.Receipts.{Onward};
-ghost use Rattle.http_desk.specs.Standings.{standing};
+ghost use Rattle.spec_desk.specs.Receipts.{GoesOn};
 ghost use Rattle.http_desk.specs.Answers.{AnswersOverHttp};
 
 use http_front::{answer, answer_to_refusal, asked};
@@ -21,11 +20,9 @@ pub fn ask_desk<R, D: Desk<R>>(
     request: &HttpRequest,
     close: bool,
 ) -> Result<Bytes, NoMemory>
-    ensures answered { IfOk result (λ bytes. AnswersOverHttp D.link (standing D.seen D.made D.clock D.pump) desk.old (asked_over_http database.now request.now) close bytes desk.new) }
-    ensures onward { Onward (D.seen desk.old) (D.seen desk.new) }
+    ensures answered { IfOk result (λ bytes. AnswersOverHttp D.link D.standing desk.old (asked_over_http database.now request.now) close bytes desk.new) }
+    ensures goes_on { GoesOn (D.standing desk.old) (D.standing desk.new) }
     ensures same { D.same desk.old desk.new }
-    ensures clock { D.clock desk.new ≡ D.clock desk.old }
-    ensures pump { D.pump desk.new ≡ D.pump desk.old }
 {
     match asked(alloc, database, request) {
         Ok(asks) => {

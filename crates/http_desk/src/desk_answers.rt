@@ -58,13 +58,12 @@ impl<'a, R, D> DeskAnswers<'a, R, D> {
 }
 
 impl<'a, R, D: Desk<R>> Answering for DeskAnswers<'a, R, D> {
-    ghost use Rattle.http_desk.specs.Standings.{standing};
     ghost use Rattle.http_desk.specs.Answers.{AnswersWith, Keeps};
     ghost use Rattle.http_desk.specs.Keeping.{keeps-more, keeps-none};
 
-    ghost answers = { AnswersWith D.link (standing D.seen D.made D.clock D.pump) };
+    ghost answers = { AnswersWith D.link D.standing };
 
-    ghost keeps = { Keeps D.same (standing D.seen D.made D.clock D.pump) };
+    ghost keeps = { Keeps D.same D.standing };
 
     fn ask(
         &mut self,
@@ -76,7 +75,7 @@ impl<'a, R, D: Desk<R>> Answering for DeskAnswers<'a, R, D> {
         ask_desk(self.rt, alloc, &mut self.desk, database, request, close)
     }
 
-    ghost keeps_none = { keeps-none D.same (standing D.seen D.made D.clock D.pump) D.same_here };
+    ghost keeps_none = { keeps-none D.same D.standing D.same_here };
 
-    ghost keeps_more = { keeps-more D.same (standing D.seen D.made D.clock D.pump) D.same_on };
+    ghost keeps_more = { keeps-more D.same D.standing D.same_on };
 }

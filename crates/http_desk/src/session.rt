@@ -1,9 +1,8 @@
 //! One session over a desk.
-ghost use Rattle.std.specs.Prelude.{◌≡◌, ◌≤◌, IfSome};
+ghost use Rattle.std.specs.Prelude.{◌≡◌, ◌≤◌};
 ghost use Rattle.raven_ports.specs.Faults.{Rose};
-ghost use Rattle.http_session.specs.Sessions.{Finishes};
 ghost use Rattle.http_session.specs.Steps.{NamesEnd};
-ghost use Rattle.http_desk.specs.Chains.{AnswersAlone, KeepsAlone};
+ghost use Rattle.http_desk.specs.Chains.{FinishesAlone, KeepsAlone};
 
 use crate::desk_answers::DeskAnswers;
 use http_session::{Why, serve};
@@ -22,7 +21,7 @@ pub fn serve_alone<R: Threads, K: Keeper, C: Clock, S: Source, O: Sink>(
     source: &mut S,
     sink: &mut O,
 ) -> (Why, OneDesk<K, C>)
-    ensures served { IfSome (S.state source.old).left (λ bytes. Finishes AnswersAlone KeepsAlone (desk, database) bytes (O.state sink.old).held result.0 (result.1, database) (O.state sink.new).held) }
+    ensures served { FinishesAlone (S.state source.old) (desk, database) (O.state sink.old) result.0 (result.1, database) (O.state sink.new) }
     ensures kept { KeepsAlone (desk, database) (result.1, database) }
     ensures names { NamesEnd result.0 }
     ensures reads { (S.state source.old).faults ≤ (S.state source.new).faults }

@@ -1,4 +1,4 @@
-pub mod Asked
+pub mod Standings
 pub mod Changes
 pub mod Kept
 pub mod Opened

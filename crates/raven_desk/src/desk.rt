@@ -5,7 +5,7 @@ ghost use Rattle.spec_server.specs.WellFormed.{IsWellFormed};
 ghost use Rattle.raven_reply.specs.ReplyView.{reply_view};
 ghost use Rattle.raven_request.specs.RequestView.{request_view};
 ghost use Rattle.spec_desk.specs.Lived.{Follows, Lived};
-ghost use Rattle.spec_desk.specs.Receipts.{HasCaughtUp, IsAsked, LooksOnce, Onward, looks_in, looks_of, says_stale as spec_says_stale};
+ghost use Rattle.spec_desk.specs.Receipts.{GoesOn, HasCaughtUp, IsAsked, LooksOnce, Standing, looks_in, looks_of, says_stale as spec_says_stale};
 ghost use Rattle.raven_desk.specs.ReceiptView.{receipt_view};
 
 use crate::receipt::Receipt;
@@ -56,14 +56,7 @@ pub trait Desk<R> {
     // What a look may find, where that value was seen last.
     ghost link: { Lived → Lived → Type 0 };
 
-    // What it has seen, how many etags it made, the one moment of its clock if that stands still, and the size of the batches that it makes after requests.
-    ghost seen: { Self → List Lived };
-
-    ghost made: { Self → ℕ };
-
-    ghost clock: { Self → Option ℕ };
-
-    ghost pump: { Self → ℕ };
+    ghost standing: { Self → Standing };
 
     // What never changes of a desk.
     ghost same: { Self → Self → Type 0 };
@@ -76,11 +69,9 @@ pub trait Desk<R> {
         request: Request,
     ) -> Result<(Shot, Reply), NoMemory>
         requires { IsWellFormed (Do (request_view request)) }
-        ensures looked { IfOk result (λ o. LooksOnce link (clock self.old) (request_view request) (seen self.old) (made self.old) o.0 (reply_view o.1) (seen self.new) (made self.new)) }
-        ensures onward { Onward (seen self.old) (seen self.new) }
-        ensures same { same self.old self.new }
-        ensures clock { clock self.new ≡ clock self.old }
-        ensures pump { pump self.new ≡ pump self.old };
+        ensures looked { IfOk result (λ o. LooksOnce link (standing self.old) (request_view request) o.0 (reply_view o.1) (standing self.new)) }
+        ensures goes_on { GoesOn (standing self.old) (standing self.new) }
+        ensures same { same self.old self.new };
 
     /// One look with a query, and the reply.
     fn look_once(
@@ -90,22 +81,18 @@ pub trait Desk<R> {
         ask: &QueryAsk,
     ) -> Result<(Shot, Reply), NoMemory>
         requires { IsWellFormed (Do (Ask ask.now)) }
-        ensures looked { IfOk result (λ o. LooksOnce link (clock self.old) (Ask ask.now) (seen self.old) (made self.old) o.0 (reply_view o.1) (seen self.new) (made self.new)) }
-        ensures onward { Onward (seen self.old) (seen self.new) }
-        ensures same { same self.old self.new }
-        ensures clock { clock self.new ≡ clock self.old }
-        ensures pump { pump self.new ≡ pump self.old };
+        ensures looked { IfOk result (λ o. LooksOnce link (standing self.old) (Ask ask.now) o.0 (reply_view o.1) (standing self.new)) }
+        ensures goes_on { GoesOn (standing self.old) (standing self.new) }
+        ensures same { same self.old self.new };
 
     /// Waits a while between two looks.
     fn pause(&self);
 
     /// Lets the indexes catch up after a request.
     fn catch_up(&mut self, rt: &R, alloc: Global) -> Result<(), NoMemory>
-        ensures went { IfOk result (λ _. (x : Lived) → seen self.old ≡ x ∷ [] → HasCaughtUp (clock self.old) (pump self.old) x (made self.old) (seen self.new) (made self.new)) }
-        ensures onward { Onward (seen self.old) (seen self.new) }
-        ensures same { same self.old self.new }
-        ensures clock { clock self.new ≡ clock self.old }
-        ensures pump { pump self.new ≡ pump self.old };
+        ensures went { IfOk result (λ _. (x : Lived) → (standing self.old).seen ≡ x ∷ [] → HasCaughtUp x (standing self.old) (standing self.new)) }
+        ensures goes_on { GoesOn (standing self.old) (standing self.new) }
+        ensures same { same self.old self.new };
 
     ghost link_same: { (x : Lived) → link x x };
 
@@ -124,11 +111,9 @@ pub trait Desk<R> {
     ) -> Result<Receipt, NoMemory>
         requires formed { IsWellFormed (Do (request_view request)) }
         requires once { looks_of (request_view request) ≡ 1 }
-        ensures asked { IfOk result (λ r. IsAsked link (clock self.old) (pump self.old) (seen self.old) (made self.old) (request_view request) (receipt_view r) (seen self.new) (made self.new)) }
-        ensures onward { Onward (seen self.old) (seen self.new) }
+        ensures asked { IfOk result (λ r. IsAsked link (standing self.old) (request_view request) (receipt_view r) (standing self.new)) }
+        ensures goes_on { GoesOn (standing self.old) (standing self.new) }
         ensures same { same self.old self.new }
-        ensures clock { clock self.new ≡ clock self.old }
-        ensures pump { pump self.new ≡ pump self.old }
     {
         let earlier = Vec::new(alloc);
         let (shot, reply) = self.do_once(rt, alloc, request)?;
@@ -150,11 +135,9 @@ pub trait Desk<R> {
     ) -> Result<Receipt, NoMemory>
         requires formed { IsWellFormed (Do (Ask ask.now)) }
         requires some { 1 ≤ looks_in ask.now }
-        ensures asked { IfOk result (λ r. IsAsked link (clock self.old) (pump self.old) (seen self.old) (made self.old) (Ask ask.now) (receipt_view r) (seen self.new) (made self.new)) }
-        ensures onward { Onward (seen self.old) (seen self.new) }
+        ensures asked { IfOk result (λ r. IsAsked link (standing self.old) (Ask ask.now) (receipt_view r) (standing self.new)) }
+        ensures goes_on { GoesOn (standing self.old) (standing self.new) }
         ensures same { same self.old self.new }
-        ensures clock { clock self.new ≡ clock self.old }
-        ensures pump { pump self.new ≡ pump self.old }
     {
         let mut left = looks_at(ask) - 1;
         let mut earlier = Vec::new(alloc);
@@ -179,11 +162,9 @@ pub trait Desk<R> {
     final fn ask(&mut self, rt: &R, alloc: Global, request: Request) -> Result<Receipt, NoMemory>
         requires formed { IsWellFormed (Do (request_view request)) }
         requires some { 1 ≤ looks_of (request_view request) }
-        ensures asked { IfOk result (λ r. IsAsked link (clock self.old) (pump self.old) (seen self.old) (made self.old) (request_view request) (receipt_view r) (seen self.new) (made self.new)) }
-        ensures onward { Onward (seen self.old) (seen self.new) }
+        ensures asked { IfOk result (λ r. IsAsked link (standing self.old) (request_view request) (receipt_view r) (standing self.new)) }
+        ensures goes_on { GoesOn (standing self.old) (standing self.new) }
         ensures same { same self.old self.new }
-        ensures clock { clock self.new ≡ clock self.old }
-        ensures pump { pump self.new ≡ pump self.old }
     {
         match query_in(request) {
             Ok(ask) => self.ask_query(rt, alloc, &ask),

@@ -69,19 +69,13 @@ impl<K: Keeper, C: Clock + Drop> OneDesk<K, C> {
 }
 
 impl<K: Keeper, C: Clock, R: Threads> Desk<R> for OneDesk<K, C> {
-    ghost use Rattle.std.specs.Prelude.{◌≡◌, ◌∷◌, [], refl};
-    ghost use Rattle.spec_desk.specs.Lived.{etags};
+    ghost use Rattle.std.specs.Prelude.{◌≡◌, refl};
     ghost use Rattle.spec_desk.proofs.Later.{same-follows};
+    ghost use Rattle.raven_desk.specs.Desks.{stands_alone};
 
     ghost link = { λ x y. y ≡ x };
 
-    ghost seen = { λ d. d.live ∷ [] };
-
-    ghost made = { λ d. etags d.live };
-
-    ghost clock = { λ d. d.moment };
-
-    ghost pump = { λ d. d.pump };
+    ghost standing = { stands_alone };
 
     ghost same = { λ d e. Unit {0} };
 

@@ -72,7 +72,8 @@ impl<K: Keeper> Live<K> {
         requires { IsWellFormed (Do (request_view request)) }
         ensures stepped { IfOk result (λ reply. IsStep now (request_view request) self.old (reply_view reply) self.new) }
         ensures later { Follows self.old self.new }
-        ensures lacks { OnErr result (Stays self.old self.new ⊎ IsMadeInPart (spec_course_of self.old.world now (request_view request)).changes self.old self.new) }
+        ensures lacks { OnErr result
+            (Stays self.old self.new ⊎ IsMadeInPart (spec_course_of self.old.world now (request_view request)).changes self.old self.new) }
         ensures alone { OnErr result (request_view request ≢ Tidy → Stays self.old self.new) }
     {
         let course = self.course(rt, alloc, now, request)?;

@@ -1,5 +1,5 @@
 -- What comes of a batch that is published.
-use Rattle.std.proofs.Common.{◌≡◌, ◌≤◌, ℕ, List, [], ◌∷◌, Bool, true, false, cond, Option, Some, None, Result, Ok, Err, length, map, refl, sym, ap, ◌∙◌, subst, arith, nat_lt}
+use Rattle.std.proofs.Common.{◌≡◌, ◌≤◌, ℕ, [], ◌∷◌, true, false, cond, Option, Some, None, Result, Ok, Err, length, map, refl, sym, ap, ◌∙◌, subst, arith, nat_lt}
 use Rattle.spec_index.specs.World.{Slot, Version, World, numbered, with_version}
 use Rattle.spec_server.specs.Machine.{Change, Course, Keeping, PublishRefusal, Replied, machine_of, made, one_change, only_reply, published, published_in, with_slots}
 use Rattle.spec_server.specs.Machine as is
@@ -7,7 +7,7 @@ use Rattle.spec_server.specs.Replies as replies
 use Rattle.spec_server.specs.Replies.{Reply}
 use Rattle.spec_desk.specs.Lived.{Lived, etags, lived, machine_in}
 use Rattle.spec_desk.specs.Publishing.{publication, publishes}
-use Rattle.spec_desk.specs.Stepped.{IsMadeInPart, Settled, Settles, Stays}
+use Rattle.spec_desk.specs.Stepped.{IsMadeInPart, Settled, Settles}
 use Rattle.spec_desk.proofs.Parts.{alone}
 use Rattle.raven_pump.specs.Turning.{Publishes, told_by}
 use Rattle.raven_pump.specs.declared.turned.Turned.{Turned}

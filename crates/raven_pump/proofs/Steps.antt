@@ -1,10 +1,10 @@
 -- A turn of an index.
-use Rattle.std.proofs.Common.{◌≡◌, ℕ, zero, suc, ◌+◌, ◌*◌, ◌≤◌, List, [], ◌∷◌, take, Bool, true, false, cond, ◌&&◌, nat_lt, Option, Some, None, Result, Ok, Err, IfOk, filter, length, refl, sym, ap, ◌∙◌, subst, arith}
+use Rattle.std.proofs.Common.{◌≡◌, ℕ, zero, suc, ◌+◌, ◌≤◌, List, [], ◌∷◌, take, Bool, true, false, cond, ◌&&◌, nat_lt, Option, Some, None, filter, refl, sym, ap, ◌∙◌, subst, arith}
 use Rattle.std.specs.List.{list_any}
 use Rattle.std.specs.Prelude.{IfSome, option_map, option_to_list}
 use Rattle.spec_data.specs.Rows.{Row}
 use Rattle.spec_data.specs.Tables.{Scope, in_scope}
-use Rattle.spec_store.specs.Stale.{batch_rows, past, stale}
+use Rattle.spec_store.specs.Stale.{stale}
 use Rattle.spec_store.specs.Store.{Store}
 use Rattle.spec_store.proofs.StoreLemmas.{either_false}
 use Rattle.spec_index.specs.Index.{etag_of_batch}

@@ -9,7 +9,7 @@ use Rattle.spec_server.specs.Replies as replies
 use Rattle.spec_server.specs.Replies.{Reply}
 use Rattle.spec_server.specs.Sound.{Has, IsHeld}
 use Rattle.spec_desk.specs.Lived.{Follows, Lived, Seen, lived}
-use Rattle.spec_desk.specs.Receipts.{LooksOnce}
+use Rattle.spec_desk.specs.Receipts.{LooksOnce, Standing}
 use Rattle.raven_pump.specs.declared.turned.Turned.{Turned}
 use Rattle.raven_pump.specs.declared.turned.Turned.TheVariants.{Idle, Moved, Gone, Passed}
 
@@ -59,5 +59,5 @@ pub data Turns (n max : ℕ) (x : Lived) (t : Turned) (seen' : List Lived) : Typ
 -- TIDYING
 
 -- one look with a Tidy
-abbrev pub Tidies : Option ℕ → List Lived → ℕ → Reply → List Lived → ℕ → Type 0
-Tidies clock seen made reply seen' made' = (shot : Seen) × LooksOnce Follows clock is.Tidy seen made shot reply seen' made'
+abbrev pub Tidies : Standing → Reply → Standing → Type 0
+Tidies x reply y = (shot : Seen) × LooksOnce Follows x is.Tidy shot reply y

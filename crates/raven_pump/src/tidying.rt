@@ -2,6 +2,7 @@
 ghost use Rattle.std.specs.Prelude.{◌≡◌, IfOk};
 ghost use Rattle.spec_desk.specs.Receipts.{Onward};
 ghost use Rattle.raven_reply.specs.ReplyView.{reply_view};
+ghost use Rattle.turn_desk.specs.Seated.{stands_at};
 ghost use Rattle.raven_pump.specs.Turning.{Tidies};
 
 use raven_base::NoMemory;
@@ -25,7 +26,7 @@ pub fn tidy<K: Keeper, C: Clock, R: Threads + Wait>(
     clock: &C,
 ) -> Result<Reply, NoMemory>
     requires { pass.old.turn ≡ turn.now.turn }
-    ensures tidied { IfOk result (λ reply. Tidies (C.moment clock.now) pass.old.seen pass.old.made (reply_view reply) pass.new.seen pass.new.made) }
+    ensures tidied { let at = stands_at (C.moment clock.now) in IfOk result (λ reply. Tidies (at pass.old) (reply_view reply) (at pass.new)) }
     ensures onward { Onward pass.old.seen pass.new.seen }
     ensures same { (pass.new.turn ≡ pass.old.turn) × (pass.new.shares ≡ pass.old.shares) }
 {

@@ -6,10 +6,10 @@ use Rattle.spec_desk.specs.Receipts.Onward.{same, on}
 use Rattle.spec_desk.proofs.Later.{Follows-itself}
 use Rattle.spec_desk.proofs.Onwards.{head}
 use Rattle.http_desk.specs.Keeping.{keeps-more, keeps-none}
-use Rattle.turn_desk.specs.Seated.{Seated}
+use Rattle.turn_desk.specs.Seated.{Seated, stands_seated}
 use Rattle.serve_ports.specs.Doors.{Doorway}
 use Rattle.raven_serve.specs.Chains.{Chain}
-use Rattle.raven_serve.specs.Fronts.{AnswersSeated, KeepsSeated, SamePass, stands_seated}
+use Rattle.raven_serve.specs.Fronts.{AnswersSeated, KeepsSeated, SamePass}
 
 same_on : (x y z : Seated) → SamePass x.pass y.pass → SamePass y.pass z.pass → SamePass x.pass z.pass
 same_on x y z a b = (b.0 ∙ a.0, b.1 ∙ a.1)

@@ -13,8 +13,8 @@ use Rattle.spec_desk.specs.Lived.{Follows, Lived, etags}
 use Rattle.spec_desk.specs.Receipts.{AllLink, IsTrueReceipt}
 use Rattle.http_desk.specs.Answers.{AnswersOverHttp, AnswersRead, IsReceived}
 use Rattle.http_desk.specs.Chains.{Given}
-use Rattle.turn_desk.specs.Seated.{Seated}
-use Rattle.raven_serve.specs.Fronts.{AnswersSeated, KeepsSeated, stands_seated}
+use Rattle.turn_desk.specs.Seated.{Seated, stands_seated}
+use Rattle.raven_serve.specs.Fronts.{AnswersSeated, KeepsSeated}
 use Rattle.raven_serve.specs.Receipts.{HasReceipts, Leads, Receipts}
 
 -- one more is asked

@@ -5,18 +5,13 @@ use Rattle.raven_turn.specs.Passes.{Knowledge}
 use Rattle.spec_desk.specs.Lived.{Follows, Lived}
 use Rattle.spec_desk.specs.Receipts.{AllLink}
 use Rattle.http_desk.specs.Answers.{AnswersWith, Keeps}
-use Rattle.http_desk.specs.Standings.{Standing}
-use Rattle.turn_desk.specs.Seated.{Seated, seated}
+use Rattle.turn_desk.specs.Seated.{Seated, seated, stands_seated}
 use Rattle.serve_ports.specs.Doors.{Doorway}
 use Rattle.raven_serve.specs.Chains.{Runs}
 
 -- a pass of the same turn with the same shares
 abbrev pub SamePass : Knowledge Lived → Knowledge Lived → Type 0
 SamePass before after = (after.turn ≡ before.turn) × (after.shares ≡ before.shares)
-
--- a desk over a turn has seen and made what its pass has, and makes no batches after requests
-abbrev pub stands_seated : Seated → Standing
-stands_seated d = record { seen = d.pass.seen; made = d.pass.made; clock = d.moment; pump = 0 }
 
 -- it answers a request to the database of a name with these bytes, and finds what follows all that it has seen
 abbrev pub AnswersSeated : Seated × List ℕ → HttpRequest → Bool → List ℕ → Seated × List ℕ → Type 0

@@ -70,6 +70,14 @@ CatchesUp clock pump x y = MatchBool (pump == 0) (y ≡ x) (MakesBatches clock p
 
 -- DESKS, which know the values that they have seen
 
+-- How a desk stands: what it has seen, how many etags it made, the one moment of its clock if that stands still, and the size of the batches that it
+-- makes after requests.
+pub record Standing : Type 0 where
+  pub seen : List Lived
+  pub made : ℕ
+  pub clock : Option ℕ
+  pub pump : ℕ
+
 abbrev pub AllLink : (Lived → Lived → Type 0) → List Lived → Lived → Type 0
 AllLink Link seen x = All (λ s. Link s x) seen
 
@@ -78,35 +86,41 @@ pub data Onward (before after : List Lived) : Type 0 where
   same : after ≡ before → Onward before after
   on : (x : Lived) → AllLink Follows before x → after ≡ x ∷ [] → Onward before after
 
--- A desk was asked: the receipt is true, its looks begin with one that is linked to all that the desk had seen, and the desk has then seen exactly what
--- was left once the indexes caught up. The number of etags that the desk made rises by those of the receipt, and by those of what followed it.
-pub record IsAsked (Link : Lived → Lived → Type 0) (clock : Option ℕ) (pump : ℕ) (seen : List Lived) (made : ℕ) (q : Request) (r : Receipt) (seen' : List Lived) (made' : ℕ) : Type 0 where
+-- whatever a desk that stood so does, it goes on; its clock and the size of its batches are the same
+pub record GoesOn (x y : Standing) : Type 0 where
+  pub onward : Onward x.seen y.seen
+  pub clock : y.clock ≡ x.clock
+  pub pump : y.pump ≡ x.pump
+
+-- A desk that stood so was asked: the receipt is true, its looks begin with one that is linked to all that the desk had seen, and the desk has then seen
+-- exactly what was left once the indexes caught up. The number of etags that the desk made rises by those of the receipt, and by those of what followed it.
+pub record IsAsked (Link : Lived → Lived → Type 0) (x : Standing) (q : Request) (r : Receipt) (y : Standing) : Type 0 where
   pub first : Lived
   pub left : Lived
   pub end : Lived
   pub took : ℕ
-  pub after : AllLink Link seen first
-  pub receipt : IsTrueReceipt Link clock q first r left took
-  pub caught_up : CatchesUp clock pump left end
+  pub after : AllLink Link x.seen first
+  pub receipt : IsTrueReceipt Link x.clock q first r left took
+  pub caught_up : CatchesUp x.clock x.pump left end
   pub later : Follows left end
-  pub now_seen : seen' ≡ end ∷ []
-  pub now_made : made' ≡ made + took + (etags end - etags left)
+  pub now_seen : y.seen ≡ end ∷ []
+  pub now_made : y.made ≡ x.made + took + (etags end - etags left)
 
--- one look of a desk
-pub record LooksOnce (Link : Lived → Lived → Type 0) (clock : Option ℕ) (q : Request) (seen : List Lived) (made : ℕ) (shot : Seen) (reply : Reply) (seen' : List Lived) (made' : ℕ) : Type 0 where
+-- one look of a desk that stood so
+pub record LooksOnce (Link : Lived → Lived → Type 0) (x : Standing) (q : Request) (shot : Seen) (reply : Reply) (y : Standing) : Type 0 where
   pub found : Lived
   pub left : Lived
-  pub after : AllLink Link seen found
+  pub after : AllLink Link x.seen found
   pub shown : shot ≡ seen_of found
-  pub step : IsStepAt clock q found reply left
+  pub step : IsStepAt x.clock q found reply left
   pub later : Follows found left
-  pub now_seen : seen' ≡ left ∷ []
-  pub now_made : made' ≡ made + (etags left - etags found)
+  pub now_seen : y.seen ≡ left ∷ []
+  pub now_made : y.made ≡ x.made + (etags left - etags found)
 
--- what a desk does after a request, which left x
-pub record HasCaughtUp (clock : Option ℕ) (pump : ℕ) (x : Lived) (made : ℕ) (seen' : List Lived) (made' : ℕ) : Type 0 where
+-- what a desk that stood so does after a request, which left this value
+pub record HasCaughtUp (left : Lived) (x y : Standing) : Type 0 where
   pub end : Lived
-  pub caught_up : CatchesUp clock pump x end
-  pub later : Follows x end
-  pub now_seen : seen' ≡ end ∷ []
-  pub now_made : made' ≡ made + (etags end - etags x)
+  pub caught_up : CatchesUp x.clock x.pump left end
+  pub later : Follows left end
+  pub now_seen : y.seen ≡ end ∷ []
+  pub now_made : y.made ≡ x.made + (etags end - etags left)

@@ -1,20 +1,18 @@
 -- Looks of a desk over a turn.
-use Rattle.std.proofs.Common.{◌≡◌, ℕ, ◌+◌, ◌-◌, ◌==◌, List, [], ◌∷◌, Bool, true, false, Option, Result, Ok, Err, IfOk, refl, sym, ◌∙◌, ap, subst, arith}
-use Rattle.std.specs.Prelude.{MatchBool}
+use Rattle.std.proofs.Common.{◌≡◌, ℕ, ◌+◌, ◌-◌, List, [], ◌∷◌, true, Option, Result, Ok, Err, IfOk, refl, sym, ◌∙◌, ap, subst, arith}
 use Rattle.spec_query.specs.Query as query
 use Rattle.spec_index.specs.World.{World}
-use Rattle.spec_server.specs.Asking.{Answered, Ready, answer_ask}
+use Rattle.spec_server.specs.Asking.{Ready, answer_ask}
 use Rattle.spec_server.specs.Machine.{Ask, Auto, Bulk, Course, Define, Delete, Find, Get, Indexes, Pump, Put, Remove, Request, Stale, Stats, Switch, Tidy, ask_course, course_of, only_reply}
 use Rattle.spec_server.specs.Replies.{Reply}
 use Rattle.spec_desk.specs.Keepers.{MayGive}
 use Rattle.spec_desk.specs.Lived.{Follows, Lived, Seen, etags, seen_of}
-use Rattle.spec_desk.specs.Stepped.{IsStep, Makes}
-use Rattle.spec_desk.specs.Receipts.{AllLink, HasCaughtUp, LooksOnce, MakesBatches, Onward}
+use Rattle.spec_desk.specs.Stepped.{IsStep, IsStepAt, Makes}
+use Rattle.spec_desk.specs.Receipts.{AllLink, LooksOnce, Onward, Standing}
 use Rattle.spec_desk.specs.Receipts.Onward.{same, on}
-use Rattle.spec_desk.proofs.Later.{Follows-itself, Follows-then}
+use Rattle.spec_desk.proofs.Later.{Follows-itself}
 use Rattle.spec_desk.proofs.Making.{stepped}
-use Rattle.spec_desk.proofs.Onwards.{head}
-use Rattle.std.proofs.lemmas.List.Elements.{All-cons, All-nil, All-head, All-tail}
+use Rattle.spec_desk.proofs.Onwards.{all_on, head}
 use Rattle.turn_desk.specs.Holding.{HasStepped}
 use Rattle.turn_desk.specs.Reading.{changes_nothing}
 
@@ -46,12 +44,12 @@ stays now q x o is none =
     (subst (λ (c : Course). Makes x.keeper.count c.changes c.reply x o.reply x) is (subst (λ cs. Makes x.keeper.count cs o.reply x o.reply x) (sym none) m))
 
 -- a request that was answered on a look
-pub answered : (clock : Option ℕ) (now : ℕ) (q : Request) (x : Lived) (W : World) (shot : Seen) (o : Course) (seen seen' : List Lived) (made made' : ℕ) → MayGive clock now → AllLink Follows seen x
-    → shot ≡ seen_of x → W ≡ shot.world → o ≡ course_of W now q → o.changes ≡ [] → seen' ≡ x ∷ [] → made' ≡ made → LooksOnce Follows clock q seen made shot o.reply seen' made'
-answered clock now q x W shot o seen seen' made made' may after shown at is none now_seen now_made = record {
+pub answered : (now : ℕ) (q : Request) (x : Lived) (W : World) (shot : Seen) (o : Course) (before after : Standing) → MayGive before.clock now → AllLink Follows before.seen x → shot ≡ seen_of x → W ≡ shot.world
+    → o ≡ course_of W now q → o.changes ≡ [] → after.seen ≡ x ∷ [] → after.made ≡ before.made → LooksOnce Follows before q shot o.reply after
+answered now q x W shot o before after may linked shown at is none now_seen now_made = record {
   found = x;
   left = x;
-  after = after;
+  after = linked;
   shown = shown;
   step = (now, may, stays now q x o (is ∙ ap (λ (V : World). course_of V now q) (at ∙ ap (λ (s : Seen). s.world) shown)) none);
   later = Follows-itself x;
@@ -60,22 +58,21 @@ answered clock now q x W shot o seen seen' made made' may after shown at is none
 }
 
 -- a query that was
-pub answered_query : (clock : Option ℕ) (now : ℕ) (ask : query.Ask) (x : Lived) (W : World) (shot : Seen) (reply : Reply) (seen seen' : List Lived) (made made' : ℕ) → MayGive clock now
-    → AllLink Follows seen x → shot ≡ seen_of x → W ≡ shot.world → answer_ask W ask ≡ Ready reply → seen' ≡ x ∷ [] → made' ≡ made → LooksOnce Follows clock (Ask ask) seen made shot reply seen' made'
-answered_query clock now ask x W shot reply seen seen' made made' may after shown at is now_seen now_made =
-    answered clock now (Ask ask) x W shot (only_reply reply) seen seen' made made' may after shown at (sym (ap (ask_course W now ask) is)) refl now_seen now_made
+pub answered_query : (now : ℕ) (ask : query.Ask) (x : Lived) (W : World) (shot : Seen) (reply : Reply) (before after : Standing) → MayGive before.clock now → AllLink Follows before.seen x → shot ≡ seen_of x
+    → W ≡ shot.world → answer_ask W ask ≡ Ready reply → after.seen ≡ x ∷ [] → after.made ≡ before.made → LooksOnce Follows before (Ask ask) shot reply after
+answered_query now ask x W shot reply before after may linked shown at is now_seen now_made =
+    answered now (Ask ask) x W shot (only_reply reply) before after may linked shown at (sym (ap (ask_course W now ask) is)) refl now_seen now_made
 
 -- HOLDS
 
 -- one hold with a step
-pub held_looks : {T E : Type 0} (view : T → Reply) (r : Result (Seen × T) E) (clock : Option ℕ) (q : Request) (x y : Lived) (seen seen' : List Lived) (made made' : ℕ)
-    → AllLink Follows seen x → Follows x y → IfOk r (λ o. HasStepped clock q x o.0 (view o.1) y) → seen' ≡ y ∷ [] → made' ≡ made + (etags y - etags x)
-    → IfOk r (λ o. LooksOnce Follows clock q seen made o.0 (view o.1) seen' made')
-held_looks view (Err e) clock q x y seen seen' made made' after later did now_seen now_made = tt
-held_looks view (Ok o) clock q x y seen seen' made made' after later did now_seen now_made = record {
+pub held_looks : {T E : Type 0} (view : T → Reply) (r : Result (Seen × T) E) (q : Request) (x y : Lived) (before after : Standing) → AllLink Follows before.seen x → Follows x y
+    → IfOk r (λ o. HasStepped before.clock q x o.0 (view o.1) y) → after.seen ≡ y ∷ [] → after.made ≡ before.made + (etags y - etags x) → IfOk r (λ o. LooksOnce Follows before q o.0 (view o.1) after)
+held_looks view (Err e) q x y before after linked later did now_seen now_made = tt
+held_looks view (Ok o) q x y before after linked later did now_seen now_made = record {
   found = x;
   left = y;
-  after = after;
+  after = linked;
   shown = did.shown;
   step = did.step;
   later = later;
@@ -83,42 +80,22 @@ held_looks view (Ok o) clock q x y seen seen' made made' after later did now_see
   now_made = now_made;
 }
 
-all_on : (seen : List Lived) (x y : Lived) → AllLink Follows seen x → Follows x y → AllLink Follows seen y
-all_on [] x y a b = All-nil (λ s. Follows s y)
-all_on (s ∷ more) x y a b = All-cons (λ t. Follows t y) s more (Follows-then s x y (All-head (λ t. Follows t x) s more a) b) (all_on more x y (All-tail (λ t. Follows t x) s more a) b)
-
 -- what follows all that was seen later follows all that was seen before
-pub onward_all : (a b : List Lived) (x : Lived) → Onward a b → AllLink Follows b x → AllLink Follows a x
+onward_all : (a b : List Lived) (x : Lived) → Onward a b → AllLink Follows b x → AllLink Follows a x
 onward_all a b x (same e) h = subst (λ l. AllLink Follows l x) e h
 onward_all a b x (on y k e) h = all_on a y x k (head Follows y x (subst (λ l. AllLink Follows l x) e h))
 
 -- a hold after a look, which changed nothing
-pub looks_after : {T E : Type 0} (view : T → Reply) (r : Result (Seen × T) E) (clock : Option ℕ) (q : Request) (seen mid seen' : List Lived) (made made_mid made' : ℕ) → Onward seen mid → made_mid ≡ made
-    → IfOk r (λ o. LooksOnce Follows clock q mid made_mid o.0 (view o.1) seen' made') → IfOk r (λ o. LooksOnce Follows clock q seen made o.0 (view o.1) seen' made')
-looks_after view (Err e) clock q seen mid seen' made made_mid made' onward kept l = tt
-looks_after view (Ok o) clock q seen mid seen' made made_mid made' onward kept l = record {
+pub looks_after : {T E : Type 0} (view : T → Reply) (r : Result (Seen × T) E) (q : Request) (before mid after : Standing) → Onward before.seen mid.seen → mid.clock ≡ before.clock → mid.made ≡ before.made
+    → IfOk r (λ o. LooksOnce Follows mid q o.0 (view o.1) after) → IfOk r (λ o. LooksOnce Follows before q o.0 (view o.1) after)
+looks_after view (Err e) q before mid after onward clock kept l = tt
+looks_after view (Ok o) q before mid after onward clock kept l = record {
   found = l.found;
   left = l.left;
-  after = onward_all seen mid l.found onward l.after;
+  after = onward_all before.seen mid.seen l.found onward l.after;
   shown = l.shown;
-  step = l.step;
+  step = subst (λ (c : Option ℕ). IsStepAt c q l.found (view o.1) l.left) clock l.step;
   later = l.later;
   now_seen = l.now_seen;
   now_made = l.now_made ∙ ap (λ n. n + (etags l.left - etags l.found)) kept;
-}
-
--- AFTER A REQUEST
-
-match_true : (b : Bool) (P Q : Type 0) → b ≡ true → P → MatchBool b P Q
-match_true true P Q e h = h
-match_true false P Q e h = absurd cc
-
--- such a desk does nothing
-pub rests : (clock : Option ℕ) (x : Lived) (seen : List Lived) (made : ℕ) → seen ≡ x ∷ [] → HasCaughtUp clock 0 x made seen made
-rests clock x seen made is = record {
-  end = x;
-  caught_up = match_true (0 == 0) (x ≡ x) (MakesBatches clock 0 x x) refl refl;
-  later = Follows-itself x;
-  now_seen = is;
-  now_made = omega arith;
 }

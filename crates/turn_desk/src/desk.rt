@@ -91,16 +91,11 @@ impl<'a, K: Keeper, C: Clock, G: Gate, R: Threads + Wait> Desk<R> for TurnDesk<'
     ghost use Rattle.std.proofs.Common.{◌∙◌};
     ghost use Rattle.spec_desk.specs.Lived.{Follows};
     ghost use Rattle.spec_desk.proofs.Later.{Follows-itself};
+    ghost use Rattle.turn_desk.specs.Seated.{stands_seated};
 
     ghost link = { Follows };
 
-    ghost seen = { λ d. d.pass.seen };
-
-    ghost made = { λ d. d.pass.made };
-
-    ghost clock = { λ d. d.moment };
-
-    ghost pump = { λ d. 0 };
+    ghost standing = { stands_seated };
 
     ghost same = { λ d e. (e.pass.turn ≡ d.pass.turn) × (e.pass.shares ≡ d.pass.shares) };
 

@@ -8,6 +8,7 @@ ghost use Rattle.raven_request.specs.RequestView.{request_view};
 ghost use Rattle.spec_desk.specs.Lived.{Follows};
 ghost use Rattle.spec_desk.specs.Receipts.{LooksOnce, Onward};
 ghost use Rattle.turn_desk.specs.Reading.{changes_nothing as spec_changes_nothing};
+ghost use Rattle.turn_desk.specs.Seated.{stands_at};
 
 use crate::writes::write_query;
 use raven_base::{NoMemory, Steps};
@@ -49,7 +50,7 @@ pub(crate) fn read<K: Keeper, C: Clock, R: Threads + Wait>(
     requires own { pass.old.turn ≡ turn.now.turn }
     requires formed { IsWellFormed (Do (request_view request)) }
     requires reads { spec_changes_nothing (request_view request) ≡ true }
-    ensures looked { IfOk result (λ o. LooksOnce Follows (C.moment clock.now) (request_view request) pass.old.seen pass.old.made o.0 (reply_view o.1) pass.new.seen pass.new.made) }
+    ensures looked { let at = stands_at (C.moment clock.now) in IfOk result (λ o. LooksOnce Follows (at pass.old) (request_view request) o.0 (reply_view o.1) (at pass.new)) }
     ensures onward { Onward pass.old.seen pass.new.seen }
     ensures same { (pass.new.turn ≡ pass.old.turn) × (pass.new.shares ≡ pass.old.shares) }
 {
@@ -97,7 +98,7 @@ pub(crate) fn read_query<K: Keeper, C: Clock, R: Wait>(
 ) -> Result<(Shot, Reply), NoMemory>
     requires own { pass.old.turn ≡ turn.now.turn }
     requires formed { IsWellFormed (Do (Ask ask.now)) }
-    ensures looked { IfOk result (λ o. LooksOnce Follows (C.moment clock.now) (Ask ask.now) pass.old.seen pass.old.made o.0 (reply_view o.1) pass.new.seen pass.new.made) }
+    ensures looked { let at = stands_at (C.moment clock.now) in IfOk result (λ o. LooksOnce Follows (at pass.old) (Ask ask.now) o.0 (reply_view o.1) (at pass.new)) }
     ensures onward { Onward pass.old.seen pass.new.seen }
     ensures same { (pass.new.turn ≡ pass.old.turn) × (pass.new.shares ≡ pass.old.shares) }
 {

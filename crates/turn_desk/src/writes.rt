@@ -6,6 +6,7 @@ ghost use Rattle.raven_reply.specs.ReplyView.{reply_view};
 ghost use Rattle.raven_request.specs.RequestView.{request_view};
 ghost use Rattle.spec_desk.specs.Lived.{Follows};
 ghost use Rattle.spec_desk.specs.Receipts.{LooksOnce, Onward};
+ghost use Rattle.turn_desk.specs.Seated.{stands_at};
 
 use crate::acts::{AskOnce, DoOnce};
 use raven_base::NoMemory;
@@ -31,7 +32,7 @@ pub fn write<K: Keeper, C: Clock, R: Threads + Wait>(
 ) -> Result<(Shot, Reply), NoMemory>
     requires own { pass.old.turn ≡ turn.now.turn }
     requires formed { IsWellFormed (Do (request_view request)) }
-    ensures looked { IfOk result (λ o. LooksOnce Follows (C.moment clock.now) (request_view request) pass.old.seen pass.old.made o.0 (reply_view o.1) pass.new.seen pass.new.made) }
+    ensures looked { let at = stands_at (C.moment clock.now) in IfOk result (λ o. LooksOnce Follows (at pass.old) (request_view request) o.0 (reply_view o.1) (at pass.new)) }
     ensures onward { Onward pass.old.seen pass.new.seen }
     ensures same { (pass.new.turn ≡ pass.old.turn) × (pass.new.shares ≡ pass.old.shares) }
 {
@@ -58,7 +59,7 @@ pub(crate) fn write_query<K: Keeper, C: Clock, R: Wait>(
 ) -> Result<(Shot, Reply), NoMemory>
     requires own { pass.old.turn ≡ turn.now.turn }
     requires formed { IsWellFormed (Do (Ask ask.now)) }
-    ensures looked { IfOk result (λ o. LooksOnce Follows (C.moment clock.now) (Ask ask.now) pass.old.seen pass.old.made o.0 (reply_view o.1) pass.new.seen pass.new.made) }
+    ensures looked { let at = stands_at (C.moment clock.now) in IfOk result (λ o. LooksOnce Follows (at pass.old) (Ask ask.now) o.0 (reply_view o.1) (at pass.new)) }
     ensures onward { Onward pass.old.seen pass.new.seen }
     ensures same { (pass.new.turn ≡ pass.old.turn) × (pass.new.shares ≡ pass.old.shares) }
 {

@@ -1,11 +1,11 @@
-use Rattle.std.proofs.Common.{◌≡◌, ◌∙◌, List, Some, true, ap, refl, rules, subst, sym}
+use Rattle.std.proofs.Common.{◌≡◌, ◌∙◌, List, true, ap, refl, rules, subst, sym}
 use Rattle.spec_index.specs.World.{World, numbered}
 use Rattle.spec_server.specs.Sound.{Sound}
 use Rattle.spec_desk.specs.Lived.{Follows, Lived, Seen}
 use Rattle.spec_desk.specs.Receipts.{AllLink}
 use Rattle.spec_desk.proofs.Later.{Follows-itself}
 use Rattle.spec_desk.proofs.Onwards.{head, on_hold, onward_on}
-use Rattle.raven_pump.proofs.Steps.{Reads, counts_of, idle_at, none_next, reads_at, some_named, some_next, taken_at}
+use Rattle.raven_pump.proofs.Steps.{counts_of, idle_at, none_next, reads_at, some_named, some_next, taken_at}
 use Rattle.raven_pump.proofs.Waiting.{read_waits}
 use Rattle.raven_pump.proofs.indexing.turn_index.Goals as goal
 

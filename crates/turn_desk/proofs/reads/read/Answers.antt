@@ -4,6 +4,7 @@ use Rattle.raven_desk.specs.CourseView.{course_view}
 use Rattle.raven_request.specs.RequestView.{request_view}
 use Rattle.spec_desk.proofs.Later.{Follows-itself}
 use Rattle.spec_desk.proofs.Onwards.{on_hold}
+use Rattle.turn_desk.specs.Seated.{stands_at}
 use Rattle.turn_desk.proofs.Looking.{answered, makes_nothing}
 use Rattle.turn_desk.proofs.reads.read.Goals as goal
 
@@ -16,8 +17,8 @@ returns-in_err-course-clause-onward g c = let l = c.look.ensures in on_hold c.ar
 pub returns-clause-looked : goal.returns-clause-looked
 returns-clause-looked g c =
     let l = c.in_ok-shot.ensures in
-    answered (g.C.Clock.moment c.args.clock.now) c.now-now.result (request_view c.args.request) l.0 c.world.result.now c.in_ok-shot.shot (course_view c.in_ok-course.course) c.args.pass.now.seen c.look.new.pass.seen
-    c.args.pass.now.made c.look.new.pass.made (record { below = c.now-now.ensures.below; still = c.now-now.ensures.still }) l.1 l.2 c.world.ensures.world c.in_ok-course.ensures
+    let at = stands_at (g.C.Clock.moment c.args.clock.now) in
+    answered c.now-now.result (request_view c.args.request) l.0 c.world.result.now c.in_ok-shot.shot (course_view c.in_ok-course.course) (at c.args.pass.now) (at c.look.new.pass) (record { below = c.now-now.ensures.below; still = c.now-now.ensures.still }) l.1 l.2 c.world.ensures.world c.in_ok-course.ensures
     (ap (λ (o : Course). o.changes) c.in_ok-course.ensures ∙ makes_nothing c.world.result.now c.now-now.result (request_view c.args.request) c.requires.reads) l.3.2 l.3.3
 
 pub returns-clause-onward : goal.returns-clause-onward

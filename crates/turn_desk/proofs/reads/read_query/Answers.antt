@@ -1,4 +1,4 @@
-use Rattle.std.proofs.Common.{Option, subst}
+use Rattle.std.proofs.Common.{Option, refl, subst}
 use Rattle.std.specs.Prelude.{◌≡◌, IfSome}
 use Rattle.spec_server.specs.Asking.{Ready, answer_ask}
 use Rattle.spec_server.specs.Machine.{Ask}
@@ -6,6 +6,7 @@ use Rattle.raven_reply.specs.ReplyView.{reply_view}
 use Rattle.raven_reply.specs.declared.reply.Reply.{Reply}
 use Rattle.spec_desk.proofs.Later.{Follows-itself}
 use Rattle.spec_desk.proofs.Onwards.{on_hold, onward_on}
+use Rattle.turn_desk.specs.Seated.{stands_at}
 use Rattle.turn_desk.proofs.Looking.{answered_query, looks_after}
 use Rattle.turn_desk.proofs.reads.read_query.Goals as goal
 
@@ -18,8 +19,9 @@ returns-in_err-answer-clause-onward g c = let l = c.look.ensures in on_hold c.ar
 pub returns-in_default-clause-looked : goal.returns-in_default-clause-looked
 returns-in_default-clause-looked g c =
     let l = c.in_ok-shot.ensures in
-    looks_after reply_view c.write_query.result (g.C.Clock.moment c.args.clock.now) (Ask c.args.ask.now) c.args.pass.now.seen c.look.new.pass.seen c.write_query.new.pass.seen c.args.pass.now.made
-    c.look.new.pass.made c.write_query.new.pass.made (on_hold c.args.pass.now.seen c.look.new.pass.seen l.0 l.0 l.1 (Follows-itself l.0) l.3.2) l.3.3 c.write_query.ensures.looked
+    let at = stands_at (g.C.Clock.moment c.args.clock.now) in
+    looks_after reply_view c.write_query.result (Ask c.args.ask.now) (at c.args.pass.now) (at c.look.new.pass) (at c.write_query.new.pass)
+    (on_hold c.args.pass.now.seen c.look.new.pass.seen l.0 l.0 l.1 (Follows-itself l.0) l.3.2) refl l.3.3 c.write_query.ensures.looked
 
 pub returns-in_default-clause-onward : goal.returns-in_default-clause-onward
 returns-in_default-clause-onward g c =
@@ -29,8 +31,8 @@ returns-in_default-clause-onward g c =
 pub returns-clause-looked : goal.returns-clause-looked
 returns-clause-looked g c =
     let l = c.in_ok-shot.ensures in
-    answered_query (g.C.Clock.moment c.args.clock.now) c.now-now.result c.args.ask.now l.0 c.world.result.now c.in_ok-shot.shot (reply_view c.in-Some.reply) c.args.pass.now.seen c.look.new.pass.seen
-    c.args.pass.now.made c.look.new.pass.made (record { below = c.now-now.ensures.below; still = c.now-now.ensures.still }) l.1 l.2 c.world.ensures.world
+    let at = stands_at (g.C.Clock.moment c.args.clock.now) in
+    answered_query c.now-now.result c.args.ask.now l.0 c.world.result.now c.in_ok-shot.shot (reply_view c.in-Some.reply) (at c.args.pass.now) (at c.look.new.pass) (record { below = c.now-now.ensures.below; still = c.now-now.ensures.still }) l.1 l.2 c.world.ensures.world
     (subst (λ (o : Option Reply). IfSome o (λ r. answer_ask c.world.result.now c.args.ask.now ≡ Ready (reply_view r))) c.in-Some.is c.in_ok-answer.ensures) l.3.2 l.3.3
 
 pub returns-clause-onward : goal.returns-clause-onward

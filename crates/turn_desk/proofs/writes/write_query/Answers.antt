@@ -1,14 +1,15 @@
 use Rattle.spec_server.specs.Machine.{Ask}
 use Rattle.raven_reply.specs.ReplyView.{reply_view}
 use Rattle.spec_desk.proofs.Onwards.{on_hold}
+use Rattle.turn_desk.specs.Seated.{stands_at}
 use Rattle.turn_desk.proofs.Looking.{held_looks}
 use Rattle.turn_desk.proofs.writes.write_query.Goals as goal
 
 pub returns-clause-looked : goal.returns-clause-looked
 returns-clause-looked g c =
     let w = c.with.ensures in
-    held_looks reply_view c.with.result (g.C.Clock.moment c.args.clock.now) (Ask c.args.ask.now) w.0 w.1 c.args.pass.now.seen c.with.new.pass.seen c.args.pass.now.made
-    c.with.new.pass.made w.2 w.3 w.4 w.5.2 w.5.3
+    let at = stands_at (g.C.Clock.moment c.args.clock.now) in
+    held_looks reply_view c.with.result (Ask c.args.ask.now) w.0 w.1 (at c.args.pass.now) (at c.with.new.pass) w.2 w.3 w.4 w.5.2 w.5.3
 
 pub returns-clause-onward : goal.returns-clause-onward
 returns-clause-onward g c = let w = c.with.ensures in on_hold c.args.pass.now.seen c.with.new.pass.seen w.0 w.1 w.2 w.3 w.5.2

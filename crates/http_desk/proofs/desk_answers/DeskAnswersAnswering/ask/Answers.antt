@@ -5,4 +5,4 @@ pub returns-clause-kept : goal.returns-clause-kept
 returns-clause-kept g c =
     let d = g.D.Desk in
     let e = c.ask_desk.ensures in
-    keeps-here d.same d.seen d.made d.clock d.pump c.args.self.now c.self.inside.desk c.ask_desk.new.desk c.self.inside.database c.self.view_is e.same e.onward e.clock e.pump
+    keeps-here d.same d.standing c.args.self.now c.self.inside.desk c.ask_desk.new.desk c.self.inside.database c.self.view_is e.same e.goes_on

@@ -1,11 +1,9 @@
-use Rattle.std.proofs.Common.{ℕ, List, [], ◌∷◌, Option, ◌∙◌, sym, subst, arith, length-append}
+use Rattle.std.proofs.Common.{List, [], ◌∷◌, sym, subst, arith, length-append}
 use Rattle.spec_server.specs.Machine.{Ask}
 use Rattle.raven_reply.specs.ReplyView.{reply_view}
 use Rattle.spec_desk.specs.Lived.{Seen}
-use Rattle.spec_desk.specs.Receipts.{LooksOnce}
 use Rattle.spec_desk.proofs.Asking.{Asking, again, begins, ends}
-use Rattle.spec_desk.proofs.Onwards.{onward_on}
-use Rattle.raven_desk.proofs.Asked.{goes}
+use Rattle.spec_desk.proofs.Onwards.{goes_on_then}
 use Rattle.raven_desk.proofs.desk.Desk.ask_query.Goals as goal
 
 pub loop-left-init : goal.loop-left-init
@@ -13,23 +11,20 @@ loop-left-init g c =
     let l = c.look_once.ensures in
     let d = g.Self.Desk in
     let q = Ask c.args.ask.now in
+    let x = d.standing c.args.self.now in
+    let y = d.standing c.look_once.new.self in
     record {
-      asking = subst
-          (λ (e : List Seen). Asking d.link (d.clock c.args.self.now) q (d.seen c.args.self.now) (d.made c.args.self.now) e c.in_ok-shot.shot (reply_view c.in_ok-shot.reply) (d.seen c.look_once.new.self)
-          (d.made c.look_once.new.self)) (sym c.new-earlier.ensures.items)
-          (begins d.link (d.clock c.args.self.now) q g.met.Self.Desk.link_same (d.seen c.args.self.now) (d.made c.args.self.now) c.in_ok-shot.shot (reply_view c.in_ok-shot.reply)
-          (d.seen c.look_once.new.self) (d.made c.look_once.new.self) c.in_ok-shot.ensures.looked);
-      onward = l.onward;
+      asking = subst (λ (e : List Seen). Asking d.link q x e c.in_ok-shot.shot (reply_view c.in_ok-shot.reply) y) (sym c.new-earlier.ensures.items)
+          (begins d.link q g.met.Self.Desk.link_same x c.in_ok-shot.shot (reply_view c.in_ok-shot.reply) y c.in_ok-shot.ensures.looked);
+      goes_on = l.goes_on;
       same = l.same;
-      clock = l.clock;
-      pump = l.pump;
       count = rw c.new-earlier.ensures.items (let most = c.looks_at-left.ensures in let some = c.requires.some in omega arith);
     }
 
-pub returns-in_err-next-clause-onward : goal.returns-in_err-next-clause-onward
-returns-in_err-next-clause-onward g c =
-    onward_on (g.Self.Desk.seen c.args.self.now) (g.Self.Desk.seen c.loop-left.self) (g.Self.Desk.seen c.look_once-in-loop-left.new.self) c.loop-left.invariant.onward
-    c.look_once-in-loop-left.ensures.onward
+pub returns-in_err-next-clause-goes_on : goal.returns-in_err-next-clause-goes_on
+returns-in_err-next-clause-goes_on g c =
+    let at = g.Self.Desk.standing in
+    goes_on_then (at c.args.self.now) (at c.loop-left.self) (at c.look_once-in-loop-left.new.self) c.loop-left.invariant.goes_on c.look_once-in-loop-left.ensures.goes_on
 
 pub loop-left-preserved : goal.loop-left-preserved
 loop-left-preserved g c =
@@ -37,43 +32,35 @@ loop-left-preserved g c =
     let was = c.loop-left.invariant in
     let d = g.Self.Desk in
     let q = Ask c.args.ask.now in
+    let x = d.standing c.args.self.now in
+    let mid = d.standing c.loop-left.self in
+    let y = d.standing c.look_once-in-loop-left.new.self in
     let t = c.loop-left-test.ensures in
     let p = c.in_ok-push.ensures.items in
-    let looked : LooksOnce d.link (d.clock c.args.self.now) q (d.seen c.loop-left.self) (d.made c.loop-left.self) c.in_ok-next.next (reply_view c.in_ok-next.answer) (d.seen c.look_once-in-loop-left.new.self)
-    (d.made c.look_once-in-loop-left.new.self) =
-    subst
-    (λ (m : Option ℕ). LooksOnce d.link m q (d.seen c.loop-left.self) (d.made c.loop-left.self) c.in_ok-next.next (reply_view c.in_ok-next.answer) (d.seen c.look_once-in-loop-left.new.self)
-    (d.made c.look_once-in-loop-left.new.self)) was.clock c.in_ok-next.ensures.looked in
     record {
-      asking = subst
-          (λ (e : List Seen). Asking d.link (d.clock c.args.self.now) q (d.seen c.args.self.now) (d.made c.args.self.now) e c.in_ok-next.next (reply_view c.in_ok-next.answer)
-          (d.seen c.look_once-in-loop-left.new.self) (d.made c.look_once-in-loop-left.new.self)) (sym p)
-          (again d.link (d.clock c.args.self.now) q (d.seen c.args.self.now) (d.made c.args.self.now) c.loop-left.earlier.items c.loop-left.shot (reply_view c.loop-left.reply) (d.seen c.loop-left.self)
-          (d.made c.loop-left.self) c.in_ok-next.next (reply_view c.in_ok-next.answer) (d.seen c.look_once-in-loop-left.new.self) (d.made c.look_once-in-loop-left.new.self) was.asking t.1 looked);
-      onward = onward_on (d.seen c.args.self.now) (d.seen c.loop-left.self) (d.seen c.look_once-in-loop-left.new.self) was.onward l.onward;
+      asking = subst (λ (e : List Seen). Asking d.link q x e c.in_ok-next.next (reply_view c.in_ok-next.answer) y) (sym p)
+          (again d.link q x c.loop-left.earlier.items c.loop-left.shot (reply_view c.loop-left.reply) mid c.in_ok-next.next (reply_view c.in_ok-next.answer) y was.asking was.goes_on.clock t.1
+          c.in_ok-next.ensures.looked);
+      goes_on = goes_on_then x mid y was.goes_on l.goes_on;
       same = g.met.Self.Desk.same_on c.args.self.now c.loop-left.self c.look_once-in-loop-left.new.self was.same l.same;
-      clock = l.clock ∙ was.clock;
-      pump = l.pump ∙ was.pump;
       count = rw p (let a = t.0 in let b = was.count in let e = length-append c.loop-left.earlier.items (c.loop-left.shot ∷ []) in omega arith);
     }
 
-pub returns-in_err-catch_up-clause-onward : goal.returns-in_err-catch_up-clause-onward
-returns-in_err-catch_up-clause-onward g c =
-    onward_on (g.Self.Desk.seen c.args.self.now) (g.Self.Desk.seen c.loop-left.self) (g.Self.Desk.seen c.catch_up.new.self) c.loop-left.invariant.onward c.catch_up.ensures.onward
+pub returns-in_err-catch_up-clause-goes_on : goal.returns-in_err-catch_up-clause-goes_on
+returns-in_err-catch_up-clause-goes_on g c =
+    let at = g.Self.Desk.standing in goes_on_then (at c.args.self.now) (at c.loop-left.self) (at c.catch_up.new.self) c.loop-left.invariant.goes_on c.catch_up.ensures.goes_on
 
 pub returns-clause-asked : goal.returns-clause-asked
 returns-clause-asked g c =
     let was = c.loop-left.invariant in
     let d = g.Self.Desk in
-    ends d.link (d.clock c.args.self.now) (Ask c.args.ask.now) (d.pump c.args.self.now) (d.seen c.args.self.now) (d.made c.args.self.now)
-    (record { shot = c.loop-left.shot; earlier = c.loop-left.earlier.items; reply = reply_view c.loop-left.reply }) (d.seen c.loop-left.self) (d.made c.loop-left.self) (d.seen c.catch_up.new.self)
-    (d.made c.catch_up.new.self) was.asking (let b = was.count in omega arith) (λ t. let none = c.loop-left-test.ensures t in let b = was.count in omega arith)
-    (goes (d.clock c.loop-left.self) (d.clock c.args.self.now) (d.pump c.loop-left.self) (d.pump c.args.self.now) (d.seen c.loop-left.self) (d.made c.loop-left.self) (d.seen c.catch_up.new.self)
-    (d.made c.catch_up.new.self) was.clock was.pump c.in_ok-catch_up.ensures.went)
+    ends d.link (Ask c.args.ask.now) (d.standing c.args.self.now) (record { shot = c.loop-left.shot; earlier = c.loop-left.earlier.items; reply = reply_view c.loop-left.reply }) (d.standing c.loop-left.self)
+    (d.standing c.catch_up.new.self) was.asking was.goes_on.clock was.goes_on.pump (let b = was.count in omega arith)
+    (λ t. let none = c.loop-left-test.ensures t in let b = was.count in omega arith) c.in_ok-catch_up.ensures.went
 
-pub returns-clause-onward : goal.returns-clause-onward
-returns-clause-onward g c =
-    onward_on (g.Self.Desk.seen c.args.self.now) (g.Self.Desk.seen c.loop-left.self) (g.Self.Desk.seen c.catch_up.new.self) c.loop-left.invariant.onward c.catch_up.ensures.onward
+pub returns-clause-goes_on : goal.returns-clause-goes_on
+returns-clause-goes_on g c =
+    let at = g.Self.Desk.standing in goes_on_then (at c.args.self.now) (at c.loop-left.self) (at c.catch_up.new.self) c.loop-left.invariant.goes_on c.catch_up.ensures.goes_on
 
 pub returns-in_err-next-clause-same : goal.returns-in_err-next-clause-same
 returns-in_err-next-clause-same g c =

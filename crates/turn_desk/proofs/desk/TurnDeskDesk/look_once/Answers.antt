@@ -1,7 +1,5 @@
-use Rattle.std.proofs.Common.{subst}
-use Rattle.spec_desk.specs.Receipts.{Onward}
-use Rattle.turn_desk.specs.Seated.{Seated}
+use Rattle.turn_desk.proofs.Standings.{goes_on}
 use Rattle.turn_desk.proofs.desk.TurnDeskDesk.look_once.Goals as goal
 
-pub returns-clause-onward : goal.returns-clause-onward
-returns-clause-onward g c = subst (λ (d : Seated). Onward d.pass.seen c.read_query.new.pass.seen) c.self.view_is c.read_query.ensures.onward
+pub returns-clause-goes_on : goal.returns-clause-goes_on
+returns-clause-goes_on g c = goes_on _ c.args.self.now c.read_query.new.pass c.self.view_is c.read_query.ensures.onward
