@@ -2,7 +2,7 @@
 ghost use Rattle.std.specs.Prelude.{◌≡◌, ◌≤◌, IfOk, IfSome, Some, length, map, option_map, string_bytes};
 ghost use Rattle.std.specs.List.{list_all};
 ghost use Rattle.spec_http.specs.Options.{is_name as spec_is_name, is_of_name as spec_is_of_name, name_in, options_in as spec_http_options, pump_in};
-ghost use Rattle.spec_measure.specs.Options.{number_in as spec_number_in, number_up_to as spec_number_up_to, options_in as spec_measure_options};
+ghost use Rattle.spec_measure.specs.Options.{number_in as spec_number_in, options_in as spec_measure_options};
 ghost use Rattle.raven_serve.specs.Options.{Range, counts_in, limit_in, number_or as spec_number_or, number_within as spec_number_within, options_in as spec_serve_options};
 ghost use Rattle.spec_server.specs.Options.{base_in, run_options as spec_run_options};
 ghost use Rattle.spec_server.specs.Script.{number_of as spec_number_of};
@@ -127,14 +127,16 @@ fn number_of(text: &[u8]) -> Option<u64>
     Some(number)
 }
 
-fn number_up_to(text: &str, most: u32) -> Option<u32>
-    ensures { result ≡ spec_number_up_to most text.now }
+// A number from the least to the most, which fits 32 bits.
+fn number_within(text: &str, least: u32, most: u32) -> Option<u32>
+    ensures number { result ≡ spec_number_within (record { least = least; most = most }) text.now }
+    ensures fits { IfSome result (λ n. n ≤ most) }
 {
     if text.len() > MAX_DIGITS {
         return None;
     }
     let number = number_of(text.as_bytes())?;
-    if 1 <= number && number <= u64::from(most) {
+    if u64::from(least) <= number && number <= u64::from(most) {
         Some(number as u32)
     } else {
         None
@@ -145,7 +147,7 @@ fn number_in(text: Option<&str>, default: u32, most: u32) -> Option<u32>
     ensures { result ≡ spec_number_in (record { default = default; most = most }) (text_view text.entry) }
 {
     match text {
-        Some(text) => number_up_to(text, most),
+        Some(text) => number_within(text, 1, most),
         None => Some(default),
     }
 }
@@ -265,22 +267,6 @@ fn http_options(alloc: Global, pairs: &[(&str, &str)]) -> Result<Option<HttpOpti
         name,
         pump,
     }))
-}
-
-// A number from the least to the most, which fits 32 bits.
-fn number_within(text: &str, least: u32, most: u32) -> Option<u32>
-    ensures number { result ≡ spec_number_within (record { least = least; most = most }) text.now }
-    ensures fits { IfSome result (λ n. n ≤ most) }
-{
-    if text.len() > MAX_DIGITS {
-        return None;
-    }
-    let number = number_of(text.as_bytes())?;
-    if u64::from(least) <= number && number <= u64::from(most) {
-        Some(number as u32)
-    } else {
-        None
-    }
 }
 
 fn number_or(text: Option<&str>, default: u32, least: u32, most: u32) -> Option<u32>

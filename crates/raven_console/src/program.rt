@@ -192,13 +192,15 @@ where
       keeper_left = option_map K.state result.keeper;
       doors_left = map D.state result.doors.items;
     }) }
-    ensures untouched { result.status ≡ Status.Usage → (input.new ≡ input.old) × ((output.new ≡ output.old) × ((result.keeper ≡ Some keeper) × (result.doors.items ≡ doors.items))) }
+    ensures untouched { result.status ≡ Status.Usage
+        → (input.new ≡ input.old) × ((output.new ≡ output.old) × ((result.keeper ≡ Some keeper) × (result.doors.items ≡ doors.items))) }
     ensures unwritten { AsksToRun (invoked_in (map string_bytes arguments.now)) → (result.status ≡ Status.ReadFault) ⊎ (result.status ≡ Status.InputTooLarge)
         → (output.new ≡ output.old) × (result.keeper ≡ Some keeper) }
     ensures unopened { IsUnopened (invoked_in (map string_bytes arguments.now)) result.status
         → (output.new ≡ output.old) × IfSome result.keeper (λ k. (K.state k).held ≡ (K.state keeper).held) }
     ensures unread { AsksToMeasure (invoked_in (map string_bytes arguments.now)) → input.new ≡ input.old }
-    ensures unserved { AsksForSession (invoked_in (map string_bytes arguments.now)) → IsUnopened (invoked_in (map string_bytes arguments.now)) result.status → input.new ≡ input.old }
+    ensures unserved { AsksForSession (invoked_in (map string_bytes arguments.now)) → IsUnopened (invoked_in (map string_bytes arguments.now)) result.status
+        → input.new ≡ input.old }
     ensures silent { AsksToServe (invoked_in (map string_bytes arguments.now)) → (input.new ≡ input.old) × (output.new ≡ output.old) }
     ensures refused { result.status ≡ Status.NoThread → Rose (W.state crew.old).faults (W.state crew.new).faults }
     ensures back { result.keeper ≡ None → MayLose (invoked_in (map string_bytes arguments.now)) result.status }

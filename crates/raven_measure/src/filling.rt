@@ -150,7 +150,8 @@ impl<K: Keeper> Measured<K> {
         requires formed { IfSome definition (λ request. MayBeMade (request_view request)) }
         requires none { self.old.moved ≡ 0 }
         ensures done { OnOk result (Does (C.moment clock.now) self.old (requests_view definition ++ requests (options_view options) options.docs) self.new) }
-        ensures stopped { IfErr result (Stops (C.moment clock.now) self.old (requests_view definition ++ requests (options_view options) options.docs) self.new) }
+        ensures stopped { IfErr result
+            (Stops (C.moment clock.now) self.old (requests_view definition ++ requests (options_view options) options.docs) self.new) }
     {
         self.define(rt, alloc, clock, definition)?;
         let mut draws = Draws::of(options.seed);

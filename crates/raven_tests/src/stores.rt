@@ -1,11 +1,11 @@
 //! Stores.
 ghost use Rattle.std.specs.Prelude.{◌≡◌, ◌≤◌};
 
-use doc_store::Store;
+use doc_store::{Rows, Store};
 use doc_txn::{BaseId, Command, Commands, Expect, Limits, TxnFault, TxnKind, Writer, commit};
-use raven_base::{NoMemory, Steps};
+use raven_base::{NoMemory, Shared, Steps};
 use raven_json::{document_of, read};
-use raven_value::{Body, Id, Row, Rows, Scope, Shallow, Text};
+use raven_value::{Body, Id, Row, Scope, Shallow, Text};
 use std::alloc::Global;
 use std::marker::Brand;
 use std::sync::ledger::{Blank, Ledger};
@@ -34,7 +34,8 @@ fn row(alloc: Global, etag: u64, id: &str, collection: &str, json: &str) -> Resu
 fn rows(alloc: Global, all: &[(u64, &str, &str, &str)]) -> Result<Rows, Fail> {
     let mut rows = Rows::new(alloc);
     for (etag, id, collection, json) in all {
-        rows.push(row(alloc, *etag, id, collection, json)?)?;
+        let row = row(alloc, *etag, id, collection, json)?;
+        rows.push(Shared::of(alloc, row)?)?;
     }
     Ok(rows)
 }
@@ -62,7 +63,7 @@ fn store(alloc: Global) -> Result<Store, Fail> {
 fn etags(alloc: Global) -> Result<Vec<u64>, Fail> {
     let mut etags = Vec::new(alloc);
     for row in store(alloc)?.rows(alloc)?.as_slice() {
-        etags.push(row.etag)?;
+        etags.push(row.get().etag)?;
     }
     Ok(etags)
 }
@@ -105,7 +106,7 @@ fn etags_after(
     let (rows, more) = first_rows::<Brand>(alloc, &store, etag, &scope, max, Blank::new(3))?;
     let mut etags = Vec::new(alloc);
     for row in rows.as_slice() {
-        etags.push(row.etag)?;
+        etags.push(row.get().etag)?;
     }
     Ok((etags, more))
 }

@@ -7,9 +7,10 @@ ghost use Rattle.raven_world.specs.WorldView.{answer_view, tried_view};
 
 use crate::rewrite::slots_refused;
 use crate::world::{Change, Rewritten, World, WorldFault};
+use doc_store::Rows;
 use raven_base::NoMemory;
 use raven_reply::{IndexNames, Reply};
-use raven_value::{Name, Rows};
+use raven_value::Name;
 use side_by_side::{Retirement, SlotChange, SlotRefusal};
 use std::alloc::Global;
 
@@ -66,7 +67,8 @@ impl World {
         name: &Name,
         now: u64,
     ) -> Result<Option<Taken>, WorldFault>
-        ensures { (switched : List (List ℕ)) (more : WorldOf → List (List ℕ) → Course) → IfSome (tried_view self.now switched more result) (λ course. course ≡ spec_try_switch self.now now switched more (spec_switch self.now name.now)) }
+        ensures { (switched : List (List ℕ)) (more : WorldOf → List (List ℕ) → Course)
+            → IfSome (tried_view self.now switched more result) (λ course. course ≡ spec_try_switch self.now now switched more (spec_switch self.now name.now)) }
     {
         match self.slots.switch(alloc, name, &self.store, &self.limits) {
             Ok(

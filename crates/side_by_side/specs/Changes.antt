@@ -38,6 +38,10 @@ abbrev pub define_by : Writer → World → List ℕ → Definition → Result i
 define_by Client = define_named
 define_by Server = define
 
+-- what such a definition makes of a world
+abbrev pub defines : Writer → List ℕ → Definition → World → Result is.SlotChange is.SlotRefusal
+defines writer name d W = define_by writer W name d
+
 -- Who may define this under this name: a client what is not automatic, the server an automatic index, whose name begins as that of one and
 -- serves no other.
 abbrev pub MayDefine : Writer → List Slot → List ℕ → Definition → Type 0

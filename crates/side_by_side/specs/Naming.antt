@@ -3,12 +3,17 @@ use Rattle.std.specs.Prelude.{◌≡◌, ◌<◌, ◌≤◌, ℕ, List, [], ◌�
 use Rattle.spec_data.specs.Faults.{replacement_of}
 use Rattle.spec_data.specs.Folding.{folded}
 use Rattle.spec_data.specs.Limits.{max_index_name}
+use Rattle.index_version.specs.Named.{NamedVersion}
 use Rattle.spec_index.specs.World.{Slot, begins_with_replacement, replaced_name}
 
 -- The definition has the slot's name, or the name that the slot is to take if it is a replacement. Names are compared without regard to case.
 pub record IsNamedAs (name definition : List ℕ) : Type 0 where
   pub same : folded definition ≡ folded (replaced_name name)
   pub plain : begins_with_replacement definition ≡ false
+
+-- the index of the slot may have this version next: it is of the same definition, which has the slot's name
+abbrev pub IsVersionOf : NamedVersion → Slot → Type 0
+IsVersionOf version slot = (slot.version.definition ≡ version.version.definition) × IsNamedAs slot.name version.name
 
 -- a client may give a definition this name, and the slot of that name serves it
 pub record IsServedBy (definition name : List ℕ) : Type 0 where

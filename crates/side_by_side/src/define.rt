@@ -9,7 +9,7 @@ ghost use Rattle.spec_store.specs.Store.{Store, last};
 ghost use Rattle.spec_index.specs.World.{added_if_room as spec_added_if_room, begins_with_replacement, define_at as spec_define_at, define_beside as spec_define_beside, define_named as spec_define_named, index_id, is_reserved_name as spec_is_reserved_name, max_index_name, new_version, row_body, serving as spec_serving, without as spec_without};
 ghost use Rattle.doc_txn.specs.CommandView.{writer_view};
 ghost use Rattle.index_definition.specs.DefinitionView.{definition_view};
-ghost use Rattle.side_by_side.specs.Changes.{Changes, MayDefine, change_view, define_by};
+ghost use Rattle.side_by_side.specs.Changes.{Changes, MayDefine, change_view, defines};
 ghost use Rattle.side_by_side.specs.Naming.{IsNamedAs, IsServedBy, RiseTo};
 ghost use Rattle.side_by_side.specs.Standing.{world_of};
 
@@ -293,7 +293,7 @@ impl Slots {
         requires latest { latest ≤ max_etag }
         requires numbers { All (λ s. s.number ≤ latest) self.now.slots }
         requires may { MayDefine (writer_view writer) self.now.slots definition.value.name (definition_view definition.value.body) }
-        ensures { Changes limits.now.slots latest self.now (λ W. define_by (writer_view writer) W definition.value.name (definition_view definition.value.body)) result }
+        ensures { Changes limits.now.slots latest self.now (defines (writer_view writer) definition.value.name (definition_view definition.value.body)) result }
     {
         match writer {
             Writer::Client => self.define_named(alloc, definition, latest, limits),

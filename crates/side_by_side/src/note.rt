@@ -26,7 +26,7 @@ pub struct Note {
     pub newest: u64,
 }
 
-// By hand, so that the proof of code that drops one need not go through its parts.
+// Opaque drop: see raven_base.
 impl Drop for Note {
     fn drop(self) {
         let Note {

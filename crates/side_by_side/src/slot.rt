@@ -30,7 +30,7 @@ pub struct Slot {
     pub row: u64,
 }
 
-// By hand, so that the proof of code that drops one need not go through its parts.
+// Opaque drop: see raven_base.
 impl Drop for Slot {
     fn drop(self) {
         let Slot {

@@ -1,7 +1,8 @@
 //! The live indexes and the notes of their switches.
 ghost use Rattle.std.specs.Prelude.{◌≡◌, [], IfOk, IsSomeAnd, map, option_copied};
 ghost use Rattle.spec_index.specs.World.{NumbersRise, numbered as spec_numbered, serving as spec_serving, with_version as spec_with_version};
-ghost use Rattle.side_by_side.specs.Naming.{IsNamedAs};
+ghost use Rattle.side_by_side.specs.Naming.{IsVersionOf};
+ghost use Rattle.side_by_side.specs.Standing.{with_slots};
 
 use crate::lists::{all_with_version, numbered_in, serving_in};
 use crate::note::Note;
@@ -21,7 +22,7 @@ pub struct Slots {
     notes: Shared<Vec<Note>>,
 }
 
-// By hand, so that the proof of code that drops one need not go through its parts.
+// Opaque drop: see raven_base.
 impl Drop for Slots {
     fn drop(self) {
         let Slots {
@@ -70,7 +71,7 @@ impl Slots {
     /// These indexes with the notes that there are.
     pub fn with_list(&self, alloc: Global, slots: Vec<Slot>) -> Result<Slots, NoMemory>
         requires { NumbersRise 0 slots.items }
-        ensures { IfOk result (λ made. made ≡ record { slots = slots.items; notes = self.now.notes }) }
+        ensures { IfOk result (λ made. made ≡ with_slots self.now slots.items) }
     {
         Ok(Slots {
             slots: Shared::of(alloc, slots)?,
@@ -126,8 +127,8 @@ impl Slots {
         number: u64,
         version: Arc<IndexVersion>,
     ) -> Result<Slots, NoMemory>
-        requires { IsSomeAnd (spec_numbered self.now.slots number) (λ slot. (slot.version.definition ≡ version.value.version.definition) × IsNamedAs slot.name version.value.name) }
-        ensures { IfOk result (λ slots. slots ≡ record { slots = map (spec_with_version number version.value.version) self.now.slots; notes = self.now.notes }) }
+        requires { IsSomeAnd (spec_numbered self.now.slots number) (IsVersionOf version.value) }
+        ensures { IfOk result (λ slots. slots ≡ with_slots self.now (map (spec_with_version number version.value.version) self.now.slots)) }
     {
         let slots = all_with_version(alloc, self.list(), number, &version)?;
         self.with_list(alloc, slots)

@@ -5,6 +5,7 @@ ghost use Rattle.spec_server.specs.Machine.{after_batch, or_as_before, pumping a
 ghost use Rattle.spec_store.specs.Store.{Store};
 ghost use Rattle.spec_index.specs.World.{batch};
 ghost use Rattle.side_by_side.specs.Naming.{IsNamedAs};
+ghost use Rattle.side_by_side.specs.Standing.{with_slots};
 ghost use Rattle.slot_batches.specs.Batches.{CountFew, after_batch_of, chosen};
 
 use doc_store::Store;
@@ -179,7 +180,7 @@ pub fn bring_on<R: Threads, L: Ledger>(
     index: Option<&Name>,
     steps: &mut Steps<L>,
 ) -> Result<(Slots, Pumpings), NoMemory>
-    ensures slots { IfOk result (λ new. new.0 ≡ record { slots = map (after_batch_of (option_copied index.entry) store.now max) slots.now.slots; notes = slots.now.notes }) }
+    ensures slots { IfOk result (λ new. new.0 ≡ with_slots slots.now (map (after_batch_of (option_copied index.entry) store.now max) slots.now.slots)) }
     ensures pumped { IfOk result (λ new. new.1 ≡ map (spec_pumping store.now max) (chosen (option_copied index.entry) slots.now.slots)) }
     ensures bounds { CountFew store.now max (chosen (option_copied index.entry) slots.now.slots) (is_ok result) steps.old steps.new }
 {
