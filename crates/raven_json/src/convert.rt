@@ -10,24 +10,6 @@ use raven_value::{Members, Text, Value, Values};
 use serde_json::{Map, Value as Json};
 use std::alloc::Global;
 
-// The same values, without the room that their list has behind them: a document keeps its lists for long.
-fn fitted_values(values: Values) -> Values
-    ensures { result ≡ values }
-{
-    let mut items = values.into_vec();
-    items.shrink_to_fit();
-    Values::of(items)
-}
-
-// The same members, without the room behind them.
-fn fitted_members(members: Members) -> Members
-    ensures { result ≡ members }
-{
-    let mut items = members.into_vec();
-    items.shrink_to_fit();
-    Members::of(items)
-}
-
 /// The value of a JSON value whose numbers are whole.
 #[cycle(convert)]
 pub(crate) fn value_of(alloc: Global, json: &Json) -> Result<Value, JsonRefusal>
@@ -71,7 +53,7 @@ fn values_of(alloc: Global, items: &Vec<Json>) -> Result<Values, JsonRefusal>
             return Err(JsonRefusal::NoMemory);
         }
     }
-    Ok(fitted_values(values))
+    Ok(values)
 }
 
 #[cycle(convert)]
@@ -93,5 +75,5 @@ fn members_of(alloc: Global, members: &Map<String, Json>) -> Result<Members, Jso
             return Err(JsonRefusal::NoMemory);
         }
     }
-    Ok(fitted_members(found))
+    Ok(found)
 }

@@ -1,13 +1,15 @@
 //! From bytes to a value.
-ghost use Rattle.std.specs.Prelude.{◌≡◌, ◌≤◌, Ok, IfOk, IfErr};
+ghost use Rattle.std.specs.Prelude.{◌≡◌, ◌≤◌, Ok, IfOk, IfErr, false};
 ghost use Rattle.spec_data.specs.Data.{depth};
 ghost use Rattle.spec_data.specs.Limits.{max_depth};
 ghost use Rattle.spec_data.specs.Sound.{IsSound};
 ghost use Rattle.spec_data.specs.Json.{reading};
+ghost use Rattle.spec_data.specs.Scan.{is_too_deep, outside};
 ghost use Rattle.raven_json.specs.Refusal.{Refuses};
 ghost use Rattle.raven_value.specs.View.{data_of};
 
 use crate::convert::value_of;
+use crate::direct::{Stop, read_whole};
 use crate::scan::is_too_deep;
 use raven_value::Value;
 use serde_json::Value as Json;
@@ -34,6 +36,35 @@ pub enum JsonRefusal {
     NoMemory,
 }
 
+// The value that the bytes spell, by the library's tree of them.
+fn read_by_tree(alloc: Global, bytes: &[u8]) -> Result<Value, JsonRefusal>
+    requires { is_too_deep outside 0 bytes.now ≡ false }
+    ensures ok { IfOk result (λ value. reading bytes.now ≡ Ok (data_of value)) }
+    ensures refused { IfErr result (λ refusal. Refuses refusal (reading bytes.now)) }
+{
+    match Json::from_slice(alloc, bytes) {
+        Ok(json) => value_of(alloc, &json),
+        Err(error) => if error.is_memory() {
+            Err(JsonRefusal::NoMemory)
+        } else {
+            Err(JsonRefusal::NotJson)
+        },
+    }
+}
+
+// What is not read in one pass is read again, since only the whole tree shows which refusal it is.
+fn read_shallow(alloc: Global, bytes: &[u8]) -> Result<Value, JsonRefusal>
+    requires { is_too_deep outside 0 bytes.now ≡ false }
+    ensures ok { IfOk result (λ value. reading bytes.now ≡ Ok (data_of value)) }
+    ensures refused { IfErr result (λ refusal. Refuses refusal (reading bytes.now)) }
+{
+    match read_whole(alloc, bytes) {
+        Ok(value) => Ok(value),
+        Err(Stop::NoMemory) => Err(JsonRefusal::NoMemory),
+        Err(Stop::Refused) => read_by_tree(alloc, bytes),
+    }
+}
+
 /// The value that the bytes spell. Of members with the same name the last counts.
 pub fn read(alloc: Global, bytes: &[u8]) -> Result<Value, JsonRefusal>
     ensures ok { IfOk result (λ value. reading bytes.now ≡ Ok (data_of value)) }
@@ -44,12 +75,5 @@ pub fn read(alloc: Global, bytes: &[u8]) -> Result<Value, JsonRefusal>
     if is_too_deep(bytes) {
         return Err(JsonRefusal::TooDeep);
     }
-    match Json::from_slice(alloc, bytes) {
-        Ok(json) => value_of(alloc, &json),
-        Err(error) => if error.is_memory() {
-            Err(JsonRefusal::NoMemory)
-        } else {
-            Err(JsonRefusal::NotJson)
-        },
-    }
+    read_shallow(alloc, bytes)
 }

@@ -55,7 +55,9 @@ fn text_in(alloc: Global, value: &Value) -> Result<Text, NoMemory>
     ensures written { IfOk result IsWritten }
     ensures value { IfOk result (λ text. data_in text ≡ data_of value.now) }
 {
-    let bytes = write(alloc, value)?;
+    let mut bytes = write(alloc, value)?;
+    // A document is kept for long: its text gives back the room that its list grew to.
+    bytes.shrink_to_fit();
     Text::of_string(unsafe { String::from_utf8_unchecked(bytes) })
 }
 

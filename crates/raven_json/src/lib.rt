@@ -3,6 +3,7 @@
 
 mod convert;
 mod decode;
+mod direct;
 mod document;
 mod encode;
 mod laws;

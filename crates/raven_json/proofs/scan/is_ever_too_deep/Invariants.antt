@@ -1,7 +1,7 @@
 use Rattle.std.proofs.Common.{◌≡◌, ◌≤◌, drop}
 use Rattle.spec_data.specs.Scan.{is_too_deep, outside}
 use Rattle.raven_json.specs.PlaceView.{place_view}
-use Rattle.raven_json.proofs.scan.is_too_deep.Given as goal
+use Rattle.raven_json.proofs.scan.is_ever_too_deep.Given as goal
 
 abbrev pub invariant-loop-byte : goal.invariant-loop-byte
 invariant-loop-byte l = record {
