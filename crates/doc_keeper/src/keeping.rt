@@ -3,10 +3,9 @@ ghost use Rattle.std.specs.Prelude.{◌≡◌, IfOk};
 ghost use Rattle.spec_data.specs.Kept.{all_kept as spec_all_kept, body_text as spec_body_text, kept as spec_kept};
 ghost use Rattle.raven_value.specs.RowView.{body_of};
 
-use doc_store::Rows;
 use raven_base::{NoMemory, Sequence};
 use raven_ports::{KeptRow, KeptRows};
-use raven_value::{Body, Row, Text};
+use raven_value::{Body, Row, Rows, Text};
 use std::alloc::Global;
 
 // The text of the document, which is shared.

@@ -10,11 +10,11 @@ ghost use Rattle.raven_ports.specs.Faults.{Rose};
 ghost use Rattle.raven_ports.specs.Plan.{one_later};
 
 use crate::form::row_of;
-use doc_store::{OpenFault, Rows, Store};
+use doc_store::{OpenFault, Store};
 use doc_txn::Limits;
 use raven_base::{NoMemory, Sequence, Shared};
 use raven_ports::{Keeper, KeeperFault, KeptRow, KeptRows};
-use raven_value::Row;
+use raven_value::{Row, Rows};
 use std::alloc::Global;
 use thiserror::Error;
 

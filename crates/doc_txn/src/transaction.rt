@@ -16,9 +16,9 @@ use crate::fault::{TxnFault, TxnKind};
 use crate::limits::Limits;
 use crate::refusal::{Terms, refusal_of};
 use crate::row::draft_of;
-use doc_store::{Rows, Store};
+use doc_store::Store;
 use raven_base::{NoMemory, Sequence, Shared};
-use raven_value::Row;
+use raven_value::{Row, Rows};
 use std::alloc::Global;
 
 /// The etags that commands took, if any, in order.

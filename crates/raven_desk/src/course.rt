@@ -12,12 +12,11 @@ ghost use Rattle.raven_desk.specs.CourseView.{course_view};
 
 use crate::tidying::tidied;
 use doc_keeper::all_kept;
-use doc_store::Rows;
 use doc_txn::{Command, Expect};
 use raven_base::{NoMemory, Shared, Steps};
 use raven_ports::KeptRows;
 use raven_request::Request;
-use raven_value::{Id, Name, Shallow, Text, Value};
+use raven_value::{Id, Name, Rows, Shallow, Text, Value};
 use raven_world::{Answered, Change, Reply, Snapshot, World, WorldFault};
 use rql_plan::QueryAsk;
 use std::alloc::Global;

@@ -10,10 +10,10 @@ ghost use Rattle.raven_desk.specs.CourseView.{course_view};
 
 use crate::course::{Course, make_pending, unchanged};
 use crate::live::Live;
-use doc_store::Rows;
 use index_version::IndexVersion;
 use raven_base::NoMemory;
 use raven_ports::Keeper;
+use raven_value::Rows;
 use raven_world::{PublishRefusal, Reply, World};
 use side_by_side::Slot;
 use std::alloc::Global;

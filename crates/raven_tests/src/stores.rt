@@ -1,11 +1,11 @@
 //! Stores.
 ghost use Rattle.std.specs.Prelude.{◌≡◌, ◌≤◌};
 
-use doc_store::{Rows, Store};
+use doc_store::Store;
 use doc_txn::{BaseId, Command, Commands, Expect, Limits, TxnFault, TxnKind, Writer, commit};
 use raven_base::{NoMemory, Shared, Steps};
 use raven_json::{document_of, read};
-use raven_value::{Body, Id, Row, Scope, Shallow, Text};
+use raven_value::{Body, Id, Row, Rows, Scope, Shallow, Text};
 use std::alloc::Global;
 use std::marker::Brand;
 use std::sync::ledger::{Blank, Ledger};

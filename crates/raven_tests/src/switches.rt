@@ -1,9 +1,9 @@
 //! A switch for whose note there is no room. A script cannot set how many notes may be.
-use doc_store::{Rows, Store};
+use doc_store::Store;
 use doc_txn::{BaseId, Limits};
 use index_lang::parse_texts;
 use raven_reply::Reply;
-use raven_value::Name;
+use raven_value::{Name, Rows};
 use raven_world::{Change, World, WorldFault};
 use std::alloc::Global;
 use std::test::Fail;

@@ -14,14 +14,14 @@ ghost use Rattle.spec_server.specs.Machine.{machine_of};
 
 use crate::naming::{IndexName, read_name};
 use crate::world::World;
-use doc_store::{OpenFault, Rows, Store};
+use doc_store::{OpenFault, Store};
 use doc_txn::{BaseId, Limits, is_index_id};
 use index_definition::{DefBody, Definition};
 use index_lang::of_row_body;
 use index_version::is_document;
 use raven_base::NoMemory;
 use raven_json::value_of;
-use raven_value::{Body, Id, Name, Row, starts_folded};
+use raven_value::{Body, Id, Name, Row, Rows, starts_folded};
 use side_by_side::{Slot, Slots, index_id};
 use std::alloc::Global;
 use std::sync::Arc;

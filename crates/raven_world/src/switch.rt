@@ -7,10 +7,9 @@ ghost use Rattle.raven_world.specs.WorldView.{answer_view, tried_view};
 
 use crate::rewrite::slots_refused;
 use crate::world::{Change, Rewritten, World, WorldFault};
-use doc_store::Rows;
 use raven_base::NoMemory;
 use raven_reply::{IndexNames, Reply};
-use raven_value::Name;
+use raven_value::{Name, Rows};
 use side_by_side::{Retirement, SlotChange, SlotRefusal};
 use std::alloc::Global;
 

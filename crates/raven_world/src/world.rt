@@ -9,11 +9,12 @@ ghost use Rattle.raven_world.specs.Roomy.{NumbersUpTo};
 ghost use Rattle.raven_world.specs.WorldView.{change_view};
 ghost use Rattle.raven_world.specs.declared.world.WorldFault.TheVariants.{NoMemory as OutOfMemory};
 
-use doc_store::{Rows, Store};
+use doc_store::Store;
 use doc_txn::{BaseId, Limits};
 use raven_base::NoMemory;
 use raven_reply::Reply;
 use raven_snapshot::Snapshot;
+use raven_value::Rows;
 use side_by_side::Slots;
 use std::alloc::Global;
 use std::marker::Model;
