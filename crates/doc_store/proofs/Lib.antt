@@ -1,5 +1,6 @@
 pub mod Grown
 pub mod FilterLemmas
+pub mod FromLemmas
 pub mod MapLemmas
 pub mod CountLemmas
 pub mod WalkLemmas
@@ -7,4 +8,5 @@ pub mod NewestLemmas
 pub mod IdLemmas
 pub mod OrderLemmas
 pub mod OpeningLemmas
+pub mod PageLemmas
 pub mod SortLemmas

@@ -19,7 +19,7 @@ use Rattle.spec_store.proofs.KeyedLemmas.{key_ties}
 use Rattle.paged_map.specs.Pairs.{AllAnswer, IsRising}
 use Rattle.paged_map.proofs.Laws.{lookup-insert_entry, lookup-remove_entry, insert_last}
 use Rattle.paged_map.proofs.Rising.{rising_insert}
-use Rattle.doc_store.specs.Maps.{id_cmp, AreFiled, rows_in, by_etag, without_etag, etag_in, is_of, rows_of, ShowsByEtag, Shows}
+use Rattle.doc_store.specs.Maps.{AreFrom, id_cmp, AreFiled, rows_in, by_etag, without_etag, etag_in, is_of, rows_of, ShowsByEtag, Shows}
 use Rattle.doc_store.specs.Steps.{MayStand}
 use Rattle.doc_store.specs.Bounds.{IsWithin}
 use Rattle.doc_store.proofs.FilterLemmas.{filter-swap}
@@ -105,16 +105,18 @@ put_is rows r pairs s newer is = is ∙ ap (λ es. insert_entry nat_cmp es r.eta
 pub IsStore-put : (rows : List Row) (r : Row) → IsStore (record { rows = rows }) → last_of 0 rows < r.etag → IsStore (record { rows = put r rows })
 IsStore-put rows r s newer = record { rising = AreRising-put 0 r rows s.rising newer; apart = AreApart-put r rows s.apart }
 
-pub shown_by_etag : (pairs : List (ℕ × Row)) (last documents : ℕ) (rows : List Row) → rows_in pairs ≡ rows → ShowsByEtag pairs last documents (rows_in pairs) → ShowsByEtag pairs last documents rows
-shown_by_etag pairs last documents rows is s = subst (ShowsByEtag pairs last documents) is s
+pub shown_by_etag : (pairs : List (ℕ × Row)) (last documents : ℕ) (least : Option (List ℕ)) (rows : List Row) → rows_in pairs ≡ rows → ShowsByEtag pairs last documents least (rows_in pairs)
+    → ShowsByEtag pairs last documents least rows
+shown_by_etag pairs last documents least rows is s = subst (ShowsByEtag pairs last documents least) is s
 
-pub put_shown : (rows : List Row) (r : Row) (pairs : List (ℕ × Row)) (last documents : ℕ) → IsStore (record { rows = rows }) → last_of 0 rows < r.etag → pairs ≡ by_etag (put r rows) → last ≡ r.etag
-    → documents ≡ length (filter is_document (put r rows)) → ShowsByEtag pairs last documents (rows_in pairs)
-put_shown rows r pairs last documents s newer is e d = subst (ShowsByEtag pairs last documents) (sym (ap rows_in is ∙ rows_in-by_etag (put r rows))) (record {
+pub put_shown : (rows : List Row) (r : Row) (pairs : List (ℕ × Row)) (last documents : ℕ) (least : Option (List ℕ)) → IsStore (record { rows = rows }) → last_of 0 rows < r.etag → pairs ≡ by_etag (put r rows) → last ≡ r.etag
+    → documents ≡ length (filter is_document (put r rows)) → AreFrom least (put r rows) → ShowsByEtag pairs last documents least (rows_in pairs)
+put_shown rows r pairs last documents least s newer is e d f = subst (ShowsByEtag pairs last documents least) (sym (ap rows_in is ∙ rows_in-by_etag (put r rows))) (record {
   store = IsStore-put rows r s newer;
   pairs = is;
   last_is = e ∙ sym (last_of-put 0 r rows);
   documents_are = d;
+  from = f;
 })
 
 -- all rows at once
@@ -136,10 +138,10 @@ pub by_etag-rises : (low : ℕ) (rows : List Row) → AreRising low rows → IsR
 by_etag-rises low [] up = tt
 by_etag-rises low (r ∷ rows) up = (all_above r.etag r.etag rows (omega arith) up.1, by_etag-rises r.etag rows up.1)
 
-pub all_shown : (pairs : List (ℕ × Row)) (last documents : ℕ) (rows : List Row) → IsStore (record { rows = rows }) → pairs ≡ by_etag rows → last ≡ last_of 0 rows → documents ≡ length (filter is_document rows)
-    → ShowsByEtag pairs last documents (rows_in pairs)
-all_shown pairs last documents rows s is e d =
-    subst (ShowsByEtag pairs last documents) (sym (ap rows_in is ∙ rows_in-by_etag rows)) (record { store = s; pairs = is; last_is = e; documents_are = d })
+pub all_shown : (pairs : List (ℕ × Row)) (last documents : ℕ) (least : Option (List ℕ)) (rows : List Row) → IsStore (record { rows = rows }) → pairs ≡ by_etag rows → last ≡ last_of 0 rows → documents ≡ length (filter is_document rows) → AreFrom least rows
+    → ShowsByEtag pairs last documents least (rows_in pairs)
+all_shown pairs last documents least rows s is e d f =
+    subst (ShowsByEtag pairs last documents least) (sym (ap rows_in is ∙ rows_in-by_etag rows)) (record { store = s; pairs = is; last_is = e; documents_are = d; from = f })
 
 -- BY ID
 

@@ -1,7 +1,7 @@
 -- How the maps of a store show its rows.
-use Rattle.std.specs.Prelude.{◌≡◌, ℕ, ◌+◌, List, [], ◌∷◌, Bool, false, Option, Some, None, if◌then◌else◌, nat_lt, map, filter, length, option_map, unwrap_or}
+use Rattle.std.specs.Prelude.{◌≡◌, ℕ, ◌+◌, List, [], ◌∷◌, Bool, true, false, Option, Some, None, if◌then◌else◌, nat_lt, map, filter, length, option_map, unwrap_or}
 use Rattle.std.specs.Str.{bytes_eq}
-use Rattle.std.specs.Ordering.{is_lt, nat_cmp, on}
+use Rattle.std.specs.Ordering.{is_le, is_lt, nat_cmp, on}
 use Rattle.std.specs.declared.cmp.Ordering.{Ordering}
 use Rattle.std.specs.FinMap.{from_entries, values}
 use Rattle.std.specs.Map.{lookup, remove_entry}
@@ -79,12 +79,23 @@ abbrev pub AreByCollection : List Row → Type 0
 AreByCollection [] = Unit {0}
 AreByCollection (r ∷ rows) = NoneBelow r.collection rows × AreByCollection rows
 
--- a map shows these rows under their etags, the etag of the last of them is this, and so many are documents
-pub record ShowsByEtag (etags : List (ℕ × Row)) (last documents : ℕ) (rows : List Row) : Type 0 where
+-- the id of the row is this one or past it
+abbrev pub is_from : Option (List ℕ) → Row → Bool
+is_from None r = false
+is_from (Some id) r = is_le (id_cmp id r.id)
+
+-- no id is before this one; without an id there are no rows
+abbrev pub AreFrom : Option (List ℕ) → List Row → Type 0
+AreFrom id [] = Unit {0}
+AreFrom id (r ∷ rows) = (is_from id r ≡ true) × AreFrom id rows
+
+-- a map shows these rows under their etags, the etag of the last of them is this, so many are documents, and no id is before this one
+pub record ShowsByEtag (etags : List (ℕ × Row)) (last documents : ℕ) (least : Option (List ℕ)) (rows : List Row) : Type 0 where
   pub store : IsStore (record { rows = rows })
   pub pairs : etags ≡ by_etag rows
   pub last_is : last ≡ last_of 0 rows
   pub documents_are : documents ≡ length (filter is_document rows)
+  pub from : AreFrom least rows
 
 -- the maps show these rows: by id each row, and by collection the list of its rows; and the etag of the last of them is this
 pub record Shows (ids : List (List ℕ × Row)) (collections : List (List ℕ × List Row)) (last : ℕ) (rows : List Row) : Type 0 where

@@ -2,16 +2,12 @@
 #![tactic(auto)]
 
 mod opening;
+mod page;
 mod rows;
 mod rows_by_etag;
 mod sorting;
 mod store;
 
 pub use opening::OpenFault;
-use raven_base::{Sequence, Shared};
-use raven_value::Row;
 pub use rows::{Counts, last_etag};
 pub use store::Store;
-
-/// Rows in order, each shared by the lists and maps that have it.
-pub type Rows = Sequence<Shared<Row>>;

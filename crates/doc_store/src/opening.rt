@@ -3,10 +3,9 @@ ghost use Rattle.std.specs.Prelude.{◌≡◌, ◌<◌, ◌^◌, [], None, IfErr
 ghost use Rattle.doc_store.specs.declared.opening.OpenFault.TheVariants.{NoMemory as OutOfMemory};
 ghost use Rattle.doc_store.specs.Opening.{Tells, are_next as spec_are_next, first_bad, is_next as spec_is_next, is_sound_after as spec_is_sound_after};
 
-use crate::Rows;
 use crate::store::Store;
 use raven_base::{NoMemory, Shared};
-use raven_value::{END_OF_MOMENTS, MAX_ETAG, Row};
+use raven_value::{END_OF_MOMENTS, MAX_ETAG, Row, Rows};
 use std::alloc::Global;
 use thiserror::Error;
 

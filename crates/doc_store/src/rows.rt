@@ -39,24 +39,6 @@ pub fn all_of(alloc: Global, rows: Pairs<'_, Id, Shared<Row>>) -> Result<Vec<Sha
     Ok(all)
 }
 
-/// Those rows that are documents of a collection.
-pub fn documents_of(
-    alloc: Global,
-    rows: Pairs<'_, Id, Shared<Row>>,
-    collection: &str,
-) -> Result<Vec<Shared<Row>>, NoMemory>
-    ensures { IfOk result (λ documents. documents.items ≡ filter (λ r. bytes_eq r.collection collection.now && is_document r) (rows_in rows.entry)) }
-{
-    let mut documents = Vec::new(alloc);
-    for pair in rows {
-        let row = pair.1.get();
-        if row.collection.as_str() == collection && matches!(row.body, Body::Doc(_)) {
-            documents.push(pair.1.clone()?)?;
-        }
-    }
-    Ok(documents)
-}
-
 /// Of two rows the one with the lower etag, or the only one.
 pub fn earlier<'a>(
     a: Option<&'a Shared<Row>>,

@@ -1,17 +1,19 @@
 //! Rows by etag.
-ghost use Rattle.std.specs.Prelude.{◌≡◌, ◌≤◌, ◌<◌, ◌+◌, ◌-◌, ◌^◌, [], IfOk, filter, length, nat_le, nat_lt, not, option_map};
+ghost use Rattle.std.specs.Prelude.{◌≡◌, true, ◌≤◌, ◌<◌, ◌+◌, ◌-◌, ◌^◌, [], IfOk, filter, length, nat_le, nat_lt, not, option_map};
 ghost use Rattle.std.specs.Option.{option_copied};
 ghost use Rattle.std.specs.Int.{from_bool};
 ghost use Rattle.std.specs.List.{find};
+ghost use Rattle.spec_data.specs.Rows as spec_rows;
 ghost use Rattle.spec_data.specs.Rows.{is_document as spec_is_document, key};
 ghost use Rattle.spec_store.specs.Store.{AreRising, IsStore, last_of, put, row_at};
 ghost use Rattle.spec_store.specs.Stale.{up_to};
-ghost use Rattle.doc_store.specs.Maps.{etag_in, is_document_in as spec_is_document_in, rows_in, without_etag};
+ghost use Rattle.doc_store.specs.Maps.{AreFrom, etag_in, is_document_in as spec_is_document_in, is_from, rows_in, without_etag};
 
-use paged_map::PagedMap;
+use paged_map::{PagedMap, Pairs};
 use raven_base::{NoMemory, Shared};
-use raven_value::{Body, Row};
+use raven_value::{Body, Id, Row};
 use std::alloc::{AllocError, Global};
+use std::cmp::Ordering;
 use std::marker::Model;
 
 /// Rows in order of etag, one for each id, seen by contracts as their list.
@@ -24,6 +26,8 @@ pub struct RowsByEtag {
     last: u64,
     /// How many of the rows are documents.
     documents: u64,
+    /// No row has an id before this one. It is the least id that a row ever had.
+    least: Option<Id>,
 }
 
 impl Model for RowsByEtag {
@@ -39,7 +43,7 @@ impl Model for RowsByEtag {
 
     ghost view = { λ a. rows_in a.rows };
 
-    ghost invariant = { λ a. ShowsByEtag a.rows a.last a.documents (rows_in a.rows) };
+    ghost invariant = { λ a. ShowsByEtag a.rows a.last a.documents a.least (rows_in a.rows) };
 }
 
 /// The row in a map.
@@ -86,6 +90,22 @@ fn documents_among(rows: &[Shared<Row>]) -> u64
     documents
 }
 
+/// Those rows that are documents.
+fn documents_of(
+    alloc: Global,
+    rows: Pairs<'_, u64, Shared<Row>>,
+) -> Result<Vec<Shared<Row>>, NoMemory>
+    ensures { IfOk result (λ documents. documents.items ≡ filter spec_is_document (rows_in rows.entry)) }
+{
+    let mut documents = Vec::new(alloc);
+    for pair in rows {
+        if is_document(pair.1.get()) {
+            documents.push(pair.1.clone()?)?;
+        }
+    }
+    Ok(documents)
+}
+
 /// The etag of a row, if there is one.
 fn etag_in(row: &Option<Shared<Row>>) -> Option<u64>
     ensures { result ≡ etag_in row.now }
@@ -115,6 +135,20 @@ fn documents_with(documents: u64, replaced: &Option<Shared<Row>>, row: &Row) -> 
     documents - u64::from(is_document_in(replaced)) + u64::from(is_document(row))
 }
 
+/// The lesser of an id, if one is given, and that of a row.
+fn least_with(least: Option<Id>, row: &Row) -> Result<Option<Id>, NoMemory>
+    ensures own { IfOk result (λ id. is_from id row.now ≡ true) }
+    ensures others { IfOk result (λ id. (r : spec_rows.Row) → is_from least r ≡ true → is_from id r ≡ true) }
+{
+    let Some(id) = least else {
+        return Ok(Some(row.id.clone()?));
+    };
+    match id.cmp(&row.id) {
+        Ordering::Greater => Ok(Some(row.id.clone()?)),
+        Ordering::Less | Ordering::Equal => Ok(Some(id)),
+    }
+}
+
 impl RowsByEtag {
     /// No rows.
     pub fn new(alloc: Global) -> Result<RowsByEtag, NoMemory>
@@ -124,6 +158,7 @@ impl RowsByEtag {
             rows: PagedMap::new(alloc)?,
             last: 0,
             documents: 0,
+            least: None,
         })
     }
 
@@ -134,14 +169,17 @@ impl RowsByEtag {
     {
         let mut pairs = Vec::with_capacity(alloc, rows.len())?;
         let mut last = 0;
+        let mut least = None;
         for row in rows {
             last = row.get().etag;
+            least = least_with(least, row.get())?;
             pairs.push((last, row.clone()?))?;
         }
         Ok(RowsByEtag {
             rows: PagedMap::from_sorted(alloc, pairs)?,
             last,
             documents: documents_among(rows),
+            least,
         })
     }
 
@@ -157,6 +195,28 @@ impl RowsByEtag {
         ensures { result ≡ length (filter (λ r. not (spec_is_document r)) self.now) }
     {
         self.rows.len() - self.documents
+    }
+
+    /// How many rows there are.
+    pub fn len(&self) -> u64
+        ensures { result ≡ length self.now }
+    {
+        self.rows.len()
+    }
+
+    /// No row has an id before this one. There is none if there are no rows.
+    pub fn least(&self) -> Option<&Id>
+        ensures { AreFrom (option_map (λ id. id.now) result) self.now }
+    {
+        self.least.as_ref()
+    }
+
+    /// The documents, in order of etag. It looks at all rows.
+    pub fn all_documents(&self, alloc: Global) -> Result<Vec<Shared<Row>>, NoMemory>
+        ensures documents { IfOk result (λ documents. documents.items ≡ filter spec_is_document self.now) }
+        ensures store { IsStore (record { rows = self.now }) }
+    {
+        Ok(documents_of(alloc, self.rows.iter())?)
     }
 
     /// The first row past an etag.
@@ -212,15 +272,18 @@ impl RowsByEtag {
         let RowsByEtag {
             rows,
             documents,
+            least,
             ..
         } = self;
         let etag = row.get().etag;
+        let least = least_with(least, row.get())?;
         let documents = documents_with(documents, replaced, row.get());
         let beside = without_etag(alloc, rows, etag_in(replaced))?;
         Ok(RowsByEtag {
             rows: beside.put(alloc, etag, row)?,
             last: etag,
             documents,
+            least,
         })
     }
 }
@@ -233,6 +296,7 @@ impl Clone for RowsByEtag {
             rows: self.rows.clone()?,
             last: self.last,
             documents: self.documents,
+            least: self.least.clone()?,
         })
     }
 }

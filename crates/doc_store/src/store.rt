@@ -1,6 +1,6 @@
 //! The store.
 ghost use Rattle.std.specs.Str.{bytes_eq};
-ghost use Rattle.std.specs.Prelude.{◌≡◌, ◌≤◌, ◌<◌, ◌+◌, ◌*◌, ◌&&◌, ◌↔◌, ℕ, IfOk, IfSome, IsSome, IsTrue, filter, length, nat_lt, not, option_copied};
+ghost use Rattle.std.specs.Prelude.{◌≡◌, ◌≤◌, ◌<◌, ◌+◌, ◌*◌, ◌&&◌, ◌↔◌, ℕ, IfOk, IfSome, IsSome, IsTrue, drop, filter, length, nat_lt, not, option_copied, take};
 ghost use Rattle.std.specs.List.{find};
 ghost use Rattle.spec_data.specs.Folding.{folded};
 ghost use Rattle.spec_data.specs.Limits.{max_etag};
@@ -10,19 +10,19 @@ ghost use Rattle.spec_store.specs.Later.{MayFollowAll};
 ghost use Rattle.spec_store.specs.Stale.{newest, past, stale, batch_rows};
 ghost use Rattle.spec_data.specs.Tables.{in_scope, table_of};
 ghost use Rattle.std.specs.FinMap.{values};
+ghost use Rattle.doc_store.specs.Maps.{is_of};
 ghost use Rattle.doc_store.specs.Bounds.{IsWithin};
 ghost use Rattle.doc_store.specs.Steps.{MayStand};
 
-use crate::Rows;
+use crate::page::{gathered, walked};
 use crate::rows::{
-    Counts, all_of, counts_beside, documents_of, earlier, first_of, last_etag, newest_of,
-    put_among, put_under_id,
+    Counts, all_of, counts_beside, earlier, first_of, last_etag, newest_of, put_among, put_under_id,
 };
 use crate::rows_by_etag::RowsByEtag;
 use crate::sorting::{all_shared, by_collection, sorted_by_id};
 use paged_map::{PagedMap, is_rising};
 use raven_base::{NoMemory, Shared, Steps};
-use raven_value::{Id, Row, Scope, Text};
+use raven_value::{Id, Row, Rows, Scope, Text};
 use std::alloc::{AllocError, Global};
 use std::marker::Model;
 use std::sync::ledger::Ledger;
@@ -147,11 +147,56 @@ impl Store {
         Ok(Rows::of(all_of(alloc, self.by_id.iter())?))
     }
 
-    /// The documents of a collection, in order of their folded ids. It looks at all rows.
-    pub fn documents(&self, alloc: Global, collection: &str) -> Result<Rows, NoMemory>
-        ensures { IfOk result (λ rows. rows ≡ values (table_of (filter (λ r. bytes_eq r.collection collection.now && is_document r) self.now.rows))) }
+    /// How many documents a collection has. It looks at no row.
+    pub fn documents_in(&self, collection: &Text) -> u32
+        ensures { result ≡ length (filter (λ r. bytes_eq r.collection collection.now && is_document r) self.now.rows) }
     {
-        Ok(Rows::of(documents_of(alloc, self.by_id.iter(), collection)?))
+        match self.by_collection.get(collection) {
+            Some(rows) => rows.documents() as u32,
+            None => 0,
+        }
+    }
+
+    /// Of the documents of a collection, in order of their folded ids, those after the first `start`, `size` at most.
+    ///
+    /// It looks at rows in order of id, from the least id of the collection on, until the page is full. If it has looked at as many
+    /// as the collection has rows, it sorts the documents of the collection instead. So the time does not grow with the rows of
+    /// other collections; and if the ids of the collection follow one another, it grows with `start` and the page alone.
+    pub fn documents_page(
+        &self,
+        alloc: Global,
+        collection: &Text,
+        start: u64,
+        size: u64,
+    ) -> Result<Rows, NoMemory>
+        ensures { IfOk result (λ rows. rows ≡ take size (drop start (values (table_of (filter (λ r. bytes_eq r.collection collection.now && is_document r) self.now.rows))))) }
+    {
+        match self.by_collection.get(collection) {
+            Some(rows) => Ok(Rows::of(self.page_of(alloc, rows, collection, start, size)?)),
+            None => Ok(Rows::new(alloc)),
+        }
+    }
+
+    /// Of the documents of a collection, whose rows are given, those after the first `start`, `size` at most.
+    fn page_of(
+        &self,
+        alloc: Global,
+        rows: &RowsByEtag,
+        collection: &Text,
+        start: u64,
+        size: u64,
+    ) -> Result<Vec<Shared<Row>>, NoMemory>
+        requires { rows.now ≡ filter (is_of collection.now) self.now.rows }
+        ensures { IfOk result (λ page. page.items ≡ take size (drop start (values (table_of (filter (λ r. bytes_eq r.collection collection.now && is_document r) self.now.rows))))) }
+    {
+        if let Some(least) = rows.least() {
+            let from = self.by_id.from(least);
+            if let Some(page) = walked(alloc, from, collection, start, size, rows.len())? {
+                return Ok(page);
+            }
+        }
+        let documents = rows.all_documents(alloc)?;
+        Ok(gathered(alloc, &documents, start, size)?)
     }
 
     /// The first `max` rows in scope past an etag, by etag, and whether more remain.

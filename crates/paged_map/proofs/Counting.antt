@@ -1,9 +1,10 @@
--- Places of keys, by the numbers of pairs below pages.
-use Rattle.std.proofs.Common.{◌≡◌, ℕ, zero, suc, ◌+◌, ◌-◌, ◌<◌, ◌≤◌, Bool, true, false, cond, ◌&&◌, Some, None, List, [], ◌∷◌, ◌++◌, length, take, drop, get_or, refl, sym, ap, ◌∙◌, length-append, arith}
+-- Places of keys and pairs at places, by the numbers of pairs below pages.
+use Rattle.std.proofs.Common.{◌≡◌, ℕ, zero, suc, ◌+◌, ◌-◌, ◌<◌, ◌≤◌, Bool, true, false, cond, ◌&&◌, Some, None, List, [], ◌∷◌, ◌++◌, length, take, drop, get_or, refl, sym, ap, subst, ◌∙◌, length-append, arith}
 use Rattle.std.specs.declared.cmp.Ordering.{Ordering}
 use Rattle.std.specs.declared.cmp.Ordering.TheVariants.{Less, Equal, Greater}
 use Rattle.std.specs.Ordering.{is_le, ordering_reverse}
 use Rattle.std.specs.Cmp.{IsTotalOrder}
+use Rattle.std.specs.List.{slice_get}
 use Rattle.paged_map.specs.Held.{Held}
 use Rattle.paged_map.specs.Pairs.{AllAnswer, IsRising, is_after}
 use Rattle.paged_map.specs.Places.{place_of}
@@ -11,6 +12,15 @@ use Rattle.paged_map.specs.Range.{suffix, between}
 use Rattle.paged_map.specs.Level.{flat, IsChild}
 use Rattle.paged_map.specs.Totals.{plus, total_of}
 use Rattle.paged_map.proofs.Pages.{flat_at}
+
+get-front : {X : Type 0} (xs ys : List X) (i : ℕ) → i < length xs → slice_get (xs ++ ys) i ≡ slice_get xs i
+get-front [] ys i l = absurd (omega arith)
+get-front (x ∷ xs) ys zero l = refl
+get-front (x ∷ xs) ys (suc i) l = get-front xs ys i (omega arith)
+
+get-behind : {X : Type 0} (xs ys : List X) (i : ℕ) → slice_get (xs ++ ys) (length xs + i) ≡ slice_get ys i
+get-behind [] ys i = let e : 0 + i ≡ i = omega arith in ap (slice_get ys) e
+get-behind (x ∷ xs) ys i = let e : suc (length xs) + i ≡ suc (length xs + i) = omega arith in ap (slice_get (x ∷ (xs ++ ys))) e ∙ get-behind xs ys i
 
 -- ---- the total of ones
 module _ {K V : Type 0} where
@@ -42,6 +52,15 @@ module _ {K V : Type 0} where
   pages_within [] (suc i) = omega arith
   pages_within (p ∷ ps) zero = omega arith
   pages_within (p ∷ ps) (suc i) = let r = pages_within ps i in omega (arith, r, length-append p.pairs (flat (take i ps)), length-append p.pairs (flat ps))
+
+  -- the pair at a place is in the page that has the place
+  pub nth_in_page : (ps : List (Held K V)) (at left place : ℕ) (d x : Held K V) → at < length ps → x ≡ get_or ps at d → length (flat (take at ps)) + left ≡ place → place < length (flat (take (at + 1) ps)) →
+      slice_get x.pairs left ≡ slice_get (flat ps) place
+  nth_in_page ps at left place d x l is sum inside =
+      let more = pages_more ps at d x l is in
+      let here : left < length x.pairs = omega (arith, more, sum, inside) in
+      let all : flat ps ≡ flat (take at ps) ++ (x.pairs ++ flat (drop (at + 1) ps)) = subst (λ y. flat ps ≡ flat (take at ps) ++ (y.pairs ++ flat (drop (at + 1) ps))) (sym is) (flat_at ps at d l) in
+      sym (ap (slice_get (flat ps)) (sym sum) ∙ ap (λ xs. slice_get xs (length (flat (take at ps)) + left)) all ∙ get-behind (flat (take at ps)) (x.pairs ++ flat (drop (at + 1) ps)) left ∙ get-front x.pairs (flat (drop (at + 1) ps)) left here)
 
 -- ---- the place of a key
 module _ {K V : Type 0} (R : K → K → Ordering) (past : Bool) (k : K) where

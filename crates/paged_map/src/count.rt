@@ -1,5 +1,7 @@
-//! The places of keys, by the numbers of pairs that pages have.
-ghost use Rattle.std.specs.Prelude.{◌≡◌, ◌≤◌, ◌<◌, ◌^◌, length, take};
+//! The places of keys and the pairs at places, by the numbers of pairs that pages have.
+ghost use Rattle.std.specs.Prelude.{◌≡◌, ◌≤◌, ◌<◌, ◌+◌, ◌^◌, length, take, IfSome, IfNone};
+ghost use Rattle.std.specs.List.{slice_get};
+ghost use Rattle.std.specs.Option.{option_copied};
 ghost use Rattle.paged_map.specs.Level.{flat};
 ghost use Rattle.paged_map.specs.Pairs.{IsRising};
 ghost use Rattle.paged_map.specs.Places.{place_of};
@@ -37,6 +39,57 @@ fn size_of<K, V>(pages: &[Arc<Page<K, V, Count>>], end: usize) -> u64
         at += 1;
     }
     size
+}
+
+/// Which of these pages has the pair at a place, and at which place it is there.
+fn page_at<K, V>(pages: &[Arc<Page<K, V, Count>>], place: u64) -> Option<(usize, u64)>
+    ensures in_range { IfSome result (λ r. r.0 < length pages.now) }
+    ensures here { IfSome result (λ r. length (flat (take r.0 (helds pages.now))) + r.1 ≡ place) }
+    ensures inside { IfSome result (λ r. place < length (flat (take (r.0 + 1) (helds pages.now)))) }
+    ensures past { IfNone result (length (flat (helds pages.now)) ≤ place) }
+{
+    let mut left = place;
+    let mut at = 0;
+    while at < pages.len() {
+        let size = pages[at].size();
+        if left < size {
+            return Some((at, left));
+        }
+        left -= size;
+        at += 1;
+    }
+    None
+}
+
+fn pair_at_place<K, V>(pairs: &[(K, V)], place: u64) -> Option<&(K, V)>
+    ensures { option_copied result ≡ slice_get pairs.now place }
+{
+    if place < pairs.len() as u64 {
+        Some(&pairs[place as usize])
+    } else {
+        None
+    }
+}
+
+impl<K, V> Page<K, V, Count> {
+    /// The pair at a place, if there are so many.
+    pub fn nth(&self, place: u64) -> Option<&(K, V)>
+        ensures { option_copied result ≡ slice_get self.now.pairs place }
+    {
+        let mut page = self;
+        let mut left = place;
+        while let Node::Branch(pages) = &page.node {
+            let Some((at, rest)) = page_at(pages, left) else {
+                return None;
+            };
+            page = &pages[at];
+            left = rest;
+        }
+        match &page.node {
+            Node::Leaf(pairs) => pair_at_place(pairs, left),
+            Node::Branch(_) => unreachable!(),
+        }
+    }
 }
 
 impl<K: Ord, V> Page<K, V, Count> {

@@ -9,12 +9,12 @@ use Rattle.doc_store.proofs.rows_by_etag.RowsByEtag.last_up_to.Goals as goal
 
 pub returns-in-None : goal.returns-in-None
 returns-in-None c =
-    let s : ShowsByEtag c.self.inside.rows c.self.inside.last c.self.inside.documents c.args.self.now = shown_by_etag _ _ _ _ c.self.view_is c.self.invariant in
+    let s : ShowsByEtag c.self.inside.rows c.self.inside.last c.self.inside.documents c.self.inside.least c.args.self.now = shown_by_etag _ _ _ _ _ c.self.view_is c.self.invariant in
     s.last_is ∙ last-all c.args.bound c.args.self.now c.in-None.is
 
 pub returns-then-self-most : goal.returns-then-self-most
 returns-then-self-most c =
-    let s : ShowsByEtag c.self.inside.rows c.self.inside.last c.self.inside.documents c.args.self.now = shown_by_etag _ _ _ _ c.self.view_is c.self.invariant in
+    let s : ShowsByEtag c.self.inside.rows c.self.inside.last c.self.inside.documents c.self.inside.least c.args.self.now = shown_by_etag _ _ _ _ _ c.self.view_is c.self.invariant in
     s.last_is ∙ last-within c.args.bound c.in-Some.most c.args.self.now s.store.rising c.in-Some.is (let h = c.if-self-most.true in let e = s.last_is in omega arith)
 
 pub returns-else-self-most : goal.returns-else-self-most

@@ -7,8 +7,8 @@ use Rattle.doc_store.proofs.MapLemmas.{shown_by_etag}
 use Rattle.doc_store.proofs.rows_by_etag.RowsByEtag.tombstones.Goals as goal
 use Rattle.doc_store.proofs.rows_by_etag.RowsByEtag.tombstones.Goals.{After-len}
 
-shows : (c : After-len) → ShowsByEtag c.self.inside.rows c.self.inside.last c.self.inside.documents c.args.self.now
-shows c = shown_by_etag _ _ _ _ c.self.view_is c.self.invariant
+shows : (c : After-len) → ShowsByEtag c.self.inside.rows c.self.inside.last c.self.inside.documents c.self.inside.least c.args.self.now
+shows c = shown_by_etag _ _ _ _ _ c.self.view_is c.self.invariant
 
 len_is : (c : After-len) → c.len.result ≡ length c.args.self.now
 len_is c = c.len.ensures.count ∙ sym (length-map c.self.inside.rows (λ e. e.1)) ∙ ap length c.self.view_is
