@@ -1,5 +1,5 @@
 -- The trees of groups, as one of them changes.
-use Rattle.std.proofs.Common.{◌≡◌, ℕ, zero, suc, ◌+◌, ◌-◌, ◌*◌, ◌^◌, ◌<◌, ◌≤◌, Bool, true, false, cond, Option, Some, None, List, [], ◌∷◌, length, refl, sym, ap, subst, ◌∙◌, arith}
+use Rattle.std.proofs.Common.{◌≡◌, ℕ, zero, suc, ◌+◌, ◌-◌, ◌*◌, ◌^◌, ◌<◌, ◌≤◌, Bool, true, false, cond, Option, Some, None, List, [], ◌∷◌, length, refl, sym, ap, subst, inl, inr, ◌∙◌, arith}
 use Rattle.std.specs.declared.cmp.Ordering.{Ordering}
 use Rattle.std.specs.declared.cmp.Ordering.TheVariants.{Less, Equal, Greater}
 use Rattle.std.specs.Ordering.{match_ordering, is_eq}
@@ -11,9 +11,9 @@ use Rattle.std.proofs.Math.Dec.{ltb}
 use Rattle.raven_base.specs.Counts.{Counts}
 use Rattle.paged_map.specs.Merges.{MergesAtMost}
 use Rattle.paged_map.specs.Pairs.{IsRising}
-use Rattle.paged_map.proofs.Laws.{lookup-insert_entry, lookup-remove_entry}
+use Rattle.paged_map.proofs.Laws.{lookup-insert_entry, lookup-remove_entry, lookup_removed}
 use Rattle.reduce_tree.specs.Tree.{Tree, IsFilledTree}
-use Rattle.reduce_groups.specs.Groups.{AreSound, AllLevels, AllSmall, entries_of_tree, levels_of_tree, entries_at, levels_at}
+use Rattle.reduce_groups.specs.Groups.{AreBeside, AreSound, AllLevels, AllSmall, IsLow, entries_of_tree, levels_of_tree, entries_at, levels_at}
 
 some_entries : {F K E : Type 0} (b : Bool) (t : Tree F K E) (o : Option (Tree F K E)) → entries_of_tree (cond b (Some t) o) ≡ cond b t.entries (entries_of_tree o)
 some_entries true t o = refl
@@ -36,6 +36,10 @@ some_inserted R k v (e ∷ es) = by (R k e.0)
     by Equal = omega arith
     by Greater = omega arith
 
+pub some_before : {K V : Type 0} (p : K → Bool) (es : List (K × V)) → 0 < length (remove_entry p es) → 0 < length es
+some_before p [] s = s
+some_before p (e ∷ es) s = omega arith
+
 pub at_most : {a b : Counts} {m : ℕ} (n : ℕ) → MergesAtMost m a b → m ≤ n → MergesAtMost n a b
 at_most n h l = record { merges = omega (arith, h.merges, l) }
 
@@ -49,20 +53,21 @@ module _ {F G K E : Type 0} where
       by true h e = let same : t ≡ x.1 = cc e in ap (λ y. y.fold) same ∙ s.0.0
       by false h e = h e
 
-  pub low_found : (p : G → Bool) (h : ℕ) (ts : List (G × Tree F K E)) (t : Tree F K E) → AllLevels h ts → Some t ≡ lookup p ts → t.levels ≤ h
-  low_found p h [] t a e = absurd (cc e)
-  low_found p h (x ∷ ts) t a e = by (p x.0) (low_found p h ts t a.1) e
-    where
-      by : (b : Bool) → (Some t ≡ lookup p ts → t.levels ≤ h) → Some t ≡ cond b (Some x.1) (lookup p ts) → t.levels ≤ h
-      by true i e = let same : t ≡ x.1 = cc e in omega (arith, ap (λ y. y.levels) same, a.0)
-      by false i e = i e
-
   module _ (R : G → G → Ordering) (o : IsTotalOrder R) where
     pub entries_inserted : (q g : G) (t : Tree F K E) (ts : List (G × Tree F K E)) → entries_at R q (insert_entry R ts g t) ≡ cond (is_eq (R q g)) t.entries (entries_at R q ts)
     entries_inserted q g t ts = ap entries_of_tree (lookup-insert_entry R o q g t ts) ∙ some_entries (is_eq (R q g)) t (lookup (is_at (R q)) ts)
 
     pub entries_removed : (q g : G) (ts : List (G × Tree F K E)) → IsRising R ts → entries_at R q (remove_entry (is_at (R g)) ts) ≡ cond (is_eq (R q g)) [] (entries_at R q ts)
     entries_removed q g ts s = ap entries_of_tree (lookup-remove_entry R o q g ts s) ∙ none_entries (is_eq (R q g)) (lookup (is_at (R q)) ts)
+
+    -- a tree that is put back where one was taken out stands in its place
+    pub put_back : (q g : G) (es : List (K × E)) (ts : List (G × Tree F K E)) → IsRising R ts →
+        cond (is_eq (R q g)) es (entries_at R q (remove_entry (is_at (R g)) ts)) ≡ cond (is_eq (R q g)) es (entries_at R q ts)
+    put_back q g es ts s = ap (cond (is_eq (R q g)) es) (entries_removed q g ts s) ∙ once (is_eq (R q g))
+      where
+        once : (b : Bool) → cond b es (cond b [] (entries_at R q ts)) ≡ cond b es (entries_at R q ts)
+        once true = refl
+        once false = refl
 
     -- keys that are alike find the same
     lookup_alike : (q g : G) → R q g ≡ Equal → (ts : List (G × Tree F K E)) → lookup (is_at (R q)) ts ≡ lookup (is_at (R g)) ts
@@ -98,15 +103,15 @@ module _ {F G K E : Type 0} where
         by i Equal = (l, a.1)
         by i Greater = (a.0, i)
 
-    pub low_before : (h : ℕ) (ts : List (G × Tree F K E)) → levels_at R g ts ≤ t.levels → AllLevels h (insert_entry R ts g t) → (t.levels ≤ h) × AllLevels h ts
-    low_before h [] l a = (a.0, tt)
-    low_before h (p ∷ ts) l a = by (low_before h ts) (R g p.0) l a
+    pub low_before : (h : ℕ) (ts : List (G × Tree F K E)) → AllLevels h (insert_entry R ts g t) → (t.levels ≤ h) × (IsLow h (lookup (is_at (R g)) ts) → AllLevels h ts)
+    low_before h [] a = (a.0, λ l. tt)
+    low_before h (p ∷ ts) a = by (low_before h ts) (R g p.0) a
       where
-        by : (levels_at R g ts ≤ t.levels → AllLevels h (insert_entry R ts g t) → (t.levels ≤ h) × AllLevels h ts) → (r : Ordering) →
-            levels_of_tree (cond (is_eq r) (Some p.1) (lookup (is_at (R g)) ts)) ≤ t.levels → AllLevels h (match_ordering r ((g, t) ∷ p ∷ ts) ((p.0, t) ∷ ts) (p ∷ insert_entry R ts g t)) → (t.levels ≤ h) × AllLevels h (p ∷ ts)
-        by i Less l a = (a.0, (a.1.0, a.1.1))
-        by i Equal l a = (a.0, (omega (arith, l, a.0), a.1))
-        by i Greater l a = let x = i l a.1 in (x.0, (a.0, x.1))
+        by : (AllLevels h (insert_entry R ts g t) → (t.levels ≤ h) × (IsLow h (lookup (is_at (R g)) ts) → AllLevels h ts)) → (r : Ordering) → AllLevels h (match_ordering r ((g, t) ∷ p ∷ ts) ((p.0, t) ∷ ts) (p ∷ insert_entry R ts g t)) →
+            (t.levels ≤ h) × (IsLow h (cond (is_eq r) (Some p.1) (lookup (is_at (R g)) ts)) → AllLevels h (p ∷ ts))
+        by i Less a = (a.0, λ l. (a.1.0, a.1.1))
+        by i Equal a = (a.0, λ l. (l, a.1))
+        by i Greater a = let x = i a.1 in (x.0, λ l. (a.0, x.1 l))
 
   module _ (p : G → Bool) where
     pub sound_removed : (f : F) (ts : List (G × Tree F K E)) → AreSound f ts → AreSound f (remove_entry p ts)
@@ -124,6 +129,55 @@ module _ {F G K E : Type 0} where
         by : AllLevels h (remove_entry p ts) → (b : Bool) → AllLevels h (cond b ts (t ∷ remove_entry p ts))
         by i true = a.1
         by i false = (a.0, i)
+
+    -- if the tree that was taken out is low, too, all are
+    pub low_taken : (h : ℕ) (ts : List (G × Tree F K E)) → levels_of_tree (lookup p ts) ≤ h → AllLevels h (remove_entry p ts) → AllLevels h ts
+    low_taken h [] l a = tt
+    low_taken h (t ∷ ts) l a = by (low_taken h ts) (p t.0) l a
+      where
+        by : (levels_of_tree (lookup p ts) ≤ h → AllLevels h (remove_entry p ts) → AllLevels h ts) → (b : Bool) → levels_of_tree (cond b (Some t.1) (lookup p ts)) ≤ h → AllLevels h (cond b ts (t ∷ remove_entry p ts)) → AllLevels h (t ∷ ts)
+        by i true l a = (l, a)
+        by i false l a = (a.0, i l a.1)
+
+    -- a tree that has entries is one of them
+    pub low_at : (h : ℕ) (ts : List (G × Tree F K E)) → AllLevels h ts → 0 < length (entries_of_tree (lookup p ts)) → levels_of_tree (lookup p ts) ≤ h
+    low_at h [] a s = absurd (omega (arith, s))
+    low_at h (t ∷ ts) a s = by (low_at h ts a.1) (p t.0) s
+      where
+        by : (0 < length (entries_of_tree (lookup p ts)) → levels_of_tree (lookup p ts) ≤ h) → (b : Bool) → 0 < length (entries_of_tree (cond b (Some t.1) (lookup p ts))) → levels_of_tree (cond b (Some t.1) (lookup p ts)) ≤ h
+        by i true s = a.0
+        by i false s = i s
+
+    -- an empty tree has one level
+    pub few_levels : (h : ℕ) (ts : List (G × Tree F K E)) → AllLevels h ts → levels_of_tree (lookup p ts) ≤ h + 1
+    few_levels h [] a = omega arith
+    few_levels h (t ∷ ts) a = by (few_levels h ts a.1) (p t.0)
+      where
+        by : levels_of_tree (lookup p ts) ≤ h + 1 → (b : Bool) → levels_of_tree (cond b (Some t.1) (lookup p ts)) ≤ h + 1
+        by i true = omega (arith, a.0)
+        by i false = i
+
+-- ---- a tree that is taken, and put back
+is_low : {F K E : Type 0} (h : ℕ) (o : Option (Tree F K E)) → levels_of_tree o ≤ h → IsLow h o
+is_low h None l = tt
+is_low h (Some t) l = l
+
+module _ {F G K E : Type 0} (R : G → G → Ordering) (o : IsTotalOrder R) (g : G) (ts rest : List (G × Tree F K E)) where
+  pub sound_beside : (f : F) → AreBeside R g ts rest → AreSound f ts → AreSound f rest
+  sound_beside f (inl e) s = subst (AreSound f) (sym e) s
+  sound_beside f (inr e) s = subst (AreSound f) (sym e) (sound_removed (is_at (R g)) f ts s)
+
+  pub low_beside : (h : ℕ) → AreBeside R g ts rest → AllLevels h ts → AllLevels h rest
+  low_beside h (inl e) a = subst (AllLevels h) (sym e) a
+  low_beside h (inr e) a = subst (AllLevels h) (sym e) (low_removed (is_at (R g)) h ts a)
+
+  pub put_beside : (q : G) (es : List (K × E)) → IsRising R ts → AreBeside R g ts rest → cond (is_eq (R q g)) es (entries_at R q rest) ≡ cond (is_eq (R q g)) es (entries_at R q ts)
+  put_beside q es s (inl e) = ap (λ l. cond (is_eq (R q g)) es (entries_at R q l)) e
+  put_beside q es s (inr e) = ap (λ l. cond (is_eq (R q g)) es (entries_at R q l)) e ∙ put_back R o q g es ts s
+
+  pub low_back : (h : ℕ) → IsRising R ts → AreBeside R g ts rest → levels_at R g ts ≤ h → (IsLow h (lookup (is_at (R g)) rest) → AllLevels h rest) → AllLevels h ts
+  low_back h s (inl e) l f = subst (AllLevels h) e (f (subst (λ (x : List (G × Tree F K E)). IsLow h (lookup (is_at (R g)) x)) (sym e) (is_low h (lookup (is_at (R g)) ts) l)))
+  low_back h s (inr e) l f = low_taken (is_at (R g)) h ts l (subst (AllLevels h) e (f (subst (IsLow h) (sym (ap (lookup (is_at (R g))) e ∙ lookup_removed R o g ts s)) tt)))
 
 -- ---- small groups have low trees
 pow_up : (k n : ℕ) → 16 ^ n ≤ 16 ^ (k + n)

@@ -1,5 +1,5 @@
 -- What a clause sees of groups.
-use Rattle.std.specs.Prelude.{◌≡◌, ℕ, ◌<◌, ◌≤◌, ◌^◌, cond, Option, List, [], ◌∷◌, length, map, option_map, refl}
+use Rattle.std.specs.Prelude.{◌≡◌, ◌⊎◌, ℕ, ◌<◌, ◌≤◌, ◌^◌, cond, Option, Some, None, List, [], ◌∷◌, length, map, option_map, refl}
 use Rattle.std.specs.Coded.{Coded, code_by, coded×, coded_list}
 use Rattle.std.specs.declared.cmp.Ordering.{Ordering}
 use Rattle.std.specs.Ordering.{is_eq}
@@ -46,6 +46,15 @@ entries_at R q ts = entries_of_tree (lookup (is_at (R q)) ts)
 
 abbrev pub levels_at : {F G K E : Type 0} → (G → G → Ordering) → G → List (G × Tree F K E) → ℕ
 levels_at R q ts = levels_of_tree (lookup (is_at (R q)) ts)
+
+-- no tree, or one with at most h levels
+abbrev pub IsLow : {F K E : Type 0} → ℕ → Option (Tree F K E) → Type 0
+IsLow h None = Unit {0}
+IsLow h (Some t) = t.levels ≤ h
+
+-- the trees as they are, or without that of a group
+abbrev pub AreBeside : {F G K E : Type 0} → (G → G → Ordering) → G → List (G × Tree F K E) → List (G × Tree F K E) → Type 0
+AreBeside R g ts rest = (rest ≡ ts) ⊎ (rest ≡ remove_entry (is_at (R g)) ts)
 
 -- the entries of the group q without those that are removed from it, and with those that are inserted into it
 abbrev pub after_removals : {G K E : Type 0} → (G → G → Ordering) → (K → K → Ordering) → G → List (K × E) → List (G × K) → List (K × E)

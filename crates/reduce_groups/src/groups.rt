@@ -11,7 +11,7 @@ ghost use Rattle.reduce_groups.specs.Grouping.{AreGrouped, AreNew, AreThere, all
 ghost use Rattle.reduce_groups.specs.Groups.{AllLevels, AllSmall, AreSound, after_insertions, after_removals, entries_at, rows_in};
 ghost use Rattle.reduce_tree.specs.Folding.{fold_of, result_of};
 
-use crate::trees::{row_at, rows_in, tree_with, trees_with};
+use crate::trees::{Taken, row_at, rows_in, take_tree, trees_with};
 use paged_map::PagedMap;
 use raven_base::{Exact, NoMemory, Shared, Steps};
 use reduce_tree::{Fold, ReduceTree};
@@ -23,7 +23,7 @@ use std::sync::ledger::Ledger;
 /// entries.
 ///
 /// A change gives new groups and leaves the old ones as they were. The two share all trees that did not change, and what several changes
-/// have in common is copied once: pages of the map of groups, and not of a group's tree.
+/// have in common is copied once: pages of the map of groups, and of a group's tree.
 pub struct Groups<G: Ord, K: Ord, E, F: Fold<E>> {
     fold: Shared<F>,
     trees: PagedMap<G, Shared<ReduceTree<K, E, F>>>,
@@ -120,9 +120,10 @@ impl<G: Ord + Exact + Drop, K: Ord + Exact + Drop, E: Exact + Drop, F: Fold<E>> 
         ensures reads { steps.new.reads ≡ steps.old.reads }
     {
         let Groups { fold, trees } = self;
-        let tree = tree_with(alloc, &fold, &trees, group, key, entry, steps)?;
+        let Taken { tree, rest } = take_tree(alloc, &fold, trees, group)?;
+        let grown = tree.with(alloc, key, entry, steps)?;
         Ok(Groups {
-            trees: trees_with(alloc, &fold, trees, group, tree)?,
+            trees: trees_with(alloc, &fold, rest, group, grown)?,
             fold,
         })
     }
@@ -142,12 +143,10 @@ impl<G: Ord + Exact + Drop, K: Ord + Exact + Drop, E: Exact + Drop, F: Fold<E>> 
         ensures reads { steps.new.reads ≡ steps.old.reads }
     {
         let Groups { fold, trees } = self;
-        let Some(tree) = trees.get(group) else {
-            return Ok(Groups { fold, trees });
-        };
-        let left = tree.get().without(alloc, key, steps)?;
+        let Taken { tree, rest } = take_tree(alloc, &fold, trees, group)?;
+        let left = tree.without(alloc, key, steps)?;
         Ok(Groups {
-            trees: trees_with(alloc, &fold, trees, group, left)?,
+            trees: trees_with(alloc, &fold, rest, group, left)?,
             fold,
         })
     }

@@ -13,15 +13,16 @@ use crate::fold::Fold;
 use crate::member::{Member, MergedRows};
 use paged_map::SummedMap;
 use raven_base::{Exact, NoMemory, Shared, Steps};
-use std::alloc::Global;
+use std::alloc::{AllocError, Global};
 use std::marker::Model;
 use std::sync::ledger::Ledger;
 
 /// Entries under keys, with the row that they have together. Contracts see how entries become rows, the entries in the order
 /// of their keys, and how many levels of pages there are.
 ///
-/// A change gives a new tree and leaves the old one as it was; the two share most pages. Each page has the row of the entries
-/// below it. So a change merges the rows on the way from a leaf to the root anew, and no others.
+/// A change takes the tree, and changes in place those of its pages that no other tree has. A clone shares all pages, and stays as
+/// it was when the tree changes. Each page has the row of the entries below it. So a change merges the rows on the way from a leaf
+/// to the root anew, and no others.
 pub struct ReduceTree<K: Ord, E, F: Fold<E>> {
     rows: MergedRows<F>,
     members: SummedMap<K, Member<E, F::Row>, MergedRows<F>>,
@@ -50,6 +51,20 @@ impl<K: Ord, E, F: Fold<E>> Model for ReduceTree<K, E, F> {
     ghost invariant = { λ a. AreLifted (F.lifted a.rows.fold) a.members.pairs };
 }
 
+/// A clone shares every page, and takes no memory.
+impl<K: Ord + Drop, E: Drop, F: Fold<E>> Clone for ReduceTree<K, E, F> {
+    ghost is_clone = { λ tree copy. copy ≡ tree };
+
+    fn clone(&self) -> Result<ReduceTree<K, E, F>, AllocError> {
+        Ok(ReduceTree {
+            rows: MergedRows {
+                fold: self.rows.fold.clone()?,
+            },
+            members: self.members.clone()?,
+        })
+    }
+}
+
 impl<K: Ord + Exact + Drop, E: Exact + Drop, F: Fold<E>> ReduceTree<K, E, F> {
     /// The tree of no entries.
     pub fn new(alloc: Global, fold: Shared<F>) -> Result<ReduceTree<K, E, F>, NoMemory>
@@ -62,7 +77,8 @@ impl<K: Ord + Exact + Drop, E: Exact + Drop, F: Fold<E>> ReduceTree<K, E, F> {
     }
 
     /// The tree after some changes: the keys that come with no entry are taken out first, and then the others are put in. So
-    /// the tree is never deeper on the way than before or after.
+    /// the tree is never deeper on the way than before or after. This tree stays, so the first change copies pages of it; the
+    /// others copy only those that are still shared with it.
     pub fn apply<L: Ledger>(
         &self,
         alloc: Global,
@@ -77,47 +93,57 @@ impl<K: Ord + Exact + Drop, E: Exact + Drop, F: Fold<E>> ReduceTree<K, E, F> {
         ensures reads { steps.new.reads ≡ steps.old.reads }
     {
         let left = members_without(alloc, &self.rows, &self.members, changes, steps)?;
-        let members = members_with(alloc, &self.rows, &left, changes, steps)?;
-        tree_of(&self.rows, members)
+        let members = members_with(alloc, &self.rows, left, changes, steps)?;
+        let rows = MergedRows {
+            fold: self.rows.fold.clone()?,
+        };
+        Ok(tree_of(rows, members))
     }
 
     /// The tree with this entry at the key, in place of the one there.
+    ///
+    /// Of the pages on the way to the key, those that no other tree has are changed in place, and the others are copied. If it
+    /// runs out of memory, this tree is gone, and its clones stay.
     pub fn with<L: Ledger>(
-        &self,
+        self,
         alloc: Global,
         key: &K,
         entry: &E,
         steps: &mut Steps<L>,
     ) -> Result<ReduceTree<K, E, F>, NoMemory>
-        ensures fold { IfOk result (λ t. t.fold ≡ self.now.fold) }
-        ensures entries { IfOk result (λ t. t.entries ≡ insert_entry K.cmp self.now.entries key.now entry.now) }
-        ensures levels { IfOk result (λ t. self.now.levels ≤ t.levels) }
+        ensures fold { IfOk result (λ t. t.fold ≡ self.fold) }
+        ensures entries { IfOk result (λ t. t.entries ≡ insert_entry K.cmp self.entries key.now entry.now) }
+        ensures levels { IfOk result (λ t. self.levels ≤ t.levels) }
         ensures filled { IfOk result IsFilledTree }
-        ensures merges { OnOk result (MergesAtMost (33 * self.now.levels + 2) steps.old steps.new) }
+        ensures merges { OnOk result (MergesAtMost (33 * self.levels + 2) steps.old steps.new) }
         ensures maps { steps.new.maps ≡ steps.old.maps }
         ensures reads { steps.new.reads ≡ steps.old.reads }
     {
-        let members = with_entry(alloc, &self.rows, &self.members, key, entry, steps)?;
-        tree_of(&self.rows, members)
+        let ReduceTree { rows, members } = self;
+        let grown = with_entry(alloc, &rows, members, key, entry, steps)?;
+        Ok(tree_of(rows, grown))
     }
 
     /// The tree without the key. If the key is not there, it is the same tree.
+    ///
+    /// Pages are changed in place and copied as by `with`. If it runs out of memory, this tree is gone, and its clones stay.
     pub fn without<L: Ledger>(
-        &self,
+        self,
         alloc: Global,
         key: &K,
         steps: &mut Steps<L>,
     ) -> Result<ReduceTree<K, E, F>, NoMemory>
-        ensures fold { IfOk result (λ t. t.fold ≡ self.now.fold) }
-        ensures entries { IfOk result (λ t. t.entries ≡ remove_entry (is_at (K.cmp key.now)) self.now.entries) }
-        ensures levels { IfOk result (λ t. t.levels ≤ self.now.levels) }
+        ensures fold { IfOk result (λ t. t.fold ≡ self.fold) }
+        ensures entries { IfOk result (λ t. t.entries ≡ remove_entry (is_at (K.cmp key.now)) self.entries) }
+        ensures levels { IfOk result (λ t. t.levels ≤ self.levels) }
         ensures filled { IfOk result IsFilledTree }
-        ensures merges { OnOk result (MergesAtMost (47 * self.now.levels) steps.old steps.new) }
+        ensures merges { OnOk result (MergesAtMost (47 * self.levels) steps.old steps.new) }
         ensures maps { steps.new.maps ≡ steps.old.maps }
         ensures reads { steps.new.reads ≡ steps.old.reads }
     {
-        let members = self.members.without(alloc, &self.rows, key, steps)?;
-        tree_of(&self.rows, members)
+        let ReduceTree { rows, members } = self;
+        let left = members.take_out(alloc, &rows, key, steps)?;
+        Ok(tree_of(rows, left))
     }
 }
 
@@ -154,35 +180,30 @@ impl<K: Ord, E, F: Fold<E>> ReduceTree<K, E, F> {
 
 /// The tree of these members.
 fn tree_of<K: Ord + Drop, E: Drop, F: Fold<E>>(
-    rows: &MergedRows<F>,
+    rows: MergedRows<F>,
     members: SummedMap<K, Member<E, F::Row>, MergedRows<F>>,
-) -> Result<ReduceTree<K, E, F>, NoMemory>
-    requires lifted { AreLifted (F.lifted rows.now.fold) members.pairs }
-    ensures is { IfOk result (λ t. t ≡ record { fold = rows.now.fold; entries = entries_of members.pairs; levels = members.levels }) }
-    ensures filled { IfOk result IsFilledTree }
+) -> ReduceTree<K, E, F>
+    requires lifted { AreLifted (F.lifted rows.fold) members.pairs }
+    ensures is { result ≡ record { fold = rows.fold; entries = entries_of members.pairs; levels = members.levels } }
+    ensures filled { IsFilledTree result }
 {
     // The proof needs it: the pages are filled.
     let _levels = members.levels();
-    Ok(ReduceTree {
-        rows: MergedRows {
-            fold: rows.fold.clone()?,
-        },
-        members,
-    })
+    ReduceTree { rows, members }
 }
 
 /// The members with one of this entry.
 fn with_entry<K: Ord + Exact + Drop, E: Exact + Drop, F: Fold<E>, L: Ledger>(
     alloc: Global,
     rows: &MergedRows<F>,
-    members: &SummedMap<K, Member<E, F::Row>, MergedRows<F>>,
+    members: SummedMap<K, Member<E, F::Row>, MergedRows<F>>,
     key: &K,
     entry: &E,
     steps: &mut Steps<L>,
 ) -> Result<SummedMap<K, Member<E, F::Row>, MergedRows<F>>, NoMemory>
-    ensures pairs { IfOk result (λ m. m.pairs ≡ insert_entry K.cmp members.now.pairs key.now (member_of (F.lifted rows.now.fold) entry.now)) }
-    ensures levels { IfOk result (λ m. members.now.levels ≤ m.levels) }
-    ensures merges { OnOk result (MergesAtMost (33 * members.now.levels + 2) steps.old steps.new) }
+    ensures pairs { IfOk result (λ m. m.pairs ≡ insert_entry K.cmp members.pairs key.now (member_of (F.lifted rows.now.fold) entry.now)) }
+    ensures levels { IfOk result (λ m. members.levels ≤ m.levels) }
+    ensures merges { OnOk result (MergesAtMost (33 * members.levels + 2) steps.old steps.new) }
     ensures maps { steps.new.maps ≡ steps.old.maps }
     ensures reads { steps.new.reads ≡ steps.old.reads }
 {
@@ -191,7 +212,7 @@ fn with_entry<K: Ord + Exact + Drop, E: Exact + Drop, F: Fold<E>, L: Ledger>(
         entry: entry.clone()?,
         row,
     };
-    members.with(alloc, rows, key.clone()?, member, steps)
+    members.put(alloc, rows, key.clone()?, member, steps)
 }
 
 /// The members without the keys that come with no entry.
@@ -211,7 +232,7 @@ fn members_without<K: Ord + Exact + Drop, E: Exact + Drop, F: Fold<E>, L: Ledger
     let mut left = members.clone()?;
     for change in changes {
         match &change.1 {
-            None => left = left.without(alloc, rows, &change.0, steps)?,
+            None => left = left.take_out(alloc, rows, &change.0, steps)?,
             Some(_) => {}
         }
     }
@@ -222,20 +243,20 @@ fn members_without<K: Ord + Exact + Drop, E: Exact + Drop, F: Fold<E>, L: Ledger
 fn members_with<K: Ord + Exact + Drop, E: Exact + Drop, F: Fold<E>, L: Ledger>(
     alloc: Global,
     rows: &MergedRows<F>,
-    members: &SummedMap<K, Member<E, F::Row>, MergedRows<F>>,
+    members: SummedMap<K, Member<E, F::Row>, MergedRows<F>>,
     changes: &[(K, Option<E>)],
     steps: &mut Steps<L>,
 ) -> Result<SummedMap<K, Member<E, F::Row>, MergedRows<F>>, NoMemory>
-    ensures pairs { IfOk result (λ m. m.pairs ≡ inserted K.cmp (member_of (F.lifted rows.now.fold)) members.now.pairs changes.now) }
-    ensures levels { IfOk result (λ m. members.now.levels ≤ m.levels) }
+    ensures pairs { IfOk result (λ m. m.pairs ≡ inserted K.cmp (member_of (F.lifted rows.now.fold)) members.pairs changes.now) }
+    ensures levels { IfOk result (λ m. members.levels ≤ m.levels) }
     ensures merges { IfOk result (λ m. (h : ℕ) → m.levels ≤ h → MergesAtMost (insertions changes.now * (64 * (h + 1))) steps.old steps.new) }
     ensures maps { steps.new.maps ≡ steps.old.maps }
     ensures reads { steps.new.reads ≡ steps.old.reads }
 {
-    let mut grown = members.clone()?;
+    let mut grown = members;
     for change in changes {
         if let Some(entry) = &change.1 {
-            grown = with_entry(alloc, rows, &grown, &change.0, entry, steps)?;
+            grown = with_entry(alloc, rows, grown, &change.0, entry, steps)?;
         }
     }
     Ok(grown)

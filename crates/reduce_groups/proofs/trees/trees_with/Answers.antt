@@ -31,8 +31,9 @@ returns-clause-entries g c =
 
 pub returns-clause-lower : goal.returns-clause-lower
 returns-clause-lower g c =
-    IfOk-weaker c.trees_and.result _ _ (λ ts e h l a. subst (AllLevels h) (sym e) (low_inserted g.G.Ord.cmp c.args.fold.now c.args.group.now c.args.tree h c.args.trees l a)) c.trees_and.ensures
+    let some : 0 < length c.args.tree.entries = some_from c.args.tree.entries (λ e. cc (c.if-is_empty.ensures.1 e)) in
+    IfOk-weaker c.trees_and.result _ _ (λ ts e h l a. subst (AllLevels h) (sym e) (low_inserted g.G.Ord.cmp c.args.fold.now c.args.group.now c.args.tree h c.args.trees (l some) a)) c.trees_and.ensures
 
 pub returns-clause-upper : goal.returns-clause-upper
 returns-clause-upper g c =
-    IfOk-weaker c.trees_and.result _ _ (λ ts e h some l a. low_before g.G.Ord.cmp c.args.fold.now c.args.group.now c.args.tree h c.args.trees l (subst (AllLevels h) e a)) c.trees_and.ensures
+    IfOk-weaker c.trees_and.result _ _ (λ ts e h some a. low_before g.G.Ord.cmp c.args.fold.now c.args.group.now c.args.tree h c.args.trees (subst (AllLevels h) e a)) c.trees_and.ensures
