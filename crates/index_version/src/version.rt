@@ -213,7 +213,7 @@ impl IndexVersion {
     /// a query on it reads its rows.
     pub fn terms(&self) -> &Terms
         ensures order { AreInOrder (map (λ e. e.0) (all_entries self.now.version)) }
-        ensures values { reduce_of self.now.version.definition ≡ None → (field id : List ℕ) → value_at field (folded id) result.now ≡ option_and_then (λ e. field_named field e.1) (entry_at self.now.version (folded id)) }
+        ensures values { reduce_of self.now.version.definition ≡ None → (field q : List ℕ) → value_at field q result.now ≡ option_and_then (λ e. field_named field e.1) (entry_at self.now.version q) }
     {
         &self.terms
     }

@@ -7,3 +7,8 @@ pub mod Found
 pub mod Ordered
 pub mod Spans
 pub mod Counts
+pub mod Lengths
+pub mod Sorts
+pub mod Places
+pub mod Lined
+pub mod Cuts

@@ -50,21 +50,21 @@ both_right false b h = absurd cc
 
 -- ALL VALUES
 
-first_of_all : (v : Scalar) (x : List ℕ) → is_le (mark_cmp (before nothing) (at_id v x)) ≡ true
+pub first_of_all : (v : Scalar) (x : List ℕ) → is_le (mark_cmp (before nothing) (at_id v x)) ≡ true
 first_of_all nothing x = refl
 first_of_all (truth true) x = refl
 first_of_all (truth false) x = refl
 first_of_all (number n) x = refl
 first_of_all (words s) x = refl
 
-last_of_all : (v : Scalar) (x : List ℕ) → is_le (mark_cmp (at_id v x) past_all) ≡ true
+pub last_of_all : (v : Scalar) (x : List ℕ) → is_le (mark_cmp (at_id v x) past_all) ≡ true
 last_of_all nothing x = refl
 last_of_all (truth true) x = refl
 last_of_all (truth false) x = refl
 last_of_all (number n) x = refl
 last_of_all (words s) x = refl
 
-first_of_texts : (s x : List ℕ) → is_le (mark_cmp (before (words [])) (at_id (words s) x)) ≡ true
+pub first_of_texts : (s x : List ℕ) → is_le (mark_cmp (before (words [])) (at_id (words s) x)) ≡ true
 first_of_texts [] x = refl
 first_of_texts (b ∷ bs) x = refl
 
@@ -103,7 +103,7 @@ nothing_there : {A : Type 0} → false ≡ true → A
 nothing_there h = absurd cc
 
 -- only two numbers and two texts are in order
-ordered : (by : Ordering → Bool) (exact : Bool) (P : Scalar → Scalar → Type 0)
+pub ordered : (by : Ordering → Bool) (exact : Bool) (P : Scalar → Scalar → Type 0)
     → ((m n : ℤ) → by (int_cmp m n) ≡ true → P (number m) (number n))
     → ((s t : List ℕ) → by (key_cmp (form exact s) (form exact t)) ≡ true → P (words s) (words t))
     → (v a : Scalar) → in_order by exact v a ≡ true → P v a

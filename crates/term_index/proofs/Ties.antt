@@ -22,7 +22,7 @@ pub alike_laws : IsEquivalence alike
 alike_laws = eq_by_cmp_equiv nat_list_cmp_total
 
 -- marks at one place are on one side, and have one id
-marks_tie : (m n : Mark) → is_eq (mark_cmp m n) ≡ true → (is_eq (nat_cmp m.side n.side) ≡ true) × (is_eq (key_cmp m.id n.id) ≡ true)
+pub marks_tie : (m n : Mark) → is_eq (mark_cmp m n) ≡ true → (is_eq (nat_cmp m.side n.side) ≡ true) × (is_eq (key_cmp m.id n.id) ≡ true)
 marks_tie m n h =
     let last = then_right (value_cmp m.value n.value) (ordering_then (nat_cmp m.side n.side) (key_cmp m.id n.id)) h in
     (then_left (nat_cmp m.side n.side) (key_cmp m.id n.id) last, then_right (nat_cmp m.side n.side) (key_cmp m.id n.id) last)

@@ -4,3 +4,6 @@ pub mod Edges
 pub mod KeyView
 pub mod Held
 pub mod Columns
+pub mod Ordered
+pub mod Lines
+pub mod Cuts

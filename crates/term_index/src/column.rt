@@ -1,16 +1,20 @@
 //! The values of one field.
-ghost use Rattle.std.specs.Prelude.{◌≡◌, ℕ, List, None, IfOk, IfSome, IsTrue, cond, map, option_map};
-ghost use Rattle.std.specs.FinMap.{empty, find, get};
+ghost use Rattle.std.specs.Prelude.{◌≡◌, ℕ, List, None, IfOk, IfSome, IsTrue, cond, drop, filter, map, option_map, take};
+ghost use Rattle.std.specs.FinMap.{empty, entries, find, get, len};
 ghost use Rattle.std.specs.Ordering.{eq_by_cmp};
 ghost use Rattle.spec_data.specs.Folding.{folded, key_cmp};
 ghost use Rattle.spec_data.specs.Scalars.{In, Is};
 ghost use Rattle.raven_value.specs.ScalarView.{scalar_view, test_view};
+ghost use Rattle.spec_query.specs.Sorting.{sorted};
 ghost use Rattle.reference_track.specs.Sets.{AreInOrder, is_one_of};
 ghost use Rattle.term_index.specs.Held.{AreApart, AreTerms, IsCountOf, held, passes, set_value};
 ghost use Rattle.term_index.specs.KeyView.{term_of};
+ghost use Rattle.term_index.specs.Ordered.{by_value, is_asked};
 
 use crate::key::{Key, Term};
+use crate::pages::ids_in_order;
 use crate::sets::{add, in_order};
+use crate::values::ValueOrder;
 use crate::walks::{TermSet, count_passing, ids_of_value, ids_passing};
 use paged_map::PagedMap;
 use raven_base::{NoMemory, Shared};
@@ -122,6 +126,13 @@ impl Column {
         })
     }
 
+    /// How many ids have a value. The number is kept.
+    pub fn len(&self) -> u64
+        ensures { result ≡ len self.now }
+    {
+        self.terms.len()
+    }
+
     fn replaced(
         self,
         alloc: Global,
@@ -202,6 +213,23 @@ impl Column {
         ensures { IfOk result (λ count. IfSome count (IsCountOf (λ q. passes (test_view test.now) exact (get self.now (folded q))))) }
     {
         Ok(count_passing(alloc, &self.terms, test, exact)?)
+    }
+
+    /// Of the ids whose values meet a test, or of all ids, those after the first `start`, `size` at most, in an order of their
+    /// values. None if the terms are not in that order.
+    pub fn in_order(
+        &self,
+        alloc: Global,
+        test: Option<&Test>,
+        order: ValueOrder,
+        start: u64,
+        size: u64,
+    ) -> Result<Option<Ids>, NoMemory>
+        ensures { IfOk result (λ page. IfSome page (λ ids.
+            map folded ids ≡ map (λ e. e.0) (take size (drop start (sorted (by_value order.long order.desc)
+            (filter (λ e. is_asked (option_map (λ t. test_view t.now) test.entry) e.1) (entries self.now))))))) }
+    {
+        Ok(ids_in_order(alloc, &self.terms, test, order, start, size)?)
     }
 }
 

@@ -10,19 +10,19 @@ use raven_base::{NoMemory, Shared};
 use raven_value::{Scalar, Test, Text};
 use std::alloc::Global;
 
-fn before(alloc: Global, value: Scalar) -> Result<Key, NoMemory>
+pub fn before(alloc: Global, value: Scalar) -> Result<Key, NoMemory>
     ensures { IfOk result (λ key. mark_of key ≡ mark.before (scalar_view value)) }
 {
     Ok(Key::Before(Shared::of(alloc, value)?))
 }
 
-fn after(alloc: Global, value: Scalar) -> Result<Key, NoMemory>
+pub fn after(alloc: Global, value: Scalar) -> Result<Key, NoMemory>
     ensures { IfOk result (λ key. mark_of key ≡ mark.after (scalar_view value)) }
 {
     Ok(Key::After(Shared::of(alloc, value)?))
 }
 
-fn before_texts(alloc: Global) -> Result<Key, NoMemory>
+pub fn before_texts(alloc: Global) -> Result<Key, NoMemory>
     ensures { IfOk result (λ key. mark_of key ≡ edge.before_texts) }
 {
     let empty = Text::of(alloc, "")?;

@@ -4,9 +4,12 @@
 mod column;
 mod edges;
 mod key;
+mod pages;
 mod sets;
 mod terms;
+mod values;
 mod walks;
 
 pub use sets::{common, union, without};
 pub use terms::Terms;
+pub use values::ValueOrder;

@@ -93,7 +93,7 @@ impl Terms {
         Ok(Terms { columns })
     }
 
-    fn column(&self, field: &str) -> Option<&Column>
+    pub(crate) fn column(&self, field: &str) -> Option<&Column>
         ensures { option_copied result ≡ lookup (bytes_eq field.now) self.now }
     {
         for column in &self.columns {

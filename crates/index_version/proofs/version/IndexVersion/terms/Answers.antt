@@ -1,6 +1,5 @@
 use Rattle.std.proofs.Common.{List, ℕ, ◌∙◌, ap, subst}
 use Rattle.std.specs.Option.{option_and_then}
-use Rattle.spec_data.specs.Folding.{folded}
 use Rattle.index_tree.specs.Mapper.{mapper_of}
 use Rattle.index_tree.specs.Meaning.{Fields, field_named}
 use Rattle.index_definition.specs.DefinitionView.{definition_view}
@@ -19,7 +18,7 @@ returns-clause-order c =
     (entries_in_order (mapper_of (definition_view c.self.inside.definition.value.body)) c.self.inside.table (by_folded c.self.inside.kept.given) c.self.inside.kept.referrers c.self.invariant.0)
 
 pub returns-clause-values : goal.returns-clause-values
-returns-clause-values c = λ plain field id.
+returns-clause-values c = λ plain field q.
     value_found c.self.inside.definition.value.body c.self.inside.table (by_folded c.self.inside.kept.given) c.self.inside.kept.referrers c.self.inside.terms c.self.invariant.0 c.self.invariant.2
-    (ap (λ (v : NamedVersion). reduce_of v.version.definition) c.self.view_is ∙ plain) field (folded id)
-    ∙ ap (λ (v : NamedVersion). option_and_then (λ (e : List ℕ × Fields). field_named field e.1) (entry_at v.version (folded id))) c.self.view_is
+    (ap (λ (v : NamedVersion). reduce_of v.version.definition) c.self.view_is ∙ plain) field q
+    ∙ ap (λ (v : NamedVersion). option_and_then (λ (e : List ℕ × Fields). field_named field e.1) (entry_at v.version q)) c.self.view_is

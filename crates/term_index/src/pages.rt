@@ -1,0 +1,254 @@
+//! Pages of the ids of a field, in an order of their values.
+ghost use Rattle.std.specs.Prelude.{◌≡◌, ◌<◌, ◌≤◌, Bool, IfOk, IfSome, IsTrue, Some, None, true, false, nat_eq, drop, filter, length, map, option_map, take};
+ghost use Rattle.std.specs.Ordering.{is_lt};
+ghost use Rattle.std.specs.FinMap.{entries, from_entries};
+ghost use Rattle.spec_data.specs.Folding.{folded, key_cmp};
+ghost use Rattle.spec_query.specs.Sorting.{sorted};
+ghost use Rattle.raven_value.specs.ScalarView.{scalar_view, test_view};
+ghost use Rattle.paged_map.specs.Range.{between};
+ghost use Rattle.term_index.specs.Cuts.{IsRunAt};
+ghost use Rattle.term_index.specs.Held.{AreApart, AreTerms, held};
+ghost use Rattle.term_index.specs.KeyView.{by_mark, mark_of};
+ghost use Rattle.term_index.specs.Lines as line;
+ghost use Rattle.term_index.specs.Ordered.{by_value, is_asked};
+
+use crate::edges::{after, before, before_texts, high_edge, low_edge};
+use crate::key::Key;
+use crate::sets::add;
+use crate::values::ValueOrder;
+use crate::walks::TermSet;
+use paged_map::Pairs;
+use raven_base::NoMemory;
+use raven_value::{Ids, Scalar, Test};
+use std::alloc::Global;
+
+/// Whether an order of numbers, or of texts, compares this value by its size, or by its text.
+fn is_of_order(value: &Scalar, long: bool) -> bool
+    ensures { result ≡ line.is_of_order long (scalar_view value.now) }
+{
+    match value {
+        Scalar::Num(_) => long,
+        Scalar::Text(_) => !long,
+        _ => false,
+    }
+}
+
+/// Whether all values are null or of the one kind. It takes two searches, or four.
+fn are_one_kind(alloc: Global, terms: &TermSet, long: bool) -> Result<bool, NoMemory>
+    requires { AreTerms terms.now }
+    ensures { IfOk result (λ is. IsTrue is → line.AreInLine None long (held terms.now)) }
+{
+    let flags = after(alloc, Scalar::Null)?;
+    let texts = before_texts(alloc)?;
+    if !long {
+        return Ok(terms.count_between(&flags, &texts) == 0);
+    }
+    let numbers = after(alloc, Scalar::Flag(true))?;
+    Ok(terms.count_between(&flags, &numbers) == 0 && terms.count_between(&texts, &Key::End) == 0)
+}
+
+/// Whether the values that meet a test are in the order of their terms, and no others are between its edges.
+fn meet_in_line(alloc: Global, terms: &TermSet, test: &Test, long: bool) -> Result<bool, NoMemory>
+    requires { AreTerms terms.now }
+    ensures line { IfOk result (λ is. IsTrue is → line.AreInLine (Some (test_view test.now)) long (held terms.now)) }
+    ensures whole { IfOk result (λ is. IsTrue is → line.is_whole (Some (test_view test.now)) ≡ true) }
+{
+    match test {
+        Test::There => are_one_kind(alloc, terms, long),
+        Test::Below(bound) => Ok(is_of_order(bound, long)),
+        Test::AtMost(bound) => Ok(is_of_order(bound, long)),
+        Test::Above(bound) => Ok(is_of_order(bound, long)),
+        Test::AtLeast(bound) => Ok(is_of_order(bound, long)),
+        Test::Between(low, high) => Ok(is_of_order(low, long) && is_of_order(high, long)),
+        Test::Is(_) | Test::Not(_) | Test::In(_) | Test::Starts(_) => Ok(false),
+    }
+}
+
+/// Whether the values that are asked for are in the order of their terms, and no others are between their edges.
+fn are_in_line(
+    alloc: Global,
+    terms: &TermSet,
+    test: Option<&Test>,
+    long: bool,
+) -> Result<bool, NoMemory>
+    requires { AreTerms terms.now }
+    ensures line { IfOk result (λ is. IsTrue is → line.AreInLine (option_map (λ t. test_view t.now) test.entry) long (held terms.now)) }
+    ensures whole { IfOk result (λ is. IsTrue is → line.is_whole (option_map (λ t. test_view t.now) test.entry) ≡ true) }
+{
+    match test {
+        Some(test) => meet_in_line(alloc, terms, test, long),
+        None => are_one_kind(alloc, terms, long),
+    }
+}
+
+fn low_of(alloc: Global, test: Option<&Test>) -> Result<Key, NoMemory>
+    ensures { IfOk result (λ key. mark_of key ≡ line.low_of (option_map (λ t. test_view t.now) test.entry)) }
+{
+    match test {
+        Some(test) => low_edge(alloc, test, false),
+        None => before(alloc, Scalar::Null),
+    }
+}
+
+fn high_of(alloc: Global, test: Option<&Test>) -> Result<Key, NoMemory>
+    ensures { IfOk result (λ key. mark_of key ≡ line.high_of (option_map (λ t. test_view t.now) test.entry)) }
+{
+    match test {
+        Some(test) => high_edge(alloc, test, false),
+        None => Ok(Key::End),
+    }
+}
+
+/// The ids of the first of these terms, `size` at most.
+fn first_ids(alloc: Global, terms: Pairs<'_, Key, ()>, size: u64) -> Result<Ids, NoMemory>
+    ensures { IfOk result (λ ids. map folded ids ≡ map (λ e. e.0) (take size (held terms.entry))) }
+{
+    let mut ids = Ids::new(alloc);
+    let mut left = size;
+    for pair in terms {
+        if left == 0 {
+            break;
+        }
+        if let Key::At(term) = &pair.0 {
+            ids.push(term.get().id.get().clone()?)?;
+            left -= 1;
+        }
+    }
+    Ok(ids)
+}
+
+/// How many terms are before an edge.
+fn count_before(alloc: Global, terms: &TermSet, edge: &Key) -> Result<u64, NoMemory>
+    requires terms { AreTerms terms.now }
+    requires edge { nat_eq (mark_of edge.now).side 1 ≡ false }
+    ensures { IfOk result (λ count. count ≡ length (filter (λ e. is_lt (by_mark e.0 edge.now)) terms.now)) }
+{
+    let first = before(alloc, Scalar::Null)?;
+    Ok(terms.count_between(&first, edge))
+}
+
+/// The ids of the terms between two edges, after the first `start`, `size` at most, if `base` terms are before them. It takes three
+/// searches, and no walk over the terms before these.
+fn page_up(
+    alloc: Global,
+    terms: &TermSet,
+    base: u64,
+    low: &Key,
+    high: &Key,
+    start: u64,
+    size: u64,
+) -> Result<Ids, NoMemory>
+    requires terms { AreTerms terms.now }
+    requires base { base ≡ length (filter (λ e. is_lt (by_mark e.0 low.now)) terms.now) }
+    ensures { IfOk result (λ ids. map folded ids ≡ map (λ e. e.0) (take size (drop start (held (between by_mark low.now high.now terms.now))))) }
+{
+    // The proof needs that the number of all terms has 64 bits.
+    let _all = terms.len();
+    let Some(place) = base.checked_add(start) else {
+        return Ok(Ids::new(alloc));
+    };
+    match terms.nth(place) {
+        Some(pair) => first_ids(alloc, terms.range(&pair.0, high), size),
+        None => Ok(Ids::new(alloc)),
+    }
+}
+
+/// Of the first `end` terms between two edges, the place of the first and the place past the last that have the value of the one at a
+/// place, if `base` terms are before these. It takes five searches.
+fn run_at(
+    alloc: Global,
+    terms: &TermSet,
+    base: u64,
+    low: &Key,
+    high: &Key,
+    end: u64,
+    at: u64,
+) -> Result<(u64, u64), NoMemory>
+    requires terms { AreTerms terms.now }
+    requires base { base ≡ length (filter (λ e. is_lt (by_mark e.0 low.now)) terms.now) }
+    requires at { at < end }
+    requires end { end ≤ length (between by_mark low.now high.now terms.now) }
+    ensures { IfOk result (λ run. IsRunAt (held (between by_mark low.now high.now terms.now)) end at run.0 run.1) }
+{
+    // The proof needs that the number of all terms has 64 bits.
+    let _all = terms.len();
+    let Some(pair) = terms.nth(base + at) else {
+        unreachable!();
+    };
+    let Key::At(term) = &pair.0 else {
+        unreachable!();
+    };
+    let value = &term.get().value;
+    let under = before(alloc, value.clone()?)?;
+    let over = after(alloc, value.clone()?)?;
+    let past = terms.count_between(low, &over);
+    let past = if past < end { past } else { end };
+    Ok((terms.count_between(low, &under), past))
+}
+
+/// The ids of the terms between two edges, from the greatest value on, those of one value in the order of the terms; after the first
+/// `start`, `size` at most, if `base` terms are before these. It takes eight searches a value, and no walk over the terms that are not of the page.
+fn page_down(
+    alloc: Global,
+    terms: &TermSet,
+    base: u64,
+    low: &Key,
+    high: &Key,
+    start: u64,
+    size: u64,
+) -> Result<Ids, NoMemory>
+    requires terms { AreTerms terms.now }
+    requires base { base ≡ length (filter (λ e. is_lt (by_mark e.0 low.now)) terms.now) }
+    ensures { IfOk result (λ ids. (long : Bool) → line.AreInLine None long (held (between by_mark low.now high.now terms.now)) →
+        map folded ids ≡ map (λ e. e.0) (take size (drop start (sorted (by_value long true) (held (between by_mark low.now high.now terms.now)))))) }
+{
+    let mut ids = Vec::new(alloc);
+    let mut end = terms.count_between(low, high);
+    let mut skip = start;
+    let mut left = size;
+    while left > 0 && skip < end {
+        let (first, past) = run_at(alloc, terms, base, low, high, end, end - 1 - skip)?;
+        let many = end - skip - first;
+        let from = past - many;
+        let many = if left < many { left } else { many };
+        add(
+            &mut ids,
+            page_up(alloc, terms, base, low, high, from, many)?,
+        )?;
+        end = first;
+        skip = 0;
+        left -= many;
+    }
+    Ok(Ids::of(ids))
+}
+
+/// Of the ids whose values meet a test, or of all ids, those after the first `start`, `size` at most, in an order of their values. None if the values are not in the order of their terms.
+pub fn ids_in_order(
+    alloc: Global,
+    terms: &TermSet,
+    test: Option<&Test>,
+    order: ValueOrder,
+    start: u64,
+    size: u64,
+) -> Result<Option<Ids>, NoMemory>
+    requires terms { AreTerms terms.now }
+    requires apart { AreApart (held terms.now) }
+    ensures { IfOk result (λ page. IfSome page (λ ids.
+        map folded ids ≡ map (λ e. e.0) (take size (drop start (sorted (by_value order.long order.desc)
+        (filter (λ e. is_asked (option_map (λ t. test_view t.now) test.entry) e.1) (entries (from_entries {R = key_cmp} (held terms.now))))))))) }
+{
+    // The proof needs that the terms are in order.
+    let _terms = terms.len();
+    if !are_in_line(alloc, terms, test, order.long)? {
+        return Ok(None);
+    }
+    let low = low_of(alloc, test)?;
+    let high = high_of(alloc, test)?;
+    let base = count_before(alloc, terms, &low)?;
+    let page = if order.desc {
+        page_down(alloc, terms, base, &low, &high, start, size)?
+    } else {
+        page_up(alloc, terms, base, &low, &high, start, size)?
+    };
+    Ok(Some(page))
+}
