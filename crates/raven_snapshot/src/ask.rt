@@ -32,7 +32,7 @@ use query_optimizer::{Choice, pick};
 use raven_base::{NoMemory, Steps};
 use raven_reply::Reply;
 use raven_value::{Name, Text};
-use rql_eval::{Found, find, find_all, find_in_rows};
+use rql_eval::{Found, find, find_all, find_in_rows, page_len};
 use rql_plan::{Plan, PlanRefusal, QueryAsk, bind, check, plan_for_collection, shape_of};
 use rql_tree::Origin;
 use side_by_side::{Slot, serving_in};
@@ -187,10 +187,14 @@ impl<'w> Snapshot<'w> {
             Ok(plan) => plan,
             Err(refusal) => return refused(refusal),
         };
-        let documents = self.store.documents(alloc, collection.as_str())?;
+        let total = self.store.documents_in(collection) as u64;
+        let size = page_len(&plan, total);
+        let page = self
+            .store
+            .documents_page(alloc, collection, plan.start(), size)?;
         let rows = StoreRows { store: self.store };
         let show = ShownBy { base: self.base };
-        let found = find_all(alloc, &plan, documents.as_slice(), &rows, &show)?;
+        let found = find_all(alloc, &plan, page.as_slice(), total, &rows, &show)?;
         let name = collection_name(alloc, collection)?;
         Ok(answer_of(found, self.store.last(), name, false))
     }

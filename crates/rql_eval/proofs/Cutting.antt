@@ -1,5 +1,6 @@
 -- Pages of lists.
-use Rattle.std.proofs.Common.{◌≡◌, ℕ, suc, zero, ◌≤◌, List, [], ◌∷◌, length, take, drop, Option, Some, None, map, Equal, refl, ap, ◌∙◌, arith}
+use Rattle.std.proofs.Common.{◌≡◌, ℕ, suc, zero, ◌≤◌, List, [], ◌∷◌, length, take, drop, true, false, cond, Option, Some, None, map, Ordering, Equal, refl, ap, ◌∙◌, arith}
+use Rattle.std.specs.Ordering.{is_gt}
 use Rattle.std.proofs.lemmas.List.{length-take, length-drop}
 use Rattle.spec_query.specs.Plan.{up_to}
 use Rattle.spec_query.specs.Sorting.{inserted, sorted}
@@ -13,6 +14,15 @@ module _ {X : Type 0} where
   pub unsorted : (xs : List X) → sorted (λ (a b : X). Equal) xs ≡ xs
   unsorted [] = refl
   unsorted (x ∷ xs) = ap (inserted (λ (a b : X). Equal) x) (unsorted xs) ∙ front x xs
+
+  -- none is lost
+  length-inserted : (R : X → X → Ordering) (x : X) (ys : List X) → length (inserted R x ys) ≡ suc (length ys)
+  length-inserted R x [] = refl
+  length-inserted R x (y ∷ ys) = elim (is_gt (R x y)) as (λ b. length (cond b (y ∷ inserted R x ys) (x ∷ y ∷ ys)) ≡ suc (suc (length ys))) [ true ↦ ap suc (length-inserted R x ys) | false ↦ refl ]
+
+  pub length-sorted : (R : X → X → Ordering) (xs : List X) → length (sorted R xs) ≡ length xs
+  length-sorted R [] = refl
+  length-sorted R (x ∷ xs) = length-inserted R x (sorted R xs) ∙ ap suc (length-sorted R xs)
 
   map-drop : {Y : Type 0} (f : X → Y) (n : ℕ) (xs : List X) → map f (drop n xs) ≡ drop n (map f xs)
   map-drop f zero xs = refl

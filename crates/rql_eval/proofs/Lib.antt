@@ -2,6 +2,8 @@ pub mod ReadBack
 pub mod Cutting
 pub mod Paging
 pub mod Walking
+pub mod Values
+pub mod OrderedPages
 pub mod Finds
 pub mod Wholes
 mod Examples

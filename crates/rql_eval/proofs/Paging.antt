@@ -1,5 +1,5 @@
 -- The entries of a page, from the ids of the entries that meet the condition.
-use Rattle.std.proofs.Common.{◌≡◌, ℕ, suc, ◌+◌, ◌≤◌, ◌==◌, List, [], ◌∷◌, length, drop, Option, filter, map, true, false, refl, sym, ap, ◌∙◌, arith}
+use Rattle.std.proofs.Common.{◌≡◌, ℕ, suc, ◌+◌, ◌≤◌, ◌==◌, List, [], ◌∷◌, length, drop, Option, Ordering, filter, map, true, false, refl, sym, ap, ◌∙◌, arith}
 use Rattle.std.proofs.lemmas.Bool.Decides.{nat_tests}
 use Rattle.raven_base.specs.Counts.{Counts}
 use Rattle.spec_data.specs.Folding.{folded}
@@ -11,7 +11,7 @@ use Rattle.reference_track.specs.Sets.{AreInOrder}
 use Rattle.rql_filter.specs.Entries.{EntryList, ids_of}
 use Rattle.rql_order.proofs.Stable.{map-sorted}
 use Rattle.rql_eval.specs.Pages.{ReadsAtMost, entries_of}
-use Rattle.rql_eval.proofs.Cutting.{length-cut, map-cut, same-cut, unsorted}
+use Rattle.rql_eval.proofs.Cutting.{length-cut, length-sorted, map-cut, same-cut, unsorted}
 use Rattle.rql_eval.proofs.ReadBack.{all_are, are-cut, are-filter, read_back}
 
 length-map : {X Y : Type 0} (f : X → Y) (xs : List X) → length (map f xs) ≡ length xs
@@ -23,8 +23,10 @@ module _ (q : Plan) (entries : EntryList) where
   pub plain_page : q.order ≡ [] → page q entries ≡ up_to q.size (drop q.start (meeting q entries))
   plain_page plain = ap (λ l. up_to q.size (drop q.start l)) (ap (λ keys. sorted (λ (a b : List ℕ × Fields). keys_order keys a.1 b.1) (meeting q entries)) plain ∙ unsorted (meeting q entries))
 
-  pub page_no_longer : q.order ≡ [] → length (page q entries) ≤ length (meeting q entries)
-  page_no_longer plain = let same = ap length (plain_page plain) in omega (arith, same, length-cut q.start q.size (meeting q entries))
+  pub page_no_longer : length (page q entries) ≤ length (meeting q entries)
+  page_no_longer =
+      let by : List ℕ × Fields → List ℕ × Fields → Ordering = λ a b. keys_order q.order a.1 b.1 in
+      omega (arith, length-cut q.start q.size (sorted by (meeting q entries)), length-sorted by (meeting q entries))
 
 module _ (q : Plan) (entries : EntryList) (ids : List (List ℕ)) where
   -- they are the ids of these entries, but for the spellings

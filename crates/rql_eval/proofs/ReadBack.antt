@@ -1,10 +1,11 @@
 -- The entries of ids that are those of some entries are these entries.
-use Rattle.std.proofs.Common.{◌≡◌, ℕ, suc, zero, List, [], ◌∷◌, take, drop, Bool, true, false, cond, Option, Some, None, filter, map, Less, refl, sym, ap, ◌∙◌}
+use Rattle.std.proofs.Common.{◌≡◌, ℕ, suc, zero, List, [], ◌∷◌, take, drop, Bool, true, false, cond, Option, Some, None, filter, map, Less, Ordering, refl, sym, ap, ◌∙◌}
 use Rattle.std.specs.List.{cons_option}
-use Rattle.std.specs.Ordering.{is_eq, ordering_reverse}
+use Rattle.std.specs.Ordering.{is_eq, is_gt, ordering_reverse}
 use Rattle.spec_data.specs.Folding.{folded}
 use Rattle.index_tree.specs.Meaning.{Fields}
 use Rattle.spec_query.specs.Plan.{up_to}
+use Rattle.spec_query.specs.Sorting.{inserted, sorted}
 use Rattle.reference_track.specs.Sets.{AreInOrder, IsBelowAll, id_cmp, is_id}
 use Rattle.reference_track.proofs.SetLemmas.{id_itself, id_total, is_eq-id_cmp}
 use Rattle.rql_filter.specs.Entries.{EntryList, entry_at, ids_of}
@@ -61,3 +62,12 @@ are-take (suc n) entries (r ∷ rs) are = (are.0, are-take n entries rs are.1)
 pub are-cut : (start : ℕ) (size : Option ℕ) (entries rs : EntryList) → AreOf entries rs → AreOf entries (up_to size (drop start rs))
 are-cut start None entries rs are = are-drop start entries rs are
 are-cut start (Some n) entries rs are = are-take n entries (drop start rs) (are-drop start entries rs are)
+
+module _ (R : List ℕ × Fields → List ℕ × Fields → Ordering) (entries : EntryList) where
+  are-inserted : (r : List ℕ × Fields) (rs : EntryList) → entry_at (folded r.0) entries ≡ Some r → AreOf entries rs → AreOf entries (inserted R r rs)
+  are-inserted r [] is are = (is, tt)
+  are-inserted r (s ∷ rs) is are = elim (is_gt (R r s)) as (λ b. AreOf entries (cond b (s ∷ inserted R r rs) (r ∷ s ∷ rs))) [ true ↦ (are.0, are-inserted r rs is are.1) | false ↦ (is, are) ]
+
+  pub are-sorted : (rs : EntryList) → AreOf entries rs → AreOf entries (sorted R rs)
+  are-sorted [] are = tt
+  are-sorted (r ∷ rs) are = are-inserted r (sorted R rs) are.0 (are-sorted rs are.1)

@@ -12,7 +12,7 @@ use map_stage::{Entry, Lookup};
 use raven_base::{NoMemory, Steps};
 use raven_json::{ShownList, ShownMembers};
 use raven_value::{Id, Ids};
-use rql_filter::{Entries, matching};
+use rql_filter::{Reads, matching};
 use rql_plan::{Condition, Plan};
 use rql_results::{Show, documents_of, included, results_of};
 use std::alloc::Global;
@@ -42,7 +42,7 @@ fn ids_of(alloc: Global, entries: &[(&Id, &Entry)]) -> Result<Ids, NoMemory>
 }
 
 /// The ids of the entries that meet a condition, in order, as their documents spell them. It reads each of these entries once.
-pub fn ids_that_meet<E: Entries, L: Ledger>(
+pub fn ids_that_meet<E: Reads<L>, L: Ledger>(
     alloc: Global,
     entries: &E,
     condition: &Condition,
@@ -60,7 +60,7 @@ pub fn ids_that_meet<E: Entries, L: Ledger>(
 /// What a query finds in an index without a reduce. `rows` are those of the store from which the documents come.
 ///
 /// No more entries are read than meet the condition. What is read is said at `page_of`.
-pub fn find<E: Entries, T: Lookup, W: Show, L: Ledger>(
+pub fn find<E: Reads<L>, T: Lookup, W: Show, L: Ledger>(
     alloc: Global,
     plan: &Plan,
     entries: &E,

@@ -2,6 +2,7 @@
 #![tactic(auto)]
 
 mod finding;
+mod ordered;
 mod page;
 mod reading;
 mod rows;
@@ -11,4 +12,5 @@ mod whole;
 pub use finding::{Found, find, ids_that_meet};
 pub use page::{Page, page_of};
 pub use rows::find_in_rows;
+pub use walk::page_len;
 pub use whole::find_all;

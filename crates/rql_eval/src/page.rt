@@ -2,14 +2,15 @@
 ghost use Rattle.std.specs.Prelude.{◌≡◌, [], IfOk, drop, length, map};
 ghost use Rattle.spec_query.specs.Plan.{meeting, page, up_to};
 ghost use Rattle.spec_query.specs.Sorting.{keys_order, sorted};
-ghost use Rattle.rql_eval.specs.Pages.{ReadsAtMost, entries_of as spec_entries_of};
+ghost use Rattle.rql_eval.specs.Pages.{IsPage, ReadsAtMost, entries_of as spec_entries_of};
 
+use crate::ordered::ids_in_order;
 use crate::reading::entries_of;
 use crate::walk::walked_page;
 use map_stage::Entry;
 use raven_base::{NoMemory, Steps};
 use raven_value::Id;
-use rql_filter::{Entries, count, matching};
+use rql_filter::{Reads, count, matching};
 use rql_order::in_order;
 use rql_plan::Plan;
 use std::alloc::Global;
@@ -38,7 +39,7 @@ pub fn cut<T>(items: &[T], start: u64, size: Option<u64>) -> &[T]
 }
 
 /// The entries of the page of these ids, in their order.
-fn plain_page<'e, E: Entries, L: Ledger>(
+fn plain_page<'e, E: Reads<L>, L: Ledger>(
     alloc: Global,
     plan: &Plan,
     entries: &'e E,
@@ -51,8 +52,8 @@ fn plain_page<'e, E: Entries, L: Ledger>(
     entries_of(alloc, entries, cut(ids, plan.start(), plan.size()), steps)
 }
 
-/// The page of the entries of these ids, in the order of the plan.
-fn sorted_page<'e, E: Entries, L: Ledger>(
+/// The entries of these ids in the order of the plan, of which those of its page alone are kept.
+fn cut_in_order<'e, E: Reads<L>, L: Ledger>(
     alloc: Global,
     plan: &Plan,
     entries: &'e E,
@@ -68,15 +69,14 @@ fn sorted_page<'e, E: Entries, L: Ledger>(
 }
 
 /// The page of a query without an order. Its entries alone are read.
-fn gathered_page<'e, E: Entries, L: Ledger>(
+fn gathered_page<'e, E: Reads<L>, L: Ledger>(
     alloc: Global,
     plan: &Plan,
     entries: &'e E,
     steps: &mut Steps<L>,
 ) -> Result<Page<'e>, NoMemory>
     requires { plan.now.order ≡ [] }
-    ensures entries { IfOk result (λ found. map (λ e. (e.0.now, e.1.now)) found.entries.items ≡ page plan.now (E.entries entries.now)) }
-    ensures total { IfOk result (λ found. found.total ≡ length (meeting plan.now (E.entries entries.now))) }
+    ensures page { IfOk result (IsPage plan.now (E.entries entries.now)) }
     ensures reads { ReadsAtMost (length (page plan.now (E.entries entries.now))) steps.old steps.new }
 {
     let ids = matching(alloc, entries, plan.condition())?;
@@ -89,15 +89,14 @@ fn gathered_page<'e, E: Entries, L: Ledger>(
 
 /// The page of a query without an order: from a walk over the entries, if that is short, or else from the ids of all that meet the
 /// condition.
-fn page_by_id<'e, E: Entries, L: Ledger>(
+fn page_by_id<'e, E: Reads<L>, L: Ledger>(
     alloc: Global,
     plan: &Plan,
     entries: &'e E,
     steps: &mut Steps<L>,
 ) -> Result<Page<'e>, NoMemory>
     requires { plan.now.order ≡ [] }
-    ensures entries { IfOk result (λ found. map (λ e. (e.0.now, e.1.now)) found.entries.items ≡ page plan.now (E.entries entries.now)) }
-    ensures total { IfOk result (λ found. found.total ≡ length (meeting plan.now (E.entries entries.now))) }
+    ensures page { IfOk result (IsPage plan.now (E.entries entries.now)) }
     ensures reads { ReadsAtMost (length (meeting plan.now (E.entries entries.now))) steps.old steps.new }
 {
     let Some(total) = count(alloc, entries, plan.condition())? else {
@@ -109,12 +108,52 @@ fn page_by_id<'e, E: Entries, L: Ledger>(
     }
 }
 
+/// The page of a query, from the sorted entries of all that meet the condition.
+fn sorted_page<'e, E: Reads<L>, L: Ledger>(
+    alloc: Global,
+    plan: &Plan,
+    entries: &'e E,
+    steps: &mut Steps<L>,
+) -> Result<Page<'e>, NoMemory>
+    ensures page { IfOk result (IsPage plan.now (E.entries entries.now)) }
+    ensures reads { ReadsAtMost (length (meeting plan.now (E.entries entries.now))) steps.old steps.new }
+{
+    let ids = matching(alloc, entries, plan.condition())?;
+    let total = ids.len() as u64;
+    let entries = cut_in_order(alloc, plan, entries, ids.as_slice(), steps)?;
+    Ok(Page { entries, total })
+}
+
+/// The page of a query with an order: from the terms of a field, if they have that order, or else from all entries that meet the
+/// condition.
+fn page_by_order<'e, E: Reads<L>, L: Ledger>(
+    alloc: Global,
+    plan: &Plan,
+    entries: &'e E,
+    steps: &mut Steps<L>,
+) -> Result<Page<'e>, NoMemory>
+    ensures page { IfOk result (IsPage plan.now (E.entries entries.now)) }
+    ensures reads { ReadsAtMost (length (meeting plan.now (E.entries entries.now))) steps.old steps.new }
+{
+    let Some(total) = count(alloc, entries, plan.condition())? else {
+        return sorted_page(alloc, plan, entries, steps);
+    };
+    let Some(ids) = ids_in_order(alloc, plan, entries, total)? else {
+        return sorted_page(alloc, plan, entries, steps);
+    };
+    let entries = entries_of(alloc, entries, ids.as_slice(), steps)?;
+    Ok(Page { entries, total })
+}
+
 /// The page that a query asks for, and how many entries meet its condition.
 ///
-/// If the query asks for an order, the entries that meet the condition are read, each once. If not, an entry is read only if the
-/// page has it; or entries are walked from the first on, if it is known without a walk how many meet the condition, and then no more
-/// are read than meet it.
-pub fn page_of<'e, E: Entries, L: Ledger>(
+/// If the query asks for no order, an entry is read only if the page has it; or entries are walked from the first on, if it is known
+/// without a walk how many meet the condition, and then no more are read than meet it.
+///
+/// If it asks for an order by one field, the entries of the page alone are read, each once, if two things hold: its condition is a
+/// test on that field, or it has none and each entry has a value in that field; and the terms of the field are in that order, as
+/// `Terms::in_order` says. In any other order the entries that meet the condition are read, each once, and sorted.
+pub fn page_of<'e, E: Reads<L>, L: Ledger>(
     alloc: Global,
     plan: &Plan,
     entries: &'e E,
@@ -125,10 +164,8 @@ pub fn page_of<'e, E: Entries, L: Ledger>(
     ensures reads { ReadsAtMost (length (meeting plan.now (E.entries entries.now))) steps.old steps.new }
 {
     if plan.order().is_empty() {
-        return page_by_id(alloc, plan, entries, steps);
+        page_by_id(alloc, plan, entries, steps)
+    } else {
+        page_by_order(alloc, plan, entries, steps)
     }
-    let ids = matching(alloc, entries, plan.condition())?;
-    let total = ids.len() as u64;
-    let entries = sorted_page(alloc, plan, entries, ids.as_slice(), steps)?;
-    Ok(Page { entries, total })
 }

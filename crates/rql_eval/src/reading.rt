@@ -5,12 +5,12 @@ ghost use Rattle.rql_eval.specs.Pages.{ReadsAtMost, entries_of as spec_entries_o
 use map_stage::Entry;
 use raven_base::{NoMemory, Steps};
 use raven_value::Id;
-use rql_filter::Entries;
+use rql_filter::Reads;
 use std::alloc::Global;
 use std::sync::ledger::Ledger;
 
 /// The entries of these ids, in the same order. An id without an entry is passed over.
-pub fn entries_of<'e, E: Entries, L: Ledger>(
+pub fn entries_of<'e, E: Reads<L>, L: Ledger>(
     alloc: Global,
     entries: &'e E,
     ids: &[Id],

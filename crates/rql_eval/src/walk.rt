@@ -1,5 +1,6 @@
 //! Pages without an order, from a walk over the entries.
 ghost use Rattle.std.specs.Prelude.{◌≡◌, ◌<◌, ◌-◌, ◌++◌, ◌∷◌, [], List, IfOk, IfSome, OnOk, false, cond, drop, filter, length, map, take};
+ghost use Rattle.spec_data.specs.Rows as spec_rows;
 ghost use Rattle.spec_query.specs.Condition.{meets};
 ghost use Rattle.spec_query.specs.Plan.{meeting, page, up_to};
 ghost use Rattle.reference_track.specs.Sets.{AreInOrder};
@@ -10,7 +11,7 @@ use crate::rows::is_met;
 use map_stage::Entry;
 use raven_base::{NoMemory, Steps};
 use raven_value::Id;
-use rql_filter::Entries;
+use rql_filter::Reads;
 use rql_plan::{Condition, Plan};
 use std::alloc::Global;
 use std::sync::ledger::Ledger;
@@ -37,7 +38,7 @@ fn add_if<'e>(
 
 /// Of the entries that meet a condition, `size` at most after the first `start`. It reads `most` entries at most, and gives nothing
 /// if these are not enough.
-fn walked<'e, E: Entries, L: Ledger>(
+fn walked<'e, E: Reads<L>, L: Ledger>(
     alloc: Global,
     condition: &Condition,
     entries: &'e E,
@@ -70,9 +71,11 @@ fn walked<'e, E: Entries, L: Ledger>(
     Ok(Some(found))
 }
 
-/// How many entries are on the page, if so many meet the condition.
-fn page_len(plan: &Plan, total: u64) -> u64
-    ensures { (found : EntryList) → total ≡ length found → length (up_to plan.now.size (drop plan.now.start found)) ≡ result }
+/// How many entries or documents are on the page, if so many meet the condition. So many after the first `start` of those that meet it are
+/// the page.
+pub fn page_len(plan: &Plan, total: u64) -> u64
+    ensures entries { (found : EntryList) → total ≡ length found → length (up_to plan.now.size (drop plan.now.start found)) ≡ result }
+    ensures rows { (found : List spec_rows.Row) → total ≡ length found → take result (drop plan.now.start found) ≡ up_to plan.now.size (drop plan.now.start found) }
 {
     let rest = total.saturating_sub(plan.start());
     match plan.size() {
@@ -85,7 +88,7 @@ fn page_len(plan: &Plan, total: u64) -> u64
 /// the end of the page before it has read more of them than meet the condition.
 ///
 /// Nothing is read if the walk is not expected to come to that end.
-pub fn walked_page<'e, E: Entries, L: Ledger>(
+pub fn walked_page<'e, E: Reads<L>, L: Ledger>(
     alloc: Global,
     plan: &Plan,
     entries: &'e E,
@@ -100,18 +103,20 @@ pub fn walked_page<'e, E: Entries, L: Ledger>(
 {
     let size = page_len(plan, total);
     let most = total.saturating_sub(size);
-    // One in so many entries meets the condition.
+    // So many entries are read if those that meet the condition are spread evenly. A walk that reads many more is given up.
     let end = plan.start().saturating_add(size);
-    if end.saturating_mul(entries.walk_len()) > most.saturating_mul(total) {
+    let expected = end.saturating_mul(entries.walk_len()) / total.max(1);
+    if expected > most {
         return Ok(None);
     }
+    let limit = most.min(expected.saturating_mul(4).saturating_add(64));
     let found = walked(
         alloc,
         plan.condition(),
         entries,
         plan.start(),
         size,
-        most,
+        limit,
         steps,
     )?;
     Ok(found)

@@ -1,5 +1,5 @@
 -- How many entries meet a condition.
-use Rattle.std.proofs.Common.{◌≡◌, ℕ, suc, ◌+◌, List, [], ◌∷◌, length, Bool, true, false, not, cond, filter, map, refl, sym, ap, ◌∙◌, arith}
+use Rattle.std.proofs.Common.{◌≡◌, suc, ◌+◌, List, [], ◌∷◌, length, Bool, true, false, not, cond, filter, refl, ap, arith}
 
 module _ {X : Type 0} where
   pub count_all : (xs : List X) → length xs ≡ length (filter (λ (x : X). true) xs)

@@ -1,8 +1,8 @@
 -- Which ids are those of the entries that meet a test.
-use Rattle.std.proofs.Common.{◌≡◌, ℕ, List, [], ◌∷◌, Bool, true, false, cond, ◌||◌, Option, Some, None, is_some, filter, map, Less, Equal, Greater, refl, sym, ap, ◌∙◌, subst}
+use Rattle.std.proofs.Common.{◌≡◌, ℕ, List, [], ◌∷◌, Bool, true, false, cond, ◌||◌, Some, is_some, filter, map, Less, Equal, Greater, refl, sym, ap, ◌∙◌}
 use Rattle.std.specs.Option.{option_map_or}
 use Rattle.std.specs.Ordering.{is_eq, ordering_reverse}
-use Rattle.spec_data.specs.Folding.{folded, key_cmp, same_key}
+use Rattle.spec_data.specs.Folding.{folded, same_key}
 use Rattle.index_tree.specs.Meaning.{Fields}
 use Rattle.reference_track.specs.Sets.{AreInOrder, IsBelowAll, id_cmp, is_id, is_one_of}
 use Rattle.reference_track.proofs.SetLemmas.{id_itself, id_total, is_eq-id_cmp, is_one_of-alike, same_id}

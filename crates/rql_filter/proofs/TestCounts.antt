@@ -1,5 +1,5 @@
 -- How many ids pass a test is how many entries do.
-use Rattle.std.proofs.Common.{◌≡◌, ℕ, List, length, Bool, false, filter, map, Option, Some, None, IfSome, sym, ap, ◌∙◌}
+use Rattle.std.proofs.Common.{◌≡◌, ℕ, List, length, Bool, false, filter, Option, Some, None, IfSome, sym, ap, ◌∙◌}
 use Rattle.std.specs.Option.{option_map_or}
 use Rattle.std.proofs.lemmas.List.{length-map}
 use Rattle.spec_data.specs.Folding.{folded}

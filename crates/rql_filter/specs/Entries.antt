@@ -26,7 +26,7 @@ is_past after id = option_map_or (λ q. is_lt (key_cmp q (folded id))) after tru
 abbrev pub is_met : Condition → Bool → Option (List ℕ × Fields) → Bool
 is_met c exact entry = option_map_or (λ e. meets c exact e.1) entry false
 
--- the entries are in the order of their folded ids, and under each id the terms have the values of its entry, and no others
+-- the entries are in the order of their folded ids, and the terms have the values of each entry under its folded id, and no others
 pub record AreTermsOf (entries : EntryList) (terms : Columns) : Type 0 where
   pub order : AreInOrder (ids_of entries)
-  pub values : (field id : List ℕ) → value_at field (folded id) terms ≡ option_and_then (λ e. field_named field e.1) (entry_at (folded id) entries)
+  pub values : (field q : List ℕ) → value_at field q terms ≡ option_and_then (λ e. field_named field e.1) (entry_at q entries)

@@ -11,7 +11,7 @@ use std::alloc::Global;
 use std::sync::ledger::Ledger;
 use term_index::Terms;
 
-/// The entries of an index, with the terms of their fields.
+/// The entries of an index, with the terms of their fields. None of these calls reads an entry: `Reads` has those that do.
 pub trait Entries {
     /// The entries under the ids of their documents, in the order of the folded ids.
     ghost entries: { Self → EntryList };
@@ -31,14 +31,17 @@ pub trait Entries {
     /// How many documents a walk over all entries passes, those without an entry too.
     fn walk_len(&self) -> u64
         ensures { length (entries self.now) ≤ result };
+}
 
+/// Reading the entries of an index, one at a time, on counters with this ledger. A caller with any other counter cannot read them.
+pub trait Reads<L: Ledger>: Entries {
     /// The first entry whose id is past this one, or the first of all if there is no id. Each call counts as a row that is read.
-    fn entry_after<L: Ledger>(&self, id: Option<&Id>, steps: &mut Steps<L>) -> Option<(&Id, &Entry)>
-        ensures entry { option_map (λ e. (e.0.now, e.1.now)) result ≡ find (λ e. is_past (option_map (λ i. folded i.now) id.entry) e.0) (entries self.now) }
+    fn entry_after(&self, id: Option<&Id>, steps: &mut Steps<L>) -> Option<(&Id, &Entry)>
+        ensures entry { option_map (λ e. (e.0.now, e.1.now)) result ≡ find (λ e. is_past (option_map (λ i. folded i.now) id.entry) e.0) (Self.entries self.now) }
         ensures read { steps.new ≡ one_read_more steps.old };
 
     /// The entry of an id, with the id as its document spells it. Each call counts as a row that is read.
-    fn entry_of<L: Ledger>(&self, id: &Id, steps: &mut Steps<L>) -> Option<(&Id, &Entry)>
-        ensures entry { option_map (λ e. (e.0.now, e.1.now)) result ≡ entry_at (folded id.now) (entries self.now) }
+    fn entry_of(&self, id: &Id, steps: &mut Steps<L>) -> Option<(&Id, &Entry)>
+        ensures entry { option_map (λ e. (e.0.now, e.1.now)) result ≡ entry_at (folded id.now) (Self.entries self.now) }
         ensures read { steps.new ≡ one_read_more steps.old };
 }

@@ -4,5 +4,5 @@
 mod entries;
 mod filter;
 
-pub use entries::Entries;
+pub use entries::{Entries, Reads};
 pub use filter::{count, matching};

@@ -4,20 +4,18 @@ use Rattle.rql_eval.specs.Pages.{entries_of}
 use Rattle.rql_eval.proofs.Paging.{are_meeting, no_reads, page_read, reads_of_page, total_is}
 use Rattle.rql_eval.proofs.page.gathered_page.Goals as goal
 
-pub returns-clause-entries : goal.returns-clause-entries
-returns-clause-entries g c =
+pub returns-clause-page : goal.returns-clause-page
+returns-clause-page g c =
     let q = c.args.plan.now in
     let entries = g.E.Entries.entries c.args.entries.now in
     let are = are_meeting q entries c.in_ok-ids.ids c.condition.result.now c.condition.ensures c.in_ok-ids.ensures.ids in
-    c.in_ok-entries.ensures.entries
-    ∙ (ap (λ l. entries_of entries (up_to q.size (drop q.start l))) c.as_slice.ensures
-    ∙ page_read q entries c.in_ok-ids.ids c.in_ok-ids.ensures.rising are c.requires)
-
-pub returns-clause-total : goal.returns-clause-total
-returns-clause-total g c =
-    let q = c.args.plan.now in
-    let entries = g.E.Entries.entries c.args.entries.now in
-    c.len.ensures ∙ total_is q entries c.in_ok-ids.ids (are_meeting q entries c.in_ok-ids.ids c.condition.result.now c.condition.ensures c.in_ok-ids.ensures.ids)
+    record {
+      entries =
+          c.in_ok-entries.ensures.entries
+          ∙ (ap (λ l. entries_of entries (up_to q.size (drop q.start l))) c.as_slice.ensures
+          ∙ page_read q entries c.in_ok-ids.ids c.in_ok-ids.ensures.rising are c.requires);
+      total = c.len.ensures ∙ total_is q entries c.in_ok-ids.ids are;
+    }
 
 pub returns-in_err-ids-clause-reads : goal.returns-in_err-ids-clause-reads
 returns-in_err-ids-clause-reads g c = no_reads _ _

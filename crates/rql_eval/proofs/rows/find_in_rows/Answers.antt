@@ -1,4 +1,4 @@
-use Rattle.std.proofs.Common.{ap, sym, ◌∙◌, map, [], drop, length, false, filter}
+use Rattle.std.proofs.Common.{ap, ◌∙◌, map, [], length, false, filter}
 use Rattle.spec_query.specs.Condition.{meets}
 use Rattle.spec_query.specs.Sorting.{keys_order, sorted}
 use Rattle.rql_results.specs.Rows.{included_by, row_result}

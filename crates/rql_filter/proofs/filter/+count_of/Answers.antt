@@ -1,4 +1,4 @@
-use Rattle.std.proofs.Common.{◌≡◌, ◌+◌, ◌-◌, length, filter, IfSome, sym, ap, subst, ◌∙◌, arith}
+use Rattle.std.proofs.Common.{◌≡◌, ◌-◌, length, filter, IfSome, sym, ap, subst, ◌∙◌, arith}
 use Rattle.spec_query.specs.Condition.{Condition, Not, meets}
 use Rattle.rql_plan.specs.View.{condition_of}
 use Rattle.rql_filter.proofs.Counting.{count_all, count_not}

@@ -3,7 +3,7 @@ use Rattle.spec_data.specs.Folding.{folded}
 use Rattle.spec_query.specs.Condition.{Has, meets}
 use Rattle.raven_value.specs.ScalarView.{test_view}
 use Rattle.term_index.specs.Columns.{value_at}
-use Rattle.term_index.specs.Held.{IsCountOf, passes}
+use Rattle.term_index.specs.Held.{passes}
 use Rattle.rql_filter.specs.Entries.{entry_at}
 use Rattle.rql_filter.proofs.Conditions.{met_has}
 use Rattle.rql_filter.proofs.TestCounts.{count_is}
@@ -16,6 +16,6 @@ returns g c =
     count_is (λ e. meets (Has c.args.field.now test) c.args.exact e.1) es c.in_ok-count.field-0 _ c.requires.order
     (λ q.
     ap (λ name. passes test c.args.exact (value_at name (folded q) c.args.terms.now)) c.as_str.ensures
-    ∙ (ap (passes test c.args.exact) (c.requires.values c.args.field.now q)
+    ∙ (ap (passes test c.args.exact) (c.requires.values c.args.field.now (folded q))
     ∙ met_has c.args.field.now test c.args.exact (entry_at (folded q) es)))
     c.in_ok-count.ensures

@@ -11,5 +11,5 @@ pub returns-clause-members : goal.returns-clause-members
 returns-clause-members g c = λ q.
     c.in_ok-range.ensures.members q
     ∙ (ap (λ name. passes (test_view c.args.test.now) c.args.exact (value_at name (folded q) c.args.terms.now)) c.as_str.ensures
-    ∙ (ap (passes (test_view c.args.test.now) c.args.exact) (c.requires.values c.args.field.now q)
+    ∙ (ap (passes (test_view c.args.test.now) c.args.exact) (c.requires.values c.args.field.now (folded q))
     ∙ met_has c.args.field.now (test_view c.args.test.now) c.args.exact (entry_at (folded q) (g.E.Entries.entries c.args.entries.now))))
