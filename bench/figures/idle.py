@@ -1,4 +1,4 @@
-"""A batch of an index that has nothing to do, beside many rows of other collections.
+"""What has little to do beside many rows of other collections: a batch without anything to do, a count, a page of a small collection.
 
 It is counted in instructions: on the clock it is less than what other work on the machine changes.
 """
@@ -9,16 +9,26 @@ import concurrent.futures
 from figures import documents, instructions
 from harness import Bench, Lines, script_of
 from raven_tools import model
-from raven_tools.making.lines import bulk, definition, put_command
+from raven_tools.making.lines import ask, bulk, definition, put_command
 from report import Aim, Figure, Line, ratio
 
 INDEX = "Users/ByName"
 MAP = "from u in docs.Users select new { u.Name }"
 PUMP = f"PUMP {model.MAX_BATCH} {INDEX}"
-USERS, PUMPS = 10, 300
+USERS, TIMES = 10, 300
 FEW, MANY = 1_000, 100_000
-IDLE = Line("Instructions of a `PUMP` without anything to do, beside 100,000 rows of others", "beside 1,000", Aim("at most", 2))
-LINES = (IDLE,)
+
+
+def beside(what: str) -> Line:
+    return Line(f"Instructions of {what}, beside 100,000 rows of others", "beside 1,000", Aim("at most", 2))
+
+
+COMMANDS = {
+    beside("a `PUMP` without anything to do"): PUMP,
+    beside("a `STATS`"): "STATS",
+    beside(f"a query for a whole collection of {USERS}"): ask("from Users", PageSize=20),
+}
+LINES = tuple(COMMANDS)
 
 
 def order(number: int) -> str:
@@ -33,17 +43,21 @@ class Idle:
         rows = [bulk(*map(order, range(first, min(first + at_once, orders)))) for first in range(0, orders, at_once)]
         self.first = [definition(INDEX, MAP), documents.puts(range(USERS)), PUMP, *rows]
 
-    def lines(self, pumps: int) -> Lines:
-        return [*self.first, *[PUMP] * pumps, f"STALE {INDEX}"]
+    def lines(self, command: str, times: int) -> Lines:
+        return [*self.first, *[command] * times, f"STALE {INDEX}"]
 
 
 def measure(bench: Bench) -> collections.abc.Iterator[Figure]:
     instructions.needed()
-    bench.check(Idle(50).lines(3))
+    for command in COMMANDS.values():
+        bench.check(Idle(50).lines(command, 3))
     # The definition of the index takes the first etag; rows of others do not count.
     last = model.write_json({"IndexEtag": 1 + USERS, "IsStale": False, "Newest": 1 + USERS})
-    runs = [script_of(Idle(bench.size(orders)).lines(pumps)) for orders in (FEW, MANY) for pumps in (0, PUMPS)]
-    with concurrent.futures.ThreadPoolExecutor() as threads:
-        counts = list(threads.map(lambda script: instructions.counted([bench.program, "run"], script, last), runs))
-    few, many = ((counts[at + 1] - counts[at]) / PUMPS for at in (0, 2))
-    yield Figure(IDLE, ratio(many, few), f"{many:,.0f}")
+    kinds = [(PUMP, 0), *((command, TIMES) for command in COMMANDS.values())]
+    sizes = [Idle(bench.size(orders)) for orders in (FEW, MANY)]
+    runs = [script_of(size.lines(command, times)) for size in sizes for command, times in kinds]
+    with concurrent.futures.ThreadPoolExecutor(max_workers=4) as threads:
+        counts = threads.map(lambda script: instructions.counted([bench.program, "run"], script, last), runs)
+        few, many = ([count - base for count in some] for base, *some in zip(*[iter(counts)] * len(kinds)))
+    for line, before, after in zip(COMMANDS, few, many):
+        yield Figure(line, ratio(after, before), f"{after / TIMES:,.0f}")

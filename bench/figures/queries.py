@@ -22,7 +22,8 @@ INDEX = "Users/All"
 FIELDS = ["Amount", "Hundred", "Many", "Name", "One"]
 MAP = "from u in docs.Users select new { " + ", ".join(f"u.{field}" for field in FIELDS) + " }"
 BESIDE = f"PostgreSQL {postgres.VERSION}, `jsonb` and an index on an expression"
-AIM = Aim("at most", 1)
+WITH_TOTAL = f"{BESIDE}, asked for the page and for the total"
+AT_MOST_ITS, AT_MOST_TWICE = Aim("at most", 1), Aim("at most", 2)
 # So many queries of a kind are asked at most in a round, and so many to see how long they take.
 MOST, FIRST = 10_000, 5
 Values = collections.abc.Callable[[int], int]
@@ -36,9 +37,13 @@ class Kind:
     query: str
     sql: str
     values: Values  # of so many documents
-    has_page: bool = True
+    with_total: Line | None = None  # the same query, beside PostgreSQL asked for the total too; None if there is no page
     is_ordered: bool = False
     is_from_middle: bool = False
+
+    @property
+    def has_page(self) -> bool:
+        return self.with_total is not None
 
     def numbers(self, users: int) -> collections.abc.Iterator[int]:
         values = self.values(users)
@@ -51,11 +56,22 @@ class Kind:
         texts = [self.query.replace("{n}", str(number)) for number in itertools.islice(self.numbers(users), count)]
         return [ask(text, PageSize=PAGE) if self.has_page else f"QUERY {text}" for text in texts]
 
+    def conditions(self, users: int, count: int) -> collections.abc.Iterator[str]:
+        return (self.sql.replace("{n}", str(number)) for number in itertools.islice(self.numbers(users), count))
+
     def statements(self, users: int, count: int) -> Lines:
         """Of PostgreSQL."""
         end = f" limit {PAGE};" if self.has_page else ";"
-        numbers = itertools.islice(self.numbers(users), count)
-        return [f"select id, doc from users {self.sql.replace('{n}', str(number))}{end}" for number in numbers]
+        return [f"select id, doc from users {condition}{end}" for condition in self.conditions(users, count)]
+
+    def totals(self, users: int, count: int) -> Lines:
+        """What PostgreSQL is asked for the totals."""
+        wheres = (condition.partition("order by")[0] for condition in self.conditions(users, count))
+        return [f"select count(*) from users {where.strip()};" for where in wheres]
+
+    def with_totals(self, users: int, count: int) -> Lines:
+        """Each statement, and the total after it."""
+        return [line for pair in zip(self.statements(users, count), self.totals(users, count)) for line in pair]
 
 
 def number_of(field: str) -> str:
@@ -63,12 +79,13 @@ def number_of(field: str) -> str:
 
 
 def equal(count: int, field: str, values: Values) -> Kind:
-    line = Line(f"Time of a query for the {count:,} of 100,000 documents that have a value", BESIDE, AIM)
-    return Kind(line, f"from index '{INDEX}' where {field} = {{n}}", f"where {number_of(field)} = {{n}}", values, has_page=False)
+    line = Line(f"Time of a query for the {count:,} of 100,000 documents that have a value", BESIDE, AT_MOST_ITS)
+    return Kind(line, f"from index '{INDEX}' where {field} = {{n}}", f"where {number_of(field)} = {{n}}", values)
 
 
 def paged(what: str, query: str, sql: str, values: Values = lambda users: users, **more: bool) -> Kind:
-    return Kind(Line(f"Time of a query for a page of {PAGE} of {what}", BESIDE, AIM), query, sql, values, **more)
+    title = f"Time of a query for a page of {PAGE} of {what}"
+    return Kind(Line(title, BESIDE, AT_MOST_TWICE), query, sql, values, Line(title, WITH_TOTAL, AT_MOST_ITS), **more)
 
 
 RANGE = f"from index '{INDEX}' where Amount >= {{n}}"
@@ -93,7 +110,7 @@ KINDS = (
     ),
     paged("a whole collection of 100,000", "from Users", "order by id", is_ordered=True),
 )
-LINES = tuple(kind.line for kind in KINDS)
+LINES = tuple(line for kind in KINDS for line in (kind.line, kind.with_total) if line)
 
 
 class Users:
@@ -171,6 +188,9 @@ def check(bench: Bench, server: postgres.Server) -> None:
     replies = [model.read_json(reply) for reply in model.replies(script_of(lines)).split(b"\n")[:-1]]
     server.run(users.table())
     for kind, place in zip(KINDS, places):
+        totals = server.run(kind.totals(users.count, 3)).output.decode().split()
+        if totals != [str(reply["TotalResults"]) for reply in replies[place : place + 3]]:
+            raise harness.Wrong(f"PostgreSQL counts {totals}: {kind.totals(users.count, 3)}")
         for statement, reply in zip(kind.statements(users.count, 3), replies[place:]):
             rows = server.run([statement]).output.decode().splitlines()
             found = [row.split("\t")[0] for row in rows]
@@ -189,3 +209,6 @@ def measure(bench: Bench) -> collections.abc.Iterator[Figure]:
         for kind in KINDS:
             beside = server.each(bench, lambda count: kind.statements(users.count, count), 20_000)
             yield Figure(kind.line, ratio(times[kind], beside), duration(times[kind]))
+            if kind.with_total:
+                beside = server.each(bench, lambda count: kind.with_totals(users.count, count), 20_000)
+                yield Figure(kind.with_total, ratio(times[kind], beside), duration(times[kind]))

@@ -164,6 +164,35 @@ def answered() -> Named:
     yield "what is found of the rows of a reduce", "\n".join(lines)
 
 
+# Values of one kind, with null or without it, and of several kinds.
+ORDERED = {
+    "Numbers": [5, -3, 12, 5, 0, 7, -3, 100, 7, 2**62, -(2**62), 10],
+    "Texts": ["b", "A", "aa", "a", "", "B", "c", "A", "\u00e4", "10"],
+    "NumbersOrNull": [7, None, -1, 7, 0, None, 12],
+    "TextsOrNull": ["x", None, "X", "", None, "y"],
+    "Several": [3, None, "3", True, "x", -1, "-1", False, 3, "X"],
+}
+SPANS = ["", "F > 0", "F >= -3", "F < 7", "F <= 7", "F between -3 and 7", "F between 7 and 5", "F > 'A'", "F <= 'b'", "F between 'a' and 'B'", "exists(F)"]
+OTHERS = ["F = 7", "F != 7", "F in (7, 'a')", "startsWith(F, 'a')", "exact(F >= 'a')", "Number > 3", "F > 0 and Number > 3", "not F < 7"]
+
+
+def in_order() -> Named:
+    """Pages in the order of a field, of a test on that field and of other conditions."""
+    for name, values in ORDERED.items():
+        lines = [definition(name, f"from d in docs.{name} select new {{ d.F, d.Number }}")]
+        for number, value in enumerate(values):
+            # Ids are not in the order in which they are put.
+            body = {"F": value, "Number": number, "@metadata": {"@collection": name}}
+            lines.append(put(f"d/{len(values) - number}", model.write_json(body)))
+        lines.append("PUMP 64")
+        for condition in [*SPANS, *OTHERS]:
+            source = f"from index '{name}'" + (f" where {condition}" if condition else "")
+            for key in ("F", "F desc", "F as long", "F as long desc", "F as long, Number desc", "Number as long desc"):
+                text = f"{source} order by {key} select F, Number"
+                lines += [f"QUERY {text}", *(ask(text, Start=start, PageSize=size) for start, size in ((0, 2), (1, 3), (3, 1), (4, 20), (0, 0)))]
+        yield f"pages in order, {name}", "\n".join(lines)
+
+
 def unanswered() -> Named:
     """Each refusal of a query, also of one with several faults."""
     lines = of_values()
@@ -208,6 +237,6 @@ def longest() -> Named:
 
 
 def at_the_limits() -> collections.abc.Iterator[tuple[str, bytes]]:
-    for scripts_of in (limits, refusals, words, meanings, dates, members, names, reduces, answered, unanswered, longest):
+    for scripts_of in (limits, refusals, words, meanings, dates, members, names, reduces, answered, in_order, unanswered, longest):
         for name, script in scripts_of():
             yield name, script.encode() + b"\n"
