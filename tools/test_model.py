@@ -324,6 +324,9 @@ def test_scripts():
         if name == "each date":
             counts = [len(reply["Ids"]) for reply in replies if "Ids" in reply]
             assert counts == [len(worked.LEAP_DAYS) + len(worked.NO_DATES), len(worked.YEARS), 0], counts
+        if name == "how many meet each condition":
+            totals = [reply["TotalResults"] for reply in replies if "TotalResults" in reply]
+            assert totals[: 3 * len(worked_answers.CONDITIONS) : 3] == [len(letters) for *_, letters in worked_answers.CONDITIONS]
         if name == "what each condition finds":
             letters = ["".join(result["Letter"] for result in reply["Results"]) for reply in replies if "Results" in reply]
             expected = [letters for *_, letters in worked_answers.CONDITIONS + worked_answers.SORTS]

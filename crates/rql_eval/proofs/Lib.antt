@@ -2,7 +2,6 @@ pub mod ReadBack
 pub mod Cutting
 pub mod Paging
 pub mod Walking
-pub mod Values
 pub mod OrderedPages
 pub mod Finds
 pub mod Wholes

@@ -1,31 +1,24 @@
 -- A page in the order of the values of one field.
-use Rattle.std.proofs.Common.{◌≡◌, ℕ, zero, suc, ◌≤◌, List, [], ◌∷◌, length, take, drop, false, Option, Some, None, filter, map, Ordering, Less, Equal, Greater, refl, sym, ap, ◌∙◌, arith}
+use Rattle.std.proofs.Common.{◌≡◌, ℕ, zero, suc, ◌<◌, ◌≤◌, List, [], ◌∷◌, length, take, drop, false, Option, Some, None, filter, map, Ordering, Less, Equal, Greater, refl, sym, ap, ◌∙◌, slice_index_or, arith}
 use Rattle.std.specs.Option.{unwrap_or}
 use Rattle.std.specs.Ordering.{ordering_then}
 use Rattle.std.proofs.lemmas.List.{length-drop, length-map}
 use Rattle.raven_base.specs.Counts.{Counts}
 use Rattle.spec_data.specs.Folding.{folded}
-use Rattle.spec_data.specs.Scalars.{Scalar, Test}
 use Rattle.index_tree.specs.Meaning.{Fields}
-use Rattle.spec_query.specs.Condition.{Always, Has, meets}
+use Rattle.spec_query.specs.Condition.{Condition, meets}
 use Rattle.spec_query.specs.Plan.{Plan, meeting, page, up_to}
-use Rattle.spec_query.specs.Sorting.{SortKey, keys_order, sorted}
+use Rattle.spec_query.specs.Sorting.{SortKey, key_order, keys_order, sorted}
 use Rattle.reference_track.specs.Sets.{AreInOrder}
-use Rattle.term_index.specs.Columns.{Columns}
-use Rattle.term_index.specs.Ordered.{by_value, is_asked, values_named}
-use Rattle.rql_filter.specs.Entries.{AreTermsOf, EntryList, ids_of}
-use Rattle.rql_order.proofs.Stable.{map-sorted, same_order}
+use Rattle.rql_filter.specs.Entries.{EntryList, ids_of}
+use Rattle.rql_order.proofs.Stable.{same_order}
 use Rattle.rql_eval.specs.Pages.{ReadsAtMost, entries_of}
-use Rattle.rql_eval.proofs.Cutting.{length-sorted, map-cut}
+use Rattle.rql_eval.proofs.Cutting.{length-sorted}
 use Rattle.rql_eval.proofs.Paging.{page_no_longer, reads_less}
 use Rattle.rql_eval.proofs.ReadBack.{all_are, are-cut, are-filter, are-sorted, read_back}
-use Rattle.rql_eval.proofs.Values.{all_pass, filter_all, values_are, values_asked, with_value}
 
 abbrev Entry : Type 0
 Entry = List ℕ × Fields
-
-abbrev Pairs : Type 0
-Pairs = List (List ℕ × Scalar)
 
 then_equal : (o : Ordering) → ordering_then o Equal ≡ o
 then_equal Less = refl
@@ -34,25 +27,15 @@ then_equal Greater = refl
 
 -- ONE KEY
 
-module _ (k : SortKey) where
-  abbrev by_key : Entry → Entry → Ordering
-  by_key a b = keys_order (k ∷ []) a.1 b.1
+-- the only one of a list
+pub alone : {X : Type 0} (xs : List X) (x : X) → 1 ≤ length xs → length xs < 2 → x ≡ slice_index_or xs 0 x → xs ≡ x ∷ []
+alone [] x some few is = absurd (omega (arith, some))
+alone (y ∷ []) x some few is = ap (λ z. z ∷ []) (sym is)
+alone (y ∷ z ∷ xs) x some few is = absurd (omega (arith, few))
 
-  sorted_values : (es : EntryList) → sorted (by_value k.long k.desc) (map (with_value k.field) es) ≡ map (with_value k.field) (sorted by_key es)
-  sorted_values es =
-      sym (map-sorted (with_value k.field) (by_value k.long k.desc) es)
-      ∙ ap (map (with_value k.field)) (same_order (λ (a b : Entry). by_value k.long k.desc (with_value k.field a) (with_value k.field b)) by_key (λ a b. sym (then_equal (by_value k.long k.desc (with_value k.field a) (with_value k.field b)))) es)
-
-  ids_with_values : (es : EntryList) → map (λ (e : List ℕ × Scalar). e.0) (map (with_value k.field) es) ≡ map folded (ids_of es)
-  ids_with_values [] = refl
-  ids_with_values (e ∷ es) = ap (λ (l : List (List ℕ)). folded e.0 ∷ l) (ids_with_values es)
-
-  -- the ids of a part of the sorted values are those of that part of the sorted entries
-  ids_of_part : (start size : ℕ) (es : EntryList) → map (λ e. e.0) (take size (drop start (sorted (by_value k.long k.desc) (map (with_value k.field) es)))) ≡ map folded (ids_of (take size (drop start (sorted by_key es))))
-  ids_of_part start size es =
-      ap (λ (l : Pairs). map (λ e. e.0) (take size (drop start l))) (sorted_values es)
-      ∙ (ap (map (λ (e : List ℕ × Scalar). e.0)) (sym (map-cut (with_value k.field) start (Some size) (sorted by_key es)))
-      ∙ ids_with_values (take size (drop start (sorted by_key es))))
+-- a key alone orders as keys do of which it is the only one
+one_key : (k : SortKey) (es : EntryList) → sorted (λ (a b : Entry). key_order k a.1 b.1) es ≡ sorted (λ (a b : Entry). keys_order (k ∷ []) a.1 b.1) es
+one_key k = same_order (λ (a b : Entry). key_order k a.1 b.1) (λ (a b : Entry). keys_order (k ∷ []) a.1 b.1) (λ a b. sym (then_equal (key_order k a.1 b.1)))
 
 -- THE PAGE
 
@@ -67,25 +50,25 @@ up_to_total : {X : Type 0} (size : Option ℕ) (total start : ℕ) (xs : List X)
 up_to_total None total start xs h = take-long total (drop start xs) (omega (arith, h, length-drop start xs))
 up_to_total (Some n) total start xs h = refl
 
--- what the terms give is of the page, if the values asked for are those of the entries that meet the condition
-module _ (q : Plan) (es : EntryList) (cs : Columns) (k : SortKey) (one : q.order ≡ k ∷ []) (name : List ℕ) (is_name : name ≡ k.field) (total start size : ℕ) (counted : total ≡ length (meeting q es)) (from : start ≡ q.start) (sized : size ≡ unwrap_or q.size total)
-    (test : Option Test) (asked : filter (λ e. is_asked test e.1) (values_named k.field cs) ≡ map (with_value k.field) (meeting q es)) where
-  abbrev in_line : EntryList
-  in_line = sorted (by_key k) (meeting q es)
+-- a part of the entries that meet the condition, in the order of the only key, is the page
+module _ (q : Plan) (es : EntryList) (k : SortKey) (one : q.order ≡ k ∷ []) (total start size : ℕ) (counted : total ≡ length (meeting q es)) (from : start ≡ q.start) (sized : size ≡ unwrap_or q.size total) where
+  abbrev by_key : Entry → Entry → Ordering
+  by_key a b = key_order k a.1 b.1
 
-  abbrev values : List ℕ → Pairs
-  values field = filter (λ e. is_asked test e.1) (values_named field cs)
+  abbrev part : ℕ → ℕ → Condition → EntryList
+  part start size c = take size (drop start (sorted by_key (filter (λ e. meets c false e.1) es)))
 
-  pub ids_given : (ids : List (List ℕ)) → map folded ids ≡ map (λ e. e.0) (take size (drop start (sorted (by_value k.long k.desc) (values name)))) → map folded ids ≡ map folded (ids_of (page q es))
-  ids_given ids h =
-      h
-      ∙ (ap (λ (l : Pairs). map (λ e. e.0) (take size (drop start (sorted (by_value k.long k.desc) l)))) (ap values is_name ∙ asked)
-      ∙ (ids_of_part k start size (meeting q es)
-      ∙ ap (λ (l : EntryList). map folded (ids_of l)) (
-      ap (λ n. take size (drop n in_line)) from
-      ∙ (ap (λ n. take n (drop q.start in_line)) sized
-      ∙ (up_to_total q.size total q.start in_line (counted ∙ sym (length-sorted (by_key k) (meeting q es)))
-      ∙ ap (λ ks. up_to q.size (drop q.start (sorted (λ (a b : Entry). keys_order ks a.1 b.1) (meeting q es)))) (sym one))))))
+  part_is_page : (c : Condition) → c ≡ q.condition → part start size c ≡ page q es
+  part_is_page c same =
+      ap (part start size) same
+      ∙ (ap (λ n. part n size q.condition) from
+      ∙ (ap (λ n. part q.start n q.condition) sized
+      ∙ (up_to_total q.size total q.start (sorted by_key (meeting q es)) (counted ∙ sym (length-sorted by_key (meeting q es)))
+      ∙ (ap (λ (l : EntryList). up_to q.size (drop q.start l)) (one_key k (meeting q es))
+      ∙ ap (λ ks. up_to q.size (drop q.start (sorted (λ (a b : Entry). keys_order ks a.1 b.1) (meeting q es)))) (sym one)))))
+
+  pub ids_given : (c : Condition) → c ≡ q.condition → (ids : List (List ℕ)) → map folded ids ≡ map folded (ids_of (part start size c)) → map folded ids ≡ map folded (ids_of (page q es))
+  ids_given c same ids h = h ∙ ap (λ (l : EntryList). map folded (ids_of l)) (part_is_page c same)
 
 module _ (q : Plan) (es : EntryList) (ids : List (List ℕ)) (are : map folded ids ≡ map folded (ids_of (page q es))) where
   -- and their entries are the page
@@ -101,18 +84,3 @@ module _ (q : Plan) (es : EntryList) (ids : List (List ℕ)) (are : map folded i
   reads_few read before after same h =
       let count : length read ≡ length (page q es) = ap length same ∙ as_many in
       reads_less (length read) (length (meeting q es)) before after (omega (arith, count, page_no_longer q es)) h
-
--- THE VALUES OF THE ENTRIES THAT MEET THE CONDITION
-
-module _ (q : Plan) (field : List ℕ) (es : EntryList) (cs : Columns) (terms : AreTermsOf es cs) where
-  pub of_test : (test : Test) → Has field test ≡ q.condition → filter (λ e. is_asked (Some test) e.1) (values_named field cs) ≡ map (with_value field) (meeting q es)
-  of_test test is =
-      ap (filter (λ (e : List ℕ × Scalar). is_asked (Some test) e.1)) (values_are field es cs terms)
-      ∙ (values_asked field test es ∙ ap (λ c. map (with_value field) (filter (λ e. meets c false e.1) es)) is)
-
-  pub of_all : Always ≡ q.condition → length (values_named field cs) ≡ length es → filter (λ e. is_asked None e.1) (values_named field cs) ≡ map (with_value field) (meeting q es)
-  of_all is each =
-      filter_all (values_named field cs)
-      ∙ (values_are field es cs terms
-      ∙ (ap (map (with_value field)) (all_pass _ es (sym (length-map _ (with_value field)) ∙ (sym (ap length (values_are field es cs terms)) ∙ each)) ∙ sym (filter_all es))
-      ∙ ap (λ c. map (with_value field) (filter (λ e. meets c false e.1) es)) is))

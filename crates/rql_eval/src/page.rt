@@ -150,9 +150,10 @@ fn page_by_order<'e, E: Reads<L>, L: Ledger>(
 /// If the query asks for no order, an entry is read only if the page has it; or entries are walked from the first on, if it is known
 /// without a walk how many meet the condition, and then no more are read than meet it.
 ///
-/// If it asks for an order by one field, the entries of the page alone are read, each once, if two things hold: its condition is a
-/// test on that field, or it has none and each entry has a value in that field; and the terms of the field are in that order, as
-/// `Terms::in_order` says. In any other order the entries that meet the condition are read, each once, and sorted.
+/// If it asks for an order by one field, the entries of the page alone are read, each once, if three things hold: all tests of its
+/// condition, if it has any, are on that field, whatever joins them; no entry without a value in that field meets it, or each entry
+/// has one; and the terms of the field are in that order, as `Terms::in_order` says. In any other order the entries that meet the
+/// condition are read, each once, and sorted.
 pub fn page_of<'e, E: Reads<L>, L: Ledger>(
     alloc: Global,
     plan: &Plan,

@@ -1,12 +1,14 @@
 //! The ids of the entries that meet a condition.
-ghost use Rattle.std.specs.Prelude.{◌≡◌, ℕ, List, IfOk, IfSome, false, filter, is_some, length, map};
+ghost use Rattle.std.specs.Prelude.{◌≡◌, ℕ, List, IfOk, IfSome, None, [], false, filter, is_some, length, map, true};
 ghost use Rattle.spec_data.specs.Folding.{folded};
 ghost use Rattle.spec_query.specs.Condition.{Has as HasTest, meets};
 ghost use Rattle.raven_value.specs.ScalarView.{test_view};
 ghost use Rattle.reference_track.specs.Sets.{AreInOrder, is_one_of};
 ghost use Rattle.rql_filter.specs.Entries.{AreTermsOf, entry_at, ids_of, is_met};
+ghost use Rattle.rql_filter.specs.OneField as one;
 
 use crate::entries::Entries;
+use crate::one_field::{Differing, add_tests, field_of, is_met_by, is_on};
 use raven_base::NoMemory;
 use raven_value::{Ids, Test, Text};
 use rql_plan::{Condition, ConditionKind};
@@ -92,49 +94,69 @@ pub fn matching<E: Entries>(
     Ok(ids_that_meet(alloc, entries, terms, condition, false)?)
 }
 
-/// How many entries have a field that meets a test, if that is known without a walk.
-fn count_of_test<E: Entries>(
-    alloc: Global,
-    entries: &E,
-    terms: &Terms,
-    field: &Text,
-    test: &Test,
-    exact: bool,
-) -> Result<Option<u64>, NoMemory>
-    requires { AreTermsOf (E.entries entries.now) terms.now }
-    ensures { IfOk result (λ count. IfSome count (λ n. n ≡ length (filter (λ e. meets (HasTest field.now (test_view test.now)) exact e.1) (E.entries entries.now)))) }
-{
-    Ok(terms.count(alloc, field.as_str(), test, exact)?)
-}
-
-/// How many entries meet a condition, if that is known without a walk. Texts are compared by their bytes if it is inside an
-/// `exact`.
-fn count_of<E: Entries>(
+/// How many entries have another answer to a condition on one field than an entry without that field, if that is known without a
+/// walk.
+fn count_differing<E: Entries>(
     alloc: Global,
     entries: &E,
     terms: &Terms,
     condition: &Condition,
-    exact: bool,
+    field: &Text,
+    missing: bool,
 ) -> Result<Option<u64>, NoMemory>
-    requires { AreTermsOf (E.entries entries.now) terms.now }
-    ensures { IfOk result (λ count. IfSome count (λ n. n ≡ length (filter (λ e. meets condition.now exact e.1) (E.entries entries.now)))) }
+    requires terms { AreTermsOf (E.entries entries.now) terms.now }
+    requires field { one.is_on field.now condition.now ≡ true }
+    requires missing { missing ≡ one.met_by condition.now false None }
+    ensures { IfOk result (λ count. IfSome count (λ n. n ≡ length (filter (λ e. one.differs missing (meets condition.now false e.1)) (E.entries entries.now)))) }
 {
-    match condition.kind() {
-        ConditionKind::Always => Ok(Some(entries.len())),
-        ConditionKind::Has(field, test) => {
-            Ok(count_of_test(alloc, entries, terms, field, test, exact)?)
-        }
-        ConditionKind::Exact(inner) => Ok(count_of(alloc, entries, terms, inner, true)?),
-        ConditionKind::Not(inner) => match count_of(alloc, entries, terms, inner, exact)? {
-            Some(met) => Ok(Some(entries.len() - met)),
-            None => Ok(None),
-        },
-        ConditionKind::Or(_, _) | ConditionKind::And(_, _) => Ok(None),
+    let mut tests = Vec::new(alloc);
+    add_tests(condition, false, &mut tests)?;
+    let differing = Differing { condition, missing };
+    Ok(terms.count(alloc, field.as_str(), &tests, &differing)?)
+}
+
+/// How many entries meet a condition on one field, if that is known without a walk.
+///
+/// The terms have the values of the field, and not the entries that lack it. So they count the entries whose answer is another one than
+/// without the field: if such an entry meets the condition, these are those that do not.
+fn count_on<E: Entries>(
+    alloc: Global,
+    entries: &E,
+    terms: &Terms,
+    condition: &Condition,
+    field: &Text,
+) -> Result<Option<u64>, NoMemory>
+    requires terms { AreTermsOf (E.entries entries.now) terms.now }
+    requires field { one.is_on field.now condition.now ≡ true }
+    ensures { IfOk result (λ count. IfSome count (λ n. n ≡ length (filter (λ e. meets condition.now false e.1) (E.entries entries.now)))) }
+{
+    let missing = is_met_by(condition, false, None);
+    let count = count_differing(alloc, entries, terms, condition, field, missing)?;
+    if !missing {
+        return Ok(count);
+    }
+    match count {
+        Some(others) => Ok(Some(entries.len() - others)),
+        None => Ok(None),
     }
 }
 
-/// How many entries meet a condition, if that is known without a walk: for `Always`, for a test that `Terms::count` counts, and
-/// for `not` and `exact` of these. It reads no entry.
+/// How many entries meet a condition without tests, which all entries meet or none.
+fn count_without_tests<E: Entries>(entries: &E, condition: &Condition) -> u64
+    requires { one.tests_of condition.now false ≡ [] }
+    ensures { result ≡ length (filter (λ e. meets condition.now false e.1) (E.entries entries.now)) }
+{
+    if is_met_by(condition, false, None) {
+        entries.len()
+    } else {
+        0
+    }
+}
+
+/// How many entries meet a condition, if that is known without a walk. It reads no entry.
+///
+/// It is known for a condition without tests, and for one whose tests are all on one field if `Terms::count` counts these; `and`,
+/// `or`, `not` and `exact` may join them in any way.
 pub fn count<E: Entries>(
     alloc: Global,
     entries: &E,
@@ -144,5 +166,11 @@ pub fn count<E: Entries>(
     ensures rising { AreInOrder (ids_of (E.entries entries.now)) }
 {
     let terms = entries.terms();
-    Ok(count_of(alloc, entries, terms, condition, false)?)
+    match field_of(condition) {
+        Some(field) if is_on(condition, field) => {
+            Ok(count_on(alloc, entries, terms, condition, field)?)
+        }
+        Some(_) => Ok(None),
+        None => Ok(Some(count_without_tests(entries, condition))),
+    }
 }

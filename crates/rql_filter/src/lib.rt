@@ -3,6 +3,9 @@
 
 mod entries;
 mod filter;
+mod one_field;
+mod ordered;
 
 pub use entries::{Entries, Reads};
 pub use filter::{count, matching};
+pub use ordered::matching_in_order;

@@ -15,7 +15,7 @@ use Rattle.paged_map.specs.Range.{between}
 use Rattle.term_index.specs.Cuts.{IsCut, IsRunAt, is_upto}
 use Rattle.term_index.specs.Held.{AreTerms, IsTerm, Pairs, held}
 use Rattle.term_index.specs.KeyView.{by_mark, mark_of}
-use Rattle.term_index.specs.Lines.{AreInLine}
+use Rattle.term_index.specs.Lines.{AllInLine}
 use Rattle.term_index.specs.Marks as mark
 use Rattle.term_index.specs.Marks.{Mark, before, after}
 use Rattle.term_index.specs.Ordered.{by_value}
@@ -117,29 +117,29 @@ module _ (long : Bool) where
   abbrev down : List ℕ × Scalar → List ℕ × Scalar → Ordering
   down = by_value long true
 
-  line_drop : (n : ℕ) (xs : List (List ℕ × Scalar)) → AreInLine None long xs → AreInLine None long (drop n xs)
+  line_drop : (n : ℕ) (xs : List (List ℕ × Scalar)) → AllInLine long xs → AllInLine long (drop n xs)
   line_drop zero xs l = l
   line_drop (suc n) [] l = tt
   line_drop (suc n) (x ∷ xs) l = line_drop n xs l.1
 
-  pub line_take : (n : ℕ) (xs : List (List ℕ × Scalar)) → AreInLine None long xs → AreInLine None long (take n xs)
+  pub line_take : (n : ℕ) (xs : List (List ℕ × Scalar)) → AllInLine long xs → AllInLine long (take n xs)
   line_take zero xs l = tt
   line_take (suc n) [] l = tt
   line_take (suc n) (x ∷ xs) l = (l.0, line_take n xs l.1)
 
   module _ (m : Mark) (splits : Splits m) where
-    is_past : (x : List ℕ × Scalar) (ys : List (List ℕ × Scalar)) → is_upto m x ≡ true → AreInLine None long (x ∷ []) → IsCut (is_upto m) 0 ys → AreInLine None long ys → IsPast down x ys
+    is_past : (x : List ℕ × Scalar) (ys : List (List ℕ × Scalar)) → is_upto m x ≡ true → AllInLine long (x ∷ []) → IsCut (is_upto m) 0 ys → AllInLine long ys → IsPast down x ys
     is_past x [] h l c ls = tt
     is_past x (y ∷ ys) h l c ls =
         (ap (λ r. is_gt (ordering_reverse r)) (sym (in_line_alike long x.1 y.1 (l.0 refl) (ls.0 refl)) ∙ splits x y h c.0), is_past x ys h l c.1 ls.1)
 
-    are_past : (n : ℕ) (xs : List (List ℕ × Scalar)) → IsCut (is_upto m) n xs → AreInLine None long xs → ArePast down (take n xs) (drop n xs)
+    are_past : (n : ℕ) (xs : List (List ℕ × Scalar)) → IsCut (is_upto m) n xs → AllInLine long xs → ArePast down (take n xs) (drop n xs)
     are_past zero xs c ls = tt
     are_past (suc n) [] c ls = tt
     are_past (suc n) (x ∷ xs) c ls =
         (is_past x (drop n xs) c.0 (ls.0, tt) (cut_drop (is_upto m) n 0 n xs (let e : n ≡ n + 0 = omega arith in e) c.1) (line_drop n xs ls.1), are_past n xs c.1 ls.1)
 
-    cut_sorted : (n : ℕ) (xs : List (List ℕ × Scalar)) → IsCut (is_upto m) n xs → AreInLine None long xs → sorted down xs ≡ sorted down (drop n xs) ++ sorted down (take n xs)
+    cut_sorted : (n : ℕ) (xs : List (List ℕ × Scalar)) → IsCut (is_upto m) n xs → AllInLine long xs → sorted down xs ≡ sorted down (drop n xs) ++ sorted down (take n xs)
     cut_sorted n xs c ls = ap (sorted down) (sym (take-append-drop n xs)) ∙ parts_sorted down (take n xs) (drop n xs) (are_past n xs c ls)
 
   module _ (v : Scalar) where
@@ -158,17 +158,17 @@ module _ (long : Bool) where
     have_it (suc n) [] b a = tt
     have_it (suc n) (x ∷ xs) b a = (neither _ b.0 a.0, have_it n xs b.1 a.1)
 
-    first_of_them : (x : List ℕ × Scalar) (ys : List (List ℕ × Scalar)) → mark.value_cmp (Some x.1) (Some v) ≡ Equal → AreInLine None long (x ∷ []) → HaveIt ys → AreInLine None long ys → IsFirst down x ys
+    first_of_them : (x : List ℕ × Scalar) (ys : List (List ℕ × Scalar)) → mark.value_cmp (Some x.1) (Some v) ≡ Equal → AllInLine long (x ∷ []) → HaveIt ys → AllInLine long ys → IsFirst down x ys
     first_of_them x [] h l t ls = tt
     first_of_them x (y ∷ ys) h l t ls =
         (ap (λ r. is_gt (ordering_reverse r)) (sym (in_line_alike long x.1 y.1 (l.0 refl) (ls.0 refl)) ∙ (values_total.congr (Some x.1) (Some v) (Some y.1) h ∙ back (Some y.1) (Some v) Equal t.0)), first_of_them x ys h l t.1 ls.1)
 
-    run_up : (xs : List (List ℕ × Scalar)) → HaveIt xs → AreInLine None long xs → IsUp down xs
+    run_up : (xs : List (List ℕ × Scalar)) → HaveIt xs → AllInLine long xs → IsUp down xs
     run_up [] t ls = tt
     run_up (x ∷ xs) t ls = (first_of_them x xs t.0 (ls.0, tt) t.1 ls.1, run_up xs t.1 ls.1)
 
     -- after those of greater values come those of the value, and then those of less
-    pub run_sorted : (a r : ℕ) (xs : List (List ℕ × Scalar)) → IsCut (is_upto (before v)) a xs → IsCut (is_upto (after v)) (a + r) xs → AreInLine None long xs
+    pub run_sorted : (a r : ℕ) (xs : List (List ℕ × Scalar)) → IsCut (is_upto (before v)) a xs → IsCut (is_upto (after v)) (a + r) xs → AllInLine long xs
         → sorted down xs ≡ sorted down (drop r (drop a xs)) ++ (take r (drop a xs) ++ sorted down (take a xs))
     run_sorted a r xs b c ls =
         let rest = drop a xs in
@@ -209,7 +209,7 @@ module _ {X : Type 0} where
 
 module _ (long : Bool) (v : Scalar) (all : List (List ℕ × Scalar)) (a r off q end left skip m : ℕ) where
   -- the page so far goes on in the run of the value, and then below it
-  pub step_down : IsCut (is_upto (before v)) a (take end all) → IsCut (is_upto (after v)) (a + r) (take end all) → AreInLine None long all
+  pub step_down : IsCut (is_upto (before v)) a (take end all) → IsCut (is_upto (after v)) (a + r) (take end all) → AllInLine long all
       → a + r ≤ end → end ≤ length all → skip ≡ (end - (a + r)) + off → r ≡ off + q → (left ≤ q → m ≡ left) → (q ≤ left → m ≡ q)
       → take left (drop skip (sorted (by_value long true) (take end all))) ≡ take m (drop (a + off) all) ++ take (left - m) (sorted (by_value long true) (take a all))
   step_down low high line within enough is parts least most =
@@ -302,7 +302,7 @@ run_is low high under over at end first past t es s a u v get lt le is some all 
 
 -- PAGES
 
-pub page_step : (long : Bool) (all : List (List ℕ × Scalar)) (ids part more : List (List ℕ)) (end at first past skip left from m : ℕ) → IsRunAt all end at first past → AreInLine None long all
+pub page_step : (long : Bool) (all : List (List ℕ × Scalar)) (ids part more : List (List ℕ)) (end at first past skip left from m : ℕ) → IsRunAt all end at first past → AllInLine long all
     → end ≤ length all → skip < end → at ≡ end - 1 - skip → from ≡ past - (end - skip - first)
     → (left ≤ end - skip - first → m ≡ left) → (end - skip - first ≤ left → m ≡ end - skip - first)
     → map folded part ≡ map (λ e. e.0) (take m (drop from all)) → more ≡ ids ++ part

@@ -3,6 +3,7 @@ use Rattle.std.proofs.Common.{◌≡◌, ℕ, ◌+◌, ◌<◌, ◌≤◌, List,
 use Rattle.std.specs.Ordering.{is_le}
 use Rattle.std.specs.FinMap.{find, get, from_entries}
 use Rattle.std.proofs.lemmas.List.{drop_more, drop_all}
+use Rattle.std.specs.Option.{option_map_or}
 use Rattle.spec_data.specs.Folding.{folded, key_cmp}
 use Rattle.spec_data.specs.Scalars.{Scalar, Test, Is, In, holds}
 use Rattle.raven_value.specs.ScalarView.{scalar_view}
@@ -11,7 +12,7 @@ use Rattle.paged_map.specs.Range.{between}
 use Rattle.reference_track.specs.Sets.{is_one_of}
 use Rattle.reference_track.proofs.SetLemmas.{is_eq-id_cmp}
 use Rattle.term_index.specs.Edges.{low_edge, high_edge}
-use Rattle.term_index.specs.Held.{Pairs, held, onto, AreApart, passes, passing, passing_onto}
+use Rattle.term_index.specs.Held.{Pairs, held, onto, AreApart, chosen, chosen_onto, passes, passing, passing_onto}
 use Rattle.term_index.specs.Marks.{mark_cmp, at_id}
 use Rattle.term_index.specs.KeyView.{mark_of, by_mark}
 use Rattle.term_index.specs.declared.key.Key.{Key}
@@ -54,36 +55,43 @@ module _ (test : Test) (exact : Bool) where
       filtered true = refl
       filtered false = refl
 
-  held_member : (q x : List ℕ) (s : Scalar) (rest : List (List ℕ)) (es : List (List ℕ × Scalar)) → find key_cmp (folded x) es ≡ None → is_one_of q rest ≡ passes test exact (find key_cmp (folded q) es)
-      → is_one_of q (cond (holds test exact s) (x ∷ rest) rest) ≡ passes test exact (cond (alike (folded q) (folded x)) (Some s) (find key_cmp (folded q) es))
+-- THE IDS WHOSE VALUES MEET A CONDITION
+
+module _ (meets : Scalar → Bool) where
+  -- there is a value, and it meets the condition
+  abbrev is_met : Option Scalar → Bool
+  is_met o = option_map_or meets o false
+
+  held_member : (q x : List ℕ) (s : Scalar) (rest : List (List ℕ)) (es : List (List ℕ × Scalar)) → find key_cmp (folded x) es ≡ None → is_one_of q rest ≡ is_met (find key_cmp (folded q) es)
+      → is_one_of q (cond (meets s) (x ∷ rest) rest) ≡ is_met (cond (alike (folded q) (folded x)) (Some s) (find key_cmp (folded q) es))
   held_member q x s rest es fresh is =
-      elim (alike (folded q) (folded x)) as (λ b. alike (folded q) (folded x) ≡ b → is_one_of q (cond (holds test exact s) (x ∷ rest) rest) ≡ passes test exact (cond b (Some s) (find key_cmp (folded q) es))) [
-        | true ↦ λ h. here h (holds test exact s)
-        | false ↦ λ h. there h (holds test exact s)
+      elim (alike (folded q) (folded x)) as (λ b. alike (folded q) (folded x) ≡ b → is_one_of q (cond (meets s) (x ∷ rest) rest) ≡ is_met (cond b (Some s) (find key_cmp (folded q) es))) [
+        | true ↦ λ h. here h (meets s)
+        | false ↦ λ h. there h (meets s)
       ] refl
     where
       here : alike (folded q) (folded x) ≡ true → (p : Bool) → is_one_of q (cond p (x ∷ rest) rest) ≡ p
       here h true = ap (λ b. b || is_one_of q rest) (sym (is_eq-id_cmp q x) ∙ h)
-      here h false = is ∙ ap (passes test exact) (find-alike (folded q) (folded x) es h ∙ fresh)
+      here h false = is ∙ ap is_met (find-alike (folded q) (folded x) es h ∙ fresh)
 
-      there : alike (folded q) (folded x) ≡ false → (p : Bool) → is_one_of q (cond p (x ∷ rest) rest) ≡ passes test exact (find key_cmp (folded q) es)
+      there : alike (folded q) (folded x) ≡ false → (p : Bool) → is_one_of q (cond p (x ∷ rest) rest) ≡ is_met (find key_cmp (folded q) es)
       there h true = ap (λ b. b || is_one_of q rest) (sym (is_eq-id_cmp q x) ∙ h) ∙ is
       there h false = is
 
-  members_onto : (q : List ℕ) (key : Key) (es : Pairs) → AreApart (onto key (held es)) → is_one_of q (passing test exact es) ≡ passes test exact (find key_cmp (folded q) (held es))
-      → is_one_of q (passing_onto test exact key (passing test exact es)) ≡ passes test exact (find key_cmp (folded q) (onto key (held es)))
-  members_onto q (k.At t) es a is = held_member q t.id (scalar_view t.value) (passing test exact es) (held es) a.0 is
+  members_onto : (q : List ℕ) (key : Key) (es : Pairs) → AreApart (onto key (held es)) → is_one_of q (chosen meets es) ≡ is_met (find key_cmp (folded q) (held es))
+      → is_one_of q (chosen_onto meets key (chosen meets es)) ≡ is_met (find key_cmp (folded q) (onto key (held es)))
+  members_onto q (k.At t) es a is = held_member q t.id (scalar_view t.value) (chosen meets es) (held es) a.0 is
   members_onto q (k.Before v) es a is = is
   members_onto q (k.After v) es a is = is
   members_onto q k.End es a is = is
 
-  pub passing_members : (q : List ℕ) (es : Pairs) → AreApart (held es) → is_one_of q (passing test exact es) ≡ passes test exact (find key_cmp (folded q) (held es))
-  passing_members q [] a = refl
-  passing_members q (e ∷ es) a = members_onto q e.0 es a (passing_members q es (apart-onto e.0 (held es) a).1)
+  pub chosen_members : (q : List ℕ) (es : Pairs) → AreApart (held es) → is_one_of q (chosen meets es) ≡ is_met (find key_cmp (folded q) (held es))
+  chosen_members q [] a = refl
+  chosen_members q (e ∷ es) a = members_onto q e.0 es a (chosen_members q es (apart-onto e.0 (held es) a).1)
 
-  -- the ids of the terms whose values meet the test are those whose value meets it
-  pub found_members : (es : Pairs) → AreApart (held es) → (q : List ℕ) → is_one_of q (passing test exact es) ≡ passes test exact (get (from_entries {R = key_cmp} (held es)) (folded q))
-  found_members es a q = passing_members q es a ∙ ap (passes test exact) (sym (find-values (folded q) (held es)))
+  -- the ids of the terms whose values meet the condition are those whose value meets it
+  pub found_members : (es : Pairs) → AreApart (held es) → (q : List ℕ) → is_one_of q (chosen meets es) ≡ is_met (get (from_entries {R = key_cmp} (held es)) (folded q))
+  found_members es a q = chosen_members q es a ∙ ap is_met (sym (find-values (folded q) (held es)))
 
 -- ONE OF SEVERAL VALUES
 

@@ -12,3 +12,6 @@ pub mod Sorts
 pub mod Places
 pub mod Lined
 pub mod Cuts
+pub mod Changing
+pub mod Counted
+pub mod Single

@@ -1,5 +1,5 @@
 -- The pairs of a rising list from a place on.
-use Rattle.std.proofs.Common.{◌≡◌, ℕ, zero, suc, ◌+◌, ◌<◌, ◌≤◌, List, [], ◌∷◌, length, drop, Bool, true, false, cond, not, ◌&&◌, Some, None, slice_get, filter, Ordering, Less, Equal, Greater, refl, sym, ap, subst, ◌∙◌, arith}
+use Rattle.std.proofs.Common.{◌≡◌, ℕ, zero, suc, ◌+◌, ◌<◌, ◌≤◌, ◌-◌, List, [], ◌∷◌, length, drop, take, Bool, true, false, cond, not, ◌&&◌, Some, None, slice_get, filter, Ordering, Less, Equal, Greater, refl, sym, ap, subst, ◌∙◌, arith}
 use Rattle.std.specs.Cmp.{IsTotalOrder}
 use Rattle.std.specs.Ordering.{is_le, is_lt, ordering_reverse}
 use Rattle.std.proofs.lemmas.Cmp.{tied_itself}
@@ -41,7 +41,7 @@ module _ {K : Type 0} (R : K → K → Ordering) (o : IsTotalOrder R) where
   flip : (x y : K) (r : Ordering) → R x y ≡ r → R y x ≡ ordering_reverse r
   flip x y r h = o.antisymm y x ∙ ap ordering_reverse h
 
-  lt_is : (x y : K) → is_lt (R x y) ≡ not (is_le (R y x))
+  pub lt_is : (x y : K) → is_lt (R x y) ≡ not (is_le (R y x))
   lt_is x y = ap is_lt (o.antisymm x y) ∙ by (R y x)
     where
       by : (r : Ordering) → is_lt (ordering_reverse r) ≡ not (is_le r)
@@ -206,6 +206,32 @@ module _ {K V : Type 0} (R : K → K → Ordering) (o : IsTotalOrder R) where
         | false ↦ λ h. cut_between low high m es s.1
       ] refl
 
+  none_less : (m : K) (es : List (K × V)) → AllAnswer R m Less es → IsCut (λ (e : K × V). is_lt (R e.0 m)) 0 es
+  none_less m [] a = tt
+  none_less m (e ∷ es) a = (ap is_lt (flip R o m e.0 Less a.0), none_less m es a.1)
+
+  -- those before a key come first
+  pub cut_under : (m : K) (es : List (K × V)) → IsRising R es → IsCut (λ (e : K × V). is_lt (R e.0 m)) (length (under R m es)) es
+  cut_under m [] s = tt
+  cut_under m (e ∷ es) s =
+      elim (is_lt (R e.0 m)) as (λ b. is_lt (R e.0 m) ≡ b → IsCut (λ (x : K × V). is_lt (R x.0 m)) (length (cond b (e ∷ under R m es) (under R m es))) (e ∷ es)) [
+        | true ↦ λ h. (h, cut_under m es s.1)
+        | false ↦ λ h.
+            let rest = after_first m e es (not_less (is_le (R m e.0)) (sym (lt_is R o e.0 m) ∙ h)) s.0 in
+            subst (λ (l : List (K × V)). IsCut (λ (x : K × V). is_lt (R x.0 m)) (length l) (e ∷ es)) (sym (none_under m es rest)) (h, none_less m es rest)
+      ] refl
+    where
+      not_less : (b : Bool) → not b ≡ false → b ≡ true
+      not_less true h = refl
+      not_less false h = absurd cc
+
+  -- of two places, the first has the lower key
+  pub rising_get : (es : List (K × V)) (i j : ℕ) (x y : K × V) → IsRising R es → i < j → slice_get es i ≡ Some x → slice_get es j ≡ Some y → R x.0 y.0 ≡ Less
+  rising_get [] i j x y s l g h = absurd cc
+  rising_get (e ∷ es) i zero x y s l g h = absurd (omega (arith, l))
+  rising_get (e ∷ es) zero (suc j) x y s l g h = ap (λ (z : K × V). R z.0 y.0) (let is : x ≡ e = cc in is) ∙ answer_get e.0 Less es j y s.0 h
+  rising_get (e ∷ es) (suc i) (suc j) x y s l g h = rising_get es i j x y s.1 (omega (arith, l)) g h
+
   pub under_and_between : (low high : K) (es : List (K × V)) → length (under R low es) + length (between R low high es) ≤ length es
   under_and_between low high [] = omega arith
   under_and_between low high (e ∷ es) =
@@ -217,3 +243,40 @@ module _ {K V : Type 0} (R : K → K → Ordering) (o : IsTotalOrder R) where
       ap_le true true h ih = subst (λ l. length (cond l (e ∷ under R low es) (under R low es)) + suc (length (between R low high es)) ≤ suc (length es)) (sym h) (omega (arith, ih))
       ap_le true false h ih = subst (λ l. length (cond l (e ∷ under R low es) (under R low es)) + length (between R low high es) ≤ suc (length es)) (sym h) (omega (arith, ih))
       ap_le false c h ih = subst (λ l. length (cond l (e ∷ under R low es) (under R low es)) + length (between R low high es) ≤ suc (length es)) (sym h) (omega (arith, ih))
+
+module _ {X : Type 0} where
+  pub get_drop : (a i : ℕ) (xs : List X) → slice_get (drop a xs) i ≡ slice_get xs (a + i)
+  get_drop zero i xs = ap (slice_get xs) (let e : i ≡ 0 + i = omega arith in e)
+  get_drop (suc a) i [] = refl
+  get_drop (suc a) i (x ∷ xs) = get_drop a i xs ∙ ap (slice_get (x ∷ xs)) (let e : suc (a + i) ≡ suc a + i = omega arith in e)
+
+module _ {K V : Type 0} (R : K → K → Ordering) (o : IsTotalOrder R) where
+  rising_drop : (a : ℕ) (es : List (K × V)) → IsRising R es → IsRising R (drop a es)
+  rising_drop zero es s = s
+  rising_drop (suc a) [] s = tt
+  rising_drop (suc a) (e ∷ es) s = rising_drop a es s.1
+
+  -- up to the key of the pair at a place
+  upto_at : (es : List (K × V)) (j : ℕ) (y : K × V) → IsRising R es → slice_get es j ≡ Some y → upto R y.0 es ≡ take (suc j) es
+  upto_at [] j y s g = absurd cc
+  upto_at (e ∷ es) zero y s g =
+      let is : e ≡ y = cc in
+      sym (ap (λ (z : K × V). upto R z.0 (e ∷ es)) is)
+      ∙ (ap (λ r. cond (is_le r) (e ∷ upto R e.0 es) (upto R e.0 es)) (tied_itself o e.0) ∙ ap (λ l. e ∷ l) (none_upto R o e.0 es s.0))
+  upto_at (e ∷ es) (suc j) y s g = ap (λ r. cond (is_le r) (e ∷ upto R y.0 es) (upto R y.0 es)) (answer_get R o e.0 Less es j y s.0 g) ∙ ap (λ l. e ∷ l) (upto_at es j y s.1 g)
+
+  -- from the pair at one place to that at another
+  pub run_between : (es : List (K × V)) (a b : ℕ) (x y : K × V) → IsRising R es → slice_get es a ≡ Some x → slice_get es b ≡ Some y → a ≤ b → between R x.0 y.0 es ≡ take (suc b - a) (drop a es)
+  run_between es a b x y s g h le =
+      between_at R o y.0 es a x s g
+      ∙ (upto_at (drop a es) (b - a) y (rising_drop a es s) (get_drop a (b - a) es ∙ (ap (slice_get es) (let e : a + (b - a) ≡ b = omega (arith, le) in e) ∙ h))
+      ∙ ap (λ n. take n (drop a es)) (let e : suc (b - a) ≡ suc b - a = omega (arith, le) in e))
+
+  -- as many are before the key of a pair as before the pair
+  pub under_at : (es : List (K × V)) (a : ℕ) (x : K × V) → IsRising R es → slice_get es a ≡ Some x → a ≡ length (under R x.0 es)
+  under_at [] a x s g = absurd cc
+  under_at (e ∷ es) zero x s g =
+      let is : e ≡ x = cc in
+      sym (ap length (sym (ap (λ (z : K × V). under R z.0 (e ∷ es)) is)
+      ∙ (ap (λ r. cond (is_lt r) (e ∷ under R e.0 es) (under R e.0 es)) (tied_itself o e.0) ∙ none_under R o e.0 es s.0)))
+  under_at (e ∷ es) (suc a) x s g = ap suc (under_at es a x s.1 g) ∙ sym (ap length (ap (λ r. cond (is_lt r) (e ∷ under R x.0 es) (under R x.0 es)) (answer_get R o e.0 Less es a x s.0 g)))

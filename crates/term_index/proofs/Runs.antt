@@ -96,7 +96,7 @@ all_from-between low high (e ∷ es) =
 
 module _ (prefix : List ℕ) (exact : Bool) where
   -- none begins so from a value on that does not
-  none_begins : (v w : Scalar) (x y : List ℕ) → is_le (mark_cmp (before (words prefix)) (at_id v x)) ≡ true → is_le (mark_cmp (at_id v x) (at_id w y)) ≡ true → holds (Starts prefix) false v ≡ false → holds (Starts prefix) exact w ≡ false
+  pub none_begins : (v w : Scalar) (x y : List ℕ) → is_le (mark_cmp (before (words prefix)) (at_id v x)) ≡ true → is_le (mark_cmp (at_id v x) (at_id w y)) ≡ true → holds (Starts prefix) false v ≡ false → holds (Starts prefix) exact w ≡ false
   none_begins v nothing x y h g n = refl
   none_begins v (truth b) x y h g n = refl
   none_begins v (number m) x y h g n = refl

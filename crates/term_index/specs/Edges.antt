@@ -83,3 +83,8 @@ is_span (AtLeast a) exact = are_in_line exact a a
 is_span (Between a b) exact = are_in_line exact a b
 is_span There exact = true
 is_span other exact = false
+
+-- the test asks how texts begin
+abbrev pub is_prefix : Test → Bool
+is_prefix (Starts t) = true
+is_prefix other = false

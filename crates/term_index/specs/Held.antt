@@ -39,14 +39,21 @@ abbrev pub AreApart : List (List ℕ × Scalar) → Type 0
 AreApart [] = Unit {0}
 AreApart (e ∷ es) = (find key_cmp e.0 es ≡ None) × AreApart es
 
-abbrev pub passing_onto : Test → Bool → Key → List (List ℕ) → List (List ℕ)
-passing_onto test exact (k.At t) rest = if holds test exact (scalar_view t.value) then t.id ∷ rest else rest
-passing_onto test exact edge rest = rest
+abbrev pub chosen_onto : (Scalar → Bool) → Key → List (List ℕ) → List (List ℕ)
+chosen_onto meets (k.At t) rest = if meets (scalar_view t.value) then t.id ∷ rest else rest
+chosen_onto meets edge rest = rest
 
--- the ids of the terms whose values meet the test, in the order of the terms
+-- the ids of the terms whose values meet a condition, in the order of the terms
+abbrev pub chosen : (Scalar → Bool) → Pairs → List (List ℕ)
+chosen meets [] = []
+chosen meets (e ∷ es) = chosen_onto meets e.0 (chosen meets es)
+
+abbrev pub passing_onto : Test → Bool → Key → List (List ℕ) → List (List ℕ)
+passing_onto test exact = chosen_onto (holds test exact)
+
+-- those whose values meet a test
 abbrev pub passing : Test → Bool → Pairs → List (List ℕ)
-passing test exact [] = []
-passing test exact (e ∷ es) = passing_onto test exact e.0 (passing test exact es)
+passing test exact = chosen (holds test exact)
 
 -- the first of the ids is this one
 abbrev pub is_first : List ℕ → List (List ℕ) → Bool

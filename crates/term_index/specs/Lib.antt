@@ -7,3 +7,5 @@ pub mod Columns
 pub mod Ordered
 pub mod Lines
 pub mod Cuts
+pub mod Decided
+pub mod Steps

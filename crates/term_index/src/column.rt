@@ -1,5 +1,5 @@
 //! The values of one field.
-ghost use Rattle.std.specs.Prelude.{◌≡◌, ℕ, List, None, IfOk, IfSome, IsTrue, cond, drop, filter, map, option_map, take};
+ghost use Rattle.std.specs.Prelude.{◌≡◌, ℕ, List, None, IfOk, IfSome, IsTrue, cond, drop, false, filter, map, option_map, take};
 ghost use Rattle.std.specs.FinMap.{empty, entries, find, get, len};
 ghost use Rattle.std.specs.Ordering.{eq_by_cmp};
 ghost use Rattle.spec_data.specs.Folding.{folded, key_cmp};
@@ -7,15 +7,18 @@ ghost use Rattle.spec_data.specs.Scalars.{In, Is};
 ghost use Rattle.raven_value.specs.ScalarView.{scalar_view, test_view};
 ghost use Rattle.spec_query.specs.Sorting.{sorted};
 ghost use Rattle.reference_track.specs.Sets.{AreInOrder, is_one_of};
+ghost use Rattle.std.specs.Option.{option_map_or};
+ghost use Rattle.term_index.specs.Decided.{Decide};
 ghost use Rattle.term_index.specs.Held.{AreApart, AreTerms, IsCountOf, held, passes, set_value};
 ghost use Rattle.term_index.specs.KeyView.{term_of};
-ghost use Rattle.term_index.specs.Ordered.{by_value, is_asked};
+ghost use Rattle.term_index.specs.Ordered.{by_value};
 
+use crate::counting::{ValueCondition, count_meeting};
 use crate::key::{Key, Term};
 use crate::pages::ids_in_order;
 use crate::sets::{add, in_order};
 use crate::values::ValueOrder;
-use crate::walks::{TermSet, count_passing, ids_of_value, ids_passing};
+use crate::walks::{TermSet, ids_of_value, ids_passing};
 use paged_map::PagedMap;
 use raven_base::{NoMemory, Shared};
 use raven_value::{Id, Ids, Scalar, Test};
@@ -37,6 +40,8 @@ impl Drop for Column {
 impl Model for Column {
     ghost use Rattle.std.specs.FinMap.{code, from_entries};
     ghost use Rattle.spec_data.specs.Codes.{text_code, scalar_code};
+    ghost use Rattle.std.specs.Option.{option_map_or};
+    ghost use Rattle.term_index.specs.Decided.{Decide};
     ghost use Rattle.term_index.specs.Held.{AreApart, AreTerms, Values, held};
 
     ghost Value = { Values };
@@ -208,28 +213,36 @@ impl Column {
         }
     }
 
-    /// How many ids have values that meet a test, if that is known without a walk over them.
-    pub fn count(&self, alloc: Global, test: &Test, exact: bool) -> Result<Option<u64>, NoMemory>
-        ensures { IfOk result (λ count. IfSome count (IsCountOf (λ q. passes (test_view test.now) exact (get self.now (folded q))))) }
-    {
-        Ok(count_passing(alloc, &self.terms, test, exact)?)
-    }
-
-    /// Of the ids whose values meet a test, or of all ids, those after the first `start`, `size` at most, in an order of their
-    /// values. None if the terms are not in that order.
-    pub fn in_order(
+    /// How many ids have values that meet a condition that these tests decide, if that is known without a walk over them.
+    pub fn count<C: ValueCondition>(
         &self,
         alloc: Global,
-        test: Option<&Test>,
+        tests: &[(&Test, bool)],
+        condition: &C,
+    ) -> Result<Option<u64>, NoMemory>
+        requires { Decide (map (λ t. (test_view t.0.now, t.1)) tests.now) (C.meets condition.now) }
+        ensures { IfOk result (λ count. IfSome count (IsCountOf (λ q. option_map_or (C.meets condition.now) (get self.now (folded q)) false))) }
+    {
+        Ok(count_meeting(alloc, &self.terms, tests, condition)?)
+    }
+
+    /// Of the ids whose values meet a condition that these tests decide, those after the first `start`, `size` at most, in an order
+    /// of their values. None if they are not known without a walk, or not in that order among the terms.
+    pub fn in_order<C: ValueCondition>(
+        &self,
+        alloc: Global,
+        tests: &[(&Test, bool)],
+        condition: &C,
         order: ValueOrder,
         start: u64,
         size: u64,
     ) -> Result<Option<Ids>, NoMemory>
+        requires { Decide (map (λ t. (test_view t.0.now, t.1)) tests.now) (C.meets condition.now) }
         ensures { IfOk result (λ page. IfSome page (λ ids.
             map folded ids ≡ map (λ e. e.0) (take size (drop start (sorted (by_value order.long order.desc)
-            (filter (λ e. is_asked (option_map (λ t. test_view t.now) test.entry) e.1) (entries self.now))))))) }
+            (filter (λ e. C.meets condition.now e.1) (entries self.now))))))) }
     {
-        Ok(ids_in_order(alloc, &self.terms, test, order, start, size)?)
+        Ok(ids_in_order(alloc, &self.terms, tests, condition, order, start, size)?)
     }
 }
 

@@ -2,14 +2,18 @@
 #![tactic(auto)]
 
 mod column;
+mod counting;
 mod edges;
 mod key;
+mod one_run;
 mod pages;
 mod sets;
+mod steps;
 mod terms;
 mod values;
 mod walks;
 
+pub use counting::ValueCondition;
 pub use sets::{common, union, without};
 pub use terms::Terms;
 pub use values::ValueOrder;

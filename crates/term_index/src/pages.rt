@@ -1,19 +1,22 @@
 //! Pages of the ids of a field, in an order of their values.
-ghost use Rattle.std.specs.Prelude.{◌≡◌, ◌<◌, ◌≤◌, Bool, IfOk, IfSome, IsTrue, Some, None, true, false, nat_eq, drop, filter, length, map, option_map, take};
+ghost use Rattle.std.specs.Prelude.{◌≡◌, ◌<◌, ◌≤◌, ◌-◌, Bool, IfOk, IfSome, true, false, nat_eq, drop, filter, length, map, take};
 ghost use Rattle.std.specs.Ordering.{is_lt};
 ghost use Rattle.std.specs.FinMap.{entries, from_entries};
 ghost use Rattle.spec_data.specs.Folding.{folded, key_cmp};
 ghost use Rattle.spec_query.specs.Sorting.{sorted};
-ghost use Rattle.raven_value.specs.ScalarView.{scalar_view, test_view};
+ghost use Rattle.raven_value.specs.ScalarView.{test_view};
 ghost use Rattle.paged_map.specs.Range.{between};
 ghost use Rattle.term_index.specs.Cuts.{IsRunAt};
+ghost use Rattle.term_index.specs.Decided.{Decide};
 ghost use Rattle.term_index.specs.Held.{AreApart, AreTerms, held};
 ghost use Rattle.term_index.specs.KeyView.{by_mark, mark_of};
 ghost use Rattle.term_index.specs.Lines as line;
-ghost use Rattle.term_index.specs.Ordered.{by_value, is_asked};
+ghost use Rattle.term_index.specs.Ordered.{by_value};
 
-use crate::edges::{after, before, before_texts, high_edge, low_edge};
+use crate::counting::ValueCondition;
+use crate::edges::{after, before};
 use crate::key::Key;
+use crate::one_run::{Run, are_in_line, run_of};
 use crate::sets::add;
 use crate::values::ValueOrder;
 use crate::walks::TermSet;
@@ -21,83 +24,6 @@ use paged_map::Pairs;
 use raven_base::NoMemory;
 use raven_value::{Ids, Scalar, Test};
 use std::alloc::Global;
-
-/// Whether an order of numbers, or of texts, compares this value by its size, or by its text.
-fn is_of_order(value: &Scalar, long: bool) -> bool
-    ensures { result ≡ line.is_of_order long (scalar_view value.now) }
-{
-    match value {
-        Scalar::Num(_) => long,
-        Scalar::Text(_) => !long,
-        _ => false,
-    }
-}
-
-/// Whether all values are null or of the one kind. It takes two searches, or four.
-fn are_one_kind(alloc: Global, terms: &TermSet, long: bool) -> Result<bool, NoMemory>
-    requires { AreTerms terms.now }
-    ensures { IfOk result (λ is. IsTrue is → line.AreInLine None long (held terms.now)) }
-{
-    let flags = after(alloc, Scalar::Null)?;
-    let texts = before_texts(alloc)?;
-    if !long {
-        return Ok(terms.count_between(&flags, &texts) == 0);
-    }
-    let numbers = after(alloc, Scalar::Flag(true))?;
-    Ok(terms.count_between(&flags, &numbers) == 0 && terms.count_between(&texts, &Key::End) == 0)
-}
-
-/// Whether the values that meet a test are in the order of their terms, and no others are between its edges.
-fn meet_in_line(alloc: Global, terms: &TermSet, test: &Test, long: bool) -> Result<bool, NoMemory>
-    requires { AreTerms terms.now }
-    ensures line { IfOk result (λ is. IsTrue is → line.AreInLine (Some (test_view test.now)) long (held terms.now)) }
-    ensures whole { IfOk result (λ is. IsTrue is → line.is_whole (Some (test_view test.now)) ≡ true) }
-{
-    match test {
-        Test::There => are_one_kind(alloc, terms, long),
-        Test::Below(bound) => Ok(is_of_order(bound, long)),
-        Test::AtMost(bound) => Ok(is_of_order(bound, long)),
-        Test::Above(bound) => Ok(is_of_order(bound, long)),
-        Test::AtLeast(bound) => Ok(is_of_order(bound, long)),
-        Test::Between(low, high) => Ok(is_of_order(low, long) && is_of_order(high, long)),
-        Test::Is(_) | Test::Not(_) | Test::In(_) | Test::Starts(_) => Ok(false),
-    }
-}
-
-/// Whether the values that are asked for are in the order of their terms, and no others are between their edges.
-fn are_in_line(
-    alloc: Global,
-    terms: &TermSet,
-    test: Option<&Test>,
-    long: bool,
-) -> Result<bool, NoMemory>
-    requires { AreTerms terms.now }
-    ensures line { IfOk result (λ is. IsTrue is → line.AreInLine (option_map (λ t. test_view t.now) test.entry) long (held terms.now)) }
-    ensures whole { IfOk result (λ is. IsTrue is → line.is_whole (option_map (λ t. test_view t.now) test.entry) ≡ true) }
-{
-    match test {
-        Some(test) => meet_in_line(alloc, terms, test, long),
-        None => are_one_kind(alloc, terms, long),
-    }
-}
-
-fn low_of(alloc: Global, test: Option<&Test>) -> Result<Key, NoMemory>
-    ensures { IfOk result (λ key. mark_of key ≡ line.low_of (option_map (λ t. test_view t.now) test.entry)) }
-{
-    match test {
-        Some(test) => low_edge(alloc, test, false),
-        None => before(alloc, Scalar::Null),
-    }
-}
-
-fn high_of(alloc: Global, test: Option<&Test>) -> Result<Key, NoMemory>
-    ensures { IfOk result (λ key. mark_of key ≡ line.high_of (option_map (λ t. test_view t.now) test.entry)) }
-{
-    match test {
-        Some(test) => high_edge(alloc, test, false),
-        None => Ok(Key::End),
-    }
-}
 
 /// The ids of the first of these terms, `size` at most.
 fn first_ids(alloc: Global, terms: Pairs<'_, Key, ()>, size: u64) -> Result<Ids, NoMemory>
@@ -118,7 +44,7 @@ fn first_ids(alloc: Global, terms: Pairs<'_, Key, ()>, size: u64) -> Result<Ids,
 }
 
 /// How many terms are before an edge.
-fn count_before(alloc: Global, terms: &TermSet, edge: &Key) -> Result<u64, NoMemory>
+pub fn count_before(alloc: Global, terms: &TermSet, edge: &Key) -> Result<u64, NoMemory>
     requires terms { AreTerms terms.now }
     requires edge { nat_eq (mark_of edge.now).side 1 ≡ false }
     ensures { IfOk result (λ count. count ≡ length (filter (λ e. is_lt (by_mark e.0 edge.now)) terms.now)) }
@@ -199,7 +125,7 @@ fn page_down(
 ) -> Result<Ids, NoMemory>
     requires terms { AreTerms terms.now }
     requires base { base ≡ length (filter (λ e. is_lt (by_mark e.0 low.now)) terms.now) }
-    ensures { IfOk result (λ ids. (long : Bool) → line.AreInLine None long (held (between by_mark low.now high.now terms.now)) →
+    ensures { IfOk result (λ ids. (long : Bool) → line.AllInLine long (held (between by_mark low.now high.now terms.now)) →
         map folded ids ≡ map (λ e. e.0) (take size (drop start (sorted (by_value long true) (held (between by_mark low.now high.now terms.now)))))) }
 {
     let mut ids = Vec::new(alloc);
@@ -222,33 +148,63 @@ fn page_down(
     Ok(Ids::of(ids))
 }
 
-/// Of the ids whose values meet a test, or of all ids, those after the first `start`, `size` at most, in an order of their values. None if the values are not in the order of their terms.
-pub fn ids_in_order(
+/// The ids of the terms of a run, in an order of their values, after the first `start`, `size` at most. None of the terms before
+/// these is walked over.
+fn page_of_run(
     alloc: Global,
     terms: &TermSet,
-    test: Option<&Test>,
+    run: Run,
+    desc: bool,
+    start: u64,
+    size: u64,
+) -> Result<Ids, NoMemory>
+    requires terms { AreTerms terms.now }
+    requires order { run.start ≤ run.end }
+    requires within { run.end ≤ length terms.now }
+    ensures { IfOk result (λ ids. (long : Bool) → line.AllInLine long (held (take (run.end - run.start) (drop run.start terms.now))) →
+        map folded ids ≡ map (λ e. e.0) (take size (drop start (sorted (by_value long desc) (held (take (run.end - run.start) (drop run.start terms.now))))))) }
+{
+    // The proof needs that the terms are in order.
+    let _terms = terms.len();
+    if run.start == run.end {
+        return Ok(Ids::new(alloc));
+    }
+    let (Some(low), Some(high)) = (terms.nth(run.start), terms.nth(run.end - 1)) else {
+        unreachable!();
+    };
+    if desc {
+        page_down(alloc, terms, run.start, &low.0, &high.0, start, size)
+    } else {
+        page_up(alloc, terms, run.start, &low.0, &high.0, start, size)
+    }
+}
+
+/// Of the ids whose values meet a condition that these tests decide, those after the first `start`, `size` at most, in an order of
+/// their values. None if it is not known without a walk which they are, if there are others between them, or if their values are not
+/// in the order of their terms.
+pub fn ids_in_order<C: ValueCondition>(
+    alloc: Global,
+    terms: &TermSet,
+    tests: &[(&Test, bool)],
+    condition: &C,
     order: ValueOrder,
     start: u64,
     size: u64,
 ) -> Result<Option<Ids>, NoMemory>
     requires terms { AreTerms terms.now }
     requires apart { AreApart (held terms.now) }
+    requires tests { Decide (map (λ t. (test_view t.0.now, t.1)) tests.now) (C.meets condition.now) }
     ensures { IfOk result (λ page. IfSome page (λ ids.
         map folded ids ≡ map (λ e. e.0) (take size (drop start (sorted (by_value order.long order.desc)
-        (filter (λ e. is_asked (option_map (λ t. test_view t.now) test.entry) e.1) (entries (from_entries {R = key_cmp} (held terms.now))))))))) }
+        (filter (λ e. C.meets condition.now e.1) (entries (from_entries {R = key_cmp} (held terms.now))))))))) }
 {
     // The proof needs that the terms are in order.
     let _terms = terms.len();
-    if !are_in_line(alloc, terms, test, order.long)? {
+    let Some(run) = run_of(alloc, terms, tests, condition)? else {
+        return Ok(None);
+    };
+    if !are_in_line(alloc, terms, run, order.long)? {
         return Ok(None);
     }
-    let low = low_of(alloc, test)?;
-    let high = high_of(alloc, test)?;
-    let base = count_before(alloc, terms, &low)?;
-    let page = if order.desc {
-        page_down(alloc, terms, base, &low, &high, start, size)?
-    } else {
-        page_up(alloc, terms, base, &low, &high, start, size)?
-    };
-    Ok(Some(page))
+    Ok(Some(page_of_run(alloc, terms, run, order.desc, start, size)?))
 }

@@ -1,16 +1,18 @@
 //! The values of all fields.
-ghost use Rattle.std.specs.Prelude.{◌≡◌, ℕ, List, IfOk, IfSome, option_map};
+ghost use Rattle.std.specs.Prelude.{◌≡◌, ℕ, List, IfOk, IfSome, false, map, option_map};
 ghost use Rattle.std.specs.Map.{lookup};
-ghost use Rattle.std.specs.Option.{option_copied};
+ghost use Rattle.std.specs.Option.{option_copied, option_map_or};
 ghost use Rattle.std.specs.Str.{bytes_eq};
 ghost use Rattle.spec_data.specs.Folding.{folded};
 ghost use Rattle.spec_data.specs.Scalars.{Is};
 ghost use Rattle.raven_value.specs.ScalarView.{scalar_view, test_view};
 ghost use Rattle.reference_track.specs.Sets.{AreInOrder, is_one_of};
 ghost use Rattle.term_index.specs.Columns.{HasFields, fields_of, no_values, value_at, value_of, with_fields};
+ghost use Rattle.term_index.specs.Decided.{Decide};
 ghost use Rattle.term_index.specs.Held.{IsCountOf, passes};
 
 use crate::column::Column;
+use crate::counting::ValueCondition;
 use raven_base::{NoMemory, Shared};
 use raven_value::{Id, Ids, Names, Scalar, Test, Text};
 use std::alloc::{AllocError, Global};
@@ -144,21 +146,24 @@ impl Terms {
         }
     }
 
-    /// How many ids have values in a field that meet a test, if that is known without a walk over them.
+    /// How many ids have values in a field that meet a condition, if that is known without a walk over them. The condition is one
+    /// that these tests decide, each with whether it compares texts exactly.
     ///
-    /// It is known for a value, for all others, for `There`, and for bounds that are numbers, or texts that are not compared
-    /// exactly. It costs two searches. It is not known for `In` and `Starts`, and for texts that are compared exactly.
-    pub fn count(
+    /// It is known for `Is`, `Not`, `In`, `Starts` and `There`, and for bounds that are two numbers or two texts, unless a text is
+    /// compared exactly; and if these are at most 64 in all, where each value of an `In` is one. For each of them it costs some
+    /// searches, and the condition is asked of one value for each run of terms between their edges.
+    pub fn count<C: ValueCondition>(
         &self,
         alloc: Global,
         field: &str,
-        test: &Test,
-        exact: bool,
+        tests: &[(&Test, bool)],
+        condition: &C,
     ) -> Result<Option<u64>, NoMemory>
-        ensures { IfOk result (λ count. IfSome count (IsCountOf (λ q. passes (test_view test.now) exact (value_at field.now (folded q) self.now)))) }
+        requires { Decide (map (λ t. (test_view t.0.now, t.1)) tests.now) (C.meets condition.now) }
+        ensures { IfOk result (λ count. IfSome count (IsCountOf (λ q. option_map_or (C.meets condition.now) (value_at field.now (folded q) self.now) false))) }
     {
         match self.column(field) {
-            Some(column) => column.count(alloc, test, exact),
+            Some(column) => column.count(alloc, tests, condition),
             None => Ok(Some(0)),
         }
     }

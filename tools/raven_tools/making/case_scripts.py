@@ -174,10 +174,34 @@ ORDERED = {
 }
 SPANS = ["", "F > 0", "F >= -3", "F < 7", "F <= 7", "F between -3 and 7", "F between 7 and 5", "F > 'A'", "F <= 'b'", "F between 'a' and 'B'", "exists(F)"]
 OTHERS = ["F = 7", "F != 7", "F in (7, 'a')", "startsWith(F, 'a')", "exact(F >= 'a')", "Number > 3", "F > 0 and Number > 3", "not F < 7"]
+# Conditions of several tests on one field, with and without other values between those that meet them.
+JOINED = ["F >= -3 and F < 10", "F > 0 and not F >= 12", "F >= 'a' and F < 'c'", "F < 5 or F >= 7", "F <= 5 or F = 7", "F = 5 or F between 6 and 12"]
+JOINED += ["not (F < 0 or F > 10)", "not (F >= 'aa' and F < 'c')", "not exists(F)", "F = null or F <= 7", "F > 0 and F > 'a'", "F > 7 and F < 5"]
+JOINED += ["F in (5, 7, 10) and F != 7", "F in ('a', 'aa') or F = 'A'", "startsWith(F, 'A') and F > 'a'"]
+JOINED += ["startsWith(F, '') or F = null", "exact(F > 0 and F < 10)"]
+
+
+# Tests on a field. Of two of them a condition is made.
+TESTS = ["F = 7", "F != 'ada'", "F < 10", "F >= -1", "F > 'a'", "F between 'A' and 'b'", "F in (7, 'Ada', null)", "startsWith(F, 'AD')", "exists(F)"]
+TESTS += ["exact(F = 'ada')", "true"]
+
+
+def totals() -> Named:
+    """How many documents meet each condition, and short pages of them: of worked conditions, and of two tests on one field or on two."""
+    lines = of_values()
+    conditions = [(text, parameters) for text, parameters, _ in worked_answers.CONDITIONS]
+    for one in TESTS:
+        for other in TESTS:
+            joined = [f"{one} and {other}", f"{one} or {other}", f"not ({one}) and {other}", f"not ({one} or not {other})"]
+            conditions += [(text, {}) for text in [*joined, f"exact({one} or {other})", f"{one} or {other.replace('F', 'Letter')}"]]
+    for text, parameters in conditions:
+        pages = ((0, 0), (0, 1), (2, 2))
+        lines += [ask(f"from index 'Values' where {text}", QueryParameters=parameters, Start=start, PageSize=size) for start, size in pages]
+    yield "how many meet each condition", "\n".join(lines)
 
 
 def in_order() -> Named:
-    """Pages in the order of a field, of a test on that field and of other conditions."""
+    """Pages in the order of a field, of conditions on that field and of others."""
     for name, values in ORDERED.items():
         lines = [definition(name, f"from d in docs.{name} select new {{ d.F, d.Number }}")]
         for number, value in enumerate(values):
@@ -185,7 +209,7 @@ def in_order() -> Named:
             body = {"F": value, "Number": number, "@metadata": {"@collection": name}}
             lines.append(put(f"d/{len(values) - number}", model.write_json(body)))
         lines.append("PUMP 64")
-        for condition in [*SPANS, *OTHERS]:
+        for condition in [*SPANS, *OTHERS, *JOINED]:
             source = f"from index '{name}'" + (f" where {condition}" if condition else "")
             for key in ("F", "F desc", "F as long", "F as long desc", "F as long, Number desc", "Number as long desc"):
                 text = f"{source} order by {key} select F, Number"
@@ -237,6 +261,6 @@ def longest() -> Named:
 
 
 def at_the_limits() -> collections.abc.Iterator[tuple[str, bytes]]:
-    for scripts_of in (limits, refusals, words, meanings, dates, members, names, reduces, answered, in_order, unanswered, longest):
+    for scripts_of in (limits, refusals, words, meanings, dates, members, names, reduces, answered, totals, in_order, unanswered, longest):
         for name, script in scripts_of():
             yield name, script.encode() + b"\n"

@@ -159,6 +159,15 @@ class Questions(Chance):
         inner = self.condition(depth + 1)
         return ["not", *inner] if kind == 10 else ["exact", "(", *inner, ")"]
 
+    def where(self) -> Tokens:
+        """A condition, in three of ten on one field."""
+        fields = self.fields
+        if fields and self.chance(30):
+            self.fields = [self.one_of(fields)]
+        tokens = self.condition()
+        self.fields = fields
+        return tokens
+
     # clauses
 
     def listed(self, rule, counts) -> Tokens:
@@ -186,7 +195,7 @@ class Questions(Chance):
         if not is_of_index and self.chance(8):
             tokens += ["group", "by", *self.listed(lambda: self.spelled_path(self.any_path()), [1, 2])]
         if is_of_index and self.chance(70) or self.chance(6):
-            tokens += ["where", *self.condition()]
+            tokens += ["where", *self.where()]
         if is_of_index and self.chance(55) or self.chance(6):
             tokens += ["order", "by", *self.listed(self.sort, [1, 1, 2, 3])]
         if self.chance(selected):
