@@ -14,7 +14,7 @@ import sys
 
 sys.dont_write_bytecode = True
 from raven_tools import model, programs
-from raven_tools.model import http_session, keeping, running, serving
+from raven_tools.model import http_session, keeping, messages, running, serving
 
 
 def session(arguments: tuple[str, ...]) -> str:
@@ -29,7 +29,7 @@ def session(arguments: tuple[str, ...]) -> str:
 
 def served(arguments: tuple[str, ...]) -> str:
     """A server, which says on which port it listens."""
-    return serving.serve(arguments, lambda port: print(f"raven: listening on 127.0.0.1:{port}", file=sys.stderr, flush=True))
+    return serving.serve(arguments, lambda port: print(messages.listening(port), end="", file=sys.stderr, flush=True))
 
 
 def answered(arguments: tuple[str, ...]) -> str:
@@ -46,7 +46,7 @@ def main() -> int:
     if "--data" in arguments[1::2]:
         sys.exit("the model stores nothing, so it has no --data")
     status = {"http": session, "serve": served}.get(arguments[0], answered)(arguments)
-    sys.stderr.write(running.message_of(status))
+    sys.stderr.write(messages.message_of(status))
     return programs.NUMBERS[status.split(" ")[0]]
 
 

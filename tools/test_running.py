@@ -8,13 +8,15 @@ It needs no program. It ends with 0 if every test holds, and otherwise at the fi
 
 import itertools
 import json
+import re
 import subprocess
 import sys
 
 sys.dont_write_bytecode = True
 from raven_tools import case_file
 from raven_tools.checks import memory
-from raven_tools.model import keeping, measuring, running
+from raven_tools.model import keeping, measuring, messages, running
+from raven_tools.places import TOP
 
 KEEPER = """\
 == A commit fails
@@ -278,13 +280,29 @@ def test_messages():
         ((), b"", "Usage", "raven: Usage\n"),
         (("http", "--pump", "x"), b"", "Usage", "raven: Usage\n"),
         (("http",), b"", "Done", "raven: Done\n"),
-        (("http",), b"G", "HttpRefused Truncated", "raven: HttpRefused\nthe bytes are no further request: Truncated\n"),
-        (("http",), b" ", "HttpRefused BadHead", "raven: HttpRefused\nthe bytes are no further request: BadHead\n"),
+        (("http",), b"G", "HttpRefused Truncated", "raven: HttpRefused\nraven: the bytes are no further request: Truncated\n"),
+        (("http",), b" ", "HttpRefused BadHead", "raven: HttpRefused\nraven: the bytes are no further request: BadHead\n"),
     ]:
         found, _ = running.run(running.Outside(arguments, script=script), keeping.Keeper())
-        assert (found, running.message_of(found)) == (status, message), (arguments, found)
-    assert running.message_of("KeptBad 7") == "raven: KeptBad\nthe stored row with etag 7 is not valid\n"
+        assert (found, messages.message_of(found)) == (status, message), (arguments, found)
+    assert messages.message_of("KeptBad 7", "x") == 'raven: KeptBad\nraven: the stored row with etag 7 in "x" is not valid\n'
+    assert messages.quoted('a "b"\\\t\x7fé') == '"a \\"b\\"\\\\\\t\\u{7f}é"'
 
+
+def test_page():
+    """What docs/messages.md shows is what is said, and each sentence stands there."""
+    page = (TOP / "docs/messages.md").read_text()
+    shown = set(re.findall(r"`(raven: [^`]*)`", page))
+    details = {"KeptBad": "KeptBad 7", "DoorFault": "DoorFault 8080", "HttpRefused": "HttpRefused BadHead"}
+    ends = [messages.message_of(details.get(name, name), "people.db").split("\n")[1] for name in messages.SENTENCES]
+    port, in_use = messages.message_of("DoorFault 8080").split("\n")[1].rsplit(": ", 1)
+    first = messages.unopened("people.db", "").split("\n")[1]
+    lines = [messages.listening(8080, file).strip("\n") for file in (None, "people.db")]
+    for line in {*ends, *lines, f"{port}: ", first} - {f"{port}: {in_use}"}:
+        assert line in shown, line
+    rows = set(re.findall(r"^\| `([^`]*)`", page, re.MULTILINE))
+    assert {*messages.CAUSES.values(), in_use} <= rows, {*messages.CAUSES.values(), in_use} - rows
+    assert rows <= {*messages.CAUSES.values(), in_use, "--data FILE", "no permission"}, rows
 
 def test_mistakes():
     """A line that is not valid is reported by its number."""

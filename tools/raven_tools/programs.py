@@ -29,6 +29,11 @@ STATUSES = {
 NUMBERS = {name: number for number, name in STATUSES.items()}
 
 
+def number_of(said: str) -> int:
+    """The status of a run of which standard error says this."""
+    return NUMBERS[said.partition("\n")[0].removeprefix("raven: ")]
+
+
 @dataclasses.dataclass(frozen=True)
 class Given:
     """What one run is given, and what it is called."""

@@ -14,7 +14,7 @@ import urllib.parse
 
 from raven_tools.places import TOP
 
-FIRST_LINE = re.compile(r"raven: listening on 127\.0\.0\.1:([0-9]+)\n")
+FIRST_LINE = re.compile(r"raven: listening on 127\.0\.0\.1:([0-9]+), documents in .+\n")
 # How long a server may take to listen or to end, and a client to get a response, in seconds.
 PATIENCE = 30
 MODEL = (sys.executable, str(TOP / "tools/model.py"))

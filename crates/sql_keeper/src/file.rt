@@ -1,52 +1,26 @@
 //! A database in a file. A new one gets the smallest pages, since a commit logs each page that it changes as a whole.
-ghost use Rattle.std.specs.Prelude.{◌≡◌, IsTrue, IfOk};
+ghost use Rattle.std.specs.Prelude.{◌≡◌, IsTrue, IfOk, IsErrAnd, codes};
 ghost use Rattle.sqlite_store.specs.Unopened.{files_of};
+ghost use Rattle.sqlite_wal.specs.Reads.{OnlyReads};
 
-use crate::fault::fault_of;
-use raven_ports::KeeperFault;
-use sqlite::{Connection, File, FileStore, Files, Options, Unknown};
+use crate::fault::{database_fault, io_fault, path_fault, probe_fault, store_fault};
+use crate::open_fault::OpenFault;
+use sqlite::{Connection, Error, File, FileStore, Files, Options, Unknown};
 use sqlite_disk::Disk;
 use sqlite_pager::{PageSize, Pager};
 use sqlite_pool::probe_blank;
 use sqlite_std_file::OpenError as PathError;
-use sqlite_store::{OpenError, Unopened};
+use sqlite_store::Unopened;
 use sqlite_wal::probe_page_size;
 use std::alloc::{AllocFailed, Global};
 use std::hash::{BuildHasher, RandomState};
-use std::io;
-use std::io::ErrorKind;
+use std::{fs, io};
 
 /// The bytes of a page of a new file.
 const PAGE: usize = 512;
 
-fn io_fault(error: io::Error) -> KeeperFault {
-    match error.kind() {
-        ErrorKind::OutOfMemory => KeeperFault::NoMemory,
-        _ => KeeperFault::Failed,
-    }
-}
-
-fn path_fault(error: PathError) -> KeeperFault {
-    match error {
-        PathError::OutOfMemory => KeeperFault::NoMemory,
-        PathError::Io(error) => io_fault(error),
-        _ => KeeperFault::Failed,
-    }
-}
-
-fn probe_fault(error: sqlite_wal::Error) -> KeeperFault {
-    match error {
-        sqlite_wal::Error::OutOfMemory => KeeperFault::NoMemory,
-        _ => KeeperFault::Failed,
-    }
-}
-
-fn store_fault(error: OpenError) -> KeeperFault {
-    match error {
-        OpenError::OutOfMemory => KeeperFault::NoMemory,
-        _ => KeeperFault::Failed,
-    }
-}
+/// What a database of SQLite begins with.
+const MAGIC: &[u8; 16] = b"SQLite format 3\0";
 
 // The library's own counts are for pages of 4,096 bytes. Small pages are given as many bytes of a transaction in memory, and half as
 // many of log and of pages that were read.
@@ -69,7 +43,7 @@ fn blank<D: Disk + Drop>(
     files: Files<D>,
     size: PageSize,
     seed: u64,
-) -> Result<Unopened<D>, KeeperFault>
+) -> Result<Unopened<D>, OpenFault>
     ensures { IfOk result (λ it. files_of it ≡ (files.log, files.db)) }
 {
     match Pager::new(alloc, files, size, options_for(Some(size), seed)) {
@@ -77,10 +51,10 @@ fn blank<D: Disk + Drop>(
             Ok(fresh) => Ok(fresh),
             Err(AllocFailed { value }) => {
                 drop(value.close());
-                Err(KeeperFault::NoMemory)
+                Err(OpenFault::NoMemory)
             }
         },
-        Err(AllocFailed { value: _files }) => Err(KeeperFault::NoMemory),
+        Err(AllocFailed { value: _files }) => Err(OpenFault::NoMemory),
     }
 }
 
@@ -90,7 +64,7 @@ fn make<D: Disk + Drop>(
     files: Files<D>,
     size: PageSize,
     seed: u64,
-) -> Result<Connection<FileStore<D>>, KeeperFault>
+) -> Result<Connection<FileStore<D>>, OpenFault>
     requires log { IsTrue (D.Disk.is_usable files.log) }
     requires db { IsTrue (D.Disk.is_usable files.db) }
 {
@@ -103,7 +77,7 @@ fn make<D: Disk + Drop>(
             Ok(conn) => Ok(conn),
             Err((error, store)) => {
                 drop(store.close());
-                Err(fault_of(error))
+                Err(database_fault(error))
             }
         },
         Err((error, fresh)) => {
@@ -113,12 +87,25 @@ fn make<D: Disk + Drop>(
     }
 }
 
+// Whether the file begins as a database does. The library refuses other files as it does damaged ones.
+fn begins_as_database<D: Disk>(db: &mut D) -> io::Result<bool>
+    requires { IsTrue (D.Disk.is_usable db.old) }
+    ensures { OnlyReads D.Disk db.old db.new }
+{
+    let mut head = [0; 16];
+    if db.len()? < head.len() {
+        return Ok(false);
+    }
+    db.read_at(0, &mut head)?;
+    Ok(head == *MAGIC)
+}
+
 // Opens what is there, with the pages that it has.
 fn reopen<D: Disk + Drop>(
     alloc: Global,
     mut files: Files<D>,
     seed: u64,
-) -> Result<Connection<FileStore<D>>, KeeperFault>
+) -> Result<Connection<FileStore<D>>, OpenFault>
     requires log { IsTrue (D.Disk.is_usable files.log) }
     requires db { IsTrue (D.Disk.is_usable files.db) }
 {
@@ -126,12 +113,23 @@ fn reopen<D: Disk + Drop>(
         Ok(page) => page,
         Err(error) => return Err(io_fault(error)),
     };
+    let begins = match begins_as_database(&mut files.db) {
+        Ok(begins) => begins,
+        Err(error) => return Err(io_fault(error)),
+    };
     match Connection::open_files(alloc, files, options_for(page, seed)) {
         Ok(conn) => Ok(conn),
         Err((error, left)) => {
             drop(left.into_files());
-            Err(fault_of(error))
+            Err(refusal_of(error, begins))
         }
+    }
+}
+
+fn refusal_of(error: Error, begins: bool) -> OpenFault {
+    match database_fault(error) {
+        OpenFault::Unreadable if !begins => OpenFault::NotADatabase,
+        fault => fault,
     }
 }
 
@@ -139,13 +137,11 @@ fn open_with<D: Disk + Drop>(
     alloc: Global,
     mut files: Files<D>,
     seed: u64,
-) -> Result<Connection<FileStore<D>>, KeeperFault>
+) -> Result<Connection<FileStore<D>>, OpenFault>
     requires log { IsTrue (D.Disk.is_usable files.log) }
     requires db { IsTrue (D.Disk.is_usable files.db) }
 {
-    let Some(size) = PageSize::new(PAGE) else {
-        return Err(KeeperFault::Failed);
-    };
+    let size = PageSize::new(PAGE).unwrap();
     match probe_blank(alloc, &mut files, size, false) {
         Ok(true) => make(alloc, files, size, seed),
         Ok(false) => reopen(alloc, files, seed),
@@ -153,10 +149,27 @@ fn open_with<D: Disk + Drop>(
     }
 }
 
+fn is_folder(rt: &HostRuntime, path: &str) -> bool {
+    match fs::metadata(rt, path) {
+        Ok(found) => found.is_dir(),
+        Err(_) => false,
+    }
+}
+
+// A folder is told from what else is no regular file.
+fn path_refusal(rt: &HostRuntime, path: &str, error: PathError) -> OpenFault {
+    match path_fault(error) {
+        OpenFault::NotRegular if is_folder(rt, path) => OpenFault::Folder,
+        fault => fault,
+    }
+}
+
 /// The database in the file at a path, and one without tables if the file is missing or empty.
-pub fn open_file(rt: &HostRuntime, path: &str) -> Result<Connection<FileStore<File>>, KeeperFault> {
+pub fn open_file(rt: &HostRuntime, path: &str) -> Result<Connection<FileStore<File>>, OpenFault>
+    ensures { path.now ≡ codes ":memory:" → IsErrAnd result (λ e. e ≡ OpenFault.NotAPath) }
+{
     if path == ":memory:" || path.starts_with("file:") {
-        return Err(KeeperFault::Failed);
+        return Err(OpenFault::NotAPath);
     }
     let seed = match RandomState::new(rt) {
         Ok(state) => state.hash_one(&0u8),
@@ -164,6 +177,6 @@ pub fn open_file(rt: &HostRuntime, path: &str) -> Result<Connection<FileStore<Fi
     };
     match sqlite_std_file::open(rt, path, Unknown) {
         Ok(files) => open_with(rt.alloc(), files, seed),
-        Err(error) => Err(path_fault(error)),
+        Err(error) => Err(path_refusal(rt, path, error)),
     }
 }

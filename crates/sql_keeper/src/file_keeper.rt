@@ -1,5 +1,8 @@
 //! A keeper in a file.
+ghost use Rattle.std.specs.Prelude.{◌≡◌, IsErrAnd, codes};
+
 use crate::keeper::SqlKeeper;
+use crate::open_fault::OpenFault;
 use raven_ports::{Keeper, KeeperFault, KeptRows};
 use sqlite::{File, FileStore};
 use std::alloc::Global;
@@ -33,8 +36,11 @@ impl FileKeeper {
     /// It supposes that after a loss of power each byte that was being written over is the old one or the new one. So most commits
     /// sync the log once.
     ///
-    /// It fails if the file is no database of SQLite, is open elsewhere, or has anything but the table of a keeper.
-    pub fn open(rt: &HostRuntime, path: &str) -> Result<FileKeeper, KeeperFault> {
+    /// It is refused for the first of these causes that is met: the path, the file and its log by what the system says of them, what
+    /// the file holds, and what the database has. A file that holds anything else than the table of a keeper is left as it was.
+    pub fn open(rt: &HostRuntime, path: &str) -> Result<FileKeeper, OpenFault>
+        ensures { path.now ≡ codes ":memory:" → IsErrAnd result (λ e. e ≡ OpenFault.NotAPath) }
+    {
         match SqlKeeper::in_file(rt, path) {
             Ok(keeper) => Ok(FileKeeper { keeper }),
             Err(fault) => Err(fault),

@@ -1,10 +1,11 @@
 //! A keeper in a database of SQLite, in a file or in memory.
-ghost use Rattle.std.specs.Prelude.{◌≡◌, ◌≤◌, IfErr, IfOk, IsErrOf, None, length};
+ghost use Rattle.std.specs.Prelude.{◌≡◌, ◌≤◌, IfErr, IfOk, IsErrAnd, IsErrOf, None, codes, length};
 ghost use Rattle.spec_data.specs.Kept.{EtagsRise, is_past as spec_is_past};
 ghost use Rattle.raven_ports.specs.Faults.{Rose};
 
-use crate::fault::fault_of;
+use crate::fault::{database_fault, fault_of};
 use crate::file::open_file;
+use crate::open_fault::OpenFault;
 use raven_base::{NoMemory, Sequence};
 use raven_ports::{Keeper, KeeperFault, KeptRow, KeptRows};
 use raven_value::Text;
@@ -72,23 +73,27 @@ fn is_ours(objects: &[Row]) -> Result<bool, Error> {
     Ok(text.as_str() == TABLE || text.as_str() == OLD_TABLE)
 }
 
-// Makes the table in a database that has nothing. Any other is left as it is, and refused unless it has just one of the tables.
-fn make_table<S: Alter>(conn: &mut Connection<S>) -> Result<(), Error> {
+// Makes the table in a database that has nothing. Returns false, and leaves the database as it is, if it has anything but just one
+// of the tables.
+fn make_table<S: Alter>(conn: &mut Connection<S>) -> Result<bool, Error> {
     let objects = conn.query_all(OBJECTS, &[])?;
     if !is_ours(objects.as_slice())? {
-        return Err(Error::SqliteFailure(ErrorCode::NotADatabase));
+        return Ok(false);
     }
     if objects.is_empty() {
         conn.execute(TABLE, &[])?;
     }
-    Ok(())
+    Ok(true)
 }
 
-fn prepare<S: Alter>(conn: &mut Connection<S>) -> Result<Statements, Error> {
-    make_table(conn)?;
+// None if the database is of another program.
+fn prepare<S: Alter>(conn: &mut Connection<S>) -> Result<Option<Statements>, Error> {
+    if !make_table(conn)? {
+        return Ok(None);
+    }
     let load = conn.prepare(LOAD)?;
     let put = conn.prepare(PUT)?;
-    Ok(Statements { load, put })
+    Ok(Some(Statements { load, put }))
 }
 
 // The least etag that is past this one. Etags of the database have 63 bits.
@@ -248,16 +253,17 @@ fn put_all<S: Alter>(
 
 impl<S: Alter + Drop> SqlKeeper<S> {
     // A keeper in this database, which has the table or nothing.
-    fn over(alloc: Global, conn: Connection<S>) -> Result<SqlKeeper<S>, KeeperFault> {
+    fn over(alloc: Global, conn: Connection<S>) -> Result<SqlKeeper<S>, OpenFault> {
         let mut conn = conn;
         match prepare(&mut conn) {
-            Ok(statements) => Ok(SqlKeeper {
+            Ok(Some(statements)) => Ok(SqlKeeper {
                 alloc,
                 conn,
                 statements,
                 faults: 0,
             }),
-            Err(error) => Err(fault_of(error)),
+            Ok(None) => Err(OpenFault::Foreign),
+            Err(error) => Err(database_fault(error)),
         }
     }
 
@@ -278,7 +284,7 @@ impl SqlKeeper<MemStore> {
     /// A keeper in memory, without rows.
     pub fn in_memory(alloc: Global) -> Result<SqlKeeper<MemStore>, KeeperFault> {
         match Connection::open_in_memory(alloc) {
-            Ok(conn) => SqlKeeper::over(alloc, conn),
+            Ok(conn) => SqlKeeper::over(alloc, conn).map_err(OpenFault::as_keeper),
             Err(_) => Err(KeeperFault::NoMemory),
         }
     }
@@ -289,7 +295,9 @@ impl SqlKeeper<FileStore<File>> {
     pub(crate) fn in_file(
         rt: &HostRuntime,
         path: &str,
-    ) -> Result<SqlKeeper<FileStore<File>>, KeeperFault> {
+    ) -> Result<SqlKeeper<FileStore<File>>, OpenFault>
+        ensures { path.now ≡ codes ":memory:" → IsErrAnd result (λ e. e ≡ OpenFault.NotAPath) }
+    {
         match open_file(rt, path) {
             Ok(conn) => SqlKeeper::over(rt.alloc(), conn),
             Err(fault) => Err(fault),

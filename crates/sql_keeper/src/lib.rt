@@ -5,6 +5,8 @@ mod fault;
 mod file;
 mod file_keeper;
 mod keeper;
+mod open_fault;
 
 pub use file_keeper::FileKeeper;
 pub use keeper::SqlKeeper;
+pub use open_fault::OpenFault;

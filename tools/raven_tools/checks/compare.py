@@ -12,7 +12,7 @@ import tempfile
 from raven_tools import model, programs
 from raven_tools.checks.outside import outside
 from raven_tools.making import MAKERS, case_scripts, http_rounds, limit_scripts, worked_choices, worked_slots
-from raven_tools.model import keeping, running
+from raven_tools.model import keeping, messages, running
 from raven_tools.places import PROGRAM
 from raven_tools.programs import Given
 from raven_tools.responses import responses_of
@@ -52,7 +52,7 @@ def differs(program: str, given: Given, kinds: Kinds) -> bool:
     ended = programs.call(program, given.arguments, given.data)
     wrong = wrong_moment(ended.stdout, began, moment_now(2))
     found, message = model.at_no_moment(ended.stdout), ended.stderr.decode(errors="replace")
-    wanted, said = programs.NUMBERS[status.split(" ")[0]], running.message_of(status)
+    wanted, said = programs.NUMBERS[status.split(" ")[0]], messages.message_of(status)
     if (ended.returncode, message, found) == (wanted, said, expected) and not wrong:
         return False
     kept = tempfile.NamedTemporaryFile(prefix="differs-", suffix="." + given.arguments[0], delete=False)

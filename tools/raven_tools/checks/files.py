@@ -12,8 +12,8 @@ import tempfile
 from raven_tools import model
 from raven_tools.checks.killable import PATIENCE, Run
 from raven_tools.making.lines import bulk, delete, get, put, put_command
-from raven_tools.model import keeping
-from raven_tools.programs import STATUSES, run
+from raven_tools.model import keeping, messages
+from raven_tools.programs import number_of, run
 
 COLUMNS = "key, etag, id, collection, body, changed"
 # One that has the name of ours, but not its columns.
@@ -44,16 +44,21 @@ def is_so(holds: bool, name: str, found: object) -> bool:
     return holds
 
 
-def has_status(ended: subprocess.CompletedProcess[bytes], wanted: int, name: str) -> bool:
-    said = f"raven: {STATUSES[wanted]}".encode() in ended.stderr
-    return is_so(ended.returncode == wanted and said, name, (ended.returncode, ended.stderr))
+def says(ended: subprocess.CompletedProcess[bytes], said: str, name: str) -> bool:
+    """Whether a run has ended so, with nothing else on standard error."""
+    found = ended.returncode, ended.stderr.decode(errors="replace")
+    return is_so(found == (number_of(said), said), name, found)
+
+
+def is_done(ended: subprocess.CompletedProcess[bytes], name: str) -> bool:
+    return says(ended, messages.message_of("Done"), name)
 
 
 def answers(program: str, file: pathlib.Path, lines: list[str], database: model.Database, name: str) -> bool:
     """Whether the program over the file gives the replies of the model."""
     expected = model.replies(script_of(lines), database)
     ended = run(program, script_of(lines), "--data", file)
-    return has_status(ended, 0, name) and is_so(model.at_no_moment(ended.stdout) == expected, name, ended.stdout[:500])
+    return is_done(ended, name) and is_so(model.at_no_moment(ended.stdout) == expected, name, ended.stdout[:500])
 
 
 def make(file: pathlib.Path, sql: str) -> None:
@@ -146,10 +151,10 @@ def old(program: str, folder: pathlib.Path) -> bool:
     return right
 
 
-def is_left(program: str, file: pathlib.Path) -> bool:
-    """Whether a file is refused, and left byte for byte as it was."""
+def is_left(program: str, file: pathlib.Path, cause: str) -> bool:
+    """Whether a file is refused for this cause, and left byte for byte as it was."""
     before = file.read_bytes()
-    refused = has_status(run(program, script_of([put("a")]), "--data", file), 5, file.name)
+    refused = says(run(program, script_of([put("a")]), "--data", file), messages.unopened(str(file), cause), file.name)
     return refused and is_so(file.read_bytes() == before, f"{file.name} was changed", len(before))
 
 
@@ -162,7 +167,7 @@ def others(program: str, folder: pathlib.Path) -> bool:
     make(nearly, NEARLY_OLD)
     made = answers(program, ours, [put("a")], model.Database(), "a file with another table")
     make(ours, OTHER_TABLE)
-    return made and all([is_left(program, file) for file in (text, table, columns, nearly, ours)])
+    return made and is_left(program, text, "NotADatabase") and all([is_left(program, file, "Foreign") for file in (table, columns, nearly, ours)])
 
 
 def alone(program: str, folder: pathlib.Path) -> bool:
@@ -170,7 +175,7 @@ def alone(program: str, folder: pathlib.Path) -> bool:
     file = folder / "alone"
     first = Run(program, file, [put(f"d/{number}").encode() for number in range(50_000)])
     runs = first.read_until(1, PATIENCE)
-    refused = has_status(run(program, script_of([put("other")]), "--data", file), 5, "a file that is open")
+    refused = says(run(program, script_of([put("other")]), "--data", file), messages.unopened(str(file), "InUse"), "a file that is open")
     still = is_so(first.kill(), "the first program ended too soon", first.message)
     return runs and refused and still and is_so("other" not in [row[0] for row in rows_in(file)], "a row of the second program", file)
 
@@ -192,7 +197,7 @@ def whole(program: str, folder: pathlib.Path) -> bool:
     replies = ended.stdout.split(b"\n")[1:3]
     refused = is_so(replies == [b'{"Error":"KeeperFault"}', b'{"Error":"NoDocument","Id":"d/0"}'], "a full disk", replies)
     opened = run(program, b"STATS\n", "--data", file)
-    return refused and has_status(opened, 0, "a file after a full disk") and is_so([row[0] for row in rows_in(file)] == ["a"], "rows", rows_in(file))
+    return refused and is_done(opened, "a file after a full disk") and is_so([row[0] for row in rows_in(file)] == ["a"], "rows", rows_in(file))
 
 
 def files(program: str) -> int:

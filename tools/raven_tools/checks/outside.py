@@ -2,7 +2,6 @@
 
 import functools
 import os
-import pathlib
 import resource
 import subprocess
 import tempfile
@@ -10,8 +9,9 @@ import tempfile
 from raven_tools import model
 from raven_tools.checks.files import files
 from raven_tools.checks.sessions import sessions
+from raven_tools.checks.unopened import unopened
 from raven_tools.making import MAKERS
-from raven_tools.model import running
+from raven_tools.model import messages
 from raven_tools.programs import STATUSES, first_difference, run
 
 
@@ -76,7 +76,7 @@ def has_status(program: str, arguments: list, wanted: int, name: str, given=None
     message = f"raven: {STATUSES[wanted]}".encode()
     first, _, rest = ended.stderr.partition(b"\n")
     # After malformed arguments stands the help.
-    is_whole = not lacks_help(rest.decode()) if wanted == 2 else ended.stderr.decode() == running.message_of(STATUSES[wanted])
+    is_whole = not lacks_help(rest.decode()) if wanted == 2 else ended.stderr.decode() == messages.message_of(STATUSES[wanted])
     if ended.returncode == wanted and not ended.stdout and first == message and is_whole:
         return True
     print(f"{name}: status {ended.returncode} in place of {wanted}, {ended.stderr!r} in place of {message!r}, output {ended.stdout!r}")
@@ -119,26 +119,21 @@ def options(program: str) -> int:
     """How many of the calls with `--id` and `--data` are wrong."""
     base, other = model.BASE, "0123456789abcdefghiXYZ"
     with tempfile.TemporaryDirectory() as folder:
-        kept, text, link = (os.path.join(folder, name) for name in ("kept", "text", "no/file"))
-        pathlib.Path(text).write_bytes(b"PUT a {}\n" * 1_000)
+        kept = os.path.join(folder, "kept")
         stats = '{"CountOfDocuments":2,"CountOfIndexes":0,"CountOfTombstones":0,"LastDocEtag":3}\n'
         cases = [
-            (["--id", other], "PUT a {}\n", 0, f'{{"ChangeVector":"A:1-{other}","Id":"a"}}\n'),
-            (["--data", kept], "PUT a {}\n", 0, f'{{"ChangeVector":"A:1-{base}","Id":"a"}}\n'),
-            (["--data", kept], "PUT b {}\n", 0, f'{{"ChangeVector":"A:2-{base}","Id":"b"}}\n'),
-            (["--id", other, "--data", kept], f"PUTIF A A:1-{other} {{}}\n", 0, f'{{"ChangeVector":"A:3-{other}","Id":"a"}}\n'),
-            (["--data", kept, "--id", base], "STATS\n", 0, stats),
-            (["--data", folder], "STATS\n", 5, ""),
-            (["--data", link], "STATS\n", 5, ""),
-            (["--data", text], "STATS\n", 5, ""),
+            (["--id", other], "PUT a {}\n", f'{{"ChangeVector":"A:1-{other}","Id":"a"}}\n'),
+            (["--data", kept], "PUT a {}\n", f'{{"ChangeVector":"A:1-{base}","Id":"a"}}\n'),
+            (["--data", kept], "PUT b {}\n", f'{{"ChangeVector":"A:2-{base}","Id":"b"}}\n'),
+            (["--id", other, "--data", kept], f"PUTIF A A:1-{other} {{}}\n", f'{{"ChangeVector":"A:3-{other}","Id":"a"}}\n'),
+            (["--data", kept, "--id", base], "STATS\n", stats),
         ]
         wrong = 0
-        for arguments, script, status, written in cases:
+        for arguments, script, written in cases:
             ended = run(program, script.encode(), *arguments, timeout=60)
-            is_right = (ended.returncode, ended.stdout.decode()) == (status, written)
-            if not is_right or f"raven: {STATUSES[status]}" not in ended.stderr.decode():
+            if (ended.returncode, ended.stdout.decode(), ended.stderr.decode()) != (0, written, messages.message_of("Done")):
                 wrong += 1
-                message = f"status {ended.returncode} in place of {status}, {ended.stderr!r}"
+                message = f"status {ended.returncode} in place of 0, {ended.stderr!r}"
                 print(f"arguments {arguments}: {message}, {ended.stdout!r} in place of {written!r}")
         return wrong
 
@@ -164,4 +159,6 @@ def openings(program: str, seed: int, lines: int) -> int:
 
 
 def outside(program: str, seed: int, lines: int) -> int:
-    return statuses(program) + helps(program) + depths(program) + options(program) + openings(program, seed, lines) + files(program) + sessions(program, seed, lines)
+    """How many of these checks find something wrong."""
+    wrong = statuses(program) + helps(program) + depths(program) + options(program) + openings(program, seed, lines)
+    return wrong + files(program) + unopened(program) + sessions(program, seed, lines)

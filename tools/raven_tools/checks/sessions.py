@@ -12,7 +12,7 @@ import typing
 from raven_tools import model, programs
 from raven_tools.making import http_rounds, worked_http
 from raven_tools.making.worked_http import PUT_ADA, STATS, asked
-from raven_tools.model import keeping, running
+from raven_tools.model import keeping, messages, running
 
 OTHER = "0123456789abcdefghiXYZ"
 
@@ -21,12 +21,13 @@ def is_so(program: str, arguments: list[str], data: bytes, keeper: keeping.Keepe
     """Whether the program does with the arguments and the bytes what the model does over what the keeper holds."""
     status, expected = running.run(running.Outside(tuple(arguments), script=data), keeper)
     ended = programs.call(program, arguments, data)
-    return is_as(ended, status, expected, name)
+    return is_as(ended, messages.message_of(status), expected, name)
 
 
-def is_as(ended: subprocess.CompletedProcess[bytes], status: str, expected: bytes, name: str) -> bool:
+def is_as(ended: subprocess.CompletedProcess[bytes], said: str, expected: bytes, name: str) -> bool:
+    """Whether a run has written this to standard error and this to its output, and ended with the number of the status that is said."""
     found, message = model.at_no_moment(ended.stdout), ended.stderr.decode(errors="replace")
-    number, said = programs.NUMBERS[status.split(" ")[0]], running.message_of(status)
+    number = programs.number_of(said)
     if (ended.returncode, message, found) == (number, said, expected):
         return True
     print(f"{name}: status {ended.returncode} in place of {number}, {message!r} in place of {said!r}")
@@ -69,8 +70,9 @@ def kept(program: str) -> int:
     with tempfile.TemporaryDirectory() as folder:
         text = pathlib.Path(folder, "text")
         text.write_bytes(STATS * 100)
-        files = [folder, str(text), os.path.join(folder, "no/file")]
-        return sum(not is_as(programs.call(program, ["http", "--data", file], STATS), "KeptFault", b"", file) for file in files)
+        files = {folder: "Folder", str(text): "NotADatabase", os.path.join(folder, "no/file"): "NoFolder"}
+        runs = [(programs.call(program, ["http", "--data", file], STATS), messages.unopened(file, cause)) for file, cause in files.items()]
+        return sum(not is_as(ended, said, b"", said) for ended, said in runs)
 
 
 def send(to: typing.IO[bytes], pieces: list[bytes]) -> None:
@@ -103,7 +105,7 @@ def pieces(program: str, seed: int, lines: int) -> int:
             cuts.append(cuts[-1] + source.choice([1, 1, 2, 7, 100, 20_000]))
         parts = [given.data[start:end] for start, end in zip(cuts, cuts[1:])]
         status, expected = running.run(running.Outside(given.arguments, script=given.data), keeping.Keeper())
-        wrong += not is_as(in_pieces(program, given.arguments, parts), status, expected, given.name)
+        wrong += not is_as(in_pieces(program, given.arguments, parts), messages.message_of(status), expected, given.name)
     return wrong
 
 

@@ -6,14 +6,6 @@ from raven_tools import model
 from raven_tools.model import doors, http_session, keeping, measuring, opening
 from raven_tools.model.outside import Clock, LeftOpen, Outside, base_of, pairs_of
 
-# What a second line on standard error says of a status, with the etag or the end that it names.
-SECOND_LINES = {
-    "KeptBad": "the stored row with etag {} is not valid",
-    "HttpRefused": "the bytes are no further request: {}",
-    "KeptFault": "the file cannot be opened: no such folder, no permission, no database of raven, or in use",
-    "DoorFault": "no connection can be accepted: is the port in use?",
-}
-
 
 def options(arguments: tuple[str, ...]) -> dict[str, str] | None:
     """The options of `run`, or None if the arguments are not valid."""
@@ -89,10 +81,3 @@ def run(given: Outside, keeper: keeping.Keeper) -> tuple[str, bytes]:
     """The status and what was written. The causes come in this order; the keeper is left as the run leaves it."""
     command = COMMANDS.get(given.arguments[0]) if given.arguments else None
     return command(given, keeper) if command else ("Usage", b"")
-
-
-def message_of(status: str) -> str:
-    """What is written to standard error."""
-    name, _, detail = status.partition(" ")
-    second = f"{SECOND_LINES[name].format(detail)}\n" if name in SECOND_LINES else ""
-    return f"raven: {name}\n{second}"

@@ -144,7 +144,7 @@ def serve(arguments: tuple[str, ...], listens: collections.abc.Callable[[int], o
     try:
         listening = socket.create_server(("127.0.0.1", options.port), backlog=128)
     except OSError:
-        return "DoorFault"
+        return f"DoorFault {options.port}"
     listens(listening.getsockname()[1])
     service = Service(database, options)
     fronts = [threading.Thread(target=service.front, args=(listening,), daemon=True) for _ in range(options.workers)]

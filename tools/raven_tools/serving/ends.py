@@ -9,28 +9,29 @@ import subprocess
 import threading
 import time
 
-from raven_tools.model import running
+from raven_tools.model import messages
 from raven_tools.model.limits import MAX_REQUESTS
+from raven_tools.programs import number_of
 from raven_tools.responses import responses_of
 from raven_tools.servers import PATIENCE, Client, Server, Wrong
 
 Command = collections.abc.Sequence[str]
 
 
-def ended_so(server: Server, what: str) -> list[str]:
-    """A server that has served its connections ends by itself, and says so."""
+def ended_so(server: Server, what: str, file: str | None = None) -> list[str]:
+    """A server that has served its connections ends by itself, and says so, as it said where it listens and where its documents are."""
     found = server.end()
-    expected = 0, "", server.first + "raven: Done\n"
+    expected = 0, "", messages.listening(server.port, file) + messages.message_of("Done")
     return [] if found == expected else [f"{what}: {found} in place of {expected}"]
 
 
-def refused_so(command: Command, name: str, status: int, *options: str) -> list[str]:
+def refused_so(command: Command, said: str, *options: str) -> list[str]:
     """A server that cannot begin: what it writes, and its status."""
     try:
         ended = subprocess.run([*command, "serve", *options], stdin=subprocess.DEVNULL, capture_output=True, text=True, timeout=PATIENCE)
     except subprocess.TimeoutExpired:
-        return [f"{name}: serve {options} runs"]
-    found, expected = (ended.returncode, ended.stdout, ended.stderr), (status, "", running.message_of(name))
+        return [f"serve {options} runs, in place of {said!r}"]
+    found, expected = (ended.returncode, ended.stdout, ended.stderr), (number_of(said), "", said)
     return [] if found == expected else [f"serve {options}: {found} in place of {expected}"]
 
 
@@ -103,7 +104,7 @@ def in_one_piece(command: Command) -> list[str]:
 def ports(command: Command) -> list[str]:
     """A port that is taken is reported; one that was, but whose server is gone, is free at once."""
     with Server(command) as server:
-        wrong = refused_so(command, "DoorFault", 7, "--port", str(server.port))
+        wrong = refused_so(command, messages.message_of(f"DoorFault {server.port}"), "--port", str(server.port))
         with Client(server.port) as client:
             client.stats()
             server.kill()
@@ -154,19 +155,19 @@ def files(command: Command, folder: pathlib.Path) -> list[str]:
     wrong = []
     for number in range(3):
         with Server(command, *data, "--connections", "1") as server:
-            wrong += refused_so(command, "KeptFault", 5, *data, "--port", "0")
+            wrong += refused_so(command, messages.unopened(str(file), "InUse"), *data, "--port", "0")
             with Client(server.port) as client:
                 if client.stats()["LastDocEtag"] != number:
                     wrong.append(f"the file has {client.stats()} after {number} runs")
                 client.put(f"a/{number}", {"N": number})
-            wrong += ended_so(server, "a server with a file")
+            wrong += ended_so(server, "a server with a file", str(file))
     copy = folder / "copy.db"
     shutil.copyfile(file, copy)
     with Server(command, "--data", str(copy), "--connections", "1") as server, Client(server.port) as client:
         if client.stats()["LastDocEtag"] != 3:
             wrong.append(f"after a clean end the file without its log has {client.stats()}")
-    wrong += refused_so(command, "KeptFault", 5, "--data", str(text), "--port", "0")
-    wrong += refused_so(command, "KeptFault", 5, "--data", str(folder), "--port", "0")
+    for path, cause in [(text, "NotADatabase"), (folder, "Folder"), (folder / "no" / "file", "NoFolder")]:
+        wrong += refused_so(command, messages.unopened(str(path), cause), "--data", str(path), "--port", "0")
     return wrong
 
 
