@@ -129,8 +129,10 @@ def test_queries():
     lines, places = users.lines(dict.fromkeys(queries.KINDS, 2), 1)
     replies = [model.read_json(reply) for reply in model.replies(harness.script_of(lines)).split(b"\n")[:-1]]
     results = [(len(replies[place]["Results"]), replies[place]["TotalResults"]) for place in places[:-1]]
-    assert [shown for shown, _ in results] == [1, 100, 10, 20, 20, 20, 20], results
-    assert results[5:] == [(20, 90), (20, 100)] and all(40 <= total <= 60 for _, total in results[3:5]), results
+    assert results[:3] == [(1, 1), (100, 100), (10, 10)], results
+    assert all(shown == 20 and 40 <= total <= 60 for shown, total in results[3:7]), results
+    # Of 100 users three tenths have one of three values, and n1 and a digit begin one name.
+    assert results[7:] == [(20, 30), (1, 1), (20, 90), (20, 100)], results
     users.first = ["x" * (harness.ROOM - 200_000)]
     counts = users.shared(dict.fromkeys(queries.KINDS, 10**6))
     assert 150_000 < len(harness.script_of(users.lines(counts, queries.ROUNDS)[0][1:])) < 200_000, counts

@@ -90,6 +90,8 @@ def paged(what: str, query: str, sql: str, values: Values = lambda users: users,
 
 RANGE = f"from index '{INDEX}' where Amount >= {{n}}"
 SQL_RANGE = f"where {number_of('Amount')} >= {{n}}"
+BOUNDS = f"{RANGE} and Amount < 95000"
+SQL_BOUNDS = f"{SQL_RANGE} and {number_of('Amount')} < 95000"
 KINDS = (
     equal(1, "One", lambda users: users),
     equal(100, "Hundred", lambda users: max(users // 100, 1)),
@@ -101,6 +103,26 @@ KINDS = (
         f"{SQL_RANGE} order by {number_of('Amount')}",
         is_from_middle=True,
         is_ordered=True,
+    ),
+    paged("the half between two bounds", BOUNDS, SQL_BOUNDS, is_from_middle=True),
+    paged(
+        "the same, in the order of the bounds",
+        f"{BOUNDS} order by Amount as long desc",
+        f"{SQL_BOUNDS} order by {number_of('Amount')} desc",
+        is_from_middle=True,
+        is_ordered=True,
+    ),
+    paged(
+        "the 30,000 that have one of three values",
+        f"from index '{INDEX}' where Many in (7, 8, {{n}})",
+        f"where {number_of('Many')} in (7, 8, {{n}})",
+        values=lambda users: 7,
+    ),
+    paged(
+        "the 1,111 whose name begins with a text",
+        f"from index '{INDEX}' where startsWith(Name, 'n1{{n}}')",
+        "where doc->>'Name' like 'n1{n}%'",
+        values=lambda users: 10,
     ),
     paged(
         "the 90,000 that have another value",
