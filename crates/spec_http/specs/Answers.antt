@@ -10,7 +10,8 @@ use Rattle.http_read.specs.declared.end.HttpEnd.TheVariants as end
 
 -- THE STATUS
 
--- the status of the response with this reply. Found, Pumped, Switched, Tidied, Held, Published, NothingHeld, Gone and Passed are replies to lines alone.
+-- the status of the response with this reply. Found, Pumped, Switched, Tidied, CleanDone, Held, Published, NothingHeld,
+-- Gone, Passed and Cleaned are replies to lines alone.
 abbrev pub status_of : Reply → ℕ
 status_of (reply.Put vector id) = 201
 status_of (reply.Deleted deleted id) = 204
@@ -23,6 +24,7 @@ status_of (reply.Answer answer) = 200
 status_of (reply.Pumped pumped) = 200
 status_of (reply.Switched etag name) = 200
 status_of (reply.Tidied retired switched) = 200
+status_of (reply.CleanDone cleaned upto) = 200
 status_of (reply.Held from to) = 200
 status_of (reply.Published from index to) = 200
 status_of (reply.Stale etag is_stale newest) = 200
@@ -50,6 +52,7 @@ status_of (reply.NotFresh index_etag newest) = 409
 status_of reply.NothingHeld = 400
 status_of (reply.Gone number) = 400
 status_of (reply.Passed now) = 400
+status_of (reply.Cleaned upto) = 400
 status_of (reply.ReservedId at) = 400
 status_of (reply.TooLarge at len) = 413
 status_of (reply.CollectionChanged at from) = 409

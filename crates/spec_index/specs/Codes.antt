@@ -10,8 +10,8 @@ use Rattle.spec_index.specs.World.{Version, Slot, Note, World}
 use Rattle.spec_store.specs.Codes.{store_code, setting_code}
 
 abbrev pub version_code : Coded Version
-version_code = code_by (Definition × (ℕ × Table)) (coded× definition_code (coded× coded_ℕ table_code))
-    (λ v. (v.definition, (v.etag, v.table))) (λ p. record { definition = p.0; etag = p.1.0; table = p.1.1 }) (λ _. refl)
+version_code = code_by (Definition × (ℕ × (Table × ℕ))) (coded× definition_code (coded× coded_ℕ (coded× table_code coded_ℕ)))
+    (λ v. (v.definition, (v.etag, (v.table, v.cleaned)))) (λ p. record { definition = p.0; etag = p.1.0; table = p.1.1.0; cleaned = p.1.1.1 }) (λ _. refl)
 
 abbrev pub slot_code : Coded Slot
 slot_code = code_by (ℕ × (List ℕ × (Version × ℕ))) (coded× coded_ℕ (coded× text_code (coded× version_code coded_ℕ)))

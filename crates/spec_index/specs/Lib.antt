@@ -3,6 +3,7 @@ pub mod Find
 pub mod Index
 pub mod Mapping
 pub mod World
+pub mod Cleaning
 pub mod Optimiser
 pub mod Folds
 pub mod Rows

@@ -16,11 +16,12 @@ use Rattle.index_tree.specs.Definitions.{Definition, Static, Auto, AutoReduce, s
 use Rattle.index_tree.specs.Mapper.{mapper_of, scope_of}
 use Rattle.spec_store.specs.Commit.{Command, Put, Delete, AnyVector, Setting}
 
--- an index as far as it has come: it has recorded this table up to this etag
+-- an index as far as it has come: it has recorded this table up to this etag, and the store that it read last was cleaned up to `cleaned`
 pub record Version : Type 0 where
   pub definition : Definition
   pub etag : ℕ
   pub table : Table
+  pub cleaned : ℕ
 
 -- a live index: the etag at which it was made, its name, its current version, and the etag of the row of its definition
 pub record Slot : Type 0 where
@@ -54,18 +55,18 @@ abbrev pub reads : Version → Scope
 reads v = scope_of (mapper_of v.definition)
 
 abbrev pub new_version : Definition → Version
-new_version d = record { definition = d; etag = 0; table = empty }
+new_version d = record { definition = d; etag = 0; table = empty; cleaned = 0 }
 
 -- BATCHES
 
--- the version with these rows recorded up to this etag; nothing if there are none
-abbrev pub advanced : Version → List Row → ℕ → Option Version
-advanced v [] etag = None
-advanced v (r ∷ rows) etag = Some (record { definition = v.definition; etag = etag; table = note_rows v.table (r ∷ rows) })
+-- the version with these rows recorded up to this etag, of a store that was cleaned up to `cleaned`; nothing if there are none
+abbrev pub advanced : Version → List Row → ℕ → ℕ → Option Version
+advanced v [] etag cleaned = None
+advanced v (r ∷ rows) etag cleaned = Some (record { definition = v.definition; etag = etag; table = note_rows v.table (r ∷ rows); cleaned = cleaned })
 
 -- the version after a batch of the first `max` rows that it has not seen; nothing if it has seen all
 abbrev pub batch : Version → Store → ℕ → Option Version
-batch v S max = advanced v (batch_rows (reads v) v.etag S max) (etag_of_batch (reads v) v.etag S max)
+batch v S max = advanced v (batch_rows (reads v) v.etag S max) (etag_of_batch (reads v) v.etag S max) S.cleaned
 
 -- SLOTS
 

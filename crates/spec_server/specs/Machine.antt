@@ -9,6 +9,7 @@ use Rattle.spec_data.specs.Rows.{Row, doc, gone, is_document}
 use Rattle.spec_data.specs.Tables.{Table}
 use Rattle.spec_store.specs.Store.{Store, row_at, last, empty_store}
 use Rattle.spec_store.specs.Stale.{stale, newest}
+use Rattle.spec_store.specs.Cleaning.{old_tombstones}
 use Rattle.index_tree.specs.Definitions.{Definition}
 use Rattle.spec_query.specs.Query as query
 use Rattle.spec_query.specs.Sorting.{sorted}
@@ -21,6 +22,7 @@ use Rattle.spec_server.specs.Replies.{Reply, Index, Removed, Pumped, Pumping, Li
 use Rattle.spec_server.specs.Replies as replies
 use Rattle.spec_index.specs.World.{Version, Slot, World, reads, batch, numbered, serving, SlotChange, SlotRefusal, define, define_named, remove, switch, is_named, is_automatic, definition_data}
 pub use Rattle.spec_index.specs.World.{is_stale, with_version}
+use Rattle.spec_index.specs.Cleaning.{clean_upto, cleaned_world}
 use Rattle.spec_index.specs.Find.{found_in}
 use Rattle.spec_server.specs.Asking.{Answered, MustMake, Ready, answer_ask, answer_from_index}
 pub use Rattle.spec_server.specs.Shown.{members_of, shown, shown_metadata}
@@ -55,6 +57,8 @@ pub data Request : Type 0 where
   Switch : (name : List ℕ) → Request
   -- each replacement that is not stale takes its name, and automatic indexes that are no longer needed go
   Tidy : Request
+  -- the tombstones that no index has to read any more go
+  Clean : Request
   Stale : (name : List ℕ) (cutoff : Option ℕ) → Request
   Indexes Stats : Request
 
@@ -113,10 +117,20 @@ same_machine M reply = record { reply = reply; machine = M }
 
 -- COURSES
 
--- a change of a world: the rows that the keeper is to store, and the world once it has
+-- A change of a world: the rows that the keeper is to store, and the world once it has. If the change cleans up to an etag, the rows are the
+-- tombstones up to there, which the keeper is to remove.
 pub record Change : Type 0 where
   pub rows : List Row
+  pub cleans : Option ℕ
   pub world : World
+
+-- the keeper is to store these rows
+abbrev pub storing : List Row → World → Change
+storing rows W = record { rows = rows; cleans = None; world = W }
+
+-- it is to remove these tombstones, which are those up to this etag
+abbrev pub cleaning : List Row → ℕ → World → Change
+cleaning rows upto W = record { rows = rows; cleans = Some upto; world = W }
 
 -- What a request does: changes, each of the world that the one before it leaves, and the reply if all of them are made. A change that is refused
 -- is none: its refusal is then the reply, and the changes before it are the whole course.
@@ -133,7 +147,7 @@ abbrev pub only_reply : Reply → Course
 only_reply reply = record { changes = []; reply = reply }
 
 abbrev pub one_change : Reply → List Row → World → Course
-one_change reply rows W = record { changes = record { rows = rows; world = W } ∷ []; reply = reply }
+one_change reply rows W = record { changes = storing rows W ∷ []; reply = reply }
 
 abbrev pub is_first_taken : List Bool → Bool
 is_first_taken [] = true
@@ -293,7 +307,7 @@ retire W now switched = let c = retirement W in rewrote W (tidied W switched) c 
 -- a switch, and what comes after it
 abbrev pub switch_and : World → SlotChange → (World → Course) → Result Written Refused → Course
 switch_and W c more (Err refused) = only_reply (write_refused refused)
-switch_and W c more (Ok w) = then_course (record { rows = w.rows; world = changed W w.store c }) (more (changed W w.store c))
+switch_and W c more (Ok w) = then_course (storing w.rows (changed W w.store c)) (more (changed W w.store c))
 
 -- a name that may not be switched is passed over
 abbrev pub try_switch : World → ℕ → List (List ℕ) → (World → List (List ℕ) → Course) → Result SlotChange SlotRefusal → Course
@@ -334,6 +348,13 @@ pump_at W max name (Some s) =
 abbrev pub pump_for : World → ℕ → Option (List ℕ) → Course
 pump_for W max None = pump W max
 pump_for W max (Some name) = pump_at W max name (serving W.slots name)
+
+-- CLEANING, of which the keeper is asked if a tombstone goes
+
+abbrev pub clean_course : World → Course
+clean_course W =
+    let gone = old_tombstones (clean_upto W) W.store.rows in
+    record { changes = cleaning gone (clean_upto W) (cleaned_world W) ∷ []; reply = replies.CleanDone (length gone) (clean_upto W) }
 
 -- ANSWERS, which change nothing
 
@@ -416,15 +437,24 @@ abbrev pub read_at : Machine → ℕ → ℕ → List ℕ → Option Slot → Re
 read_at M worker max index None = same_machine M (NoIndex index)
 read_at M worker max index (Some s) = read_batch M worker s (batch s.version M.world.store max)
 
--- why a batch is not published: its index is gone, or has this etag, which is no less than that of the batch
+-- why a batch is not published: its index is gone; or has this etag, which is no less than that of the batch; or tombstones past the batch were
+-- cleaned since it was read
 pub data PublishRefusal : Type 0 where
   Gone : (number : ℕ) → PublishRefusal
   Passed : (now : ℕ) → PublishRefusal
+  Cleaned : (upto : ℕ) → PublishRefusal
 
--- the version takes the place of that of the index of this number
+-- more of the store was cleaned than of the one that the version has read, and past the version's etag
+abbrev pub was_cleaned : Store → Version → Bool
+was_cleaned S v = nat_lt v.cleaned S.cleaned && nat_lt v.etag S.cleaned
+
+-- the version takes the place of that of the index of this number, unless rows that it may lack were cleaned
+abbrev pub put_in : World → ℕ → Version → Result World PublishRefusal
+put_in W n v = if was_cleaned W.store v then Err (Cleaned W.store.cleaned) else Ok (with_slots W (map (with_version n v) W.slots))
+
 abbrev pub published_in : World → ℕ → Version → Option Slot → Result World PublishRefusal
 published_in W n v None = Err (Gone n)
-published_in W n v (Some s) = if nat_lt s.version.etag v.etag then Ok (with_slots W (map (with_version n v) W.slots)) else Err (Passed s.version.etag)
+published_in W n v (Some s) = if nat_lt s.version.etag v.etag then put_in W n v else Err (Passed s.version.etag)
 
 -- the world in which the version is published
 abbrev pub published : World → ℕ → Version → Result World PublishRefusal
@@ -433,6 +463,7 @@ published W n v = published_in W n v (numbered W.slots n)
 abbrev pub publish_refused : PublishRefusal → Reply
 publish_refused (Gone number) = replies.Gone number
 publish_refused (Passed now) = replies.Passed now
+publish_refused (Cleaned upto) = replies.Cleaned upto
 
 -- the reply has the name and the etag of the index as they were just before
 abbrev pub published_reply : Version → Option Slot → Reply
@@ -465,6 +496,7 @@ course_of W now (Ask ask) = ask_course W now ask (answer_ask W ask)
 course_of W now (Pump max index) = pump_for W max index
 course_of W now (Switch name) = change_of_slots W now (Switched (last W.store + 1)) name (switch W name)
 course_of W now Tidy = tidy now (replaced_names W) W []
+course_of W now Clean = clean_course W
 course_of W now (Stale name cutoff) = only_reply (answer_stale W name cutoff (serving W.slots name))
 course_of W now Indexes = only_reply (answer_indexes W)
 course_of W now Stats = only_reply (answer_stats W)

@@ -12,7 +12,7 @@ use Rattle.spec_data.specs.Rows.{Row, is_document}
 use Rattle.spec_store.specs.Commit.{Setting, is_index_id}
 use Rattle.index_tree.specs.Definitions.{Definition, Static, Auto, AutoReduce, Texts}
 use Rattle.index_tree.specs.Mapper.{joined}
-use Rattle.spec_store.specs.Store.{row_at}
+use Rattle.spec_store.specs.Store.{row_at, store_of}
 pub use Rattle.spec_index.specs.World.{replaced_name}
 use Rattle.spec_index.specs.World.{Slot, index_id, new_version, begins_with_auto, begins_with_replacement, is_reserved_name, max_index_name}
 use Rattle.spec_server.specs.Machine.{Machine, machine_of}
@@ -193,7 +193,7 @@ slots_from s all count slots (x ∷ xs) = and_then (or_bad x.row.etag (slots_aft
 
 abbrev pub opened_with : Setting → List Row → Result (List Slot) ℕ → Result Machine ℕ
 opened_with s rows (Err etag) = Err etag
-opened_with s rows (Ok slots) = Ok (machine_of (record { setting = s; store = record { rows = rows }; slots = slots; notes = [] }))
+opened_with s rows (Ok slots) = Ok (machine_of (record { setting = s; store = store_of rows; slots = slots; notes = [] }))
 
 abbrev pub rows_of : List ReadRow → List Row
 rows_of xs = map (λ x. x.row) xs

@@ -55,6 +55,8 @@ pub data Reply : Type 0 where
   Held : (from to : ℕ) → Reply
   -- a batch was published: the etag of its index before, its name, and its etag now
   Published : (from : ℕ) (index : List ℕ) (to : ℕ) → Reply
+  -- how many tombstones went, and the etag up to which they may go
+  CleanDone : (cleaned upto : ℕ) → Reply
   Stale : (index_etag : ℕ) (is_stale : Bool) (newest : ℕ) → Reply
   Indexes : (results : List Listing) → Reply
   Stats : (documents indexes tombstones last : ℕ) → Reply
@@ -83,6 +85,8 @@ pub data Reply : Type 0 where
   NothingHeld : Reply
   Gone : (number : ℕ) → Reply
   Passed : (now : ℕ) → Reply
+  -- tombstones that the batch may not have seen were cleaned up to this etag since it was read
+  Cleaned : (upto : ℕ) → Reply
   -- refusals of a transaction, each with the place of the command
   ReservedId : (at : ℕ) → Reply
   TooLarge : (at len : ℕ) → Reply
@@ -156,6 +160,7 @@ reply_data (Switched etag name) = members ((codes "Etag", number etag) ∷ (code
 reply_data (Tidied retired switched) = members ((codes "Retired", texts retired) ∷ (codes "Switched", texts switched) ∷ [])
 reply_data (Held from to) = members ((codes "From", number from) ∷ (codes "To", number to) ∷ [])
 reply_data (Published from index to) = members ((codes "From", number from) ∷ (codes "Index", text index) ∷ (codes "To", number to) ∷ [])
+reply_data (CleanDone cleaned upto) = members ((codes "Cleaned", number cleaned) ∷ (codes "Upto", number upto) ∷ [])
 reply_data (Stale etag is_stale newest) = members ((codes "IndexEtag", number etag) ∷ (codes "IsStale", flag is_stale) ∷ (codes "Newest", number newest) ∷ [])
 reply_data (Indexes results) = members ((codes "Results", array (items_of (map listing_data results))) ∷ [])
 reply_data (Stats documents indexes tombstones last) =
@@ -182,6 +187,7 @@ reply_data (NotFresh index_etag newest) = error (codes "NotFresh") ((codes "Inde
 reply_data NothingHeld = error (codes "NothingHeld") []
 reply_data (Gone n) = error (codes "Gone") ((codes "Number", number n) ∷ [])
 reply_data (Passed now) = error (codes "Passed") ((codes "Now", number now) ∷ [])
+reply_data (Cleaned upto) = error (codes "Cleaned") ((codes "Upto", number upto) ∷ [])
 reply_data (ReservedId at) = error_at at (codes "ReservedId") []
 reply_data (TooLarge at len) = error_at at (codes "TooLarge") ((codes "Len", number len) ∷ [])
 reply_data (CollectionChanged at from) = error_at at (codes "CollectionChanged") ((codes "From", text from) ∷ [])

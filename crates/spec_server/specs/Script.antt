@@ -16,7 +16,7 @@ use Rattle.spec_query.specs.Query as query
 use Rattle.spec_query.specs.Refusals.{QueryRefusal}
 use Rattle.spec_server.specs.Replies.{Reply, printed}
 use Rattle.spec_server.specs.Replies as replies
-use Rattle.spec_server.specs.Machine.{Machine, Request, Put, Delete, Bulk, Get, Define, Remove, Auto, Find, Ask, Pump, Switch, Tidy, Stale, Indexes, Stats, Line, Do, Read, Publish, Keeping, Event, step}
+use Rattle.spec_server.specs.Machine.{Machine, Request, Put, Delete, Bulk, Get, Define, Remove, Auto, Find, Ask, Pump, Switch, Tidy, Clean, Stale, Indexes, Stats, Line, Do, Read, Publish, Keeping, Event, step}
 use Rattle.spec_server.specs.Lines.{begins_with}
 
 -- why a line is refused
@@ -241,12 +241,13 @@ by_command word more =
     if bytes_eq word (codes "SWITCH") then switch_of more else (
     if bytes_eq word (codes "STALE") then stale_of more else Err UnknownLine)))))))))))
 
--- a line is STATS, INDEXES or TIDY alone, or the name of another command and its arguments
+-- a line is STATS, INDEXES, TIDY or CLEAN alone, or the name of another command and its arguments
 abbrev pub request_of : List ℕ → Result Request ReadRefusal
 request_of line =
     if bytes_eq line (codes "STATS") then Ok Stats else (
     if bytes_eq line (codes "INDEXES") then Ok Indexes else (
-    if bytes_eq line (codes "TIDY") then Ok Tidy else then_read (parts_read line) (λ parts. by_command parts.0 parts.1)))
+    if bytes_eq line (codes "TIDY") then Ok Tidy else (
+    if bytes_eq line (codes "CLEAN") then Ok Clean else then_read (parts_read line) (λ parts. by_command parts.0 parts.1))))
 
 -- THE LINES OF WORKERS
 

@@ -70,10 +70,16 @@ pub record Sound (W : World) : Type 0 where
   pub notes : (n : Note) → Has W.notes n → (n.newest ≤ n.index_etag) × (n.etag ≤ last W.store)
   pub limits : IsWithinLimits W
 
--- A batch that a worker holds may be published: its version fits the store, its number was given to an index, and if that index is still there
--- its definition is that of the version.
+-- the version still agrees with the store up to its etag, unless more was cleaned since it was read, and past that etag
+pub record StillFits (S : Store) (v : Version) : Type 0 where
+  pub agrees : (S.cleaned ≤ v.cleaned) ⊎ (S.cleaned ≤ v.etag) → Agrees (reads v) v.table S v.etag
+  pub within : v.etag ≤ last S
+
+-- A batch that a worker holds may be published: its version still fits the store, which was cleaned no less than the one that it read, its number was
+-- given to an index, and if that index is still there its definition is that of the version.
 pub record IsHeld (W : World) (h : Held) : Type 0 where
-  pub fits : Fits W.store h.version
+  pub fits : StillFits W.store h.version
+  pub since : h.version.cleaned ≤ W.store.cleaned
   pub within : h.number ≤ last W.store
   pub same : (s : Slot) → Has W.slots s → s.number ≡ h.number → s.version.definition ≡ h.version.definition
 

@@ -74,6 +74,14 @@ pub with_rows-push : (S : Store) (rows : List Row) (r : Row) → with_rows S (ro
 with_rows-push S [] r = refl
 with_rows-push S (x ∷ rows) r = with_rows-push (with_row S x) rows r
 
+-- writing cleans nothing
+pub cleaned-with_rows : (S : Store) (rows : List Row) → (with_rows S rows).cleaned ≡ S.cleaned
+cleaned-with_rows S [] = refl
+cleaned-with_rows S (r ∷ rows) = cleaned-with_rows (with_row S r) rows
+
+pub Commits-cleaned : (S : Store) (w : Written) → Commits S w → w.store.cleaned ≡ S.cleaned
+Commits-cleaned S w c = ap (λ (T : Store). T.cleaned) c.rows ∙ cleaned-with_rows S w.rows
+
 pub AreNext-push : (e : ℕ) (rows : List Row) (r : Row) → AreNext e rows → r.etag ≡ last_of e rows + 1 → AreNext e (rows ++ r ∷ [])
 AreNext-push e [] r h g = (g, tt)
 AreNext-push e (x ∷ rows) r h g = (h.0, AreNext-push x.etag rows r h.1 g)

@@ -1,10 +1,12 @@
 -- What a keeper stores for the rows of a store.
 use Rattle.std.proofs.Common.{◌≡◌, ℕ, ◌+◌, List, [], ◌∷◌, ◌++◌, true, false, not, cond, filter, Option, Some, None, refl, sym, ap, ◌∙◌, subst, arith}
 use Rattle.spec_data.specs.Folding.{same_key}
-use Rattle.spec_data.specs.Rows.{Row, key}
+use Rattle.spec_data.specs.Rows.{Row, Body, doc, gone, key}
 use Rattle.spec_data.specs.Kept.{EtagsRise, kept, kept_key, all_kept, keep, keep_all, last_kept}
 use Rattle.spec_store.specs.Store.{AreRising, IsStore, Store, last, last_of, put, with_row, with_rows}
+use Rattle.spec_store.specs.Cleaning.{is_old_tombstone, without_tombstones, clean, is_old_mark, cleared}
 use Rattle.spec_store.specs.Commit.{AreNext}
+use Rattle.spec_store.proofs.CleanLemmas.{clean-rows}
 
 -- leaving out an id's rows before they are stored is leaving them out of the stored rows
 kept-without : (r : Row) (rows : List Row) → filter (λ k. not (same_key (key r) (kept_key k))) (all_kept rows) ≡ all_kept (filter (λ x. not (same_key (key r) (key x))) rows)
@@ -59,3 +61,27 @@ rising-rise e (r ∷ rows) h = (h.0, rising-rise r.etag rows h.1)
 
 pub store-rises : (S : Store) → IsStore S → EtagsRise None (all_kept S.rows)
 store-rises S o = any-rise 0 S.rows (rising-rise 0 S.rows o.rising)
+
+-- CLEANING
+
+-- a stored row is an old tombstone exactly if the row is
+mark-of : (upto : ℕ) (r : Row) → is_old_mark upto (kept r) ≡ is_old_tombstone upto r
+mark-of upto r = by r.body
+  where
+    by : (body : Body) → is_old_mark upto (kept (record { etag = r.etag; id = r.id; collection = r.collection; body = body; changed = r.changed }))
+        ≡ is_old_tombstone upto (record { etag = r.etag; id = r.id; collection = r.collection; body = body; changed = r.changed })
+    by (doc d) = refl
+    by gone = refl
+
+pub cleared-without : (upto : ℕ) (rows : List Row) → cleared upto (all_kept rows) ≡ all_kept (without_tombstones upto rows)
+cleared-without upto [] = refl
+cleared-without upto (x ∷ rows) =
+    ap (λ b. cond (not b) (kept x ∷ cleared upto (all_kept rows)) (cleared upto (all_kept rows))) (mark-of upto x)
+    ∙ elim (is_old_tombstone upto x) as (λ b. cond (not b) (kept x ∷ cleared upto (all_kept rows)) (cleared upto (all_kept rows)) ≡ all_kept (cond (not b) (x ∷ without_tombstones upto rows) (without_tombstones upto rows))) [
+      | true ↦ cleared-without upto rows
+      | false ↦ ap (λ ks. kept x ∷ ks) (cleared-without upto rows)
+    ]
+
+-- a keeper that stores the rows of a store and clears them stores those of the store that is cleaned
+pub kept-clean : (upto : ℕ) (S : Store) → cleared upto (all_kept S.rows) ≡ all_kept (clean upto S).rows
+kept-clean upto S = cleared-without upto S.rows ∙ sym (ap all_kept (clean-rows upto S))

@@ -4,4 +4,5 @@ pub mod LaterLemmas
 pub mod CommitLemmas
 pub mod KeyedLemmas
 pub mod StaleLemmas
+pub mod CleanLemmas
 pub mod KeepLemmas

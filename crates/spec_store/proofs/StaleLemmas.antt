@@ -45,7 +45,7 @@ stale-newest S scope e cutoff s = along scope e 0 cutoff S.rows s.rising (omega 
 -- BY ROWS THAT WERE NOT SEEN
 
 -- if some row of the list passes, it is the row of some id
-any_true : (p : Row → Bool) (rows : List Row) → AreApart rows → list_any p rows ≡ true → (q : List ℕ) × (r : Row) × (row_at q rows ≡ Some r) × (p r ≡ true)
+pub any_true : (p : Row → Bool) (rows : List Row) → AreApart rows → list_any p rows ≡ true → (q : List ℕ) × (r : Row) × (row_at q rows ≡ Some r) × (p r ≡ true)
 any_true p [] apart h = absurd cc
 any_true p (x ∷ rows) apart h =
     elim (p x) as (λ b. p x ≡ b → b || list_any p rows ≡ true → (q : List ℕ) × (r : Row) × (cond (same_key q (key x)) (Some x) (row_at q rows) ≡ Some r) × (p r ≡ true)) [

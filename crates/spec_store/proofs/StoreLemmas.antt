@@ -5,8 +5,8 @@ use Rattle.std.proofs.lemmas.List.Folds.{find-append}
 use Rattle.std.specs.Cmp.Lexicographic.{nat_list_eq_equiv}
 use Rattle.std.proofs.lemmas.Slice.Eq.{bytes_eq-Decides}
 use Rattle.spec_data.specs.Folding.{same_key}
-use Rattle.spec_data.specs.Rows.{Row, key}
-use Rattle.spec_store.specs.Store.{row_at, put, last_of, AreRising, AreApart}
+use Rattle.spec_data.specs.Rows.{Row, key, is_document}
+use Rattle.spec_store.specs.Store.{row_at, put, last_of, AreRising, AreApart, TombstonesPast, IsStore, store_of}
 use Rattle.std.specs.List.{list_any}
 
 -- OPTIONS AND TESTS
@@ -199,3 +199,29 @@ any_false p q (x ∷ rows) r h g =
       | true ↦ λ is. subst (λ y. p y ≡ false) (same_row x r is) (either_false (p x) (list_any p rows) h).0
       | false ↦ λ is. any_false p q rows r (either_false (p x) (list_any p rows) h).1 is
     ] g
+
+-- TOMBSTONES PAST AN ETAG
+
+pub TombstonesPast-at : (e : ℕ) (q : List ℕ) (rows : List Row) (r : Row) → TombstonesPast e rows → row_at q rows ≡ Some r → is_document r ≡ false → e < r.etag
+TombstonesPast-at e q [] r h is = absurd cc
+TombstonesPast-at e q (x ∷ rows) r h is =
+    elim (same_key q (key x)) as (λ b. cond b (Some x) (row_at q rows) ≡ Some r → is_document r ≡ false → e < r.etag) [
+      | true ↦ λ at. subst (λ (y : Row). is_document y ≡ false → e < y.etag) (same_row x r at) h.0
+      | false ↦ λ at. TombstonesPast-at e q rows r h.1 at
+    ] is
+
+pub TombstonesPast-put : (e : ℕ) (r : Row) (rows : List Row) → TombstonesPast e rows → e < r.etag → TombstonesPast e (put r rows)
+TombstonesPast-put e r [] h newer = ((λ is. newer), tt)
+TombstonesPast-put e r (x ∷ rows) h newer =
+    elim (same_key (key r) (key x)) as (λ b. TombstonesPast e (cond (not b) (x ∷ filter (λ y. not (same_key (key r) (key y))) rows) (filter (λ y. not (same_key (key r) (key y))) rows) ++ r ∷ [])) [
+      | true ↦ TombstonesPast-put e r rows h.1 newer
+      | false ↦ (h.0, TombstonesPast-put e r rows h.1 newer)
+    ]
+
+pub TombstonesPast-rising : (e low : ℕ) (rows : List Row) → AreRising low rows → e ≤ low → TombstonesPast e rows
+TombstonesPast-rising e low [] up h = tt
+TombstonesPast-rising e low (x ∷ rows) up h = ((λ is. let a = up.0 in omega arith), TombstonesPast-rising e x.etag rows up.1 (let a = up.0 in omega arith))
+
+-- rows of which nothing was cleaned are a store
+pub IsStore-of : (rows : List Row) → AreRising 0 rows → AreApart rows → IsStore (store_of rows)
+IsStore-of rows up apart = record { rising = up; apart = apart; behind = omega arith; past = TombstonesPast-rising 0 0 rows up (omega arith) }

@@ -7,7 +7,7 @@ use Rattle.spec_store.specs.Store.{Store}
 use Rattle.spec_store.specs.Commit.{Setting}
 
 abbrev pub store_code : Coded Store
-store_code = code_by (List Row) (coded_list row_code) (λ S. S.rows) (λ rows. record { rows = rows }) (λ _. refl)
+store_code = code_by (List Row × ℕ) (coded× (coded_list row_code) coded_ℕ) (λ S. (S.rows, S.cleaned)) (λ p. record { rows = p.0; cleaned = p.1 }) (λ _. refl)
 
 abbrev pub setting_code : Coded Setting
 setting_code = code_by (List ℕ × (ℕ × (ℕ × ℕ))) (coded× text_code (coded× coded_ℕ (coded× coded_ℕ coded_ℕ)))

@@ -1,5 +1,6 @@
 pub mod Store
 pub mod Later
+pub mod Cleaning
 pub mod Commit
 pub mod Stale
 pub mod Kept
