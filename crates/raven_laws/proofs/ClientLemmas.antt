@@ -5,7 +5,7 @@ use Rattle.std.specs.Str.{bytes_eq, is_utf8}
 use Rattle.spec_data.specs.Data.{Data}
 use Rattle.spec_data.specs.Json.{JsonRefusal, reading}
 use Rattle.spec_store.specs.Commit.{Expect, AnyVector, Vector}
-use Rattle.spec_server.specs.Machine.{AreFromClients, Auto, Do, Event, Indexes, IsFromClient, Line, Request, Stats, Tidy}
+use Rattle.spec_server.specs.Machine.{AreFromClients, Auto, Do, Event, Indexes, IsFromClient, Line, Request, Stats, Tidy, Clean}
 use Rattle.spec_server.specs.Script.{Circumstance, LineRead, ReadRefusal, UnknownLine, argument_and_rest, auto_of, bulk_read, by_command, commands_of, delete_if_of, delete_read, do_read, drop_of, event_of, find_of, get_of, id_read, is_collection, is_field, json_read, line_of, max_read, name_read, object_read, parts_read, publish_of, pump_of, pump_read, put_if_of, put_of, put_read, read_of, request_of, stale_of, switch_of, then_read, told_of, worker_read}
 
 -- what is read is a request that a client may send, or a refusal
@@ -87,7 +87,8 @@ request_of-fits : (line : List ℕ) → Fits (request_of line)
 request_of-fits line =
     either-fits (bytes_eq line (codes "STATS")) (Ok Stats) _ tt (
     either-fits (bytes_eq line (codes "INDEXES")) (Ok Indexes) _ tt (
-    either-fits (bytes_eq line (codes "TIDY")) (Ok Tidy) _ tt (then-fits (parts_read line) _ (λ parts. by_command-fits parts.0 parts.1))))
+    either-fits (bytes_eq line (codes "TIDY")) (Ok Tidy) _ tt (
+    either-fits (bytes_eq line (codes "CLEAN")) (Ok Clean) _ tt (then-fits (parts_read line) _ (λ parts. by_command-fits parts.0 parts.1)))))
 
 -- what a line is read as is nothing, a refusal, or what a client may send
 abbrev pub IsReadFromClient : LineRead → Type 0

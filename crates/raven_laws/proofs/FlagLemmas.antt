@@ -12,7 +12,7 @@ use Rattle.spec_index.specs.World.{Slot, SlotChange, SlotRefusal, reads, serving
 use Rattle.spec_server.specs.Asking.{Answered, MustMake, Ready, answer_ask, answer_from, answer_from_collection, answer_from_index, answer_if_bound, answer_picked, unless_refused}
 use Rattle.spec_server.specs.Replies.{Reply}
 use Rattle.spec_server.specs.Shapes.{shape_asked}
-use Rattle.spec_server.specs.Machine.{Machine, Keeping, Put, Delete, Bulk, Get, Define, Remove, Auto, Find, Ask, Pump, Switch, Tidy, Stale, Indexes, Stats, Read, Publish, Replied, answer_made, answer_making, ask_course, changed, is_taken, made_name, make, refused_at, same_machine, settled, slot_refused, step, answer_find, answer_stale, is_stale, listing, with_world, write_refused, Line, Do}
+use Rattle.spec_server.specs.Machine.{Machine, Keeping, Put, Delete, Bulk, Get, Define, Remove, Auto, Find, Ask, Pump, Switch, Tidy, Clean, Stale, Indexes, Stats, Read, Publish, Replied, answer_made, answer_making, ask_course, changed, is_taken, made_name, make, refused_at, same_machine, settled, slot_refused, step, answer_find, answer_stale, is_stale, listing, with_world, write_refused, Line, Do}
 use Rattle.spec_server.specs.Sound.{Has, Sound}
 use Rattle.raven_laws.specs.Flags.{Flag, FlagIsExact, FlagsAreExact, ShowsFlag, flag, flags_in, listed_flag}
 use Rattle.raven_laws.specs.Queries.{AsksIndex, FitsIndex}
@@ -166,6 +166,7 @@ shown_flag M k now (Do (Ask ask)) f o at = ask_flag M k now ask f (answer_ask M.
 shown_flag M k now (Do (Pump max index)) f o at = absurd at
 shown_flag M k now (Do (Switch name)) f o at = absurd at
 shown_flag M k now (Do Tidy) f o at = absurd at
+shown_flag M k now (Do Clean) f o at = absurd at
 shown_flag M k now (Do (Stale name cutoff)) f o at = stale_flag M name cutoff f (serving M.world.slots name) o refl at
 shown_flag M k now (Do Indexes) f o at = listing_flag M f o at
 shown_flag M k now (Do Stats) f o at = absurd at

@@ -1,5 +1,5 @@
 -- What an index has recorded stays right, also after a batch.
-use Rattle.std.proofs.Common.{◌≡◌, ℕ, ◌≤◌, List, [], ◌∷◌, ◌++◌, Bool, true, false, cond, ◌&&◌, nat_lt, Option, Some, None, filter, refl, sym, ap, ◌∙◌, subst, arith}
+use Rattle.std.proofs.Common.{◌≡◌, ℕ, ◌≤◌, List, [], ◌∷◌, ◌++◌, Bool, true, false, cond, ◌&&◌, nat_lt, Option, Some, None, filter, refl, sym, ap, ◌∙◌, subst, arith, ◌⊎◌, inl, inr}
 use Rattle.std.specs.Bool.{IsTrue}
 use Rattle.std.proofs.lemmas.Bool.{ltb-true, ltb-false}
 use Rattle.std.proofs.lemmas.List.{take-append-drop}
@@ -11,7 +11,7 @@ use Rattle.std.specs.FinMap.{get, empty, get-empty, same_map, nat_cmp-IsAntisymm
 use Rattle.spec_data.specs.Folding.{key_cmp, same_key}
 use Rattle.spec_data.specs.Rows.{Row, key, is_document}
 use Rattle.spec_store.specs.Store.{row_at, last_of, AreRising, AreApart, Store, last, IsStore}
-use Rattle.spec_store.specs.Later.{StillHas, Later}
+use Rattle.spec_store.specs.Later.{StillHas, MayBeCleaned, Later}
 use Rattle.spec_data.specs.Tables.{Table, Scope, in_scope, note_row, note_rows}
 use Rattle.spec_index.specs.Index.{record_of, Agrees, etag_after, etag_of_batch, documents}
 use Rattle.spec_store.specs.Stale.{past, batch_rows, left_over, up_to, stale}
@@ -19,14 +19,30 @@ use Rattle.spec_store.proofs.StoreLemmas.{same_row, both_true, found_etag, found
 use Rattle.spec_store.proofs.LaterLemmas.{StillHas-then}
 use Rattle.spec_store.proofs.TableLemmas.{get-note_row}
 
-pub Agrees-later : (scope : Scope) (T : Table) (S N : Store) (e : ℕ) → Agrees scope T S e → Later S N → e ≤ last S → Agrees scope T N e
-Agrees-later scope T S N e a l le = record {
-  known = λ q t h. let s = a.known q t h in StillHas-then N.rows q t s.row s.same s.spelled s.no_older (l.kept q s.row s.found);
-  exact = λ q r h up. a.exact q r (l.settled q r h (omega arith)) up;
+-- An id that lost its row was a tombstone up to the etag, of which the table has nothing. So the table agrees with every later store of which no more
+-- was cleaned, or no more than up to the etag.
+pub Agrees-later : (scope : Scope) (T : Table) (S N : Store) (e : ℕ) → Agrees scope T S e → Later S N → e ≤ last S → (N.cleaned ≤ S.cleaned) ⊎ (N.cleaned ≤ e) → Agrees scope T N e
+Agrees-later scope T S N e a l le up = record {
+  known = λ q t h. let s = a.known q t h in StillHas-then N.rows q t s.row s.same s.spelled s.no_older (there q t s.row h s.found (l.kept q s.row s.found) up);
+  exact = λ q r h before. a.exact q r (l.settled q r h (omega arith)) before;
   filed = a.filed;
   scoped = a.scoped;
   dated = a.dated;
 }
+  where
+    no_record : (r t : Row) → is_document r ≡ false → record_of scope r ≡ Some t → ⊥
+    no_record r t gone h = elim (in_scope scope r) as (λ b. cond (b && is_document r) (Some r) None ≡ Some t → ⊥) [
+      | true ↦ λ g. let f = sym (ap (λ b. cond b (Some r) None) gone) ∙ g in absurd cc
+      | false ↦ λ g. absurd cc
+    ] h
+
+    there : (q : List ℕ) (t r : Row) → get T q ≡ Some t → row_at q S.rows ≡ Some r → StillHas N.rows q r ⊎ MayBeCleaned S N r → (N.cleaned ≤ S.cleaned) ⊎ (N.cleaned ≤ e) → StillHas N.rows q r
+    there q t r h is (inl k) way = k
+    there q t r h is (inr c) (inl same) = absurd (let m = c.more in omega arith)
+    there q t r h is (inr c) (inr under) = elim c.deleted [
+      | inl gone ↦ absurd (no_record r t gone (sym (a.exact q r is (let x = c.reached in omega arith)) ∙ h))
+      | inr far ↦ absurd (omega arith)
+    ]
 
 -- what a table has under an id once the last row of that id is noted, if there is one
 unfoldable pub noted : Option Row → Option Row → Option Row

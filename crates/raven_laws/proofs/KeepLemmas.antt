@@ -1,24 +1,26 @@
 -- What a keeper stores is the rows of the store.
-use Rattle.std.proofs.Common.{◌≡◌, ℕ, ◌+◌, List, [], ◌∷◌, Bool, true, false, cond, Option, Some, None, Result, Ok, Err, refl, sym, ap, ◌∙◌, subst}
+use Rattle.std.proofs.Common.{◌≡◌, ℕ, ◌+◌, ◌-◌, List, [], ◌∷◌, Bool, true, false, cond, Option, Some, None, Result, Ok, Err, refl, sym, ap, ◌∙◌, subst}
 use Rattle.std.specs.Option.{option_map}
 use Rattle.spec_data.specs.Folding.{folded}
 use Rattle.spec_data.specs.Rows.{Row}
-use Rattle.spec_data.specs.Kept.{all_kept, keep_all}
+use Rattle.spec_data.specs.Kept.{all_kept}
 use Rattle.spec_store.specs.Store.{Store, last, with_row, with_rows}
+use Rattle.spec_store.specs.Cleaning.{kept_by}
 use Rattle.spec_store.specs.Commit.{AreNext, Client, Command, Put, Delete, Refused, Server, Setting, Writer, Written, commit, commit_from, document_at, refusal_of, row_of, tombstone, or_refused, with_written}
 use Rattle.spec_index.specs.Optimiser.{Choice, Use, Make, pick}
 use Rattle.spec_query.specs.Query as query
 use Rattle.spec_server.specs.Asking.{Answered, MustMake, Ready, answer_ask}
 use Rattle.spec_server.specs.Replies as replies
+use Rattle.spec_index.specs.Cleaning.{etags_reached}
 use Rattle.spec_index.specs.World.{Slot, World, serving, SlotChange, SlotRefusal, define_named, remove, switch}
-use Rattle.spec_server.specs.Machine.{Machine, Request, Put as PutOne, Delete as DeleteOne, Bulk, Get, Define, Remove, Auto, Find, Ask, Pump, Switch, Tidy, Stale, Indexes, Stats, Line, Do, Read, Publish, Event, Keeping, Change, after, ask_course, changes_of, course_of, is_taken, held_by, made, made_name, make, one_field, pump_at, pump_for, change_of_slots, replaced_names, rewrote, tidy, run, same_machine, single_reply, step, takes_after, use_or_make, with_world, write, wrote}
+use Rattle.spec_server.specs.Machine.{Machine, Request, Put as PutOne, Delete as DeleteOne, Bulk, Get, Define, Remove, Auto, Find, Ask, Pump, Switch, Tidy, Clean, Stale, Indexes, Stats, Line, Do, Read, Publish, Event, Keeping, Change, after, ask_course, changes_of, course_of, is_taken, held_by, made, made_name, make, one_field, pump_at, pump_for, change_of_slots, replaced_names, rewrote, tidy, run, same_machine, single_reply, step, takes_after, use_or_make, with_world, write, wrote}
 use Rattle.spec_server.specs.Script.{Given, after_lines, events_of}
-use Rattle.raven_laws.proofs.MachineLemmas.{AllDo, making-changes, publish-store, read-world, tidy-do}
+use Rattle.raven_laws.proofs.MachineLemmas.{AllDo, least-most, making-changes, publish-store, read-world, tidy-do}
 use Rattle.raven_laws.proofs.ScriptLemmas.{lines-run}
-use Rattle.raven_laws.specs.Keeping.{AreTheirRows, IsItsRows, kept_after_all, rows_made, stored_after}
+use Rattle.raven_laws.specs.Keeping.{AreTheirRows, IsDone, IsItsRows, changes_made, kept_after_all, stored_after}
 use Rattle.spec_store.proofs.StoreLemmas.{same_row}
 use Rattle.spec_store.proofs.CommitLemmas.{same_ok, with_rows-push, AreNext-push, last-with_rows}
-use Rattle.spec_store.proofs.KeepLemmas.{kept-with_rows}
+use Rattle.spec_store.proofs.KeepLemmas.{kept-with_rows, kept-clean}
 
 -- TRANSACTIONS
 
@@ -119,6 +121,7 @@ course-rows W now (Ask ask) = ask-rows W now ask (answer_ask W ask)
 course-rows W now (Pump max index) = pump_for-rows W max index
 course-rows W now (Switch name) = reslotted-rows W now (replies.Switched (last W.store + 1)) name (switch W name)
 course-rows W now Tidy = tidy-rows W now
+course-rows W now Clean = (record { store = refl; rows = refl; below = least-most (last W.store - 1) (etags_reached W.slots) }, tt)
 course-rows W now (Stale name cutoff) = tt
 course-rows W now Indexes = tt
 course-rows W now Stats = tt
@@ -130,24 +133,28 @@ changes-rows W now (Publish worker) = tt
 
 -- EVENTS
 
+-- after a change the keeper stores the rows of its store
+one-held : (S : Store) (c : Change) (o : Option ℕ) → IsDone S c o → kept_by c.rows o (all_kept S.rows) ≡ all_kept c.world.store.rows
+one-held S c None a = kept-with_rows S c.rows ∙ ap (λ (T : Store). all_kept T.rows) (sym a.store)
+one-held S c (Some upto) a = kept-clean upto S ∙ ap (λ (T : Store). all_kept T.rows) (sym a.store)
+
 -- after changes the keeper stores the rows of the store that they leave
 made-held : (k : Keeping) (M : Machine) (takes : List Bool) (changes : List Change) (reply : replies.Reply) → AreTheirRows M.world.store changes
-    → kept_after_all (rows_made takes changes) (all_kept M.world.store.rows) ≡ all_kept (made k M takes changes reply).machine.world.store.rows
+    → kept_after_all (changes_made takes changes) (all_kept M.world.store.rows) ≡ all_kept (made k M takes changes reply).machine.world.store.rows
 made-held k M takes [] reply a = refl
 made-held k M takes (c ∷ more) reply a =
     let N = with_world M c.world in
     let later = takes_after c.rows takes in
-    let one : keep_all (all_kept M.world.store.rows) (all_kept c.rows) ≡ all_kept c.world.store.rows =
-    kept-with_rows M.world.store c.rows ∙ ap (λ (S : Store). all_kept S.rows) (sym a.0.store) in
+    let one = one-held M.world.store c c.cleans a.0 in
     let rest = made-held k N later more reply a.1 in
-    elim (is_taken takes c.rows) as (λ b. kept_after_all (cond b (c.rows ∷ rows_made later more) []) (all_kept M.world.store.rows)
+    elim (is_taken takes c.rows) as (λ b. kept_after_all (cond b (c ∷ changes_made later more) []) (all_kept M.world.store.rows)
     ≡ all_kept (cond b (made k N later more reply) (same_machine M (replies.KeeperFault k.before k.after))).machine.world.store.rows) [
-      | true ↦ ap (kept_after_all (rows_made later more)) one ∙ rest
+      | true ↦ ap (kept_after_all (changes_made later more)) one ∙ rest
       | false ↦ refl
     ]
 
 step-held : (M : Machine) (k : Keeping) (now : ℕ) (line : Line)
-    → kept_after_all (rows_made k.takes (changes_of M.world now line)) (all_kept M.world.store.rows) ≡ all_kept (step M k now line).machine.world.store.rows
+    → kept_after_all (changes_made k.takes (changes_of M.world now line)) (all_kept M.world.store.rows) ≡ all_kept (step M k now line).machine.world.store.rows
 step-held M k now (Do request) = let c = course_of M.world now request in made-held k M k.takes c.changes c.reply (course-rows M.world now request)
 step-held M k now (Read worker max index) = ap (λ (W : World). all_kept W.store.rows) (sym (read-world M worker max index (serving M.world.slots index)))
 step-held M k now (Publish worker) = ap (λ (S : Store). all_kept S.rows) (sym (publish-store M worker (held_by M.held worker)))

@@ -37,6 +37,7 @@ pub mod AlikeLemmas
 pub mod AlikeGroups
 pub mod WordLemmas
 pub mod KeepLemmas
+pub mod CleaningLemmas
 pub mod MemberLemmas
 pub mod OpenLemmas
 pub mod OpenedRuns

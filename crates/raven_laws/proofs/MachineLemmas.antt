@@ -1,10 +1,11 @@
 -- Each step of the machine leaves a sound and later world.
-use Rattle.std.proofs.Common.{◌≡◌, ℕ, ◌+◌, ◌<◌, ◌≤◌, List, [], ◌∷◌, ◌++◌, Bool, not, ◌==◌, nat_lt, length, Option, Some, None, Result, Ok, Err, map, refl, sym, ap, ◌∙◌, subst, arith, ◌⊎◌, inl, inr, true, false, cond}
-use Rattle.std.proofs.lemmas.Bool.{eqb-true, ltb-true}
+use Rattle.std.proofs.Common.{◌≡◌, ℕ, ◌+◌, ◌<◌, ◌≤◌, List, [], ◌∷◌, ◌++◌, Bool, not, ◌==◌, nat_lt, length, Option, Some, None, Result, Ok, Err, map, refl, sym, ap, ◌∙◌, subst, arith, ◌⊎◌, inl, inr, true, false, cond, ◌-◌, min}
+use Rattle.std.proofs.lemmas.Bool.{eqb-true, ltb-true, ltb-false}
 use Rattle.spec_data.specs.Folding.{folded, same_key}
-use Rattle.spec_data.specs.Rows.{Row}
+use Rattle.spec_data.specs.Rows.{Row, Body, doc, gone, is_document}
 use Rattle.spec_store.specs.Store.{Store, last, IsStore}
 use Rattle.spec_store.specs.Later.{Later}
+use Rattle.spec_store.specs.Cleaning.{clean, is_old_tombstone, old_tombstones}
 use Rattle.spec_store.specs.Stale.{batch_rows}
 use Rattle.spec_index.specs.Index.{etag_of_batch}
 use Rattle.spec_index.specs.Optimiser.{Choice, Shape, Use, Make, definition_of, pick, retirement}
@@ -12,15 +13,18 @@ use Rattle.spec_store.specs.Commit.{Command, Put, Delete, Writer, Client, Server
 use Rattle.spec_query.specs.Query as query
 use Rattle.spec_server.specs.Asking.{Answered, MustMake, Ready, answer_ask}
 use Rattle.spec_server.specs.Replies as replies
-use Rattle.spec_index.specs.World.{Slot, Note, Version, World, reads, advanced, batch, numbered, serving, SlotChange, SlotRefusal, define_named, is_automatic, is_named, remove, switch}
-use Rattle.spec_server.specs.Machine.{Machine, Request, Put as PutOne, Delete as DeleteOne, Bulk, Get, Define, Remove, Auto, Find, Ask, Pump, Switch, Tidy, Stale, Indexes, Stats, Event, Held, Keeping, Line, Do, Read, Publish, IsFromClient, AreFromClients, Change, Course, is_taken, takes_after, with_world, same_machine, made, settled, single_reply, wrote, write, changed, rewrote, answer_made, answer_making, ask_course, change_of_slots, make, made_name, use_or_make, one_field, or_as_before, after_batch, after_batch_if_named, in_world, with_slots, pump, pump_at, pump_for, replaced_names, retire, switch_and, tidied, tidy, try_switch, PublishRefusal, Passed, held_by, let_go, with_held, read_at, read_batch, published, published_in, published_reply, publish_by, publish_to, with_version, course_of, changes_of, step, start, after, run}
-use Rattle.spec_server.specs.Sound.{Has, Fits, NumbersRise, NamesApart, HaveTheirSlots, AreListed, IsWithinLimits, Sound, IsHeld, IsMachine, LaterW}
+use Rattle.spec_index.specs.Cleaning.{clean_upto, cleaned_world, etags_reached, least}
+use Rattle.spec_index.specs.World.{Slot, Note, Version, World, index_id, reads, advanced, batch, numbered, serving, SlotChange, SlotRefusal, define_named, is_automatic, is_named, remove, switch}
+use Rattle.spec_server.specs.Machine.{Machine, Request, Put as PutOne, Delete as DeleteOne, Bulk, Get, Define, Remove, Auto, Find, Ask, Pump, Switch, Tidy, Clean, Stale, Indexes, Stats, Event, Held, Keeping, Line, Do, Read, Publish, IsFromClient, AreFromClients, Change, Course, storing, is_taken, takes_after, with_world, same_machine, made, settled, single_reply, wrote, write, changed, rewrote, answer_made, answer_making, ask_course, change_of_slots, make, made_name, use_or_make, one_field, or_as_before, after_batch, after_batch_if_named, in_world, with_slots, pump, pump_at, pump_for, replaced_names, retire, switch_and, tidied, tidy, try_switch, PublishRefusal, Passed, Cleaned, was_cleaned, put_in, held_by, let_go, with_held, read_at, read_batch, published, published_in, published_reply, publish_by, publish_to, with_version, course_of, changes_of, step, start, after, run}
+use Rattle.spec_server.specs.Sound.{Has, Fits, StillFits, NumbersRise, NamesApart, HaveTheirSlots, AreListed, IsWithinLimits, Sound, IsHeld, IsMachine, LaterW}
+use Rattle.spec_store.proofs.StoreLemmas.{IsStore-of}
 use Rattle.spec_store.proofs.LaterLemmas.{Later-itself, IsStore-with, last-with}
-use Rattle.spec_store.proofs.CommitLemmas.{row_of-follows, commit-Commits}
-use Rattle.raven_laws.proofs.SlotLemmas.{Brought, Fits-later, Has-append, Has-filter, Has-map, find-Has, HaveTheirSlots-map, NumbersRise-map, NamesApart-map, batch-Brought, same_slot}
+use Rattle.spec_store.proofs.CommitLemmas.{row_of-follows, commit-Commits, Commits-cleaned}
+use Rattle.spec_store.proofs.CleanLemmas.{IsStore-clean, Later-clean, last-clean, clean-cases, clean-iff, clean-rows, document_stays}
+use Rattle.raven_laws.proofs.SlotLemmas.{Brought, Fits-later, Fits-unread, Fits-still, StillFits-later, StillFits-Fits, Has-append, Has-filter, Has-map, find-Has, HaveTheirSlots-map, NumbersRise-map, NamesApart-map, batch-Brought, same_slot}
 use Rattle.raven_laws.proofs.ListedLemmas.{commit_from-applied, clients-AreListed, map-AreListed}
 use Rattle.raven_laws.proofs.KindLemmas.{auto-no-replacement, definition_of-automatic, name_of-begins}
-use Rattle.raven_laws.proofs.LimitLemmas.{commit_from-fits, commit_from-last, length_mapped}
+use Rattle.raven_laws.proofs.LimitLemmas.{commit_from-fits, commit_from-last, length_mapped, length_filtered}
 use Rattle.raven_laws.proofs.WorldLemmas.{append-none, LaterW-itself, LaterW-then, Comes, stays, StartsWithPut, Onto, Settles, SuitsName, define-Settles, define_named-Settles, remove-Settles, switch-Settles, retirement-Settles}
 
 -- from a sound world to a sound and later one
@@ -127,7 +131,7 @@ wrote-Moves now W reply commands (Ok w) o is =
       Shifts-Moves W w.store W.slots o (record {
         store = c.sound;
         later = c.later;
-        comes = λ s h. stays W w.store [] s o c.later h;
+        comes = λ s h. stays W w.store [] s o c.later (let e = Commits-cleaned W.store w c in omega arith) h;
         rising = o.rising;
         apart = o.apart;
         beside = o.beside;
@@ -177,6 +181,7 @@ changed-Moves now W c w o by is =
     let t = by w.store (record {
       store = k.sound;
       later = k.later;
+      same = let e = Commits-cleaned W.store w k in omega arith;
       grown = put-grows W.setting Server now c.commands W.store w o.store is;
       now = now;
       written = commit_from-applied 0 W.setting Server now c.commands _ w is;
@@ -244,7 +249,7 @@ abbrev pub IsTidying : World → SlotChange → Type 0
 IsTidying W c = ((name : List ℕ) × (switch W name ≡ Ok c)) ⊎ (c ≡ retirement W)
 
 abbrev pub change_to : World → SlotChange → Written → Change
-change_to W c w = record { rows = w.rows; world = changed W w.store c }
+change_to W c w = storing w.rows (changed W w.store c)
 
 -- What each change of a Tidy does: it is enough to show it of one switch and of a retirement, of every world of which I holds.
 module _ (now : ℕ) (I : World → Type 0) (P : World → Change → Type 0)
@@ -287,7 +292,7 @@ tidy-Moves now W o = tidy_from-Moves now (replaced_names W) W [] o
 brought-Comes : (W : World) (x : Slot) (max : ℕ) → Sound W → Has W.slots x → Comes W W.store [] (after_batch W.store max x)
 brought-Comes W x max o h =
     elim (batch x.version W.store max) as (λ b. batch x.version W.store max ≡ b → Comes W W.store [] (record { number = x.number; name = x.name; version = or_as_before x.version b; row = x.row })) [
-      | None ↦ λ e. stays W W.store [] x o (Later-itself W.store) h
+      | None ↦ λ e. stays W W.store [] x o (Later-itself W.store) (omega arith) h
       | Some v ↦ λ e. let b = batch-Brought W.store x.version v max o.store (o.fits x h) e in record {
         fits = b.fits;
         within = o.numbers x h;
@@ -308,7 +313,7 @@ pub record Keeps (x y : Slot) : Type 0 where
 pub brought-Keeps : (S : Store) (max : ℕ) (x : Slot) → Keeps x (after_batch S max x)
 brought-Keeps S max x = record { number = refl; name = refl; row = refl; definition = by (batch_rows (reads x.version) x.version.etag S max) }
   where
-    by : (rows : List Row) → (or_as_before x.version (advanced x.version rows (etag_of_batch (reads x.version) x.version.etag S max))).definition ≡ x.version.definition
+    by : (rows : List Row) → (or_as_before x.version (advanced x.version rows (etag_of_batch (reads x.version) x.version.etag S max) S.cleaned)).definition ≡ x.version.definition
     by [] = refl
     by (r ∷ rows) = refl
 
@@ -339,7 +344,7 @@ pump_at-Moves W max name (Some s) o = (mapped-Moves W (after_batch_if_named W.st
     comes : (x : Slot) → Has W.slots x → Comes W W.store [] (after_batch_if_named W.store max name x)
     comes x h = elim (is_named name x) as (λ b. Comes W W.store [] (cond b (after_batch W.store max x) x)) [
       | true ↦ brought-Comes W x max o h
-      | false ↦ stays W W.store [] x o (Later-itself W.store) h
+      | false ↦ stays W W.store [] x o (Later-itself W.store) (omega arith) h
     ]
 
     keeps : (x : Slot) → Keeps x (after_batch_if_named W.store max name x)
@@ -351,6 +356,93 @@ pump_at-Moves W max name (Some s) o = (mapped-Moves W (after_batch_if_named W.st
 pump_for-Moves : (W : World) (max : ℕ) (index : Option (List ℕ)) → Sound W → CourseMoves W (pump_for W max index)
 pump_for-Moves W max None o = pump-Moves W max o
 pump_for-Moves W max (Some name) o = pump_at-Moves W max name (serving W.slots name) o
+
+-- CLEANING
+
+-- the least of numbers is at most `most`
+pub least-most : (most : ℕ) (es : List ℕ) → least most es ≤ most
+least-most most [] = omega arith
+least-most most (e ∷ es) = let a = least-most (min most e) es in omega arith
+
+-- and at most the etag of each slot that has read something
+pub least-reached : (most : ℕ) (slots : List Slot) (s : Slot) → Has slots s → 0 < s.version.etag → least most (etags_reached slots) ≤ s.version.etag
+least-reached most [] s h some = absurd h
+least-reached most (x ∷ slots) s (inl e) some =
+    let at : x.version.etag ≡ s.version.etag = ap (λ (y : Slot). y.version.etag) e in
+    elim (nat_lt 0 x.version.etag) as (λ b. nat_lt 0 x.version.etag ≡ b → least most (cond b (x.version.etag ∷ etags_reached slots) (etags_reached slots)) ≤ s.version.etag) [
+      | true ↦ λ t. let a = least-most (min most x.version.etag) (etags_reached slots) in omega arith
+      | false ↦ λ t. absurd (let a = ltb-false 0 x.version.etag t in omega arith)
+    ] refl
+least-reached most (x ∷ slots) s (inr h) some =
+    elim (nat_lt 0 x.version.etag) as (λ b. least most (cond b (x.version.etag ∷ etags_reached slots) (etags_reached slots)) ≤ s.version.etag) [
+      | true ↦ least-reached (min most x.version.etag) slots s h some
+      | false ↦ least-reached most slots s h some
+    ]
+
+-- what is at most all of these is at most the least
+pub least-greatest : (n most : ℕ) (slots : List Slot) → n ≤ most → ((s : Slot) → Has slots s → 0 < s.version.etag → n ≤ s.version.etag) → n ≤ least most (etags_reached slots)
+least-greatest n most [] le all = le
+least-greatest n most (x ∷ slots) le all =
+    elim (nat_lt 0 x.version.etag) as (λ b. nat_lt 0 x.version.etag ≡ b → n ≤ least most (cond b (x.version.etag ∷ etags_reached slots) (etags_reached slots))) [
+      | true ↦ λ t. least-greatest n (min most x.version.etag) slots (let a = all x (inl refl) (ltb-true 0 x.version.etag t) in omega arith) (λ s h. all s (inr h))
+      | false ↦ λ t. least-greatest n most slots le (λ s h. all s (inr h))
+    ] refl
+
+pub clean-within : (W : World) → clean_upto W ≤ last W.store - 1
+clean-within W = least-most (last W.store - 1) (etags_reached W.slots)
+
+-- each index fits the store that is left: it has read nothing, or all that goes is up to its etag
+cleaned-Comes : (W : World) (s : Slot) → Sound W → Has W.slots s → Comes W (cleaned_world W).store [] s
+cleaned-Comes W s o h =
+    let upto = clean_upto W in
+    let sound = IsStore-clean upto W.store o.store (clean-within W) in
+    let l = Later-clean upto W.store o.store (clean-within W) in record {
+      fits = elim (nat_lt 0 s.version.etag) as (λ b. nat_lt 0 s.version.etag ≡ b → Fits (clean upto W.store) s.version) [
+        | true ↦ λ t. Fits-later W.store (clean upto W.store) s.version (o.fits s h) l (up (least-reached (last W.store - 1) W.slots s h (ltb-true 0 s.version.etag t)))
+        | false ↦ λ t. Fits-unread W.store (clean upto W.store) s.version (o.fits s h) (let a = ltb-false 0 s.version.etag t in omega arith) sound
+      ] refl;
+      within = let a = o.numbers s h in let b = l.grown in omega arith;
+      old = inl (s, h, record { number = refl; definition = refl; onward = omega arith; named = refl });
+      named = inl (s, h, refl, refl);
+      kind = o.kinds s h;
+    }
+  where
+    up : clean_upto W ≤ s.version.etag → ((clean (clean_upto W) W.store).cleaned ≤ W.store.cleaned) ⊎ ((clean (clean_upto W) W.store).cleaned ≤ s.version.etag)
+    up le = clean-cases (clean_upto W) W.store (λ N. (N.cleaned ≤ W.store.cleaned) ⊎ (N.cleaned ≤ s.version.etag)) o.store (clean-within W) (λ any more below. inr le) (λ none. inl (omega arith))
+
+-- the rows of definitions are no tombstones
+cleaned-AreListed : (upto : ℕ) (S : Store) (slots : List Slot) → IsStore S → AreListed S slots → AreListed (clean upto S) slots
+cleaned-AreListed upto S slots s a = record {
+  each = λ x h. let l = a.each x h in record {
+    row = l.row;
+    found = (clean-iff upto S (folded (index_id x.name)) l.row s).1 (l.found, document_stays upto l.row (ap is_document_body l.body));
+    etag = l.etag;
+    collection = l.collection;
+    body = l.body;
+  };
+  only = λ q r h is. a.only q r ((clean-iff upto S q r s).0 h).0 is;
+}
+  where
+    is_document_body : Body → Bool
+    is_document_body (doc d) = true
+    is_document_body gone = false
+
+length-clean : (upto : ℕ) (S : Store) → length (clean upto S).rows ≤ length S.rows
+length-clean upto S = let a = length_filtered (λ r. not (is_old_tombstone upto r)) S.rows in let e = ap length (clean-rows upto S) in omega arith
+
+pub cleaned-Moves : (W : World) → Sound W → Moves W (cleaned_world W)
+cleaned-Moves W o = Shifts-Moves W (clean (clean_upto W) W.store) W.slots o (record {
+  store = IsStore-clean (clean_upto W) W.store o.store (clean-within W);
+  later = Later-clean (clean_upto W) W.store o.store (clean-within W);
+  comes = λ s h. cleaned-Comes W s o h;
+  rising = o.rising;
+  apart = o.apart;
+  beside = o.beside;
+  listed = cleaned-AreListed (clean_upto W) W.store W.slots o.store o.listed;
+  rows = let a = length-clean (clean_upto W) W.store in let b = o.limits.rows in omega arith;
+  count = o.limits.slots;
+  etags = let e = last-clean (clean_upto W) W.store o.store (clean-within W) in let b = o.limits.etags in omega arith;
+})
 
 -- REQUESTS
 
@@ -370,6 +462,7 @@ course-Moves W now (Ask ask) from o = ask-Moves now W ask (answer_ask W ask) o
 course-Moves W now (Pump max index) from o = pump_for-Moves W max index o
 course-Moves W now (Switch name) from o = reslotted-Moves now W (replies.Switched (last W.store + 1)) name (switch W name) o (switch-Settles W name)
 course-Moves W now Tidy from o = tidy-Moves now W o
+course-Moves W now Clean from o = (cleaned-Moves W o, tt)
 course-Moves W now (Stale name cutoff) from o = tt
 course-Moves W now Indexes from o = tt
 course-Moves W now Stats from o = tt
@@ -391,7 +484,8 @@ changes-Move W now (Publish worker) c o from h = absurd h
 pub batch-IsHeld : (W : World) (worker : ℕ) (s : Slot) (v : Version) (max : ℕ) → Sound W → Has W.slots s → batch s.version W.store max ≡ Some v
     → IsHeld W (record { worker = worker; number = s.number; version = v })
 batch-IsHeld W worker s v max o h is = record {
-  fits = b.fits;
+  fits = Fits-still W.store v b.fits;
+  since = let e = b.cleaned in omega arith;
   within = o.numbers s h;
   same = λ x there k. ap (λ (y : Slot). y.version.definition) (same_slot 0 W.slots x s o.rising there h k) ∙ b.definition;
 }
@@ -402,7 +496,8 @@ batch-IsHeld W worker s v max o h is = record {
 -- and also in every later world
 pub IsHeld-later : (W N : World) (h : Held) → IsHeld W h → LaterW W N → IsHeld N h
 IsHeld-later W N h i l = record {
-  fits = Fits-later W.store N.store h.version i.fits l.store;
+  fits = StillFits-later W.store N.store h.version i.fits i.since l.store;
+  since = let a = i.since in let l = l.store in let b = l.cleaned in omega arith;
   within = let a = i.within in let b = l.store in let c = b.grown in omega arith;
   same = λ s at e. elim (l.numbers s at) [
     | inl w ↦ let k = w.2 in sym k.definition ∙ i.same w.0 w.1 (k.number ∙ e)
@@ -461,20 +556,20 @@ module _ (W : World) (h : Held) (o : Sound W) (k : IsHeld W h) where
     | false ↦ λ e. refl
   ] refl
 
-  put-Comes : (s x : Slot) → Has W.slots s → s.number ≡ h.number → s.version.etag ≤ h.version.etag → Has W.slots x → Comes W W.store [] (put x)
-  put-Comes s x at n le there = elim (x.number == h.number) as (λ b. (x.number == h.number) ≡ b → Comes W W.store [] (cond b (record { number = x.number; name = x.name; version = h.version; row = x.row }) x)) [
+  put-Comes : (s x : Slot) → Fits W.store h.version → Has W.slots s → s.number ≡ h.number → s.version.etag ≤ h.version.etag → Has W.slots x → Comes W W.store [] (put x)
+  put-Comes s x fits at n le there = elim (x.number == h.number) as (λ b. (x.number == h.number) ≡ b → Comes W W.store [] (cond b (record { number = x.number; name = x.name; version = h.version; row = x.row }) x)) [
     | true ↦ λ e.
         let is = eqb-true x.number h.number e in
         let one = same_slot 0 W.slots x s o.rising there at (is ∙ sym n) in
-        further-Comes W x h.version o there k.fits (k.same x there is) (let f = ap (λ (y : Slot). y.version.etag) one in omega arith)
-    | false ↦ λ e. stays W W.store [] x o (Later-itself W.store) there
+        further-Comes W x h.version o there fits (k.same x there is) (let f = ap (λ (y : Slot). y.version.etag) one in omega arith)
+    | false ↦ λ e. stays W W.store [] x o (Later-itself W.store) (omega arith) there
   ] refl
 
-  put-Moves : (s : Slot) → Has W.slots s → s.number ≡ h.number → s.version.etag ≤ h.version.etag → Moves W (with_slots W (map put W.slots))
-  put-Moves s at n le = Shifts-Moves W W.store (map put W.slots) o (record {
+  put-Moves : (s : Slot) → Fits W.store h.version → Has W.slots s → s.number ≡ h.number → s.version.etag ≤ h.version.etag → Moves W (with_slots W (map put W.slots))
+  put-Moves s fits at n le = Shifts-Moves W W.store (map put W.slots) o (record {
     store = o.store;
     later = Later-itself W.store;
-    comes = λ y g. let x = Has-map put W.slots y g in subst (Comes W W.store []) x.2 (put-Comes s x.0 at n le x.1);
+    comes = λ y g. let x = Has-map put W.slots y g in subst (Comes W W.store []) x.2 (put-Comes s x.0 fits at n le x.1);
     rising = NumbersRise-map 0 put W.slots put-number o.rising;
     apart = NamesApart-map put W.slots put-name o.apart;
     beside = HaveTheirSlots-map put W.slots put-name o.beside;
@@ -495,9 +590,12 @@ module _ (W : World) (h : Held) (o : Sound W) (k : IsHeld W h) where
       by (Some s) e g =
           let at = find-Has (λ x. x.number == h.number) W.slots s e in
           elim (nat_lt s.version.etag h.version.etag) as (λ b. nat_lt s.version.etag h.version.etag ≡ b
-          → cond b (Ok (with_slots W (map put W.slots))) (Err (Passed s.version.etag)) ≡ Ok V → Moves W V) [
-            | true ↦ λ t f. subst (Moves W) (same_world (with_slots W (map put W.slots)) V f)
-                (put-Moves s at.0 (eqb-true s.number h.number at.1) (let lt = ltb-true s.version.etag h.version.etag t in omega arith))
+          → cond b (put_in W h.number h.version) (Err (Passed s.version.etag)) ≡ Ok V → Moves W V) [
+            | true ↦ λ t f. elim (was_cleaned W.store h.version) as (λ c. was_cleaned W.store h.version ≡ c → cond c (Err (Cleaned W.store.cleaned)) (Ok (with_slots W (map put W.slots))) ≡ Ok V → Moves W V) [
+              | true ↦ λ past q. absurd cc
+              | false ↦ λ past q. subst (Moves W) (same_world (with_slots W (map put W.slots)) V q)
+                  (put-Moves s (StillFits-Fits W.store h.version k.fits past) at.0 (eqb-true s.number h.number at.1) (let lt = ltb-true s.version.etag h.version.etag t in omega arith))
+            ] refl f
             | false ↦ λ t f. absurd cc
           ] refl g
 
@@ -555,8 +653,11 @@ read-world M worker max index (Some s) = by (batch s.version M.world.store max)
 
 published-store : (W : World) (n : ℕ) (v : Version) (there : Option Slot) (V : World) → published_in W n v there ≡ Ok V → V.store ≡ W.store
 published-store W n v None V h = absurd cc
-published-store W n v (Some s) V h = elim (nat_lt s.version.etag v.etag) as (λ b. cond b (Ok (with_slots W (map (with_version n v) W.slots))) (Err (Passed s.version.etag)) ≡ Ok V → V.store ≡ W.store) [
-  | true ↦ λ e. sym (ap (λ (X : World). X.store) (same_world (with_slots W (map (with_version n v) W.slots)) V e))
+published-store W n v (Some s) V h = elim (nat_lt s.version.etag v.etag) as (λ b. cond b (put_in W n v) (Err (Passed s.version.etag)) ≡ Ok V → V.store ≡ W.store) [
+  | true ↦ λ e. elim (was_cleaned W.store v) as (λ c. cond c (Err (Cleaned W.store.cleaned)) (Ok (with_slots W (map (with_version n v) W.slots))) ≡ Ok V → V.store ≡ W.store) [
+    | true ↦ λ f. absurd cc
+    | false ↦ λ f. sym (ap (λ (X : World). X.store) (same_world (with_slots W (map (with_version n v) W.slots)) V f))
+  ] e
   | false ↦ λ e. absurd cc
 ] h
   where
@@ -623,7 +724,7 @@ start-IsMachine setting = record { world = start-Sound setting; held = λ h has.
   where
     start-Sound : (setting : Setting) → Sound (start setting).world
     start-Sound setting = record {
-      store = record { rising = tt; apart = tt };
+      store = IsStore-of [] tt tt;
       fits = λ s h. absurd h;
       numbers = λ s h. absurd h;
       rising = tt;

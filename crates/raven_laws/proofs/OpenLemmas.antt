@@ -17,7 +17,7 @@ use Rattle.spec_data.specs.Moments.{moments_end}
 use Rattle.spec_data.specs.Rising.{Pairs, IsRising}
 use Rattle.spec_data.specs.Rows.{Row, Body, doc, gone, key, is_document}
 use Rattle.spec_data.specs.Written.{text_of}
-use Rattle.spec_store.specs.Store.{row_at, last_of, AreRising, AreApart, IsStore}
+use Rattle.spec_store.specs.Store.{row_at, last_of, AreRising, AreApart, IsStore, store_of}
 use Rattle.index_tree.specs.Definitions.{Definition, Auto, AutoReduce, Texts}
 use Rattle.spec_store.specs.Commit.{Setting, is_index_id, stored_body}
 use Rattle.spec_index.specs.World.{Slot, new_version, index_id, row_body, path_list, text_list, text_or_null, is_automatic, is_reserved_name, begins_with_auto, begins_with_replacement}
@@ -26,7 +26,7 @@ use Rattle.spec_server.specs.Opening.{OpenedFrom, and_then_some, words_of, is_pa
 use Rattle.spec_store.specs.Kept.{max_body, max_etag, is_stored, document_of, document_in, body_in, is_etag, row_in, can_follow, row_if_it_follows, or_bad_row, rows_after, rows_in}
 use Rattle.spec_server.specs.Sound.{Has, Fits, NumbersRise, NamesApart, HaveTheirSlots, AreListed, IsMachine, Sound}
 use Rattle.raven_laws.specs.Opened.{AgreesWithForm, AgreesWithBody, HasOwnDefinition, HaveOwnDefinitions, OpenedFaithfully}
-use Rattle.spec_store.proofs.StoreLemmas.{same_row, both_true, either_false, same_itself, same_means, found_key, row_at-append, last_of-append}
+use Rattle.spec_store.proofs.StoreLemmas.{IsStore-of, same_row, both_true, either_false, same_itself, same_means, found_key, row_at-append, last_of-append}
 use Rattle.raven_laws.proofs.KindLemmas.{named-given, named-kind}
 use Rattle.raven_laws.proofs.ListedLemmas.{index_apart}
 use Rattle.raven_laws.proofs.WorldLemmas.{reserved-other}
@@ -701,7 +701,7 @@ opened-apart all max rows slots apart a s t h g e =
     let same : x.from ≡ y.from = same_row x.from y.from (sym (Has-found rows x.from apart x.there) ∙ ap (λ k. row_at k rows) keyed ∙ Has-found rows y.from apart y.there) in
     same_slot 0 slots s t a.rising h g (ap (λ (z : Slot). z.number) (sym x.made) ∙ ap (λ (r : Row). r.etag) same ∙ ap (λ (z : Slot). z.number) y.made)
 
-opened-listed : (all : List Row) (max : ℕ) (rows : List Row) (slots : List Slot) → Stand max rows → (most : ℕ) → AreMade all most rows slots → AreListed (record { rows = rows }) slots
+opened-listed : (all : List Row) (max : ℕ) (rows : List Row) (slots : List Slot) → Stand max rows → (most : ℕ) → AreMade all most rows slots → AreListed (store_of rows) slots
 opened-listed all max rows slots s most a = record {
   each = λ x h.
       let m = a.each x h in
@@ -763,14 +763,14 @@ opened-beside max rows slots a x h begins =
 
 -- the machine that rows open
 abbrev machine_of : Setting → List Row → List Slot → Machine
-machine_of s rows slots = record { world = record { setting = s; store = record { rows = rows }; slots = slots; notes = [] }; held = [] }
+machine_of s rows slots = record { world = record { setting = s; store = store_of rows; slots = slots; notes = [] }; held = [] }
 
 world-Sound : (s : Setting) (rows : List Row) (slots : List Slot) → Stand s.max_rows rows → AreMade rows s.max_slots rows slots → Sound (machine_of s rows slots).world
 world-Sound s rows slots f a =
-    let o : IsStore (record { rows = rows }) = record { rising = f.rising; apart = f.apart } in
+    let o : IsStore (store_of rows) = IsStore-of rows f.rising f.apart in
     record {
       store = o;
-      fits = λ x h. let m = a.each x h in subst (λ (z : Slot). Fits (record { rows = rows }) z.version) m.made (Fits-fresh (record { rows = rows }) m.definition o);
+      fits = λ x h. let m = a.each x h in subst (λ (z : Slot). Fits (store_of rows) z.version) m.made (Fits-fresh (store_of rows) m.definition o);
       numbers = a.under;
       rising = a.rising;
       apart = opened-apart rows s.max_slots rows slots f.apart a;

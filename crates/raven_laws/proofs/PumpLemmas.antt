@@ -62,7 +62,7 @@ takes_nothing S scope e max h =
 
 pub stays-fresh : (S : Store) (s : Slot) (max : ℕ) → IsStore S → s.version.etag ≤ last S → 1 ≤ max → ((pumping S max s).to ≡ (pumping S max s).from) ↔ (is_stale S s ≡ false)
 stays-fresh S s max o within some =
-    elim (batch_rows (reads v) v.etag S max) as (λ tk. batch_rows (reads v) v.etag S max ≡ tk → ((or_as_before v (advanced v tk new)).etag ≡ v.etag) ↔ (is_stale S s ≡ false)) [
+    elim (batch_rows (reads v) v.etag S max) as (λ tk. batch_rows (reads v) v.etag S max ≡ tk → ((or_as_before v (advanced v tk new S.cleaned)).etag ≡ v.etag) ↔ (is_stale S s ≡ false)) [
       | [] ↦ λ e. (λ _. nothing_taken S (reads v) v.etag max some e, λ _. refl)
       | r ∷ rows ↦ λ e. (
         λ same. absurd (let f = t.from (key r) r (subst (λ tk. row_at (key r) tk ≡ Some r) (sym e) (first r rows)) in let a = ltb-true v.etag r.etag f.2 in let b = f.3 in omega arith),
@@ -86,7 +86,7 @@ stays-fresh S s max o within some =
 
 pub all-fresh : (S : Store) (s : Slot) (max : ℕ) → IsStore S → 1 ≤ max → length S.rows ≤ max → is_stale S (after_batch S max s) ≡ false
 all-fresh S s max o some most =
-    elim (batch_rows (reads v) v.etag S max) as (λ tk. batch_rows (reads v) v.etag S max ≡ tk → let w = or_as_before v (advanced v tk (etag_of_batch (reads v) v.etag S max)) in stale S (reads w) w.etag None ≡ false) [
+    elim (batch_rows (reads v) v.etag S max) as (λ tk. batch_rows (reads v) v.etag S max ≡ tk → let w = or_as_before v (advanced v tk (etag_of_batch (reads v) v.etag S max) S.cleaned) in stale S (reads w) w.etag None ≡ false) [
       | [] ↦ λ e. nothing_taken S (reads v) v.etag max some e
       | r ∷ rows ↦ λ e. seen-fresh S (reads v) (etag_of_batch (reads v) v.etag S max) None o (λ u.
           let a = (found_etag 0 u.id S.rows u.row o.rising u.found).1 in

@@ -11,10 +11,11 @@ use Rattle.spec_store.specs.Commit.{Client, Command, Refused, Server, Written, c
 use Rattle.spec_index.specs.Optimiser.{Choice, Make, Shape, Use, definition_of, is_retired, pick, retired, retirement}
 use Rattle.spec_query.specs.Query as query
 use Rattle.spec_server.specs.Asking.{Answered, MustMake, Ready, answer_ask}
+use Rattle.spec_index.specs.Cleaning.{cleaned_world}
 use Rattle.spec_index.specs.World.{Slot, SlotChange, SlotRefusal, World, added, added_if_room, added_to, batch, begins_with_replacement, define, define_at, define_beside, define_named, dropped, is_automatic, is_named, is_stale, name_refusal, named_anew, numbered, removed, renamed, serving, switch, taken_out, takes_over, unchanged, unless_refused, without}
 use Rattle.spec_server.specs.Replies.{Reply, Result as Done}
 use Rattle.spec_server.specs.Replies as replies
-use Rattle.spec_server.specs.Machine.{Ask, Auto, Bulk, Change, Course, Define, Delete, Do, Find, Get, Held, Indexes, Keeping, Line, Machine, Passed, Publish, PublishRefusal, Pump, Put, Read, Remove, Replied, Stale, Stats, Switch, Tidy, after_batch, after_batch_if_named, ask_course, change_of_slots, changed, made_name, make, course_of, held_by, in_world, is_taken, made, one_field, or_as_before, publish_by, publish_to, published, published_in, published_reply, pump_at, pump_for, replaced_names, retire, rewrote, same_machine, settled, single_reply, switch_and, takes_after, tidied, tidy, try_switch, use_or_make, with_slots, with_version, with_world, write, write_refused, wrote}
+use Rattle.spec_server.specs.Machine.{Ask, Auto, Bulk, Change, Clean, Cleaned, Course, Define, Delete, Do, Find, Get, Held, Indexes, Keeping, Line, Machine, Passed, Publish, PublishRefusal, Pump, Put, Read, Remove, Replied, Stale, Stats, Switch, Tidy, after_batch, after_batch_if_named, ask_course, change_of_slots, changed, made_name, make, course_of, held_by, in_world, is_taken, made, one_field, or_as_before, publish_by, publish_to, published, published_in, published_reply, pump_at, pump_for, replaced_names, retire, rewrote, same_machine, settled, single_reply, switch_and, takes_after, tidied, tidy, try_switch, use_or_make, with_slots, with_version, with_world, write, write_refused, wrote, put_in, was_cleaned}
 use Rattle.spec_server.specs.Sound.{Continues, Has, IsHeld, IsMachine, LaterW, NamesApart, Sound}
 use Rattle.raven_laws.specs.Served.{IsSwitch, ServedStays, StaysOrGoes, StillServes}
 use Rattle.raven_laws.proofs.MachineLemmas.{AllDo, AllLeave, AllMove, CourseMoves, Moves, brought-Keeps, chain, made-leaves, making-changes, read-world, settled-leaves, tidy_from-Moves, tidying-Moves}
@@ -482,8 +483,8 @@ published-Stays W h None V o k e f = absurd cc
 published-Stays W h (Some t) V o k e f =
     let at = find-Has (λ x. x.number == h.number) W.slots t e in
     let put = with_version h.number h.version in
-    elim (nat_lt t.version.etag h.version.etag) as (λ b. nat_lt t.version.etag h.version.etag ≡ b → cond b (Ok (with_slots W (map put W.slots))) (Err (Passed t.version.etag)) ≡ Ok V → Stays W V) [
-      | true ↦ λ lt g. subst (Stays W) (same_world (with_slots W (map put W.slots)) V g) (λ name s plain is. record {
+    elim (nat_lt t.version.etag h.version.etag) as (λ b. nat_lt t.version.etag h.version.etag ≡ b → cond b (put_in W h.number h.version) (Err (Passed t.version.etag)) ≡ Ok V → Stays W V) [
+      | true ↦ λ lt g. subst (Stays W) (same_world (with_slots W (map put W.slots)) V (brought g)) (λ name s plain is. record {
         slot = put s;
         serves = serving-map put W.slots name s put-names is;
         continues = with_version-Continues W h t s o k at.0 (eqb-true t.number h.number at.1) (let less = ltb-true t.version.etag h.version.etag lt in omega arith) (served W.slots name s is).0;
@@ -496,6 +497,13 @@ published-Stays W h (Some t) V o k e f =
 
     same_world : (A B : World) → (let r : Result World PublishRefusal = Ok A in r) ≡ Ok B → A ≡ B
     same_world A B g = cc
+
+    brought : put_in W h.number h.version ≡ Ok V → (let r : Result World PublishRefusal = Ok (with_slots W (map (with_version h.number h.version) W.slots)) in r) ≡ Ok V
+    brought g = elim (was_cleaned W.store h.version) as (λ c. cond c (Err (Cleaned W.store.cleaned)) (Ok (with_slots W (map (with_version h.number h.version) W.slots))) ≡ Ok V
+        → (let r : Result World PublishRefusal = Ok (with_slots W (map (with_version h.number h.version) W.slots)) in r) ≡ Ok V) [
+          | true ↦ λ f. absurd cc
+          | false ↦ λ f. f
+        ] g
 
 publish-Stays : (M : Machine) (worker : ℕ) (there : Option Held) → IsMachine M → held_by M.held worker ≡ there → Stays M.world (publish_by M worker there).machine.world
 publish-Stays M worker None i e = itself M.world
@@ -523,6 +531,7 @@ step-served M k now (Do (Ask ask)) i name s plain h = inl (settled-Stays M k (co
 step-served M k now (Do (Pump max index)) i name s plain h = inl (settled-Stays M k (pump_for M.world max index) (pump_for-Stays M.world max index i.world) name s plain h)
 step-served M k now (Do (Switch given)) i name s plain h = switch-along M k now given (switch M.world given) i.world refl name s plain h
 step-served M k now (Do Tidy) i name s plain h = tidy-along k now (replaced_names M.world) M k.takes [] i.world name s plain h
+step-served M k now (Do Clean) i name s plain h = inl (settled-Stays M k (course_of M.world now Clean) ((λ n x p is. still (cleaned_world M.world) n x is), tt) name s plain h)
 step-served M k now (Do (Stale index cutoff)) i name s plain h = inl (still M.world name s h)
 step-served M k now (Do Indexes) i name s plain h = inl (still M.world name s h)
 step-served M k now (Do Stats) i name s plain h = inl (still M.world name s h)

@@ -13,7 +13,8 @@ use Rattle.spec_store.specs.Stale.{batch_rows, newest, stale, up_to}
 use Rattle.spec_data.specs.Tables.{Scope, in_scope, note_rows}
 use Rattle.index_tree.specs.Definitions.{Definition}
 use Rattle.spec_index.specs.World.{Version, Slot, reads, new_version, advanced, batch, begins_with_auto, begins_with_replacement, is_reserved_name, replaced_name, serving, without}
-use Rattle.spec_server.specs.Sound.{Has, Fits, NumbersRise, NamesApart, HaveTheirSlots}
+use Rattle.spec_server.specs.Machine.{was_cleaned}
+use Rattle.spec_server.specs.Sound.{Has, Fits, StillFits, NumbersRise, NamesApart, HaveTheirSlots}
 use Rattle.spec_store.proofs.StoreLemmas.{either_false, found_etag, same_itself, same_means}
 use Rattle.raven_laws.proofs.IndexLemmas.{Taken, Agrees-later, Agrees-batch, Taken-batch}
 
@@ -244,8 +245,45 @@ newest_fresh S scope e h = along 0 S.rows (omega arith) h
           | false ↦ λ g. along low rows le g
         ] h
 
-pub Fits-later : (S N : Store) (v : Version) → Fits S v → Later S N → Fits N v
-Fits-later S N v f l = record { agrees = Agrees-later (reads v) v.table S N v.etag f.agrees l f.within; within = let a = f.within in let b = l.grown in omega arith }
+pub Fits-later : (S N : Store) (v : Version) → Fits S v → Later S N → (N.cleaned ≤ S.cleaned) ⊎ (N.cleaned ≤ v.etag) → Fits N v
+Fits-later S N v f l up = record { agrees = Agrees-later (reads v) v.table S N v.etag f.agrees l f.within up; within = let a = f.within in let b = l.grown in omega arith }
+
+-- a version that has read nothing fits every store
+pub Fits-unread : (S N : Store) (v : Version) → Fits S v → v.etag ≡ 0 → IsStore N → Fits N v
+Fits-unread S N v f none_read s = record {
+  agrees = record {
+    known = λ q t h. absurd (none q t h);
+    exact = λ q r h le. absurd (let a = (found_etag 0 q N.rows r s.rising h).0 in omega arith);
+    filed = λ q t h. absurd (none q t h);
+    scoped = λ q t h. absurd (none q t h);
+    dated = λ q t h. absurd (none q t h);
+  };
+  within = omega arith;
+}
+  where
+    none : (q : List ℕ) (t : Row) → get v.table q ≡ Some t → ⊥
+    none q t h = let a = f.agrees in let d = a.dated q t h in let b = d.0 in let c = d.1 in omega arith
+
+-- and a version that fits may still be published
+pub Fits-still : (S : Store) (v : Version) → Fits S v → StillFits S v
+Fits-still S v f = record { agrees = λ way. f.agrees; within = f.within }
+
+pub StillFits-later : (S N : Store) (v : Version) → StillFits S v → v.cleaned ≤ S.cleaned → Later S N → StillFits N v
+StillFits-later S N v f since l = record { agrees = by; within = let a = f.within in let b = l.grown in omega arith }
+  where
+    by : (N.cleaned ≤ v.cleaned) ⊎ (N.cleaned ≤ v.etag) → Agrees (reads v) v.table N v.etag
+    by (inl same) = Agrees-later (reads v) v.table S N v.etag (f.agrees (inl (let a = l.cleaned in omega arith))) l f.within (inl (omega arith))
+    by (inr under) = Agrees-later (reads v) v.table S N v.etag (f.agrees (inr (let a = l.cleaned in omega arith))) l f.within (inr under)
+
+-- a version fits if it still fits and nothing past it was cleaned since it was read
+pub StillFits-Fits : (S : Store) (v : Version) → StillFits S v → was_cleaned S v ≡ false → Fits S v
+StillFits-Fits S v f h = record { agrees = f.agrees way; within = f.within }
+  where
+    way : (S.cleaned ≤ v.cleaned) ⊎ (S.cleaned ≤ v.etag)
+    way = elim (nat_lt v.cleaned S.cleaned) as (λ b. nat_lt v.cleaned S.cleaned ≡ b → b && nat_lt v.etag S.cleaned ≡ false → (S.cleaned ≤ v.cleaned) ⊎ (S.cleaned ≤ v.etag)) [
+      | true ↦ λ e g. inr (ltb-false v.etag S.cleaned g)
+      | false ↦ λ e g. inl (ltb-false v.cleaned S.cleaned e)
+    ] refl h
 
 pub Fits-fresh : (S : Store) (d : Definition) → IsStore S → Fits S (new_version d)
 Fits-fresh S d s = record {
@@ -266,6 +304,7 @@ pub record Brought (S : Store) (v new : Version) : Type 0 where
   pub fits : Fits S new
   pub definition : v.definition ≡ new.definition
   pub onward : v.etag ≤ new.etag
+  pub cleaned : new.cleaned ≡ S.cleaned
 
 pub batch-Brought : (S : Store) (v new : Version) (max : ℕ) → IsStore S → Fits S v → batch v S max ≡ Some new → Brought S v new
 batch-Brought S v new max s f is = by (batch_rows (reads v) v.etag S max) (Agrees-batch (reads v) v.table S v.etag max s f.agrees f.within) is
@@ -273,8 +312,8 @@ batch-Brought S v new max s f is = by (batch_rows (reads v) v.etag S max) (Agree
     t : Taken (reads v) S v.etag (batch_rows (reads v) v.etag S max) (etag_of_batch (reads v) v.etag S max)
     t = Taken-batch (reads v) S v.etag max s f.within
 
-    by : (rows : List Row) → Agrees (reads v) (note_rows v.table rows) S (etag_of_batch (reads v) v.etag S max) → advanced v rows (etag_of_batch (reads v) v.etag S max) ≡ Some new → Brought S v new
+    by : (rows : List Row) → Agrees (reads v) (note_rows v.table rows) S (etag_of_batch (reads v) v.etag S max) → advanced v rows (etag_of_batch (reads v) v.etag S max) S.cleaned ≡ Some new → Brought S v new
     by [] a h = absurd cc
     by (r ∷ rows) a h =
-        let same : (let x : Version = record { definition = v.definition; etag = etag_of_batch (reads v) v.etag S max; table = note_rows v.table (r ∷ rows) } in x) ≡ new = cc in
-        subst (Brought S v) same (record { fits = record { agrees = a; within = t.within }; definition = refl; onward = t.onward })
+        let same : (let x : Version = record { definition = v.definition; etag = etag_of_batch (reads v) v.etag S max; table = note_rows v.table (r ∷ rows); cleaned = S.cleaned } in x) ≡ new = cc in
+        subst (Brought S v) same (record { fits = record { agrees = a; within = t.within }; definition = refl; onward = t.onward; cleaned = refl })

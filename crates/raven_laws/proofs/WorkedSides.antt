@@ -1,9 +1,10 @@
 -- Examples that were worked out by hand: batches that workers hold, and automatic indexes that take in others.
-use Rattle.std.proofs.Common.{◌≡◌, List, [], ◌∷◌, true, None, refl, codes}
+use Rattle.std.proofs.Common.{◌≡◌, List, [], ◌∷◌, true, false, None, refl, codes}
 use Rattle.std.specs.Fmt.{digits}
+use Rattle.spec_store.specs.Commit.{AnyVector}
 use Rattle.spec_store.specs.Limits.{program}
 use Rattle.spec_index.specs.Optimiser.{plain_name}
-use Rattle.spec_server.specs.Machine.{Ask, Auto, Do, Line, Machine, Publish, Pump, Read, Request, Stats, Tidy, start, step, takes_all}
+use Rattle.spec_server.specs.Machine.{Ask, Auto, Clean, Do, Line, Machine, Publish, Pump, Read, Request, Stats, Tidy, start, step, takes_all}
 use Rattle.spec_server.specs.Replies.{Reply, Index, Pumped, Tidied}
 use Rattle.raven_laws.proofs.WorkedRows.{moved, put, replies, replies_from, was_put}
 use Rattle.raven_laws.proofs.WorkedQueries.{of_users}
@@ -25,6 +26,22 @@ held_too_long : line_replies (start program) (Do (Auto (codes "C") (codes "F")) 
     ≡ Index (codes "Auto/C/ByF") ∷ was_put (codes "2") (codes "x") ∷ Reply.Held 0 2 ∷ Reply.Removed (codes "Auto/C/ByF") ∷ Reply.Gone 1 ∷ []
 unfolding digits
 held_too_long = refl
+
+-- the row with the greatest etag stays; once a tombstone is cleaned its id may be put into another collection
+cleaned : replies (put (codes "Users") (codes "a") (codes "F") (codes "a") ∷ Request.Delete (codes "a") AnyVector ∷ put (codes "Teams") (codes "a") (codes "F") (codes "a") ∷ Clean
+    ∷ put (codes "C") (codes "b") (codes "F") (codes "a") ∷ Clean ∷ put (codes "Teams") (codes "a") (codes "F") (codes "a") ∷ [])
+    ≡ was_put (codes "1") (codes "a") ∷ Reply.Deleted true (codes "a") ∷ Reply.CollectionChanged 0 (codes "Users") ∷ Reply.CleanDone 0 1
+    ∷ was_put (codes "3") (codes "b") ∷ Reply.CleanDone 1 2 ∷ was_put (codes "4") (codes "a") ∷ []
+unfolding digits
+cleaned = refl
+
+-- a batch that is held has a document whose tombstone was cleaned since: it is not published
+held_across_a_cleaning : line_replies (start program) (Do (Auto (codes "Users") (codes "F")) ∷ Do (put (codes "Users") (codes "x") (codes "F") (codes "a")) ∷ Read 0 64 (codes "Auto/Users/ByF")
+    ∷ Do (Request.Delete (codes "x") AnyVector) ∷ Do (put (codes "C") (codes "y") (codes "F") (codes "a")) ∷ Do Clean ∷ Publish 0 ∷ Do (Pump 64 None) ∷ Do (Request.Stale (codes "Auto/Users/ByF") None) ∷ [])
+    ≡ Index (codes "Auto/Users/ByF") ∷ was_put (codes "2") (codes "x") ∷ Reply.Held 0 2 ∷ Reply.Deleted true (codes "x") ∷ was_put (codes "4") (codes "y") ∷ Reply.CleanDone 1 3
+    ∷ Reply.Cleaned 3 ∷ Pumped (moved 0 (codes "Auto/Users/ByF") 0 ∷ []) ∷ Reply.Stale 0 false 0 ∷ []
+unfolding digits
+held_across_a_cleaning = refl
 
 -- if there is room for no index, a query that needs one is refused, and no etag is used
 no_room : replies_from (start (record program { max_slots = 1 })) (Auto (codes "C") (codes "F") ∷ Ask (of_users (codes "Name") (codes "a")) ∷ Stats ∷ []) ≡ Index (codes "Auto/C/ByF") ∷ Reply.TooManyIndexes ∷ Reply.Stats 0 1 0 1 ∷ []

@@ -1,12 +1,13 @@
 -- The answers to the lines of workers.
-use Rattle.std.proofs.Common.{◌≡◌, ℕ, List, [], ◌∷◌, ◌++◌, true, false, not, ◌==◌, cond, nat_lt, Option, Some, None, Ok, Err, filter, map, refl, sym, ap, ◌∙◌, subst, inl, inr}
+use Rattle.std.proofs.Common.{◌≡◌, ℕ, ◌<◌, ◌≤◌, List, [], ◌∷◌, ◌++◌, Bool, true, false, not, ◌&&◌, ◌==◌, cond, nat_lt, Option, Some, None, Ok, Err, filter, map, refl, sym, ap, ◌∙◌, subst, ◌⊎◌, inl, inr}
 use Rattle.std.proofs.lemmas.Bool.{eq-eqb, eqb-true, ltb-true, ltb-false}
 use Rattle.std.specs.Option.{option_map}
 use Rattle.spec_index.specs.World.{Slot, Version, World, batch, numbered, serving}
-use Rattle.spec_server.specs.Machine.{Held, Keeping, Machine, Passed, Publish, Read, held_by, let_go, publish_by, publish_to, published_in, published_reply, read_at, read_batch, step, with_slots, with_version, with_world}
+use Rattle.spec_server.specs.Machine.{Held, Keeping, Machine, Passed, Cleaned, Publish, Read, put_in, was_cleaned, held_by, let_go, publish_by, publish_to, published_in, published_reply, read_at, read_batch, step, with_slots, with_version, with_world}
 use Rattle.spec_server.specs.Replies.{Reply}
 use Rattle.spec_server.specs.Sound.{Has}
 use Rattle.raven_laws.specs.Workers.{IsPublishAnswer, IsReadAnswer, LetsGo}
+use Rattle.spec_store.proofs.StoreLemmas.{both_true}
 use Rattle.raven_laws.proofs.SlotLemmas.{Has-map, Has-mapped}
 
 -- WHAT IS HELD
@@ -113,28 +114,9 @@ publish-at : (M : Machine) (worker : ℕ) (h : Held) (there : Option Slot) → h
     → IsPublishAnswer M worker (publish_to M worker (published_reply h.version there) (published_in M.world h.number h.version there))
 publish-at M worker h None held e = inr (inl (record { batch = h; held = held; gone = e; reply = refl; world = refl; lets = lets-go M worker M.world (Reply.Gone h.number) }))
 publish-at M worker h (Some s) held e =
-    let W = M.world in
-    let put = with_version h.number h.version in
-    let reply = Reply.Published s.version.etag s.name h.version.etag in
     elim (nat_lt s.version.etag h.version.etag) as (λ b. nat_lt s.version.etag h.version.etag ≡ b
-    → IsPublishAnswer M worker (publish_to M worker reply (cond b (Ok (with_slots W (map put W.slots))) (Err (Passed s.version.etag))))) [
-      | true ↦ λ t. inr (inr (inr (record {
-        batch = h;
-        held = held;
-        slot = s;
-        live = e;
-        ahead = ltb-true s.version.etag h.version.etag t;
-        reply = refl;
-        brought = numbered-put h.number h.version W.slots ∙ ap (option_map (λ x. record { number = x.number; name = x.name; version = h.version; row = x.row })) e;
-        kept = λ x there apart. subst (Has (map put W.slots)) (put-other h.number h.version x apart) (Has-mapped put W.slots x there);
-        no_more = λ y there apart.
-            let x = Has-map put W.slots y there in
-            let n = ap (λ (z : Slot). z.number) (sym x.2) ∙ put-number h.number h.version x.0 in
-            subst (Has W.slots) (sym (put-other h.number h.version x.0 (λ f. apart (n ∙ f))) ∙ x.2) x.1;
-        store = refl;
-        notes = refl;
-        lets = lets-go M worker (with_slots W (map put W.slots)) reply;
-      })))
+    → IsPublishAnswer M worker (publish_to M worker reply (cond b (put_in W h.number h.version) (Err (Passed s.version.etag))))) [
+      | true ↦ λ t. put-at (ltb-true s.version.etag h.version.etag t)
       | false ↦ λ t. inr (inr (inl (record {
         batch = h;
         held = held;
@@ -146,6 +128,57 @@ publish-at M worker h (Some s) held e =
         lets = lets-go M worker W (Reply.Passed s.version.etag);
       })))
     ] refl
+  where
+    W : World
+    W = M.world
+
+    put : Slot → Slot
+    put = with_version h.number h.version
+
+    reply : Reply
+    reply = Reply.Published s.version.etag s.name h.version.etag
+
+    may_go : was_cleaned W.store h.version ≡ false → (W.store.cleaned ≤ h.version.cleaned) ⊎ (W.store.cleaned ≤ h.version.etag)
+    may_go u = elim (nat_lt h.version.cleaned W.store.cleaned) as (λ b. nat_lt h.version.cleaned W.store.cleaned ≡ b → b && nat_lt h.version.etag W.store.cleaned ≡ false
+        → (W.store.cleaned ≤ h.version.cleaned) ⊎ (W.store.cleaned ≤ h.version.etag)) [
+          | true ↦ λ f g. inr (ltb-false h.version.etag W.store.cleaned g)
+          | false ↦ λ f g. inl (ltb-false h.version.cleaned W.store.cleaned f)
+        ] refl u
+
+    put-at : s.version.etag < h.version.etag → IsPublishAnswer M worker (publish_to M worker reply (put_in W h.number h.version))
+    put-at ahead = elim (was_cleaned W.store h.version) as (λ c. was_cleaned W.store h.version ≡ c
+        → IsPublishAnswer M worker (publish_to M worker reply (cond c (Err (Cleaned W.store.cleaned)) (Ok (with_slots W (map put W.slots)))))) [
+          | true ↦ λ u. let both = both_true (nat_lt h.version.cleaned W.store.cleaned) (nat_lt h.version.etag W.store.cleaned) u in inr (inr (inr (inl (record {
+            batch = h;
+            held = held;
+            slot = s;
+            live = e;
+            ahead = ahead;
+            since = ltb-true h.version.cleaned W.store.cleaned both.0;
+            past = ltb-true h.version.etag W.store.cleaned both.1;
+            reply = refl;
+            world = refl;
+            lets = lets-go M worker W (Reply.Cleaned W.store.cleaned);
+          }))))
+          | false ↦ λ u. inr (inr (inr (inr (record {
+            batch = h;
+            held = held;
+            slot = s;
+            live = e;
+            ahead = ahead;
+            current = may_go u;
+            reply = refl;
+            brought = numbered-put h.number h.version W.slots ∙ ap (option_map (λ x. record { number = x.number; name = x.name; version = h.version; row = x.row })) e;
+            kept = λ x there apart. subst (Has (map put W.slots)) (put-other h.number h.version x apart) (Has-mapped put W.slots x there);
+            no_more = λ y there apart.
+                let x = Has-map put W.slots y there in
+                let n = ap (λ (z : Slot). z.number) (sym x.2) ∙ put-number h.number h.version x.0 in
+                subst (Has W.slots) (sym (put-other h.number h.version x.0 (λ f. apart (n ∙ f))) ∙ x.2) x.1;
+            store = refl;
+            notes = refl;
+            lets = lets-go M worker (with_slots W (map put W.slots)) reply;
+          }))))
+        ] refl
 
 pub publish-answered : (M : Machine) (k : Keeping) (now worker : ℕ) → IsPublishAnswer M worker (step M k now (Publish worker))
 publish-answered M k now worker = by (held_by M.held worker) refl

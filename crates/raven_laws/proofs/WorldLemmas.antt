@@ -68,9 +68,9 @@ pub record Comes (W : World) (S : Store) (noted : List Note) (s : Slot) : Type 0
   pub named : HasItsName W noted s
   pub kind : is_automatic s.version.definition ≡ begins_with_auto s.name
 
-pub stays : (W : World) (S : Store) (noted : List Note) (s : Slot) → Sound W → Later W.store S → Has W.slots s → Comes W S noted s
-stays W S noted s o l h = record {
-  fits = Fits-later W.store S s.version (o.fits s h) l;
+pub stays : (W : World) (S : Store) (noted : List Note) (s : Slot) → Sound W → Later W.store S → S.cleaned ≤ W.store.cleaned → Has W.slots s → Comes W S noted s
+stays W S noted s o l same h = record {
+  fits = Fits-later W.store S s.version (o.fits s h) l (inl same);
   within = let a = o.numbers s h in let b = l.grown in omega arith;
   old = inl (s, h, record { number = refl; definition = refl; onward = omega arith; named = refl });
   named = inl (s, h, refl, refl);
@@ -88,6 +88,7 @@ StartsWithPut (Delete id expected ∷ cs) = ⊥
 pub record Onto (W : World) (c : SlotChange) (S : Store) : Type 0 where
   pub store : IsStore S
   pub later : Later W.store S
+  pub same : S.cleaned ≤ W.store.cleaned
   pub grown : StartsWithPut c.commands → last W.store < last S
   pub now : ℕ
   pub written : S ≡ after_commands now c.commands W.store
@@ -149,7 +150,7 @@ added_to-Alters : (W : World) (S : Store) (slots : List Slot) (name : List ℕ) 
     → Onto W (added_to W slots name d) S → Alters W (added_to W slots name d) S
 added_to-Alters W S slots name d kind o sub up free whole beside room t = record {
   slots = λ s h. elim (Has-append slots (new ∷ []) s h) [
-    | inl old ↦ stays W S [] s o t.later (sub s old)
+    | inl old ↦ stays W S [] s o t.later t.same (sub s old)
     | inr (inl e) ↦ subst (Comes W S []) e (record {
       fits = Fits-fresh S d t.store;
       within = let a = t.grown tt in omega arith;
@@ -221,7 +222,7 @@ define-Settles W name d suits c h o S =
 -- nothing is changed
 unchanged-Settles : (W : World) (name : List ℕ) → Sound W → (S : Store) → Onto W (unchanged W name) S → Settles W (unchanged W name) S
 unchanged-Settles W name o S t = Alters-Settles W (unchanged W name) S refl o (record {
-  slots = λ s h. stays W S [] s o t.later h;
+  slots = λ s h. stays W S [] s o t.later t.same h;
   rising = o.rising;
   apart = o.apart;
   beside = o.beside;
@@ -279,7 +280,7 @@ without-beside W r o there is x h begins =
 
 dropped-Settles : (W : World) (r : Slot) (name : List ℕ) → Sound W → Has W.slots r → begins_with_replacement r.name ≡ true → (S : Store) → Onto W (dropped W r name) S → Settles W (dropped W r name) S
 dropped-Settles W r name o there is S t = Alters-Settles W (dropped W r name) S refl o (record {
-  slots = λ s h. stays W S [] s o t.later (Has-without r.number W.slots s h);
+  slots = λ s h. stays W S [] s o t.later t.same (Has-without r.number W.slots s h);
   rising = NumbersRise-filter 0 (λ x. not (x.number == r.number)) W.slots o.rising;
   apart = NamesApart-sub (without r.number W.slots) W.slots (Has-without r.number W.slots) o.apart;
   beside = without-beside W r o there is;
@@ -372,7 +373,7 @@ define_named-Settles W name d is c h =
 -- a slot goes that has no replacement
 alone-Settles : (W : World) (s : Slot) → Sound W → Has W.slots s → serving W.slots (replacement_of s.name) ≡ None → (S : Store) → Onto W (taken_out W s None) S → Settles W (taken_out W s None) S
 alone-Settles W s o at none S t = Alters-Settles W (taken_out W s None) S refl o (record {
-  slots = λ x h. stays W S [] x o t.later (Has-without s.number W.slots x h);
+  slots = λ x h. stays W S [] x o t.later t.same (Has-without s.number W.slots x h);
   rising = NumbersRise-filter 0 (λ x. not (x.number == s.number)) W.slots o.rising;
   apart = NamesApart-sub (without s.number W.slots) W.slots (Has-without s.number W.slots) o.apart;
   beside = λ x h is.
@@ -388,7 +389,7 @@ alone-Settles W s o at none S t = Alters-Settles W (taken_out W s None) S refl o
 -- a slot goes together with its replacement
 both-Settles : (W : World) (s r : Slot) → Sound W → Replaces W s r → (S : Store) → Onto W (taken_out W s (Some r)) S → Settles W (taken_out W s (Some r)) S
 both-Settles W s r o p S t = Alters-Settles W (taken_out W s (Some r)) S refl o (record {
-  slots = λ x h. stays W S [] x o t.later (kept x h);
+  slots = λ x h. stays W S [] x o t.later t.same (kept x h);
   rising = NumbersRise-filter 0 (λ y. not (y.number == r.number)) less (NumbersRise-filter 0 (λ y. not (y.number == s.number)) W.slots o.rising);
   apart = NamesApart-sub (without r.number less) W.slots kept o.apart;
   beside = λ x h is. beside-still W.slots (without r.number less) x o.beside (kept x h) is (λ y there named given. elim (left_or s.number W.slots y there) [
@@ -548,16 +549,16 @@ module _ (W : World) (s r : Slot) (o : Sound W) (p : Replaces W s r) where
   abbrev note : Note
   note = switch_note W s r
 
-  moved : (S : Store) → Later W.store S → (x : Slot) → Has W.slots x → Comes W S (note ∷ []) (take x)
-  moved S later x h = elim (taken x h) [
+  moved : (S : Store) → Later W.store S → S.cleaned ≤ W.store.cleaned → (x : Slot) → Has W.slots x → Comes W S (note ∷ []) (take x)
+  moved S later same x h = elim (taken x h) [
     | inl a ↦ subst (Comes W S (note ∷ [])) (sym a.1) (record {
-      fits = Fits-later W.store S r.version (o.fits r p.new) later;
+      fits = Fits-later W.store S r.version (o.fits r p.new) later (inl same);
       within = let c = o.numbers r p.new in let d = later.grown in omega arith;
       old = inl (r, p.new, record { number = refl; definition = refl; onward = omega arith; named = taking r.name s.name p.named (no_replacement s.name p.given) });
       named = inr (inr (note, inl refl, refl, refl));
       kind = o.kinds r p.new ∙ replacing-no-auto r.name s.name p.named ∙ sym (either_false (begins_with_auto s.name) (begins_with_replacement s.name) p.given).0;
     })
-    | inr a ↦ subst (Comes W S (note ∷ [])) (sym a.1) (stays W S (note ∷ []) x o later h)
+    | inr a ↦ subst (Comes W S (note ∷ [])) (sym a.1) (stays W S (note ∷ []) x o later same h)
   ]
 
   pub takes_over-Settles : length W.notes < W.setting.max_notes → is_stale W.store r ≡ false → (S : Store) → Onto W (takes_over W s r) S → Settles W (takes_over W s r) S
@@ -569,7 +570,7 @@ module _ (W : World) (s r : Slot) (o : Sound W) (p : Replaces W s r) where
       | inr no_more ↦ absurd no_more
     ];
     paper = let a = length-append W.notes (note ∷ []) in omega arith;
-    slots = λ y h. let x = Has-map take less y h in subst (Comes W S (note ∷ [])) x.2 (moved S t.later x.0 (kept x.0 x.1));
+    slots = λ y h. let x = Has-map take less y h in subst (Comes W S (note ∷ [])) x.2 (moved S t.later t.same x.0 (kept x.0 x.1));
     rising = NumbersRise-map 0 take less (renamed_number r.number s.name row) (NumbersRise-filter 0 (λ z. not (z.number == s.number)) W.slots o.rising);
     apart = take-apart;
     beside = take-beside;
@@ -666,7 +667,7 @@ client-unretired slots s h = by (slot_shape s) (no_shape s.version.definition h)
 
 pub retirement-Settles : (W : World) → Sound W → (S : Store) → Onto W (retirement W) S → Settles W (retirement W) S
 retirement-Settles W o S t = Alters-Settles W (retirement W) S refl o (record {
-  slots = λ x h. stays W S [] x o t.later (Has-filter stay W.slots x h);
+  slots = λ x h. stays W S [] x o t.later t.same (Has-filter stay W.slots x h);
   rising = NumbersRise-filter 0 stay W.slots o.rising;
   apart = NamesApart-filter stay W.slots o.apart;
   beside = λ x h is. beside-still W.slots (filter stay W.slots) x o.beside (Has-filter stay W.slots x h) is (λ y there named given.

@@ -6,7 +6,9 @@ use Rattle.spec_data.specs.Data.{Data}
 use Rattle.spec_data.specs.Faults.{replacement_of}
 use Rattle.spec_data.specs.Folding.{folded, same_key}
 use Rattle.spec_data.specs.Rows.{Row, key}
-use Rattle.spec_store.specs.Store.{Store, row_at, last, put}
+use Rattle.spec_store.specs.Store.{Store, AreApart, row_at, last, put, with_row, with_rows}
+use Rattle.spec_store.specs.Cleaning.{clean, is_old_tombstone}
+use Rattle.spec_index.specs.Cleaning.{clean_upto}
 use Rattle.index_tree.specs.Definitions.{Definition, same_definition}
 use Rattle.spec_store.specs.Commit.{Command, AnyVector, Expect, Client, Server, Setting, Refused, Written, after_command, after_commands, commit, document_at, id_of, is_index_id, row_spelling, refusal_of, row_of, tombstone, or_refused, vector_of, with_option, with_written, etags_taken}
 use Rattle.spec_server.specs.Replies.{Reply, Result as Done}
@@ -19,9 +21,12 @@ use Rattle.spec_query.specs.Query.{Origin, OfIndex, OfCollection, is_dynamic, is
 use Rattle.spec_server.specs.Asking.{Answered, MustMake, Ready, answer_ask, answer_from, answer_from_collection, answer_from_index, answer_picked, unless_refused as unless_refused_ask}
 use Rattle.spec_server.specs.Shapes.{shape_asked}
 use Rattle.raven_laws.proofs.QueryLemmas.{answer_by_origin, of_collection}
-use Rattle.spec_server.specs.Machine.{Machine, Course, Event, Keeping, Replied, Line, Do, Put, Delete, Bulk, Get, Define, Remove, Auto, Find, Ask, Pump, Switch, Tidy, Stale, Indexes, Stats, Read, Publish, after, ask_course, changed, commands_on, made_name, make, course_of, in_world, is_first_taken, is_taken, held_by, one_change, one_field, pump_at, change_of_slots, replaced_names, rewrote, tidy, run, same_machine, settled, single_reply, start, step, use_or_make, with_world, write, wrote, results_of}
+use Rattle.spec_server.specs.Machine.{Machine, Course, Event, Keeping, Replied, Line, Do, Put, Delete, Bulk, Get, Define, Remove, Auto, Find, Ask, Pump, Switch, Tidy, Clean, Stale, Indexes, Stats, Read, Publish, after, ask_course, changed, commands_on, made_name, make, course_of, in_world, is_first_taken, is_taken, held_by, one_change, one_field, pump_at, change_of_slots, replaced_names, rewrote, tidy, run, same_machine, settled, single_reply, start, step, use_or_make, with_world, write, wrote, results_of, Change}
 use Rattle.raven_laws.specs.Writes.{row_given, AreWritten, BulkIsAnswered, DeleteIsAnswered, IsCommanded, IsDeleted, IsNotThere, IsPut, IsRefused, IsKeeperFault, IsWritten, OnlyReads, PutIsAnswered}
-use Rattle.spec_store.proofs.StoreLemmas.{found_key, row_at-put, same_itself, same_row}
+use Rattle.spec_store.proofs.StoreLemmas.{AreApart-filter, AreApart-put, found_key, found_passing, row_at-put, same_itself, same_row}
+use Rattle.spec_store.proofs.CleanLemmas.{clean-rows}
+use Rattle.raven_laws.specs.Keeping.{AreTheirRows, IsDone}
+use Rattle.raven_laws.proofs.KeepLemmas.{changes-rows}
 use Rattle.spec_store.proofs.CommitLemmas.{document_found, put_key}
 use Rattle.raven_laws.proofs.ListedLemmas.{commit_from-applied}
 use Rattle.raven_laws.proofs.MachineLemmas.{AllLeave, IsTidying, chain, making-changes, publish-store, read-world, settled-leaves, tidy-do}
@@ -68,7 +73,7 @@ put-answered M k now id expected body =
     let c = Command.Put id expected body in
     let r = new_row M now id body in
     let rows = M.world.store.rows in
-    let N : Store = record { rows = put r rows } in
+    let N : Store = record { rows = put r rows; cleaned = M.world.store.cleaned } in
     let done : Written = record { store = N; rows = r ∷ [] } in
     let under = put_key id rows in
     let kept : Replied = record {
@@ -110,7 +115,7 @@ taken-deletion M k now id expected (Some d) allowed e =
     let under : key r ≡ folded id = sym (found_key (folded id) rows d (document_found M.world.store (folded id) d e)) in
     let kept : Replied = record {
       reply = Reply.Deleted true (row_spelling id (row_at (folded id) (put r rows)));
-      machine = with_world M (in_world M.world (record { rows = put r rows }) M.world.slots);
+      machine = with_world M (in_world M.world (record { rows = put r rows; cleaned = M.world.store.cleaned }) M.world.slots);
     } in
     elim (first_or_not k.takes) as (λ _. let replied = settled M k (deletion M now id expected (Some d)) in IsKeeperFault M k replied ⊎ (IsNotThere M id expected replied ⊎ IsDeleted M k now id expected replied)) [
       | inl taken ↦ inr (inr (subst (λ b. IsDeleted M k now id expected (cond b kept (same_machine M (Reply.KeeperFault k.before k.after)))) (sym taken) (record {
@@ -212,6 +217,7 @@ reads-change-nothing M k now (Do (Ask ask)) h = ask-changes-nothing M k now ask 
 reads-change-nothing M k now (Do (Pump max index)) h = absurd h
 reads-change-nothing M k now (Do (Switch name)) h = absurd h
 reads-change-nothing M k now (Do Tidy) h = absurd h
+reads-change-nothing M k now (Do Clean) h = absurd h
 reads-change-nothing M k now (Do (Stale name cutoff)) h = refl
 reads-change-nothing M k now (Do Indexes) h = refl
 reads-change-nothing M k now (Do Stats) h = refl
@@ -415,33 +421,57 @@ step-written M e more q x comes h = elim (comes q x h) as (λ _. (row_at q M.wor
   | inr given ↦ inr (record { before = []; event = e; more = more; asked = refl; given = given.0; taken = given.1 })
 ]
 
+-- what is left by a cleaning was there
+left-found : (q : List ℕ) (S : Store) (upto : ℕ) (x : Row) → AreApart S.rows → row_at q (clean upto S).rows ≡ Some x → row_at q S.rows ≡ Some x
+left-found q S upto x apart h = (found_passing (λ r. not (is_old_tombstone upto r)) q S.rows x apart (subst (λ rows. row_at q rows ≡ Some x) (clean-rows upto S) h)).0
+
+-- no change gives two rows the same id
+apart-with_rows : (S : Store) (rows : List Row) → AreApart S.rows → AreApart (with_rows S rows).rows
+apart-with_rows S [] h = h
+apart-with_rows S (r ∷ rows) h = apart-with_rows (with_row S r) rows (AreApart-put r S.rows h)
+
+apart-done : (S : Store) (c : Change) (o : Option ℕ) → AreApart S.rows → IsDone S c o → AreApart c.world.store.rows
+apart-done S c None h d = subst (λ (T : Store). AreApart T.rows) (sym d.store) (apart-with_rows S c.rows h)
+apart-done S c (Some upto) h d = subst (λ (T : Store). AreApart T.rows) (sym d.store) (subst AreApart (sym (clean-rows upto S)) (AreApart-filter (λ r. not (is_old_tombstone upto r)) S.rows h))
+
+changes-apart : (S : Store) (changes : List Change) → AreApart S.rows → AreTheirRows S changes → AllLeave (λ V. AreApart V.store.rows) changes
+changes-apart S [] h a = tt
+changes-apart S (c ∷ more) h a = let here = apart-done S c c.cleans h a.0 in (here, changes-apart c.world.store more here a.1)
+
+step-apart : (M : Machine) (k : Keeping) (now : ℕ) (line : Line) → AreApart M.world.store.rows → AreApart (step M k now line).machine.world.store.rows
+step-apart M k now (Do request) h =
+    settled-leaves (λ V. AreApart V.store.rows) M k (course_of M.world now request) h (changes-apart M.world.store (course_of M.world now request).changes h (changes-rows M.world now (Do request)))
+step-apart M k now (Read worker max index) h = subst (λ (V : World). AreApart V.store.rows) (sym (read-world M worker max index (serving M.world.slots index))) h
+step-apart M k now (Publish worker) h = subst (λ (T : Store). AreApart T.rows) (sym (publish-store M worker (held_by M.held worker))) h
+
 step-given : (M : Machine) (k : Keeping) (now : ℕ) (line : Line) (more : List Event) (q : List ℕ) (x : Row)
-    → row_at q (step M k now line).machine.world.store.rows ≡ Some x → is_index_id x.id ≡ false
+    → AreApart M.world.store.rows → row_at q (step M k now line).machine.world.store.rows ≡ Some x → is_index_id x.id ≡ false
     → (row_at q M.world.store.rows ≡ Some x) ⊎ IsWritten M (record { line = line; now = now; keeping = k } ∷ more) x
-step-given M k now (Do (Put id expected body)) more q x h not_index =
+step-given M k now (Do (Put id expected body)) more q x apart h not_index =
     step-written M (record { line = Do (Put id expected body); now = now; keeping = k }) more q x (write-Comes M k single_reply now (Command.Put id expected body ∷ [])) h
-step-given M k now (Do (Delete id expected)) more q x h not_index =
+step-given M k now (Do (Delete id expected)) more q x apart h not_index =
     step-written M (record { line = Do (Delete id expected); now = now; keeping = k }) more q x (write-Comes M k single_reply now (Command.Delete id expected ∷ [])) h
-step-given M k now (Do (Bulk commands)) more q x h not_index =
+step-given M k now (Do (Bulk commands)) more q x apart h not_index =
     step-written M (record { line = Do (Bulk commands); now = now; keeping = k }) more q x (write-Comes M k Reply.Bulk now commands) h
-step-given M k now (Do (Get id)) more q x h not_index = inl h
-step-given M k now (Do (Define name d)) more q x h not_index =
+step-given M k now (Do (Get id)) more q x apart h not_index = inl h
+step-given M k now (Do (Define name d)) more q x apart h not_index =
     inl (settled-Stays M k (course_of M.world now (Define name d)) (reslotted-Stays now M.world replies.Index name (define_named M.world name d) (define_named-indexed M.world name d)) q x h not_index)
-step-given M k now (Do (Remove name)) more q x h not_index =
+step-given M k now (Do (Remove name)) more q x apart h not_index =
     inl (settled-Stays M k (course_of M.world now (Remove name)) (reslotted-Stays now M.world replies.Removed name (remove M.world name) (remove-indexed M.world name)) q x h not_index)
-step-given M k now (Do (Auto collection field)) more q x h not_index =
+step-given M k now (Do (Auto collection field)) more q x apart h not_index =
     inl (settled-Stays M k (course_of M.world now (Auto collection field)) (auto-Stays now M.world (pick (one_field collection field) M.world.store M.world.slots)) q x h not_index)
-step-given M k now (Do (Find index field ws)) more q x h not_index = inl h
-step-given M k now (Do (Ask ask)) more q x h not_index = inl (settled-Stays M k (course_of M.world now (Ask ask)) (ask-Stays now M.world ask (answer_ask M.world ask)) q x h not_index)
-step-given M k now (Do (Pump max index)) more q x h not_index = inl (subst (λ (S : Store). row_at q S.rows ≡ Some x) (batches-change-no-row M k now max index) h)
-step-given M k now (Do (Switch name)) more q x h not_index =
+step-given M k now (Do (Find index field ws)) more q x apart h not_index = inl h
+step-given M k now (Do (Ask ask)) more q x apart h not_index = inl (settled-Stays M k (course_of M.world now (Ask ask)) (ask-Stays now M.world ask (answer_ask M.world ask)) q x h not_index)
+step-given M k now (Do (Pump max index)) more q x apart h not_index = inl (subst (λ (S : Store). row_at q S.rows ≡ Some x) (batches-change-no-row M k now max index) h)
+step-given M k now (Do (Switch name)) more q x apart h not_index =
     inl (settled-Stays M k (course_of M.world now (Switch name)) (reslotted-Stays now M.world (Reply.Switched (last M.world.store + 1)) name (switch M.world name) (switch-indexed M.world name)) q x h not_index)
-step-given M k now (Do Tidy) more q x h not_index = inl (settled-Stays M k (course_of M.world now Tidy) (tidy-Stays now M.world) q x h not_index)
-step-given M k now (Do (Stale name cutoff)) more q x h not_index = inl h
-step-given M k now (Do Indexes) more q x h not_index = inl h
-step-given M k now (Do Stats) more q x h not_index = inl h
-step-given M k now (Read worker max index) more q x h not_index = inl (subst (λ (W : World). row_at q W.store.rows ≡ Some x) (read-world M worker max index (serving M.world.slots index)) h)
-step-given M k now (Publish worker) more q x h not_index = inl (subst (λ (S : Store). row_at q S.rows ≡ Some x) (publish-store M worker (held_by M.held worker)) h)
+step-given M k now (Do Tidy) more q x apart h not_index = inl (settled-Stays M k (course_of M.world now Tidy) (tidy-Stays now M.world) q x h not_index)
+step-given M k now (Do Clean) more q x apart h not_index = inl (settled-leaves (λ V. row_at q V.store.rows ≡ Some x → row_at q M.world.store.rows ≡ Some x) M k (course_of M.world now Clean) (λ at. at) ((λ at. left-found q M.world.store (clean_upto M.world) x apart at), tt) h)
+step-given M k now (Do (Stale name cutoff)) more q x apart h not_index = inl h
+step-given M k now (Do Indexes) more q x apart h not_index = inl h
+step-given M k now (Do Stats) more q x apart h not_index = inl h
+step-given M k now (Read worker max index) more q x apart h not_index = inl (subst (λ (W : World). row_at q W.store.rows ≡ Some x) (read-world M worker max index (serving M.world.slots index)) h)
+step-given M k now (Publish worker) more q x apart h not_index = inl (subst (λ (S : Store). row_at q S.rows ≡ Some x) (publish-store M worker (held_by M.held worker)) h)
 
 given-later : (M : Machine) (e : Event) (es : List Event) (x : Row) → IsWritten (after M e) es x → IsWritten M (e ∷ es) x
 given-later M e es x g = record {
@@ -453,16 +483,16 @@ given-later M e es x g = record {
   taken = g.taken;
 }
 
-pub run-given : (es : List Event) (M : Machine) (q : List ℕ) (x : Row) → row_at q (run es M).world.store.rows ≡ Some x → is_index_id x.id ≡ false
+pub run-given : (es : List Event) (M : Machine) (q : List ℕ) (x : Row) → AreApart M.world.store.rows → row_at q (run es M).world.store.rows ≡ Some x → is_index_id x.id ≡ false
     → (row_at q M.world.store.rows ≡ Some x) ⊎ IsWritten M es x
-run-given [] M q x h not_index = inl h
-run-given (e ∷ es) M q x h not_index =
-    elim (run-given es (after M e) q x h not_index) as (λ o. (row_at q M.world.store.rows ≡ Some x) ⊎ IsWritten M (e ∷ es) x) [
-      | inl there ↦ step-given M e.keeping e.now e.line es q x there not_index
+run-given [] M q x apart h not_index = inl h
+run-given (e ∷ es) M q x apart h not_index =
+    elim (run-given es (after M e) q x (step-apart M e.keeping e.now e.line apart) h not_index) as (λ o. (row_at q M.world.store.rows ≡ Some x) ⊎ IsWritten M (e ∷ es) x) [
+      | inl there ↦ step-given M e.keeping e.now e.line es q x apart there not_index
       | inr given ↦ inr (given-later M e es x given)
     ]
 
 pub start-given : (setting : Setting) (events : List Event) (q : List ℕ) (x : Row)
     → row_at q (run events (start setting)).world.store.rows ≡ Some x → is_index_id x.id ≡ false → IsWritten (start setting) events x
 start-given setting events q x h not_index =
-    elim (run-given events (start setting) q x h not_index) as (λ o. IsWritten (start setting) events x) [ inl there ↦ absurd cc | inr given ↦ given ]
+    elim (run-given events (start setting) q x tt h not_index) as (λ o. IsWritten (start setting) events x) [ inl there ↦ absurd cc | inr given ↦ given ]

@@ -131,7 +131,7 @@ abbrev pub new_slot : Machine → List ℕ → Definition → Slot
 new_slot M name d = record {
   number = last M.world.store + 1;
   name = name;
-  version = record { definition = d; etag = 0; table = empty };
+  version = record { definition = d; etag = 0; table = empty; cleaned = 0 };
   row = last M.world.store + 1;
 }
 

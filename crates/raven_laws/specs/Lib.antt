@@ -3,6 +3,7 @@ pub mod Flags
 pub mod Claims
 pub mod Writes
 pub mod Definitions
+pub mod Cleaning
 pub mod Keeping
 pub mod Opened
 pub mod Served

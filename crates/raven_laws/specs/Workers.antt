@@ -67,14 +67,28 @@ pub record IsPassed (M : Machine) (worker : ℕ) (replied : Replied) : Type 0 wh
   pub world : replied.machine.world ≡ M.world
   pub lets : LetsGo M worker replied
 
--- The version of the batch takes the place of that of its index, which is further back. The reply has the name of the index and its etag as they were
--- just before. All other indexes, the store and the notes stay as they were.
+-- Tombstones past the batch were cleaned since it was read, so that it may have a document that is gone. No index changes.
+pub record IsCleaned (M : Machine) (worker : ℕ) (replied : Replied) : Type 0 where
+  pub batch : Held
+  pub held : held_by M.held worker ≡ Some batch
+  pub slot : Slot
+  pub live : numbered M.world.slots batch.number ≡ Some slot
+  pub ahead : slot.version.etag < batch.version.etag
+  pub since : batch.version.cleaned < M.world.store.cleaned
+  pub past : batch.version.etag < M.world.store.cleaned
+  pub reply : replied.reply ≡ Reply.Cleaned M.world.store.cleaned
+  pub world : replied.machine.world ≡ M.world
+  pub lets : LetsGo M worker replied
+
+-- Nothing past the batch was cleaned since it was read, and its version takes the place of that of its index, which is further back. The reply has the
+-- name of the index and its etag as they were just before. All other indexes, the store and the notes stay as they were.
 pub record IsPublished (M : Machine) (worker : ℕ) (replied : Replied) : Type 0 where
   pub batch : Held
   pub held : held_by M.held worker ≡ Some batch
   pub slot : Slot
   pub live : numbered M.world.slots batch.number ≡ Some slot
   pub ahead : slot.version.etag < batch.version.etag
+  pub current : (M.world.store.cleaned ≤ batch.version.cleaned) ⊎ (M.world.store.cleaned ≤ batch.version.etag)
   pub reply : replied.reply ≡ Reply.Published slot.version.etag slot.name batch.version.etag
   pub brought : numbered replied.machine.world.slots batch.number ≡ Some (record { number = slot.number; name = slot.name; version = batch.version; row = slot.row })
   pub kept : (s : Slot) → Has M.world.slots s → (s.number ≡ batch.number → ⊥) → Has replied.machine.world.slots s
@@ -84,4 +98,5 @@ pub record IsPublished (M : Machine) (worker : ℕ) (replied : Replied) : Type 0
   pub lets : LetsGo M worker replied
 
 abbrev pub IsPublishAnswer : Machine → ℕ → Replied → Type 0
-IsPublishAnswer M worker replied = HoldsNothing M worker replied ⊎ (IsGone M worker replied ⊎ (IsPassed M worker replied ⊎ IsPublished M worker replied))
+IsPublishAnswer M worker replied =
+    HoldsNothing M worker replied ⊎ (IsGone M worker replied ⊎ (IsPassed M worker replied ⊎ (IsCleaned M worker replied ⊎ IsPublished M worker replied)))

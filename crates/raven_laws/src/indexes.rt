@@ -1,6 +1,6 @@
 //! What an index has recorded, and when it is stale.
 
-ghost use Rattle.std.specs.Prelude.{◌≡◌, ◌≤◌, ◌↔◌, ℕ, nat_lt, List, Option, Some, None, true, false};
+ghost use Rattle.std.specs.Prelude.{◌≡◌, ◌≤◌, ◌↔◌, ◌⊎◌, ℕ, nat_lt, List, Option, Some, None, true, false};
 ghost use Rattle.std.specs.Cmp.{IsTotalOrder};
 ghost use Rattle.std.specs.FinMap.{get};
 ghost use Rattle.std.specs.Option.{option_and_then};
@@ -14,9 +14,11 @@ ghost use Rattle.spec_store.specs.Stale.{batch_rows, stale, newest, up_to, Unsee
 ghost use Rattle.index_tree.specs.Mapper.{Mapper, scope_of};
 ghost use Rattle.spec_index.specs.Mapping.{Results, AreResults, remapped, touched};
 
-/// What an index has recorded stays right in every later store, and need not be read again.
+/// What an index has recorded up to an etag stays right in every later store, and need not be read again, unless tombstones past that etag
+/// were cleaned since.
 pub fn agreement_survives()
-    ensures { (scope : Scope) (T : Table) (S N : Store) (e : ℕ) → Agrees scope T S e → Later S N → e ≤ last S → Agrees scope T N e }
+    ensures { (scope : Scope) (T : Table) (S N : Store) (e : ℕ) → Agrees scope T S e → Later S N → e ≤ last S →
+        (N.cleaned ≡ S.cleaned) ⊎ (N.cleaned ≤ e) → Agrees scope T N e }
 {}
 
 /// After a batch an index agrees with the store that the batch read, up to the batch's etag.

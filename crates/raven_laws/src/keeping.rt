@@ -19,14 +19,15 @@ pub fn keepers_follow_stores()
     ensures whole { (S : Store) → IsStore S → EtagsRise None (all_kept S.rows) }
 {}
 
-/// The store of each change that a line makes is the one before it with the rows of the change, whose etags go on from the store's last.
-/// If there are none, the store is as it was.
+/// The store of each change that a line makes is the one before it with the rows of the change, whose etags go on from the store's last;
+/// or if it cleans, the one before it without the rows of the change, which are its tombstones up to an etag below its last. If there are
+/// none, the store is as it was.
 pub fn changes_are_their_rows()
     ensures { (W : World) (now : ℕ) (line : Line) → AreTheirRows W.store (changes_of W now line) }
 {}
 
-/// A keeper that stores the rows of a machine's store, and is given those of each change that it takes, stores those of the last store: after
-/// requests, and after the lines of a script.
+/// A keeper that stores the rows of a machine's store, and does what it is asked for each change that it takes, stores those of the last
+/// store: after requests, and after the lines of a script.
 pub fn keepers_store_every_run()
     ensures requests { (M : Machine) (events : List Event) → stored_after events M (all_kept M.world.store.rows) ≡ all_kept (run events M).world.store.rows }
     ensures lines { (M : Machine) (lines : List Given) →

@@ -2,6 +2,7 @@
 //! the machine can reach.
 #![tactic(auto)]
 
+mod cleaning;
 mod definitions;
 mod indexes;
 mod keeping;
@@ -13,6 +14,10 @@ mod stores;
 mod workers;
 mod writes;
 
+pub use cleaning::{
+    cleanings_are_answered, cleanings_go_as_far_as_indexes, cleanings_go_on, last_etags_never_fall,
+    only_deletions_are_cleaned, rows_stand_unless_cleaned, unread_indexes_need_no_tombstones,
+};
 pub use definitions::{
     autos_are_answered, batches_for_one_leave_the_others, definitions_are_answered,
     removals_are_answered, same_definition_is_exact, switches_are_answered, tidies_are_answered,

@@ -8,7 +8,7 @@ ghost use Rattle.spec_server.specs.Opening.{OpenedFrom};
 ghost use Rattle.spec_server.specs.Machine.{AreFromClients, Change, Event, IsFromClient, Line, Machine, changes_of, run};
 ghost use Rattle.spec_server.specs.Script.{Given, after_lines, events_of};
 ghost use Rattle.spec_server.specs.Sound.{Has, IsMachine, LaterW, Sound};
-ghost use Rattle.spec_store.specs.Store.{row_at};
+ghost use Rattle.spec_store.specs.Store.{AreApart, row_at};
 ghost use Rattle.spec_index.specs.World.{Slot, World, new_version};
 ghost use Rattle.raven_laws.specs.Claims.{FreshIsExact, FreshIsFromScratch, IdsAreSpelledAsStored};
 ghost use Rattle.raven_laws.specs.Flags.{FlagsAreExact};
@@ -82,9 +82,9 @@ pub fn every_script_from_stored_rows_is_sound()
         OpenedFaithfully setting held M → AreFromClients (events_of lines) → IdsAreSpelledAsStored (after_lines lines M) }
 {}
 
-/// No row is invented: each, except those of definitions, was there before the run, or was written by a command of one of the requests,
-/// all of whose commands were taken.
+/// No row is invented: each, except those of definitions, was there before the run, if no two rows had the same id, or was written by a
+/// command of one of the requests, all of whose commands were taken.
 pub fn rows_were_there_or_written()
-    ensures { (M : Machine) (events : List Event) (id : List ℕ) (r : Row) →
+    ensures { (M : Machine) (events : List Event) (id : List ℕ) (r : Row) → AreApart M.world.store.rows →
         row_at id (run events M).world.store.rows ≡ Some r → is_index_id r.id ≡ false → (row_at id M.world.store.rows ≡ Some r) ⊎ IsWritten M events r }
 {}

@@ -21,14 +21,16 @@ pub fn every_run_is_sound()
     ensures { (setting : Setting) (events : List Event) → AreFromClients events → IsMachine (run events (start setting)) }
 {}
 
-/// A batch that a worker reads may be published, in the world in which it was read and in every later one.
+/// A batch that a worker reads may be published, in the world in which it was read and in every later one, unless tombstones past it were
+/// cleaned since.
 pub fn batches_may_wait()
     ensures read { (W : World) (worker max : ℕ) (s : Slot) (v : Version) → Sound W → Has W.slots s → batch s.version W.store max ≡ Some v →
         IsHeld W (record { worker = worker; number = s.number; version = v }) }
     ensures later { (W N : World) (h : Held) → IsHeld W h → LaterW W N → IsHeld N h }
 {}
 
-/// Each state is later than those before: rows stay or are replaced, indexes go forward, and a name keeps its index until that is removed.
+/// Each state is later than those before: rows stay, or are replaced, or are tombstones that are cleaned; indexes go forward, and a name
+/// keeps its index until that is removed.
 pub fn every_run_goes_on()
     ensures { (setting : Setting) (events more : List Event) → AreFromClients (events ++ more) →
         LaterW (run events (start setting)).world (run (events ++ more) (start setting)).world }

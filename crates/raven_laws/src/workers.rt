@@ -14,8 +14,9 @@ pub fn reads_are_answered()
 {}
 
 /// A PUBLISH of a worker that holds nothing changes nothing. Otherwise the worker then holds nothing, and the other workers hold what they
-/// held. If the index of the batch is gone, or as far already, no index changes. If not, the version of the batch takes the place of the
-/// index's, and all other indexes, the store and the notes stay as they were.
+/// held. If the index of the batch is gone, or as far already, or tombstones past the batch were cleaned since it was read, no index
+/// changes. If not, the version of the batch takes the place of the index's, and all other indexes, the store and the notes stay as they
+/// were.
 pub fn publications_are_answered()
     ensures { (M : Machine) (k : Keeping) (now worker : ℕ) → IsPublishAnswer M worker (step M k now (Publish worker)) }
 {}

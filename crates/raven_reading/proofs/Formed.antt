@@ -9,7 +9,7 @@ use Rattle.index_tree.specs.Definitions.{Definition}
 use Rattle.spec_index.specs.World.{is_automatic}
 use Rattle.spec_query.specs.Fields.{asked_fields, cond_fields, selected_fields}
 use Rattle.spec_query.specs.Query.{At, Column, Cond, Count, Field, Query, Sort, Sum}
-use Rattle.spec_server.specs.Machine.{Line, Do, Put, Delete, Bulk, Get, Define, Remove, Auto, Find, Ask, Pump, Switch, Tidy, Stale, Indexes, Stats, Read, Publish}
+use Rattle.spec_server.specs.Machine.{Line, Do, Put, Delete, Bulk, Get, Define, Remove, Auto, Find, Ask, Pump, Switch, Tidy, Clean, Stale, Indexes, Stats, Read, Publish}
 use Rattle.spec_server.specs.Opening.{is_part, is_path}
 use Rattle.spec_server.specs.WellFormed.{IsWellFormed, has_valid_path, has_valid_paths, is_body, put_bodies}
 use Rattle.raven_lines.specs.Lines.{IsLine}
@@ -72,6 +72,7 @@ valid-formed (Do (Ask ask)) valid = query-formed ask.query valid.indexing
 valid-formed (Do (Pump max index)) valid = tt
 valid-formed (Do (Switch name)) valid = tt
 valid-formed (Do Tidy) valid = tt
+valid-formed (Do Clean) valid = tt
 valid-formed (Do (Stale name cutoff)) valid = tt
 valid-formed (Do Indexes) valid = tt
 valid-formed (Do Stats) valid = tt

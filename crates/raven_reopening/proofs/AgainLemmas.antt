@@ -3,7 +3,8 @@ use Rattle.std.proofs.Common.{◌≡◌, ℕ, ◌+◌, ◌<◌, List, [], ◌∷
 use Rattle.std.proofs.lemmas.Bool.{eqb-true, ltb-false}
 use Rattle.spec_data.specs.Faults.{replacement_of}
 use Rattle.spec_data.specs.Moments.{moments_end}
-use Rattle.spec_store.specs.Store.{last}
+use Rattle.spec_store.specs.Store.{Store, last}
+use Rattle.spec_store.specs.Cleaning.{clean, is_old_tombstone}
 use Rattle.index_tree.specs.Definitions.{Definition, same_definition}
 use Rattle.spec_server.specs.Opening.{is_auto_name, is_static_name}
 use Rattle.spec_store.specs.Commit.{Command, AnyVector, Client, Server, Refused, Written, commit}
@@ -14,12 +15,14 @@ use Rattle.spec_server.specs.Asking.{Answered, MustMake, Ready, answer_ask, answ
 use Rattle.spec_server.specs.Asking.{unless_refused as answered_unless}
 use Rattle.spec_server.specs.Shapes.{shape_asked}
 use Rattle.spec_server.specs.Replies as replies
+use Rattle.spec_index.specs.Cleaning.{clean_upto}
 use Rattle.spec_index.specs.World.{Slot, SlotChange, World, is_automatic, index_id, numbered, serving, SlotRefusal, added, added_if_room, added_to, define, define_at, define_beside, dropped, is_reserved_name, remove, removed, switch, taken_out, unchanged, unless_refused, without}
-use Rattle.spec_server.specs.Machine.{Machine, Request, Put as PutOne, Delete as DeleteOne, Bulk, Get, Define, Remove, Auto as AutoOne, Find, Ask, Pump, Switch, Tidy, Stale, Indexes, Stats, Line, Do, Read, Publish, IsFromClient, AreFromClients, Change, Event, Held, Keeping, Course, Passed, PublishRefusal, after, answer_made, answer_making, ask_course, changed, course_of, commands_in, held_by, made_name, make, pump_at, pump_for, change_of_slots, one_field, publish_by, publish_to, published, published_in, published_reply, replaced_names, rewrote, run, settled, single_reply, step, tidy, use_or_make, with_slots, with_version, write, wrote}
+use Rattle.spec_server.specs.Machine.{Machine, Request, Put as PutOne, Delete as DeleteOne, Bulk, Get, Define, Remove, Auto as AutoOne, Find, Ask, Pump, Switch, Tidy, Clean, Stale, Indexes, Stats, Line, Do, Read, Publish, IsFromClient, AreFromClients, Change, Event, Held, Keeping, Course, Passed, Cleaned, PublishRefusal, put_in, was_cleaned, after, answer_made, answer_making, ask_course, changed, course_of, commands_in, held_by, made_name, make, pump_at, pump_for, change_of_slots, one_field, publish_by, publish_to, published, published_in, published_reply, replaced_names, rewrote, run, settled, single_reply, step, tidy, use_or_make, with_slots, with_version, write, wrote}
 use Rattle.spec_server.specs.Sound.{Has, IsHeld, IsMachine, Sound}
 use Rattle.raven_laws.proofs.MachineLemmas.{AllDo, AllLeave, IsTidying, Keeps, read-world, settled-leaves, step-Steps, tidy-do, tidying-Moves}
 use Rattle.raven_laws.proofs.QueryLemmas.{answer_by_origin}
-use Rattle.raven_laws.proofs.SlotLemmas.{Has-map, Has-without, find-Has, replacing-no-auto, served}
+use Rattle.spec_store.proofs.CleanLemmas.{clean-rows}
+use Rattle.raven_laws.proofs.SlotLemmas.{Has-filter, Has-map, Has-without, find-Has, replacing-no-auto, served}
 use Rattle.raven_laws.proofs.WorldLemmas.{found-Replaces, one_number, past_test, reserved-other, same_change, switch-Switches}
 use Rattle.raven_reading.specs.Requests.{IsAsked, IsByText, AreCommands, IsIndexing, IsOrigin, IsValidLine}
 use Rattle.raven_reopening.specs.Form.{AreEvents, IsKept}
@@ -271,6 +274,12 @@ pump_for-Again W max (Some name) a = by (serving W.slots name)
     by None = tt
     by (Some s) = (record { all = a.all; slots = pumped_at-right W.store max name W.slots a.slots }, tt)
 
+-- CLEANING
+
+-- what is left was there
+cleaned-all : (upto : ℕ) (S : Store) → AllLast S.rows → AllLast (clean upto S).rows
+cleaned-all upto S all = subst AllLast (sym (clean-rows upto S)) (λ r h. all r (Has-filter (λ x. not (is_old_tombstone upto x)) S.rows r h))
+
 -- EVENTS
 
 course-Again : (W : World) (now : ℕ) (request : Request) → AreCommands (commands_in request) → IsIndexing request → now < moments_end → Sound W → Again W → AllLeave Again (course_of W now request).changes
@@ -286,6 +295,7 @@ course-Again W now (Ask ask) fits asked soon o a = ask-Again W now ask asked soo
 course-Again W now (Pump max index) fits indexing soon o a = pump_for-Again W max index a
 course-Again W now (Switch name) fits index soon o a = reslotted-Again W now (replies.Switched (last W.store + 1)) name (switch W name) (λ c e. switch-fit W name c o a e) soon o a
 course-Again W now Tidy fits index soon o a = tidy-Again W now soon o a
+course-Again W now Clean fits index soon o a = (record { all = cleaned-all (clean_upto W) W.store a.all; slots = a.slots }, tt)
 course-Again W now (Stale name cutoff) fits index soon o a = tt
 course-Again W now Indexes fits index soon o a = tt
 course-Again W now Stats fits index soon o a = tt
@@ -296,8 +306,8 @@ settled-Again M k c a all = settled-leaves Again M k c a all
 -- a batch that is published keeps the definition of its index
 published-Again : (W : World) (h : Held) (there : Option Slot) (V : World) → IsHeld W h → published_in W h.number h.version there ≡ Ok V → Again W → Again V
 published-Again W h None V k e a = absurd cc
-published-Again W h (Some s) V k e a = elim (nat_lt s.version.etag h.version.etag) as (λ b. cond b (Ok (with_slots W (map put W.slots))) (Err (Passed s.version.etag)) ≡ Ok V → Again V) [
-  | true ↦ λ g. subst Again (same_world (with_slots W (map put W.slots)) V g) (record { all = a.all; slots = put-right })
+published-Again W h (Some s) V k e a = elim (nat_lt s.version.etag h.version.etag) as (λ b. cond b (put_in W h.number h.version) (Err (Passed s.version.etag)) ≡ Ok V → Again V) [
+  | true ↦ λ g. subst Again (same_world (with_slots W (map put W.slots)) V (brought g)) (record { all = a.all; slots = put-right })
   | false ↦ λ g. absurd cc
 ] e
   where
@@ -306,6 +316,13 @@ published-Again W h (Some s) V k e a = elim (nat_lt s.version.etag h.version.eta
 
     same_world : (A B : World) → (let r : Result World PublishRefusal = Ok A in r) ≡ Ok B → A ≡ B
     same_world A B g = cc
+
+    brought : put_in W h.number h.version ≡ Ok V → (let r : Result World PublishRefusal = Ok (with_slots W (map (with_version h.number h.version) W.slots)) in r) ≡ Ok V
+    brought g = elim (was_cleaned W.store h.version) as (λ c. cond c (Err (Cleaned W.store.cleaned)) (Ok (with_slots W (map (with_version h.number h.version) W.slots))) ≡ Ok V
+        → (let r : Result World PublishRefusal = Ok (with_slots W (map (with_version h.number h.version) W.slots)) in r) ≡ Ok V) [
+          | true ↦ λ f. absurd cc
+          | false ↦ λ f. f
+        ] g
 
     put-keeps : (x : Slot) → Has W.slots x → Keeps x (with_version h.number h.version x)
     put-keeps x there = elim (x.number == h.number) as (λ b. (x.number == h.number) ≡ b → Keeps x (cond b (record { number = x.number; name = x.name; version = h.version; row = x.row }) x)) [
@@ -342,6 +359,7 @@ valid-client (Do (Ask ask)) valid = tt
 valid-client (Do (Pump max index)) valid = tt
 valid-client (Do (Switch name)) valid = tt
 valid-client (Do Tidy) valid = tt
+valid-client (Do Clean) valid = tt
 valid-client (Do (Stale name cutoff)) valid = tt
 valid-client (Do Indexes) valid = tt
 valid-client (Do Stats) valid = tt

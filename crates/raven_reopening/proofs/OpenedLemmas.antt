@@ -10,6 +10,7 @@ use Rattle.spec_data.specs.Kept.{KeptRow}
 use Rattle.spec_data.specs.Moments.{moments_end}
 use Rattle.spec_data.specs.Rows.{Row, Body, doc, gone}
 use Rattle.spec_data.specs.Written.{text_of}
+use Rattle.spec_store.specs.Store.{store_of}
 use Rattle.spec_store.specs.Commit.{Setting, stored_body}
 use Rattle.index_tree.specs.Definitions.{Definition, Static, Auto, AutoReduce}
 use Rattle.spec_store.specs.Kept.{max_body, is_stored, document_of, body_in, is_etag, row_in, row_if_it_follows, or_bad_row, rows_after, rows_in}
@@ -196,7 +197,7 @@ same_opened : (a b : Machine) → (let r : Result Machine ℕ = Ok a in r) ≡ O
 same_opened a b h = cc
 
 abbrev pub machine_of : Setting → List Row → List Slot → Machine
-machine_of s rows slots = record { world = record { setting = s; store = record { rows = rows }; slots = slots; notes = [] }; held = [] }
+machine_of s rows slots = record { world = record { setting = s; store = store_of rows; slots = slots; notes = [] }; held = [] }
 
 opened-slots : (s : Setting) (held : List KeptRow) (M : Machine) (xs : List ReadRow) → rows_in s.max_rows held ≡ Ok (rows_of xs) → AreReadRows xs
     → (r : Result (List Slot) ℕ) → slots_from s (rows_of xs) 0 [] xs ≡ r → opened_with s (rows_of xs) r ≡ Ok M → Again M.world

@@ -3,6 +3,7 @@ use Rattle.std.specs.Prelude.{◌≡◌, List, [], Ok}
 use Rattle.spec_data.specs.Folding.{folded}
 use Rattle.spec_data.specs.Kept.{all_kept}
 use Rattle.spec_store.specs.Commit.{Setting}
+use Rattle.spec_store.specs.Store.{store_of}
 use Rattle.spec_server.specs.Machine.{Machine}
 use Rattle.spec_server.specs.Sound.{Has}
 use Rattle.spec_index.specs.World.{Slot, World, new_version}
@@ -24,11 +25,12 @@ pub record WasThere (slots : List Slot) (s : Slot) : Type 0 where
   pub numbered : s.number ≡ slot.row
   pub anew : s.version ≡ new_version slot.version.definition
 
--- the stored rows of the world open a machine with the same store, with an index for each that there was, and with no other
+-- the stored rows of the world open a machine with the same rows, of which nothing counts as cleaned, with an index for each that there was, and with
+-- no other
 pub record OpensAgain (s : Setting) (W : World) : Type 0 where
   pub machine : Machine
   pub opens : IsOpened s (all_kept W.store.rows) (Ok machine)
-  pub store : machine.world.store ≡ W.store
+  pub store : machine.world.store ≡ store_of W.store.rows
   pub setting : machine.world.setting ≡ s
   pub notes : machine.world.notes ≡ []
   pub indexes : (x : Slot) → Has W.slots x → IsThereAgain machine.world.slots x

@@ -22,8 +22,8 @@ pub fn definitions_agree_with_bodies()
     ensures { (setting : Setting) (held : List KeptRow) (M : Machine) → IsOpened setting held (Ok M) → OpenedFaithfully setting held M }
 {}
 
-/// After every run from stored rows, if the program can hold its requests, the rows of the database open again: with the same store, with an
-/// index for each that there was, and with none that was removed.
+/// After every run from stored rows, if the program can hold its requests, the rows of the database open again: with the same rows, of which
+/// nothing counts as cleaned, with an index for each that there was, and with none that was removed.
 pub fn a_run_opens_again()
     ensures { (setting : Setting) (held : List KeptRow) (M : Machine) (events : List Event) → IsOpened setting held (Ok M) → AreEvents events →
         OpensAgain setting (run events M).world }
