@@ -10,6 +10,7 @@ use Rattle.std.proofs.lemmas.Map.Text.{is_eq-slice_cmp}
 use Rattle.std.proofs.lemmas.Slice.Eq.{bytes_eq-Decides}
 use Rattle.spec_data.specs.Folding.{folded, same_key}
 use Rattle.spec_data.specs.Kept.{KeptRow, EtagsRise, is_past, last_kept, keep, keep_all, kept_key}
+use Rattle.spec_store.specs.Cleaning.{cleared, is_old_mark}
 use Rattle.raven_ports.specs.Logged.{IsLog, held_in, id_cmp, is_among, is_below, last_of_id}
 use Rattle.raven_ports.proofs.KeptLemmas.{keep_all_rises, kept_apart, last_behind, last_keep, lower}
 use Rattle.raven_ports.proofs.RisingLemmas.{rises_on}
@@ -213,3 +214,16 @@ cut e (suc first) [] h = refl
 cut e (suc first) (x ∷ rows) h =
     cut e first rows (λ k d low high. h.0 (suc k) d (omega arith) (omega arith), λ k d low high. h.1 (suc k) d (omega arith) (omega arith))
     ∙ sym (ap (λ b. cond b (x ∷ filter (is_past (Some e)) rows) (filter (is_past (Some e)) rows)) (not_past_at x.etag e (h.0 zero x (omega arith) (omega arith))))
+
+-- CLEANING
+
+cleared_rises : (upto : ℕ) (low : Option ℕ) (rows : List KeptRow) → EtagsRise low rows → EtagsRise low (cleared upto rows)
+cleared_rises upto low [] up = tt
+cleared_rises upto low (x ∷ rows) up = elim (is_old_mark upto x) as (λ b. EtagsRise low (cond (not b) (x ∷ cleared upto rows) (cleared upto rows))) [
+  | true ↦ lower low x.etag (cleared upto rows) up.0 (cleared_rises upto (Some x.etag) rows up.1)
+  | false ↦ (up.0, cleared_rises upto (Some x.etag) rows up.1)
+]
+
+-- the rows that are left are a log
+pub cleared_log : (first : ℕ) (left : List KeptRow) (upto : ℕ) (rows : List KeptRow) → first ≡ length left → left ≡ cleared upto rows → EtagsRise None rows → IsLog first left
+cleared_log first left upto rows all is up = record { within = omega arith; rising = subst (EtagsRise None) (sym is) (cleared_rises upto None rows up) }

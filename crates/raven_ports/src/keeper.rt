@@ -2,6 +2,7 @@
 ghost use Rattle.std.specs.Prelude.{◌≡◌, ◌<◌, ◌≤◌, ◌↔◌, ℕ, length, true, Option, None, option_map, IfOk, IfSome, OnErr, OnOk, IsErrOf};
 ghost use Rattle.spec_data.specs.Kept.{EtagsRise, keep_all, kept_after, last_kept};
 ghost use Rattle.spec_data.specs.Limits.{moments_end};
+ghost use Rattle.spec_store.specs.Cleaning.{cleared};
 ghost use Rattle.raven_ports.specs.Faults.{Rose};
 ghost use Rattle.raven_ports.specs.Plan.{is_failing, one_later};
 ghost use Rattle.raven_ports.specs.States.{KeeperState};
@@ -87,8 +88,8 @@ pub enum KeeperFault {
 
 /// What stores the rows of a database, one for each id, in order of etag.
 pub trait Keeper {
-    /// The rows that it holds and which of its calls fail, if it reports them, and how often it has failed. Loads and commits
-    /// are counted together.
+    /// The rows that it holds and which of its calls fail, if it reports them, and how often it has failed. Loads, commits and
+    /// cleanings are counted together.
     ghost state: { Self → KeeperState };
 
     /// How often it has failed.
@@ -114,6 +115,15 @@ pub trait Keeper {
         requires rising { EtagsRise None rows.now }
         requires past { IfSome (state self.old).held (λ all. EtagsRise (last_kept None all) rows.now) }
         ensures ok { OnOk result ((state self.new).held ≡ option_map (λ all. keep_all all rows.now) (state self.old).held) }
+        ensures err { OnErr result ((state self.new).held ≡ (state self.old).held) }
+        ensures planned { IfSome (state self.old).plan (λ p. IsErrOf result KeeperFault.Failed ↔ (is_failing p ≡ true)) }
+        ensures called { (state self.new).plan ≡ option_map one_later (state self.old).plan }
+        ensures later { (state self.old).count ≤ (state self.new).count }
+        ensures cause { IsErrOf result KeeperFault.Failed → Rose (state self.old).count (state self.new).count };
+
+    /// Removes the tombstones with etags of at most `upto`: all of them, or none.
+    fn clean(&mut self, upto: u64) -> Result<(), KeeperFault>
+        ensures ok { OnOk result ((state self.new).held ≡ option_map (cleared upto) (state self.old).held) }
         ensures err { OnErr result ((state self.new).held ≡ (state self.old).held) }
         ensures planned { IfSome (state self.old).plan (λ p. IsErrOf result KeeperFault.Failed ↔ (is_failing p ≡ true)) }
         ensures called { (state self.new).plan ≡ option_map one_later (state self.old).plan }

@@ -3,6 +3,7 @@ ghost use Rattle.std.specs.Prelude.{◌≡◌, ◌+◌, ◌≤◌, List, ℕ, No
 ghost use Rattle.std.specs.BTreeMap.{get};
 ghost use Rattle.spec_data.specs.Folding.{folded};
 ghost use Rattle.spec_data.specs.Kept.{EtagsRise, is_past, keep_all, kept_after, last_kept};
+ghost use Rattle.spec_store.specs.Cleaning.{cleared, is_old_mark as spec_is_old_mark};
 ghost use Rattle.raven_ports.specs.Logged.{IsLog, held_in, id_cmp, is_below, last_of_id};
 
 use crate::keeper::{KeptRow, KeptRows};
@@ -75,6 +76,26 @@ fn unreplaced(
     let mut left = Vec::with_capacity(alloc, rows.len())?;
     for row in rows {
         if !is_replaced(etags, row)? {
+            left.push(row.clone()?)?;
+        }
+    }
+    Ok(left)
+}
+
+/// Whether a row is a tombstone with an etag of at most this.
+fn is_old_mark(upto: u64, row: &KeptRow) -> bool
+    ensures { result ≡ spec_is_old_mark upto row.now }
+{
+    row.body.is_none() && row.etag <= upto
+}
+
+/// Copies of the rows but for the tombstones up to an etag.
+fn unmarked(alloc: Global, rows: &[KeptRow], upto: u64) -> Result<Vec<KeptRow>, NoMemory>
+    ensures { IfOk result (λ left. left.items ≡ cleared upto rows.now) }
+{
+    let mut left = Vec::with_capacity(alloc, rows.len())?;
+    for row in rows {
+        if !is_old_mark(upto, row) {
             left.push(row.clone()?)?;
         }
     }
@@ -189,6 +210,21 @@ impl Log {
         self.compact_before(rows.len())?;
         self.rows.extend_from_slice(rows)?;
         self.added_bytes = self.added_bytes.saturating_add(bytes_in(rows));
+        Ok(())
+    }
+
+    /// Drops the tombstones up to an etag, and the rows that were replaced.
+    pub(crate) fn clean(&mut self, upto: u64) -> Result<(), NoMemory>
+        requires { IsLog self.old.compacted self.old.rows.items }
+        ensures log { IsLog self.new.compacted self.new.rows.items }
+        ensures ok { OnOk result (held_in self.new.compacted self.new.rows.items ≡ cleared upto (held_in self.old.compacted self.old.rows.items)) }
+        ensures err { OnErr result (held_in self.new.compacted self.new.rows.items ≡ held_in self.old.compacted self.old.rows.items) }
+    {
+        self.compact()?;
+        let rows = unmarked(*self.rows.allocator(), &self.rows, upto)?;
+        self.compacted = rows.len();
+        self.compacted_bytes = bytes_in(&rows);
+        self.rows = rows;
         Ok(())
     }
 

@@ -1,6 +1,7 @@
 //! A keeper in memory, whose calls fail by a list.
 ghost use Rattle.std.specs.Prelude.{◌≡◌, ◌≤◌, ◌↔◌, Some, None, length, true, option_map, IfOk, IfSome, OnErr, OnOk, IsErrOf};
 ghost use Rattle.spec_data.specs.Kept.{EtagsRise, keep_all, kept_after, last_kept};
+ghost use Rattle.spec_store.specs.Cleaning.{cleared};
 ghost use Rattle.raven_ports.specs.Faults.{Rose};
 ghost use Rattle.raven_ports.specs.KeptMemory.{keeper_state};
 ghost use Rattle.raven_ports.specs.Plan.{is_failing, one_later};
@@ -17,7 +18,7 @@ use std::marker::Model;
 /// It has them in a log. A commit takes time and memory that grow with the number of its rows. Rows that were replaced stay until
 /// the log would have more than twice the rows that it had when such rows were last dropped, or until the documents stored since
 /// then are larger than those that it had, with 1 KiB more for each row; that commit takes time and memory that grow with the number
-/// of all rows and its logarithm.
+/// of all rows and its logarithm. A cleaning takes such time and memory too.
 pub struct MemKeeper {
     log: Log,
     calls: Calls,
@@ -91,6 +92,16 @@ impl Keeper for MemKeeper {
             return Err(KeeperFault::Failed);
         }
         if self.log.add(rows.as_slice()).is_err() {
+            return Err(KeeperFault::NoMemory);
+        }
+        Ok(())
+    }
+
+    fn clean(&mut self, upto: u64) -> Result<(), KeeperFault> {
+        if self.calls.next_fails() {
+            return Err(KeeperFault::Failed);
+        }
+        if self.log.clean(upto).is_err() {
             return Err(KeeperFault::NoMemory);
         }
         Ok(())

@@ -76,4 +76,8 @@ impl Keeper for FileKeeper {
     fn commit(&mut self, rows: &KeptRows) -> Result<(), KeeperFault> {
         self.keeper.commit(rows)
     }
+
+    fn clean(&mut self, upto: u64) -> Result<(), KeeperFault> {
+        self.keeper.clean(upto)
+    }
 }

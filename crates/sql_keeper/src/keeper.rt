@@ -34,11 +34,15 @@ const LOAD: &str =
 const PUT: &str =
     "INSERT INTO kept (key, etag, id, collection, body, changed) VALUES (?1, ?2, ?3, ?4, ?5, ?6) ON CONFLICT (key) DO UPDATE SET etag = excluded.etag, id = excluded.id, collection = excluded.collection, body = excluded.body, changed = excluded.changed";
 
+/// Removes the tombstones up to an etag, which have no text.
+const CLEAN: &str = "DELETE FROM kept WHERE etag <= ?1 AND body IS NULL";
+
 // The statements of a keeper, which are compiled once.
 #[derive(Drop)]
 struct Statements {
     load: Statement,
     put: Statement,
+    clean: Statement,
 }
 
 /// A keeper in a database of SQLite, which it has for itself. It does not report what it holds.
@@ -93,7 +97,8 @@ fn prepare<S: Alter>(conn: &mut Connection<S>) -> Result<Option<Statements>, Err
     }
     let load = conn.prepare(LOAD)?;
     let put = conn.prepare(PUT)?;
-    Ok(Some(Statements { load, put }))
+    let clean = conn.prepare(CLEAN)?;
+    Ok(Some(Statements { load, put, clean }))
 }
 
 // The least etag that is past this one. Etags of the database have 63 bits.
@@ -251,6 +256,22 @@ fn put_all<S: Alter>(
     transaction.commit()
 }
 
+// Removes the tombstones up to an etag. All of them, or none: a transaction that is dropped leaves nothing.
+fn remove_tombstones<S: Alter>(
+    conn: &mut Connection<S>,
+    clean: &Statement,
+    upto: u64,
+) -> Result<(), Error> {
+    if !conn.is_autocommit() {
+        return Err(Error::SqliteFailure(ErrorCode::TransactionState));
+    }
+    // No row has an etag past this, since those of the database have 63 bits.
+    let most = i64::try_from(upto).unwrap_or(i64::MAX);
+    let mut transaction = conn.transaction();
+    transaction.execute_prepared(clean, params![most])?;
+    transaction.commit()
+}
+
 impl<S: Alter + Drop> SqlKeeper<S> {
     // A keeper in this database, which has the table or nothing.
     fn over(alloc: Global, conn: Connection<S>) -> Result<SqlKeeper<S>, OpenFault> {
@@ -337,6 +358,13 @@ impl<S: Alter + Drop> Keeper for SqlKeeper<S> {
 
     fn commit(&mut self, rows: &KeptRows) -> Result<(), KeeperFault> {
         match put_all(self.alloc, &mut self.conn, &self.statements.put, rows) {
+            Ok(()) => Ok(()),
+            Err(error) => Err(self.counted(fault_of(error))),
+        }
+    }
+
+    fn clean(&mut self, upto: u64) -> Result<(), KeeperFault> {
+        match remove_tombstones(&mut self.conn, &self.statements.clean, upto) {
             Ok(()) => Ok(()),
             Err(error) => Err(self.counted(fault_of(error))),
         }
