@@ -5,7 +5,7 @@ ghost use Rattle.doc_keeper.specs.Loading.{AreCalls, IsCause, IsLoaded, IsPage, 
 ghost use Rattle.doc_keeper.specs.Reading.{has_place as spec_has_place, judged, read_on};
 ghost use Rattle.doc_keeper.specs.declared.loading.LoadFault.TheVariants.{NoMemory as OutOfMemory};
 ghost use Rattle.spec_data.specs.Kept.{last_kept};
-ghost use Rattle.spec_store.specs.Store.{last_of as spec_last_of};
+ghost use Rattle.spec_store.specs.Store.{last_of as spec_last_of, store_of};
 ghost use Rattle.raven_ports.specs.Faults.{Rose};
 ghost use Rattle.raven_ports.specs.Plan.{one_later};
 
@@ -108,7 +108,7 @@ fn add_rows(
 fn opened(alloc: Global, rows: Rows, bad: Option<u64>) -> Result<(Rows, Store), LoadFault>
     requires few { length rows < 2 ^ 32 }
     ensures ok { IfOk result (λ r. judged rows bad ≡ Ok r.0) }
-    ensures store { IfOk result (λ r. r.1 ≡ record { rows = r.0 }) }
+    ensures store { IfOk result (λ r. r.1 ≡ store_of r.0) }
     ensures sound { IfOk result (λ r. first_bad [] r.0 ≡ None) }
     ensures fault { IfErr result (λ fault. IsPageFault fault (judged rows bad)) }
 {
@@ -175,7 +175,7 @@ pub fn load<K: Keeper>(
     limits: &Limits,
 ) -> Result<(Rows, Store), LoadFault>
     ensures ok { IfOk result (λ r. IsLoaded limits.now.rows (K.state keeper.old).held (Ok r.0)) }
-    ensures store { IfOk result (λ r. r.1 ≡ record { rows = r.0 }) }
+    ensures store { IfOk result (λ r. r.1 ≡ store_of r.0) }
     ensures sound { IfOk result (λ r. first_bad [] r.0 ≡ None) }
     ensures most { IfOk result (λ r. length r.0 ≤ limits.now.rows) }
     ensures fault { IfErr result (IsCause limits.now.rows (K.state keeper.old).held) }

@@ -18,7 +18,7 @@ use Rattle.doc_store.proofs.FilterLemmas.{filter-both, filter-swap}
 use Rattle.doc_store.proofs.IdLemmas.{passing_in_order}
 use Rattle.doc_store.proofs.MapLemmas.{id_total}
 
-AreFrom-filter : (a : Option (List ℕ)) (p : Row → Bool) (rows : List Row) → AreFrom a rows → AreFrom a (filter p rows)
+pub AreFrom-filter : (a : Option (List ℕ)) (p : Row → Bool) (rows : List Row) → AreFrom a rows → AreFrom a (filter p rows)
 AreFrom-filter a p [] h = tt
 AreFrom-filter a p (r ∷ rows) h = elim (p r) as (λ b. AreFrom a (cond b (r ∷ filter p rows) (filter p rows))) [ true ↦ (h.0, AreFrom-filter a p rows h.1) | false ↦ AreFrom-filter a p rows h.1 ]
 

@@ -10,3 +10,4 @@ pub mod OrderLemmas
 pub mod OpeningLemmas
 pub mod PageLemmas
 pub mod SortLemmas
+pub mod TombstoneLemmas

@@ -19,9 +19,9 @@ use Rattle.spec_store.proofs.KeyedLemmas.{key_ties}
 use Rattle.paged_map.specs.Pairs.{AllAnswer, IsRising}
 use Rattle.paged_map.proofs.Laws.{lookup-insert_entry, lookup-remove_entry, insert_last}
 use Rattle.paged_map.proofs.Rising.{rising_insert}
-use Rattle.doc_store.specs.Maps.{AreFrom, id_cmp, AreFiled, rows_in, by_etag, without_etag, etag_in, is_of, rows_of, ShowsByEtag, Shows}
+use Rattle.doc_store.specs.Maps.{AreFrom, id_cmp, AreFiled, rows_in, by_etag, without_etag, etag_in, is_of, rows_of, ShowsByEtag, Shows, ShowsStore, tombstones}
 use Rattle.doc_store.specs.Steps.{MayStand}
-use Rattle.doc_store.specs.Bounds.{IsWithin}
+use Rattle.doc_store.specs.Bounds.{AreCleaned, AreRows, AreWithin, IsWithin}
 use Rattle.doc_store.proofs.FilterLemmas.{filter-swap}
 
 -- NUMBERS
@@ -86,33 +86,33 @@ below : (k : List ℕ) (rows : List Row) (e : ℕ) → AreRising 0 rows → last
 below k rows e up h = let a = last_of-filter 0 0 (other k) rows up (omega arith) in omega arith
 
 -- a row that is put past those beside its id is put into all
-put-beside : (r : Row) (rows : List Row) → AreRising 0 rows → last_of 0 rows < r.etag
+pub put-beside : (r : Row) (rows : List Row) → AreRising 0 rows → last_of 0 rows < r.etag
     → insert_entry nat_cmp (by_etag (filter (λ x. not (same_key (key r) (key x))) rows)) r.etag r ≡ by_etag (put r rows)
 put-beside r rows up h = appended r (filter (other (key r)) rows) (AreRising-filter 0 (other (key r)) rows up) (below (key r) rows r.etag up h)
 
 -- the pairs without the etag of an id's row are the rows beside that of the id
-without-beside : (k : List ℕ) (rows : List Row) → IsStore (record { rows = rows }) → without_etag (etag_in (row_at k rows)) (by_etag rows) ≡ by_etag (filter (λ x. not (same_key k (key x))) rows)
+pub without-beside : (k : List ℕ) (rows : List Row) → AreRows rows → without_etag (etag_in (row_at k rows)) (by_etag rows) ≡ by_etag (filter (λ x. not (same_key k (key x))) rows)
 without-beside k rows s =
     elim (row_at k rows) as (λ o. row_at k rows ≡ o → without_etag (option_map (λ (x : Row). x.etag) o) (by_etag rows) ≡ by_etag (filter (λ x. not (same_key k (key x))) rows)) [
       | None ↦ λ none. ap by_etag (sym (none_out k rows none))
       | Some old ↦ λ is. same_out 0 k rows old s.rising s.apart is
     ] refl
 
-pub put_is : (rows : List Row) (r : Row) (pairs : List (ℕ × Row)) → IsStore (record { rows = rows }) → last_of 0 rows < r.etag
+pub put_is : (rows : List Row) (r : Row) (pairs : List (ℕ × Row)) → AreRows rows → last_of 0 rows < r.etag
     → pairs ≡ insert_entry nat_cmp (without_etag (etag_in (row_at (key r) rows)) (by_etag rows)) r.etag r → pairs ≡ by_etag (put r rows)
 put_is rows r pairs s newer is = is ∙ ap (λ es. insert_entry nat_cmp es r.etag r) (without-beside (key r) rows s) ∙ put-beside r rows s.rising newer
 
-pub IsStore-put : (rows : List Row) (r : Row) → IsStore (record { rows = rows }) → last_of 0 rows < r.etag → IsStore (record { rows = put r rows })
-IsStore-put rows r s newer = record { rising = AreRising-put 0 r rows s.rising newer; apart = AreApart-put r rows s.apart }
+pub AreRows-put : (rows : List Row) (r : Row) → AreRows rows → last_of 0 rows < r.etag → AreRows (put r rows)
+AreRows-put rows r s newer = record { rising = AreRising-put 0 r rows s.rising newer; apart = AreApart-put r rows s.apart }
 
 pub shown_by_etag : (pairs : List (ℕ × Row)) (last documents : ℕ) (least : Option (List ℕ)) (rows : List Row) → rows_in pairs ≡ rows → ShowsByEtag pairs last documents least (rows_in pairs)
     → ShowsByEtag pairs last documents least rows
 shown_by_etag pairs last documents least rows is s = subst (ShowsByEtag pairs last documents least) is s
 
-pub put_shown : (rows : List Row) (r : Row) (pairs : List (ℕ × Row)) (last documents : ℕ) (least : Option (List ℕ)) → IsStore (record { rows = rows }) → last_of 0 rows < r.etag → pairs ≡ by_etag (put r rows) → last ≡ r.etag
+pub put_shown : (rows : List Row) (r : Row) (pairs : List (ℕ × Row)) (last documents : ℕ) (least : Option (List ℕ)) → AreRows rows → last_of 0 rows < r.etag → pairs ≡ by_etag (put r rows) → last ≡ r.etag
     → documents ≡ length (filter is_document (put r rows)) → AreFrom least (put r rows) → ShowsByEtag pairs last documents least (rows_in pairs)
 put_shown rows r pairs last documents least s newer is e d f = subst (ShowsByEtag pairs last documents least) (sym (ap rows_in is ∙ rows_in-by_etag (put r rows))) (record {
-  store = IsStore-put rows r s newer;
+  store = AreRows-put rows r s newer;
   pairs = is;
   last_is = e ∙ sym (last_of-put 0 r rows);
   documents_are = d;
@@ -138,7 +138,7 @@ pub by_etag-rises : (low : ℕ) (rows : List Row) → AreRising low rows → IsR
 by_etag-rises low [] up = tt
 by_etag-rises low (r ∷ rows) up = (all_above r.etag r.etag rows (omega arith) up.1, by_etag-rises r.etag rows up.1)
 
-pub all_shown : (pairs : List (ℕ × Row)) (last documents : ℕ) (least : Option (List ℕ)) (rows : List Row) → IsStore (record { rows = rows }) → pairs ≡ by_etag rows → last ≡ last_of 0 rows → documents ≡ length (filter is_document rows) → AreFrom least rows
+pub all_shown : (pairs : List (ℕ × Row)) (last documents : ℕ) (least : Option (List ℕ)) (rows : List Row) → AreRows rows → pairs ≡ by_etag rows → last ≡ last_of 0 rows → documents ≡ length (filter is_document rows) → AreFrom least rows
     → ShowsByEtag pairs last documents least (rows_in pairs)
 all_shown pairs last documents least rows s is e d f =
     subst (ShowsByEtag pairs last documents least) (sym (ap rows_in is ∙ rows_in-by_etag rows)) (record { store = s; pairs = is; last_is = e; documents_are = d; from = f })
@@ -190,19 +190,19 @@ read : (b : Bool) (found : List Row) (o : Option (List Row)) → unwrap_or (cond
 read true found o = refl
 read false found o = refl
 
--- the rows of a collection are taken out, and those with the new one put back
-pub put_among_is : (collections changed : List (List ℕ × List Row)) (r : Row) (name : List ℕ) (found new : List Row) → IsRising key_cmp collections → name ≡ r.collection → found ≡ rows_of collections name → new ≡ put r found
-    → changed ≡ insert_entry key_cmp (remove_entry (is_at (key_cmp name)) collections) name new
-    → (c : List ℕ) → rows_of changed c ≡ cond (is_of c r) (put r (rows_of collections c)) (rows_of collections c)
-put_among_is collections changed r name found new up named is made all c =
+-- the rows of a collection are taken out, and changed ones put back
+pub changed_among_is : (f : List Row → List Row) (collections changed : List (List ℕ × List Row)) (r : Row) (name : List ℕ) (found new : List Row) → IsRising key_cmp collections → name ≡ r.collection
+    → found ≡ rows_of collections name → new ≡ f found → changed ≡ insert_entry key_cmp (remove_entry (is_at (key_cmp name)) collections) name new
+    → (c : List ℕ) → rows_of changed c ≡ cond (is_of c r) (f (rows_of collections c)) (rows_of collections c)
+changed_among_is f collections changed r name found new up named is made all c =
     ap (λ pairs. rows_of pairs c) all
     ∙ ap (λ o. unwrap_or o [])
     (lookup-insert_entry key_cmp nat_list_cmp_total c name new (remove_entry (is_at (key_cmp name)) collections)
     ∙ ap (cond (is_eq (key_cmp c name)) (Some new)) (lookup-remove_entry key_cmp nat_list_cmp_total c name collections up))
     ∙ read (is_eq (key_cmp c name)) new (lookup (is_at (key_cmp c)) collections)
     ∙ ap (λ b. cond b new (rows_of collections c)) (is_eq-slice_cmp c name ∙ nat_list_eq_equiv.symm c name ∙ ap (λ n. bytes_eq n c) named)
-    ∙ elim (is_of c r) as (λ b. is_of c r ≡ b → cond b new (rows_of collections c) ≡ cond b (put r (rows_of collections c)) (rows_of collections c)) [
-      | true ↦ λ e. made ∙ ap (put r) (is ∙ ap (rows_of collections) (named ∙ (bytes_eq-Decides r.collection c).0 e))
+    ∙ elim (is_of c r) as (λ b. is_of c r ≡ b → cond b new (rows_of collections c) ≡ cond b (f (rows_of collections c)) (rows_of collections c)) [
+      | true ↦ λ e. made ∙ ap f (is ∙ ap (rows_of collections) (named ∙ (bytes_eq-Decides r.collection c).0 e))
       | false ↦ λ e. refl
     ] refl
 
@@ -222,9 +222,24 @@ row_at-of rows r apart same =
 
 -- IN THE CODE'S WORDS
 
-pub shown : (ids : List (List ℕ × Row)) (collections : List (List ℕ × List Row)) (last : ℕ) (rows : List Row) (S : Store) → record { rows = rows } ≡ S
-    → Shows ids collections last rows → Shows ids collections last S.rows
-shown ids collections last rows S is s = subst (λ (T : Store). Shows ids collections last T.rows) is s
+pub shown : (ids : List (List ℕ × Row)) (collections : List (List ℕ × List Row)) (gone : List (ℕ × Row)) (last cleaned : ℕ) (rows : List Row) (S : Store) → record { rows = rows; cleaned = cleaned } ≡ S
+    → ShowsStore ids collections gone last cleaned rows → Shows ids collections last S.rows
+shown ids collections gone last cleaned rows S is s = subst (λ (T : Store). Shows ids collections last T.rows) is s.shows
+
+pub shown_cleaned : (ids : List (List ℕ × Row)) (collections : List (List ℕ × List Row)) (gone : List (ℕ × Row)) (last cleaned : ℕ) (rows : List Row) (S : Store) → record { rows = rows; cleaned = cleaned } ≡ S
+    → ShowsStore ids collections gone last cleaned rows → AreCleaned S.cleaned S.rows
+shown_cleaned ids collections gone last cleaned rows S is s = subst (λ (T : Store). AreCleaned T.cleaned T.rows) is s.cleaned_is
+
+pub gone_shown : (ids : List (List ℕ × Row)) (collections : List (List ℕ × List Row)) (gone : List (ℕ × Row)) (last cleaned : ℕ) (rows : List Row) (S : Store) → record { rows = rows; cleaned = cleaned } ≡ S
+    → ShowsStore ids collections gone last cleaned rows → gone ≡ by_etag (tombstones S.rows)
+gone_shown ids collections gone last cleaned rows S is s = subst (λ (T : Store). gone ≡ by_etag (tombstones T.rows)) is s.gone_are
+
+pub store_shown : (ids : List (List ℕ × Row)) (collections : List (List ℕ × List Row)) (gone : List (ℕ × Row)) (last cleaned : ℕ) (rows : List Row) (S : Store) → record { rows = rows; cleaned = cleaned } ≡ S
+    → ShowsStore ids collections gone last cleaned rows → IsStore S
+store_shown ids collections gone last cleaned rows S is s =
+    let shows = shown ids collections gone last cleaned rows S is s in
+    let c = shown_cleaned ids collections gone last cleaned rows S is s in
+    record { rising = shows.kept.store.rising; apart = shows.kept.store.apart; behind = c.behind; past = c.past }
 
 -- what the row has to meet among those of its collection
 pub replaced_among : (ids : List (List ℕ × Row)) (collections : List (List ℕ × List Row)) (last : ℕ) (S : Store) (r : Row) (replaced : Option Row)
@@ -244,7 +259,7 @@ pub grown : (ids : List (List ℕ × Row)) (collections : List (List ℕ × List
     → ((c : List ℕ) → rows_of collections2 c ≡ cond (is_of c r) (put r (rows_of collections c)) (rows_of collections c)) → last2 ≡ r.etag
     → Shows ids2 collections2 last2 (put r S.rows)
 grown ids collections last S r ids2 collections2 last2 s m w a b e = record {
-  kept = record { store = IsStore-put S.rows r s.kept.store m.newer; within = w };
+  kept = record { store = AreRows-put S.rows r s.kept.store m.newer; within = w };
   rising = subst (IsRising id_cmp) (sym a) (rising_insert id_cmp id_total r.id r ids s.rising);
   filed = subst AreFiled (sym a) (AreFiled-with ids r s.filed);
   by_ids = λ q. ap (lookup (is_at (id_cmp q))) a ∙ ids-with ids r S.rows s.by_ids q;
@@ -253,7 +268,7 @@ grown ids collections last S r ids2 collections2 last2 s m w a b e = record {
 }
 
 -- maps that are made of all rows at once
-pub all_show : (pairs ids : List (List ℕ × Row)) (collections : List (List ℕ × List Row)) (last : ℕ) (rows shared : List Row) → shared ≡ rows → IsStore (record { rows = rows }) → IsWithin (record { rows = rows }) → ids ≡ pairs
+pub all_show : (pairs ids : List (List ℕ × Row)) (collections : List (List ℕ × List Row)) (last : ℕ) (rows shared : List Row) → shared ≡ rows → AreRows rows → AreWithin rows → ids ≡ pairs
     → ((q : List ℕ) → lookup (is_at (id_cmp q)) pairs ≡ row_at (folded q) shared) → AreFiled pairs → IsRising id_cmp pairs → ((c : List ℕ) → rows_of collections c ≡ filter (is_of c) shared) → last ≡ last_of 0 rows
     → Shows ids collections last rows
 all_show pairs ids collections last rows shared same s w made found filed up by_collections e = record {

@@ -4,7 +4,8 @@ use Rattle.std.specs.List.{find}
 use Rattle.std.proofs.lemmas.Bool.{ltb-false, le-leb, leb-true}
 use Rattle.std.proofs.lemmas.List.{drop_all, drop_more}
 use Rattle.spec_data.specs.Rows.{Row}
-use Rattle.spec_store.specs.Store.{last_of, AreRising, Store, IsStore}
+use Rattle.spec_store.specs.Store.{last_of, AreRising, Store}
+use Rattle.doc_store.specs.Bounds.{AreRows}
 use Rattle.spec_data.specs.Tables.{Scope, in_scope}
 use Rattle.spec_store.specs.Stale.{up_to, newest}
 use Rattle.spec_store.proofs.StoreLemmas.{AreRising-lower, AreRising-filter, last_of-rising}
@@ -165,7 +166,7 @@ last-and p u rows = ap (last_of 0) (filter-swap p u rows ∙ filter-both p u row
 abbrev pub newest_in : Store → Option ℕ → List ℕ → ℕ
 newest_in S upto c = last_of 0 (filter (λ r. is_of c r && up_to upto r.etag) S.rows)
 
-newest-more : (S : Store) (c : List ℕ) (scope : Scope) (upto : Option ℕ) → IsStore S → newest S (c ∷ scope) upto ≡ max (newest_in S upto c) (newest S scope upto)
+newest-more : (S : Store) (c : List ℕ) (scope : Scope) (upto : Option ℕ) → AreRows S.rows → newest S (c ∷ scope) upto ≡ max (newest_in S upto c) (newest S scope upto)
 newest-more S c scope upto s =
     let both : last_of 0 (filter (in_scope (c ∷ scope)) (filter u S.rows)) ≡ max (last_of 0 (filter (is_of c) (filter u S.rows))) (last_of 0 (filter (in_scope scope) (filter u S.rows))) =
     last_of-either 0 (is_of c) (in_scope scope) (filter u S.rows) (AreRising-filter 0 u S.rows s.rising) in
@@ -186,7 +187,7 @@ newest_in_map collections S c upto shows =
     ap (λ rows. last_of 0 (filter (λ r. up_to upto r.etag) rows)) shows ∙ ap (last_of 0) (filter-both (is_of c) (λ r. up_to upto r.etag) S.rows)
 
 -- after one collection more
-pub newest_step : (S : Store) (scope : Scope) (upto : Option ℕ) (i : ℕ) (c : List ℕ) (n own next : ℕ) → IsStore S → i < length scope → get_or scope i c ≡ c
+pub newest_step : (S : Store) (scope : Scope) (upto : Option ℕ) (i : ℕ) (c : List ℕ) (n own next : ℕ) → AreRows S.rows → i < length scope → get_or scope i c ≡ c
     → own ≡ newest_in S upto c → next ≡ max n own
     → max n (newest S (drop i scope) upto) ≡ newest S scope upto → max next (newest S (drop (i + 1) scope) upto) ≡ newest S scope upto
 newest_step S scope upto i c n own next s lt is found made was =

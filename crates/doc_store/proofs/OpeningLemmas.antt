@@ -8,7 +8,7 @@ use Rattle.spec_data.specs.Rows.{Row, key}
 use Rattle.spec_store.specs.Store.{row_at, put, last_of, AreApart, AreRising, Store, with_row}
 use Rattle.spec_store.proofs.StoreLemmas.{both_true, last_of-append}
 use Rattle.spec_store.proofs.LaterLemmas.{last-with}
-use Rattle.doc_store.specs.Bounds.{IsWithin}
+use Rattle.doc_store.specs.Bounds.{AreWithin, IsWithin}
 use Rattle.spec_data.specs.Limits.{max_etag, moments_end}
 use Rattle.doc_store.specs.Opening.{is_next, are_next, is_sound_after, first_bad}
 use Rattle.doc_store.proofs.MapLemmas.{none_out}
@@ -64,7 +64,7 @@ next_bound last (r ∷ rows) le h =
     let both = both_true _ _ h in
     next_bound r.etag rows (leb-true r.etag max_etag (both_true _ _ (both_true _ _ (both_true _ _ both.0).0).0).1) both.1
 
-pub next_within : (rows : List Row) → are_next 0 rows ≡ true → length rows < 2 ^ 32 → IsWithin (record { rows = rows })
+pub next_within : (rows : List Row) → are_next 0 rows ≡ true → length rows < 2 ^ 32 → AreWithin rows
 next_within rows h few = record { etags = next_bound 0 rows (omega arith) h; rows = few }
 
 with_id : (a b n c d : Bool) → a && b && c && d ≡ true → n ≡ true → a && b && n && c && d ≡ true

@@ -1,5 +1,5 @@
 -- The rows of the map by id, in order of etag, are those of the store, and as many.
-use Rattle.std.proofs.Common.{◌≡◌, ℕ, ◌+◌, List, [], ◌∷◌, Bool, true, false, cond, Option, Some, None, is_some, length, refl, sym, ap, ◌∙◌, subst, arith}
+use Rattle.std.proofs.Common.{◌≡◌, ℕ, ◌<◌, ◌+◌, List, [], ◌∷◌, Bool, true, false, cond, Option, Some, None, is_some, length, refl, sym, ap, ◌∙◌, subst, arith}
 use Rattle.std.specs.declared.cmp.Ordering.TheVariants.{Less, Equal, Greater}
 use Rattle.std.specs.Ordering.{nat_cmp, is_eq}
 use Rattle.std.specs.Cmp.{nat_cmp_total}
@@ -11,11 +11,12 @@ use Rattle.std.proofs.lemmas.List.{length-map}
 use Rattle.spec_data.specs.Folding.{folded, key_cmp, same_key}
 use Rattle.spec_data.specs.Rows.{Row, key}
 use Rattle.spec_data.specs.Tables.{table_of}
-use Rattle.spec_store.specs.Store.{row_at, AreApart, AreRising, IsStore, Store, empty_store}
-use Rattle.spec_store.proofs.StoreLemmas.{found_etag, same_itself, same_means, same_row}
+use Rattle.spec_store.specs.Store.{row_at, put, last_of, AreApart, AreRising, Store, empty_store}
+use Rattle.spec_store.proofs.StoreLemmas.{found_etag, same_itself, same_means, same_row, TombstonesPast-put, TombstonesPast-rising, last_of-put}
 use Rattle.spec_store.proofs.KeyedLemmas.{get-table_of}
 use Rattle.paged_map.specs.Pairs.{IsRising}
-use Rattle.doc_store.specs.Maps.{id_cmp, rows_in, by_etag, ordered_by_etag, AreFiled, Shows}
+use Rattle.doc_store.specs.Bounds.{AreCleaned, AreRows}
+use Rattle.doc_store.specs.Maps.{id_cmp, rows_in, by_etag, ordered_by_etag, AreFiled, Shows, ShowsStore}
 use Rattle.doc_store.proofs.MapLemmas.{less, equal, greater, rows_in-by_etag}
 use Rattle.doc_store.proofs.IdLemmas.{in_order, keyed, keyed_apart, same_rows}
 
@@ -67,7 +68,7 @@ not_none q (x ∷ rows) r none h =
     ] h
 
 -- lists with the same rows under each id have the same rows under each etag
-same_etags : (some rows : List Row) → AreApart some → IsStore (record { rows = rows }) → ((q : List ℕ) → row_at q some ≡ row_at q rows) → (n : ℕ) → at_etag n some ≡ at_etag n rows
+same_etags : (some rows : List Row) → AreApart some → AreRows rows → ((q : List ℕ) → row_at q some ≡ row_at q rows) → (n : ℕ) → at_etag n some ≡ at_etag n rows
 same_etags some rows apart s same n =
     elim (at_etag n some) as (λ o. at_etag n some ≡ o → o ≡ at_etag n rows) [
       | None ↦ λ none. elim (at_etag n rows) as (λ o. at_etag n rows ≡ o → None ≡ o) [
@@ -92,7 +93,7 @@ entries_are low [] up = none_long (entries (from_entries {R = nat_cmp} (by_etag 
 entries_are low (r ∷ rows) up =
     entries-insert nat_cmp_total (from_entries (by_etag rows)) r.etag r ∙ ap (put_entry nat_cmp r.etag r) (entries_are r.etag rows up.1) ∙ put_first r rows up.1
 
-order_is : (some rows : List Row) → AreApart some → IsStore (record { rows = rows }) → ((q : List ℕ) → row_at q some ≡ row_at q rows) → ordered_by_etag some ≡ rows
+order_is : (some rows : List Row) → AreApart some → AreRows rows → ((q : List ℕ) → row_at q some ≡ row_at q rows) → ordered_by_etag some ≡ rows
 unfolding ordered_by_etag
 order_is some rows apart s same =
     ap values (same_map nat_cmp_total nat_cmp-IsAntisymmetric (from_entries (by_etag some)) (from_entries (by_etag rows)) (λ n.
@@ -102,18 +103,31 @@ order_is some rows apart s same =
 -- BY ID
 
 order_of : (ids : List (List ℕ × Row)) (rows : List Row) → IsRising id_cmp ids → AreFiled ids → ((q : List ℕ) → lookup (is_at (id_cmp q)) ids ≡ row_at (folded q) rows)
-    → IsStore (record { rows = rows }) → ordered_by_etag (rows_in ids) ≡ rows
+    → AreRows rows → ordered_by_etag (rows_in ids) ≡ rows
 order_of ids rows up filed is s = order_is (rows_in ids) rows (keyed_apart (rows_in ids) (keyed ids up filed)) s (same_rows ids rows filed is)
 
 order_shown : (ids : List (List ℕ × Row)) (collections : List (List ℕ × List Row)) (last : ℕ) (rows : List Row) → Shows ids collections last rows → ordered_by_etag (rows_in ids) ≡ rows
 order_shown ids collections last rows s = order_of ids rows s.rising s.filed s.by_ids s.kept.store
 
-pub kept_in_order : (ids : List (List ℕ × Row)) (collections : List (List ℕ × List Row)) (last : ℕ) (rows : List Row) → Shows ids collections last rows → Shows ids collections last (ordered_by_etag (rows_in ids))
-kept_in_order ids collections last rows s = subst (Shows ids collections last) (sym (order_shown ids collections last rows s)) s
+pub kept_in_order : (ids : List (List ℕ × Row)) (collections : List (List ℕ × List Row)) (gone : List (ℕ × Row)) (last cleaned : ℕ) (rows : List Row) → ShowsStore ids collections gone last cleaned rows
+    → ShowsStore ids collections gone last cleaned (ordered_by_etag (rows_in ids))
+kept_in_order ids collections gone last cleaned rows s = subst (ShowsStore ids collections gone last cleaned) (sym (order_shown ids collections last rows s.shows)) s
 
-pub same_store : (ids : List (List ℕ × Row)) (collections : List (List ℕ × List Row)) (last : ℕ) (S : Store) → Shows ids collections last S.rows
-    → (let T : Store = record { rows = ordered_by_etag (rows_in ids) } in T) ≡ S
-same_store ids collections last S s = ap (λ (rows : List Row). let T : Store = record { rows = rows } in T) (order_shown ids collections last S.rows s)
+pub same_store : (ids : List (List ℕ × Row)) (collections : List (List ℕ × List Row)) (last cleaned : ℕ) (S : Store) → Shows ids collections last S.rows → cleaned ≡ S.cleaned
+    → (let T : Store = record { rows = ordered_by_etag (rows_in ids); cleaned = cleaned } in T) ≡ S
+same_store ids collections last cleaned S s is =
+    ap (λ (rows : List Row). let T : Store = record { rows = rows; cleaned = cleaned } in T) (order_shown ids collections last S.rows s) ∙ ap (λ (n : ℕ). let T : Store = record { rows = S.rows; cleaned = n } in T) is
+
+-- rows of which nothing is cleaned
+pub uncleaned : (rows : List Row) → AreRising 0 rows → AreCleaned 0 rows
+uncleaned rows up = record { behind = omega arith; past = TombstonesPast-rising 0 0 rows up (omega arith) }
+
+-- a new row is past all that is cleaned
+pub cleaned_put : (cleaned : ℕ) (r : Row) (rows : List Row) → AreCleaned cleaned rows → last_of 0 rows < r.etag → AreCleaned cleaned (put r rows)
+cleaned_put cleaned r rows c newer = record {
+  behind = let a = c.behind in let b = last_of-put 0 r rows in omega arith;
+  past = TombstonesPast-put cleaned r rows c.past (let a = c.behind in omega arith);
+}
 
 len_of : (rows : List Row) → AreApart rows → len (table_of rows) ≡ length rows
 len_of [] apart = len-empty key_cmp Row
@@ -141,5 +155,8 @@ none_shown ids collections a b =
       last_is = refl;
     }))
 
-pub empty_if : (S : Store) → length S.rows ≡ 0 → S ≡ empty_store
-empty_if S h = ap (λ (rows : List Row). let T : Store = record { rows = rows } in T) (none_long S.rows h)
+pub empty_if : (S : Store) → AreCleaned S.cleaned S.rows → length S.rows ≡ 0 → S ≡ empty_store
+empty_if S c h =
+    let none = none_long S.rows h in
+    let zero_is : S.cleaned ≡ 0 = let a = c.behind in let b = ap (last_of 0) none in omega arith in
+    ap (λ (rows : List Row). let T : Store = record { rows = rows; cleaned = S.cleaned } in T) none ∙ ap (λ (n : ℕ). let T : Store = record { rows = []; cleaned = n } in T) zero_is

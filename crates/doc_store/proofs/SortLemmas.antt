@@ -16,7 +16,8 @@ use Rattle.std.proofs.lemmas.Map.Text.{is_eq-slice_cmp}
 use Rattle.std.proofs.lemmas.Slice.Eq.{bytes_eq-Decides}
 use Rattle.spec_data.specs.Folding.{folded, key_cmp, same_key}
 use Rattle.spec_data.specs.Rows.{Row, gone, key}
-use Rattle.spec_store.specs.Store.{AreApart, IsStore, row_at}
+use Rattle.spec_store.specs.Store.{AreApart, row_at}
+use Rattle.doc_store.specs.Bounds.{AreRows}
 use Rattle.spec_store.proofs.KeyedLemmas.{key_ties}
 use Rattle.spec_store.proofs.StoreLemmas.{AreApart-filter, AreRising-filter}
 use Rattle.paged_map.specs.Pairs.{AllAnswer, IsRising}
@@ -258,11 +259,11 @@ first_below r [] at ordered = absurd cc
 first_below r (x ∷ rest) at ordered = let same : x ≡ r = cc in subst (λ (y : Row). NoneBelow y.collection (x ∷ rest)) same (ap is_lt (tied_itself nat_list_cmp_total x.collection), ordered.0)
 
 -- the rows of a collection are a store's
-pub group_sound : (collections : List (List ℕ × List Row)) (rows rest group : List Row) (c : List ℕ) → IsStore (record { rows = rows }) → IsPlaced collections rows rest c → group ≡ filter (is_of c) rest
-    → IsStore (record { rows = group })
-group_sound collections rows rest group c s (inl placed) is = subst (λ (xs : List Row). IsStore (record { rows = xs })) (sym (is ∙ placed.1)) (record { rising = tt; apart = tt })
+pub group_sound : (collections : List (List ℕ × List Row)) (rows rest group : List Row) (c : List ℕ) → AreRows rows → IsPlaced collections rows rest c → group ≡ filter (is_of c) rest
+    → AreRows group
+group_sound collections rows rest group c s (inl placed) is = subst (λ (xs : List Row). AreRows xs) (sym (is ∙ placed.1)) (record { rising = tt; apart = tt })
 group_sound collections rows rest group c s (inr left) is =
-    subst (λ (xs : List Row). IsStore (record { rows = xs })) (sym (is ∙ left.1)) (record { rising = AreRising-filter 0 (is_of c) rows s.rising; apart = AreApart-filter (is_of c) rows s.apart })
+    subst (λ (xs : List Row). AreRows xs) (sym (is ∙ left.1)) (record { rising = AreRising-filter 0 (is_of c) rows s.rising; apart = AreApart-filter (is_of c) rows s.apart })
 
 own_some : (r : Row) (rest : List Row) → slice_get rest 0 ≡ Some r → 1 ≤ length (filter (is_of r.collection) rest)
 own_some r [] at = absurd cc

@@ -1,16 +1,16 @@
 -- How the maps of a store show its rows.
-use Rattle.std.specs.Prelude.{◌≡◌, ℕ, ◌+◌, List, [], ◌∷◌, Bool, true, false, Option, Some, None, if◌then◌else◌, nat_lt, map, filter, length, option_map, unwrap_or}
+use Rattle.std.specs.Prelude.{◌≡◌, ℕ, ◌+◌, List, [], ◌∷◌, Bool, true, false, Option, Some, None, if◌then◌else◌, not, nat_lt, map, filter, length, option_map, unwrap_or}
 use Rattle.std.specs.Str.{bytes_eq}
 use Rattle.std.specs.Ordering.{is_le, is_lt, nat_cmp, on}
 use Rattle.std.specs.declared.cmp.Ordering.{Ordering}
 use Rattle.std.specs.FinMap.{from_entries, values}
 use Rattle.std.specs.Map.{lookup, remove_entry}
-use Rattle.std.specs.BTreeMap.{is_at}
+use Rattle.std.specs.BTreeMap.{insert_entry, is_at}
 use Rattle.paged_map.specs.Pairs.{IsRising}
-use Rattle.spec_data.specs.Folding.{folded, key_cmp}
+use Rattle.spec_data.specs.Folding.{folded, key_cmp, same_key}
 use Rattle.spec_data.specs.Rows.{Row, is_document, key}
-use Rattle.spec_store.specs.Store.{IsStore, row_at, last_of}
-use Rattle.doc_store.specs.Bounds.{IsKept}
+use Rattle.spec_store.specs.Store.{row_at, last_of}
+use Rattle.doc_store.specs.Bounds.{AreCleaned, AreKept, AreRows}
 
 -- ids are ordered by their folded forms
 abbrev pub id_cmp : List ℕ → List ℕ → Ordering
@@ -57,6 +57,23 @@ abbrev pub is_document_in : Option Row → Bool
 is_document_in None = false
 is_document_in (Some r) = is_document r
 
+-- the rows but that of a folded id
+abbrev pub without_key : List ℕ → List Row → List Row
+without_key k rows = filter (λ x. not (same_key k (key x))) rows
+
+-- those of the rows that are tombstones
+abbrev pub tombstones : List Row → List Row
+tombstones rows = filter (λ r. not (is_document r)) rows
+
+-- the row, if there is one and it is a tombstone
+abbrev pub tombstone_in : Option Row → Option Row
+tombstone_in None = None
+tombstone_in (Some r) = if is_document r then None else Some r
+
+-- the pairs with a row under its etag, if it is a tombstone
+abbrev pub with_tombstone : Row → List (ℕ × Row) → List (ℕ × Row)
+with_tombstone r pairs = if is_document r then pairs else insert_entry nat_cmp pairs r.etag r
+
 abbrev pub is_of : List ℕ → Row → Bool
 is_of collection r = bytes_eq r.collection collection
 
@@ -91,7 +108,7 @@ AreFrom id (r ∷ rows) = (is_from id r ≡ true) × AreFrom id rows
 
 -- a map shows these rows under their etags, the etag of the last of them is this, so many are documents, and no id is before this one
 pub record ShowsByEtag (etags : List (ℕ × Row)) (last documents : ℕ) (least : Option (List ℕ)) (rows : List Row) : Type 0 where
-  pub store : IsStore (record { rows = rows })
+  pub store : AreRows rows
   pub pairs : etags ≡ by_etag rows
   pub last_is : last ≡ last_of 0 rows
   pub documents_are : documents ≡ length (filter is_document rows)
@@ -99,9 +116,15 @@ pub record ShowsByEtag (etags : List (ℕ × Row)) (last documents : ℕ) (least
 
 -- the maps show these rows: by id each row, and by collection the list of its rows; and the etag of the last of them is this
 pub record Shows (ids : List (List ℕ × Row)) (collections : List (List ℕ × List Row)) (last : ℕ) (rows : List Row) : Type 0 where
-  pub kept : IsKept (record { rows = rows })
+  pub kept : AreKept rows
   pub rising : IsRising id_cmp ids
   pub filed : AreFiled ids
   pub by_ids : (q : List ℕ) → lookup (is_at (id_cmp q)) ids ≡ row_at (folded q) rows
   pub by_collections : (c : List ℕ) → rows_of collections c ≡ filter (is_of c) rows
   pub last_is : last ≡ last_of 0 rows
+
+-- the maps and what is cleaned show a store of these rows: a third map has the tombstones under their etags
+pub record ShowsStore (ids : List (List ℕ × Row)) (collections : List (List ℕ × List Row)) (gone : List (ℕ × Row)) (last cleaned : ℕ) (rows : List Row) : Type 0 where
+  pub shows : Shows ids collections last rows
+  pub gone_are : gone ≡ by_etag (tombstones rows)
+  pub cleaned_is : AreCleaned cleaned rows

@@ -7,6 +7,7 @@ mod rows;
 mod rows_by_etag;
 mod sorting;
 mod store;
+mod tombstones;
 
 pub use opening::OpenFault;
 pub use rows::{Counts, last_etag};

@@ -1,5 +1,6 @@
 //! A store of stored rows.
 ghost use Rattle.std.specs.Prelude.{◌≡◌, ◌<◌, ◌^◌, [], None, IfErr, IfOk, length};
+ghost use Rattle.spec_store.specs.Store.{store_of};
 ghost use Rattle.doc_store.specs.declared.opening.OpenFault.TheVariants.{NoMemory as OutOfMemory};
 ghost use Rattle.doc_store.specs.Opening.{Tells, are_next as spec_are_next, first_bad, is_next as spec_is_next, is_sound_after as spec_is_sound_after};
 
@@ -73,7 +74,7 @@ impl Store {
     /// The maps are made of sorted lists, all at once. Only if a row is bad, rows are put in one after another up to it.
     pub fn open(alloc: Global, rows: &Rows) -> Result<Store, OpenFault>
         requires few { length rows.now < 2 ^ 32 }
-        ensures opened { IfOk result (λ store. store ≡ record { rows = rows.now }) }
+        ensures opened { IfOk result (λ store. store ≡ store_of rows.now) }
         ensures sound { IfOk result (λ _. first_bad [] rows.now ≡ None) }
         ensures fault { IfErr result (λ fault. Tells fault (first_bad [] rows.now)) }
     {
@@ -89,7 +90,7 @@ impl Store {
     /// As `open`, but the rows are put in one after another, which finds the first bad one.
     fn open_each(alloc: Global, rows: &[Shared<Row>]) -> Result<Store, OpenFault>
         requires few { length rows.now < 2 ^ 32 }
-        ensures opened { IfOk result (λ store. store ≡ record { rows = rows.now }) }
+        ensures opened { IfOk result (λ store. store ≡ store_of rows.now) }
         ensures sound { IfOk result (λ _. first_bad [] rows.now ≡ None) }
         ensures fault { IfErr result (λ fault. Tells fault (first_bad [] rows.now)) }
     {

@@ -1,19 +1,18 @@
 //! Walks over the rows of a store's maps.
-ghost use Rattle.std.specs.Prelude.{◌≡◌, ◌<◌, ◌^◌, ◌&&◌, ℕ, List, IfOk, filter, if◌then◌else◌, nat_lt, not};
+ghost use Rattle.std.specs.Prelude.{◌≡◌, false, ◌<◌, ◌^◌, ℕ, List, IfOk, Some, filter, if◌then◌else◌, nat_lt, not};
 ghost use Rattle.std.specs.List.{find};
 ghost use Rattle.std.specs.BTreeMap.{insert_entry};
 ghost use Rattle.std.specs.Option.{option_copied};
-ghost use Rattle.std.specs.Str.{bytes_eq};
 ghost use Rattle.raven_base.specs.Counts.{one_read_more};
 ghost use Rattle.spec_data.specs.Rows.{is_document, key};
 ghost use Rattle.spec_store.specs.Store.{last_of, put, row_at};
 ghost use Rattle.spec_store.specs.Stale.{up_to};
-ghost use Rattle.doc_store.specs.Maps.{earlier, id_cmp, is_of, passing_beside, rows_in, rows_of};
+ghost use Rattle.doc_store.specs.Maps.{earlier, id_cmp, is_of, passing_beside, rows_in, rows_of, without_key};
 
 use crate::rows_by_etag::RowsByEtag;
 use paged_map::{PagedMap, Pairs};
 use raven_base::{NoMemory, Shared, Steps};
-use raven_value::{Body, Id, Row, Text};
+use raven_value::{Id, Row, Text};
 use std::alloc::Global;
 use std::sync::ledger::Ledger;
 
@@ -29,7 +28,10 @@ pub fn last_etag(rows: &[Shared<Row>]) -> u64
 }
 
 /// All rows.
-pub fn all_of(alloc: Global, rows: Pairs<'_, Id, Shared<Row>>) -> Result<Vec<Shared<Row>>, NoMemory>
+pub fn all_of<K: Ord>(
+    alloc: Global,
+    rows: Pairs<'_, K, Shared<Row>>,
+) -> Result<Vec<Shared<Row>>, NoMemory>
     ensures { IfOk result (λ all. all.items ≡ rows_in rows.entry) }
 {
     let mut all = Vec::new(alloc);
@@ -104,6 +106,24 @@ pub fn put_among(
     let others = collections.take_out(alloc, &name)?;
     let changed = rows.put(alloc, row, replaced)?;
     Ok(others.put(alloc, name, changed)?)
+}
+
+/// The rows of all collections, with this one, which is a tombstone, taken out of those of its collection.
+pub fn take_out_among(
+    alloc: Global,
+    collections: PagedMap<Text, RowsByEtag>,
+    row: &Row,
+) -> Result<PagedMap<Text, RowsByEtag>, NoMemory>
+    requires here { row_at (key row.now) (rows_of collections row.now.collection) ≡ Some row.now }
+    requires tombstone { is_document row.now ≡ false }
+    ensures { IfOk result (λ left. (c : List ℕ) → rows_of left c ≡ (if is_of c row.now then without_key (key row.now) (rows_of collections c) else rows_of collections c)) }
+{
+    let name = row.collection.clone()?;
+    let rows = rows_of(alloc, &collections, &name)?;
+    // As in `put_among`, they are taken out before they change.
+    let others = collections.take_out(alloc, &name)?;
+    let left = rows.without_tombstone(alloc, row)?;
+    Ok(others.put(alloc, name, left)?)
 }
 
 /// The first row of a collection past an etag. The look for it is counted as a row read, whether there is one or not.

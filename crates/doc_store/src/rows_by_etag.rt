@@ -1,13 +1,14 @@
 //! Rows by etag.
-ghost use Rattle.std.specs.Prelude.{◌≡◌, true, ◌≤◌, ◌<◌, ◌+◌, ◌-◌, ◌^◌, [], IfOk, filter, length, nat_le, nat_lt, not, option_map};
+ghost use Rattle.std.specs.Prelude.{◌≡◌, true, false, ◌≤◌, ◌<◌, ◌+◌, ◌-◌, ◌^◌, [], IfOk, Some, filter, length, nat_le, nat_lt, not, option_map};
 ghost use Rattle.std.specs.Option.{option_copied};
 ghost use Rattle.std.specs.Int.{from_bool};
 ghost use Rattle.std.specs.List.{find};
 ghost use Rattle.spec_data.specs.Rows as spec_rows;
 ghost use Rattle.spec_data.specs.Rows.{is_document as spec_is_document, key};
-ghost use Rattle.spec_store.specs.Store.{AreRising, IsStore, last_of, put, row_at};
+ghost use Rattle.spec_store.specs.Store.{AreRising, last_of, put, row_at};
 ghost use Rattle.spec_store.specs.Stale.{up_to};
-ghost use Rattle.doc_store.specs.Maps.{AreFrom, etag_in, is_document_in as spec_is_document_in, is_from, rows_in, without_etag};
+ghost use Rattle.doc_store.specs.Bounds.{AreRows};
+ghost use Rattle.doc_store.specs.Maps.{AreFrom, etag_in, is_document_in as spec_is_document_in, is_from, rows_in, without_etag, without_key};
 
 use paged_map::{PagedMap, Pairs};
 use raven_base::{NoMemory, Shared};
@@ -56,8 +57,18 @@ fn row_of(pair: Option<&(u64, Shared<Row>)>) -> Option<&Shared<Row>>
     }
 }
 
+/// The etag of the last row of a map, or 0 if there is none.
+fn last_in(rows: &PagedMap<u64, Shared<Row>>) -> u64
+    ensures { result ≡ last_of 0 (rows_in rows.now) }
+{
+    match rows.nth(rows.len().saturating_sub(1)) {
+        Some(pair) => pair.1.get().etag,
+        None => 0,
+    }
+}
+
 /// A map without an etag, if one is given.
-fn without_etag(
+pub fn without_etag(
     alloc: Global,
     rows: PagedMap<u64, Shared<Row>>,
     etag: Option<u64>,
@@ -71,7 +82,7 @@ fn without_etag(
 }
 
 /// Whether a row is a document, and no tombstone.
-fn is_document(row: &Row) -> bool
+pub fn is_document(row: &Row) -> bool
     ensures { result ≡ spec_is_document row.now }
 {
     matches!(row.body, Body::Doc(_))
@@ -164,7 +175,7 @@ impl RowsByEtag {
 
     /// These rows, in time that is linear in their number.
     pub fn of(alloc: Global, rows: &[Shared<Row>]) -> Result<RowsByEtag, NoMemory>
-        requires { IsStore (record { rows = rows.now }) }
+        requires { AreRows rows.now }
         ensures { IfOk result (λ all. all ≡ rows.now) }
     {
         let mut pairs = Vec::with_capacity(alloc, rows.len())?;
@@ -204,6 +215,27 @@ impl RowsByEtag {
         self.rows.len()
     }
 
+    /// The rows without this one, which is a tombstone among them. It looks at no other row but the last.
+    pub fn without_tombstone(self, alloc: Global, row: &Row) -> Result<RowsByEtag, NoMemory>
+        requires here { row_at (key row.now) self ≡ Some row.now }
+        requires tombstone { spec_is_document row.now ≡ false }
+        ensures { IfOk result (λ left. left ≡ without_key (key row.now) self) }
+    {
+        let RowsByEtag {
+            rows,
+            documents,
+            least,
+            ..
+        } = self;
+        let left = rows.take_out(alloc, &row.etag)?;
+        Ok(RowsByEtag {
+            last: last_in(&left),
+            rows: left,
+            documents,
+            least,
+        })
+    }
+
     /// No row has an id before this one. There is none if there are no rows.
     pub fn least(&self) -> Option<&Id>
         ensures { AreFrom (option_map (λ id. id.now) result) self.now }
@@ -214,7 +246,7 @@ impl RowsByEtag {
     /// The documents, in order of etag. It looks at all rows.
     pub fn all_documents(&self, alloc: Global) -> Result<Vec<Shared<Row>>, NoMemory>
         ensures documents { IfOk result (λ documents. documents.items ≡ filter spec_is_document self.now) }
-        ensures store { IsStore (record { rows = self.now }) }
+        ensures store { AreRows self.now }
     {
         Ok(documents_of(alloc, self.rows.iter())?)
     }

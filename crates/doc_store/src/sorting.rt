@@ -4,7 +4,8 @@ ghost use Rattle.std.specs.Map.{lookup};
 ghost use Rattle.std.specs.BTreeMap.{is_at};
 ghost use Rattle.paged_map.specs.Pairs.{IsRising};
 ghost use Rattle.spec_data.specs.Folding.{folded};
-ghost use Rattle.spec_store.specs.Store.{AreApart, IsStore, row_at};
+ghost use Rattle.spec_store.specs.Store.{AreApart, row_at};
+ghost use Rattle.doc_store.specs.Bounds.{AreRows};
 ghost use Rattle.doc_store.specs.Maps.{AreByCollection, AreFiled, NoneBelow, by_id, id_cmp, is_of, rows_of};
 
 use crate::rows_by_etag::RowsByEtag;
@@ -75,7 +76,7 @@ pub fn by_collection(
     alloc: Global,
     rows: Vec<Shared<Row>>,
 ) -> Result<PagedMap<Text, RowsByEtag>, NoMemory>
-    requires { IsStore (record { rows = rows.items }) }
+    requires { AreRows rows.items }
     ensures { IfOk result (λ collections. (c : List ℕ) → rows_of collections c ≡ filter (is_of c) rows.items) }
 {
     let sorted = sorted_by_collection(rows)?;

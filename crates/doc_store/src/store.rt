@@ -1,25 +1,28 @@
 //! The store.
 ghost use Rattle.std.specs.Str.{bytes_eq};
-ghost use Rattle.std.specs.Prelude.{◌≡◌, ◌≤◌, ◌<◌, ◌+◌, ◌*◌, ◌&&◌, ◌↔◌, ℕ, IfOk, IfSome, IsSome, IsTrue, drop, filter, length, nat_lt, not, option_copied, take};
-ghost use Rattle.std.specs.List.{find};
+ghost use Rattle.std.specs.Prelude.{◌≡◌, false, ◌≤◌, ◌<◌, ◌+◌, ◌-◌, ◌*◌, ◌&&◌, ◌↔◌, ℕ, IfOk, IfSome, IsSome, IsTrue, Some, drop, filter, length, nat_lt, not, option_copied, take};
+ghost use Rattle.std.specs.List.{find, list_any};
 ghost use Rattle.spec_data.specs.Folding.{folded};
 ghost use Rattle.spec_data.specs.Limits.{max_etag};
 ghost use Rattle.spec_data.specs.Rows.{is_document, key};
-ghost use Rattle.spec_store.specs.Store.{AreApart, AreRising, IsStore, empty_store, last, row_at, with_row, with_rows};
+ghost use Rattle.spec_store.specs.Store.{AreApart, AreRising, IsStore, empty_store, last, row_at, store_of, with_row, with_rows};
 ghost use Rattle.spec_store.specs.Later.{MayFollowAll};
 ghost use Rattle.spec_store.specs.Stale.{newest, past, stale, batch_rows};
 ghost use Rattle.spec_data.specs.Tables.{in_scope, table_of};
 ghost use Rattle.std.specs.FinMap.{values};
-ghost use Rattle.doc_store.specs.Maps.{is_of};
-ghost use Rattle.doc_store.specs.Bounds.{IsWithin};
+ghost use Rattle.spec_store.specs.Cleaning.{is_old_tombstone, old_tombstones, without_tombstones};
+ghost use Rattle.doc_store.specs.Maps.{is_of, without_key};
+ghost use Rattle.doc_store.specs.Bounds.{AreCleaned, AreWithin, IsWithin};
 ghost use Rattle.doc_store.specs.Steps.{MayStand};
 
 use crate::page::{gathered, walked};
 use crate::rows::{
-    Counts, all_of, counts_beside, earlier, first_of, last_etag, newest_of, put_among, put_under_id,
+    Counts, all_of, counts_beside, earlier, first_of, last_etag, newest_of, put_among,
+    put_under_id, take_out_among,
 };
 use crate::rows_by_etag::RowsByEtag;
 use crate::sorting::{all_shared, by_collection, sorted_by_id};
+use crate::tombstones::{put_tombstone, tombstones_of};
 use paged_map::{PagedMap, is_rising};
 use raven_base::{NoMemory, Shared, Steps};
 use raven_value::{Id, Row, Rows, Scope, Text};
@@ -36,8 +39,12 @@ pub struct Store {
     by_id: PagedMap<Id, Shared<Row>>,
     /// The rows of each collection, so that an index reads no rows but those in its scope.
     by_collection: PagedMap<Text, RowsByEtag>,
+    /// The tombstones under their etags, so that a cleaning looks at no rows but those that go.
+    tombstones: PagedMap<u64, Shared<Row>>,
     /// The greatest etag, or 0.
     last: u64,
+    /// The etag up to which tombstones were cleaned, or 0.
+    cleaned: u64,
 }
 
 // Opaque drop: see raven_base.
@@ -46,7 +53,9 @@ impl Drop for Store {
         let Store {
             by_id: _by_id,
             by_collection: _by_collection,
+            tombstones: _tombstones,
             last: _last,
+            cleaned: _cleaned,
         } = self;
     }
 }
@@ -54,15 +63,15 @@ impl Drop for Store {
 impl Model for Store {
     ghost use Rattle.spec_store.specs.Store as stores;
     ghost use Rattle.spec_store.specs.Codes.{store_code};
-    ghost use Rattle.doc_store.specs.Maps.{Shows, ordered_by_etag, rows_in};
+    ghost use Rattle.doc_store.specs.Maps.{ShowsStore, ordered_by_etag, rows_in};
 
     ghost Value = { stores.Store };
 
     ghost coded = { store_code };
 
-    ghost view = { λ a. record { rows = ordered_by_etag (rows_in a.by_id) } };
+    ghost view = { λ a. record { rows = ordered_by_etag (rows_in a.by_id); cleaned = a.cleaned } };
 
-    ghost invariant = { λ a. Shows a.by_id a.by_collection a.last (ordered_by_etag (rows_in a.by_id)) };
+    ghost invariant = { λ a. ShowsStore a.by_id a.by_collection a.tombstones a.last a.cleaned (ordered_by_etag (rows_in a.by_id)) };
 }
 
 impl Store {
@@ -73,7 +82,9 @@ impl Store {
         Ok(Store {
             by_id: PagedMap::new(alloc)?,
             by_collection: PagedMap::new(alloc)?,
+            tombstones: PagedMap::new(alloc)?,
             last: 0,
+            cleaned: 0,
         })
     }
 
@@ -82,8 +93,8 @@ impl Store {
     /// Each map is made of a sorted list, and not by one change after another.
     pub(crate) fn of(alloc: Global, rows: &[Shared<Row>]) -> Result<Option<Store>, NoMemory>
         requires rising { AreRising 0 rows.now }
-        requires within { IsWithin (record { rows = rows.now }) }
-        ensures made { IfOk result (λ store. IfSome store (λ s. s ≡ record { rows = rows.now })) }
+        requires within { AreWithin rows.now }
+        ensures made { IfOk result (λ store. IfSome store (λ s. s ≡ store_of rows.now)) }
         ensures apart { IfOk result (λ store. IsSome store ↔ AreApart rows.now) }
     {
         let shared = all_shared(alloc, rows)?;
@@ -94,7 +105,9 @@ impl Store {
         Ok(Some(Store {
             by_id: PagedMap::from_sorted(alloc, ids)?,
             by_collection: by_collection(alloc, shared)?,
+            tombstones: tombstones_of(alloc, rows)?,
             last: last_etag(rows),
+            cleaned: 0,
         }))
     }
 
@@ -115,6 +128,13 @@ impl Store {
         ensures store { IsStore self.now }
     {
         self.last
+    }
+
+    /// The etag up to which tombstones were cleaned, or 0. Each tombstone of the store is past it.
+    pub fn cleaned(&self) -> u64
+        ensures { result ≡ self.now.cleaned }
+    {
+        self.cleaned
     }
 
     /// How many rows there are, tombstones among them.
@@ -320,15 +340,20 @@ impl Store {
         let Store {
             by_id,
             by_collection,
+            tombstones,
             last: _last,
+            cleaned,
         } = self;
         let last = row.get().etag;
         let ids = put_under_id(alloc, by_id, &row)?;
+        let gone = put_tombstone(alloc, tombstones, &row, replaced)?;
         let collections = put_among(alloc, by_collection, row, replaced)?;
         Ok(Store {
             by_id: ids,
             by_collection: collections,
+            tombstones: gone,
             last,
+            cleaned,
         })
     }
 
@@ -339,6 +364,87 @@ impl Store {
         ensures { IfOk result (λ store. store ≡ with_row self row.now) }
     {
         self.put_row(alloc, row.clone()?)
+    }
+
+    /// The tombstones up to an etag, in order of etag. It looks at no other row.
+    pub fn old_tombstones(&self, alloc: Global, upto: u64) -> Result<Rows, NoMemory>
+        ensures old { IfOk result (λ rows. rows ≡ old_tombstones upto self.now.rows) }
+        ensures store { IsStore self.now }
+    {
+        let old = self.tombstones.range(&0, &upto);
+        Ok(Rows::of(all_of(alloc, old)?))
+    }
+
+    /// Whether there is a tombstone up to an etag. It looks at the first tombstone alone, and takes no memory.
+    pub fn has_old_tombstone(&self, upto: u64) -> bool
+        ensures { result ≡ list_any (is_old_tombstone upto) self.now.rows }
+    {
+        match self.tombstones.nth(0) {
+            Some(first) => first.0 <= upto,
+            None => false,
+        }
+    }
+
+    /// The store without its tombstones up to the etag `cleaned`, which are given, and which are then known to be cleaned. The row
+    /// with the greatest etag is past them, so it stays.
+    ///
+    /// For each row that goes, at most two pages of each level are copied in each map, and no page is copied twice. This store
+    /// stays, and shares all other pages.
+    pub fn without(&self, alloc: Global, gone: &Rows, cleaned: u64) -> Result<Store, NoMemory>
+        requires gone { gone.now ≡ old_tombstones cleaned self.now.rows }
+        requires below { cleaned ≤ last self.now - 1 }
+        requires onward { self.now.cleaned ≤ cleaned }
+        ensures { IfOk result (λ store. store ≡ record { rows = without_tombstones cleaned self.now.rows; cleaned = cleaned }) }
+    {
+        let mut store = self.clone()?;
+        for row in gone.as_slice() {
+            store = store.without_tombstone(alloc, row.get())?;
+        }
+        Ok(store.cleaned_up_to(cleaned))
+    }
+
+    /// The store without this row, which is a tombstone, and is not the row with the greatest etag.
+    fn without_tombstone(self, alloc: Global, row: &Row) -> Result<Store, NoMemory>
+        requires here { row_at (key row.now) self.rows ≡ Some row.now }
+        requires tombstone { is_document row.now ≡ false }
+        requires before { row.now.etag < last self }
+        ensures { IfOk result (λ store. store ≡ record { rows = without_key (key row.now) self.rows; cleaned = self.cleaned }) }
+    {
+        let Store {
+            by_id,
+            by_collection,
+            tombstones,
+            last,
+            cleaned,
+        } = self;
+        Ok(Store {
+            by_id: by_id.take_out(alloc, &row.id)?,
+            by_collection: take_out_among(alloc, by_collection, row)?,
+            tombstones: tombstones.take_out(alloc, &row.etag)?,
+            last,
+            cleaned,
+        })
+    }
+
+    /// The same rows, of which the tombstones up to an etag were cleaned.
+    fn cleaned_up_to(self, cleaned: u64) -> Store
+        requires { AreCleaned cleaned self.rows }
+        ensures { result ≡ record { rows = self.rows; cleaned = cleaned } }
+    {
+        let Store {
+            by_id,
+            by_collection,
+            tombstones,
+            last,
+            cleaned: _cleaned,
+        } = self;
+        Store {
+            by_id,
+            by_collection,
+            tombstones,
+            last,
+            cleaned,
+        }
     }
 
     /// A new store with further rows, one after another, each in place of an earlier row of its id.
@@ -362,7 +468,9 @@ impl Clone for Store {
         Ok(Store {
             by_id: self.by_id.clone()?,
             by_collection: self.by_collection.clone()?,
+            tombstones: self.tombstones.clone()?,
             last: self.last,
+            cleaned: self.cleaned,
         })
     }
 }

@@ -2,9 +2,9 @@ use Rattle.std.proofs.Common.{◌≡◌, ◌<◌, ◌∙◌, ap, sym, subst}
 use Rattle.std.specs.BTreeMap.{insert_entry}
 use Rattle.spec_data.specs.Folding.{key_cmp}
 use Rattle.spec_data.specs.Rows.{Row, key}
-use Rattle.spec_store.specs.Store.{last_of, row_at}
+use Rattle.spec_store.specs.Store.{last_of, put, row_at}
 use Rattle.doc_store.specs.Maps.{rows_of}
-use Rattle.doc_store.proofs.MapLemmas.{put_among_is}
+use Rattle.doc_store.proofs.MapLemmas.{changed_among_is}
 use Rattle.doc_store.proofs.rows.put_among.Goals as goal
 use Rattle.doc_store.proofs.rows.put_among.Goals.{In_ok-rows}
 
@@ -22,6 +22,6 @@ put-requires-clause-newer c = subst (λ rows. last_of 0 rows < c.args.row.etag) 
 
 pub returns : goal.returns
 returns c =
-    put_among_is c.args.collections c.in_ok-put.field-0 c.args.row c.in_ok-name.name c.in_ok-rows.rows c.in_ok-changed.changed c.in_ok-others.ensures.rising (name_is (goal.at.returns c).In_ok-rows)
+    changed_among_is (put c.args.row) c.args.collections c.in_ok-put.field-0 c.args.row c.in_ok-name.name c.in_ok-rows.rows c.in_ok-changed.changed c.in_ok-others.ensures.rising (name_is (goal.at.returns c).In_ok-rows)
     c.in_ok-rows.ensures c.in_ok-changed.ensures
     (c.in_ok-put.ensures.pairs ∙ ap (λ es. insert_entry key_cmp es c.in_ok-name.name c.in_ok-changed.changed) c.in_ok-others.ensures.pairs)

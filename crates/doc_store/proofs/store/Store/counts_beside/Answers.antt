@@ -7,7 +7,7 @@ use Rattle.doc_store.proofs.store.Store.counts_beside.Goals as goal
 use Rattle.doc_store.proofs.store.Store.counts_beside.Goals.{After-iter}
 
 shows : (c : After-iter) → Shows c.self.inside.by_id c.self.inside.by_collection c.self.inside.last c.args.self.now.rows
-shows c = shown _ _ _ _ _ c.self.view_is c.self.invariant
+shows c = shown _ _ _ _ _ _ _ c.self.view_is c.self.invariant
 
 pub counts_beside-requires-clause-documents : goal.counts_beside-requires-clause-documents
 counts_beside-requires-clause-documents c =

@@ -1,13 +1,13 @@
 use Rattle.std.proofs.Common.{◌∙◌, ap, sym, arith}
 use Rattle.raven_base.specs.Counts.{Counts}
 use Rattle.doc_store.specs.Maps.{Shows}
-use Rattle.doc_store.proofs.MapLemmas.{shown}
+use Rattle.doc_store.proofs.MapLemmas.{shown, store_shown}
 use Rattle.doc_store.proofs.WalkLemmas.{first_in_map, first_step, first_last}
 use Rattle.doc_store.proofs.store.Store.first_past.Goals as goal
 
 pub loop-collection-preserved : goal.loop-collection-preserved
 loop-collection-preserved g c =
-    let s : Shows c.self.inside.by_id c.self.inside.by_collection c.self.inside.last c.args.self.now.rows = shown _ _ _ _ _ c.self.view_is c.self.invariant in
+    let s : Shows c.self.inside.by_id c.self.inside.by_collection c.self.inside.last c.args.self.now.rows = shown _ _ _ _ _ _ _ c.self.view_is c.self.invariant in
     record {
       first = first_step c.args.scope.now c.args.etag c.args.self.now.rows c.loop-collection.collection-index c.collection-item.result _ _ _ s.kept.store.rising c.loop-collection-test.true (sym c.collection-item.is)
           (c.first_of.ensures.row ∙ first_in_map c.self.inside.by_collection c.args.self.now.rows c.collection-item.result c.args.etag (s.by_collections c.collection-item.result))
@@ -28,3 +28,6 @@ returns-clause-reads g c =
     let within = c.loop-collection.invariant.within in
     let all = c.loop-collection-test.false in
     omega arith
+
+pub returns-clause-sound : goal.returns-clause-sound
+returns-clause-sound g c = store_shown _ _ _ _ _ _ _ c.self.view_is c.self.invariant

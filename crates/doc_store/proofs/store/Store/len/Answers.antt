@@ -6,7 +6,7 @@ use Rattle.doc_store.proofs.store.Store.len.Goals as goal
 use Rattle.doc_store.proofs.store.Store.len.Goals.{After-len}
 
 shows : (c : After-len) → Shows c.self.inside.by_id c.self.inside.by_collection c.self.inside.last c.args.self.now.rows
-shows c = shown _ _ _ _ _ c.self.view_is c.self.invariant
+shows c = shown _ _ _ _ _ _ _ c.self.view_is c.self.invariant
 
 len_is : (c : After-len) → c.len.result ≡ length c.args.self.now.rows
 len_is c = c.len.ensures.count ∙ as_many _ _ _ _ (shows c)

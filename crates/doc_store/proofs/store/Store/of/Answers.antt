@@ -1,11 +1,12 @@
 use Rattle.std.proofs.Common.{◌≡◌, List, true, refl, ◌∙◌, ap, sym, subst}
 use Rattle.spec_data.specs.Folding.{folded}
 use Rattle.spec_data.specs.Rows.{Row}
-use Rattle.spec_store.specs.Store.{AreApart, IsStore, row_at}
+use Rattle.spec_store.specs.Store.{AreApart, row_at, store_of}
+use Rattle.doc_store.specs.Bounds.{AreRows}
 use Rattle.paged_map.specs.Pairs.{IsRising}
 use Rattle.doc_store.specs.Maps.{Shows, id_cmp}
 use Rattle.doc_store.proofs.MapLemmas.{all_show}
-use Rattle.doc_store.proofs.OrderLemmas.{kept_in_order, same_store}
+use Rattle.doc_store.proofs.OrderLemmas.{kept_in_order, same_store, uncleaned}
 use Rattle.doc_store.proofs.store.Store.of.Goals as goal
 use Rattle.doc_store.proofs.store.Store.of.Goals.{In_ok-ids, In_ok-from_sorted, After-last_etag}
 
@@ -28,7 +29,7 @@ are_apart c =
 
 pub by_collection-requires : goal.by_collection-requires
 by_collection-requires c =
-    subst (λ (rows : List Row). IsStore (record { rows = rows })) (sym c.in_ok-shared.ensures)
+    subst (λ (rows : List Row). AreRows rows) (sym c.in_ok-shared.ensures)
     (record { rising = c.requires.rising; apart = are_apart (goal.at.by_collection-requires c).In_ok-from_sorted })
 
 rises : (c : In_ok-from_sorted) → IsRising id_cmp c.in_ok-ids.ids.items
@@ -42,12 +43,12 @@ shows c apart up =
 pub invariant_of-result : goal.invariant_of-result
 invariant_of-result c =
     let at = (goal.at.invariant_of-result c).In_ok-from_sorted in
-    kept_in_order _ _ _ _ (shows (goal.at.invariant_of-result c).After-last_etag (are_apart at) (rises at))
+    kept_in_order _ _ _ _ 0 _ (record { shows = shows (goal.at.invariant_of-result c).After-last_etag (are_apart at) (rises at); gone_are = c.in_ok-tombstones_of.ensures; cleaned_is = uncleaned c.args.rows.now c.requires.rising })
 
 pub returns-clause-made : goal.returns-clause-made
 returns-clause-made c =
     let at = (goal.at.returns-clause-made c).In_ok-from_sorted in
-    same_store _ _ _ (record { rows = c.args.rows.now }) (shows (goal.at.returns-clause-made c).After-last_etag (are_apart at) (rises at))
+    same_store _ _ _ 0 (store_of c.args.rows.now) (shows (goal.at.returns-clause-made c).After-last_etag (are_apart at) (rises at)) refl
 
 pub returns-clause-apart : goal.returns-clause-apart
 returns-clause-apart c = (λ some. are_apart (goal.at.returns-clause-apart c).In_ok-from_sorted, λ apart. refl)

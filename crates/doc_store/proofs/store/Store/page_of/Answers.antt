@@ -12,7 +12,7 @@ use Rattle.doc_store.proofs.store.Store.page_of.Goals as goal
 pub returns-in-Some-2 : goal.returns-in-Some-2
 returns-in-Some-2 c =
     let rows = c.args.self.now.rows in
-    let s : Shows c.self.inside.by_id c.self.inside.by_collection c.self.inside.last rows = shown _ _ _ _ _ c.self.view_is c.self.invariant in
+    let s : Shows c.self.inside.by_id c.self.inside.by_collection c.self.inside.last rows = shown _ _ _ _ _ _ _ c.self.view_is c.self.invariant in
     let page = subst (λ o. IfSome o (λ found. found.items ≡ take c.args.size (drop c.args.start (filter (λ r. is_of c.args.collection.now r && is_document r) (rows_in c.from-from.result))))) c.in-Some-2.is c.in_ok-page.ensures in
     page ∙ ap (λ xs. take c.args.size (drop c.args.start xs)) (
     ap (λ pairs. filter (λ r. is_of c.args.collection.now r && is_document r) (rows_in pairs)) c.from-from.ensures.pairs
