@@ -4,24 +4,24 @@ use Rattle.std.specs.List.{list_any}
 use Rattle.std.proofs.lemmas.Grind.{common_steps}
 use Rattle.std.proofs.lemmas.List.{take_all}
 use Rattle.spec_data.specs.Rows.{Row}
-use Rattle.spec_store.specs.Store.{Store, last, last_of}
+use Rattle.spec_store.specs.Store.{Store, last, last_of, store_of}
 use Rattle.spec_store.specs.Stale.{past, batch_rows, stale, up_to}
 use Rattle.spec_data.specs.Tables.{Scope, in_scope, note_rows}
 use Rattle.spec_index.specs.Index.{etag_after, etag_of_batch}
 use Rattle.spec_index.specs.World.{Version, reads, advanced, batch}
 
-abbrev version_at : Version → List Row → ℕ → Version
-version_at v rows etag = record { definition = v.definition; etag = etag; table = note_rows v.table rows }
+abbrev version_at : Version → List Row → ℕ → ℕ → Version
+version_at v rows etag cleaned = record { definition = v.definition; etag = etag; table = note_rows v.table rows; cleaned = cleaned }
 
 pub batch-none : (v : Version) (S : Store) (max : ℕ) (rows : List Row) → rows ≡ batch_rows (reads v) v.etag S max → rows ≡ [] → (let x : Option Version = None in x) ≡ batch v S max
-batch-none v S max rows is none = ap (λ batch_rows. advanced v batch_rows (etag_of_batch (reads v) v.etag S max)) (sym none ∙ is)
+batch-none v S max rows is none = ap (λ batch_rows. advanced v batch_rows (etag_of_batch (reads v) v.etag S max) S.cleaned) (sym none ∙ is)
 
 -- IF THERE IS NOTHING TO DO
 
 none_past : (scope : Scope) (e : ℕ) (rows : List Row) → list_any (λ r. in_scope scope r && nat_lt e r.etag && up_to None r.etag) rows ≡ false → filter (λ r. in_scope scope r && nat_lt e r.etag) rows ≡ []
 none_past scope e [] h = refl
 none_past scope e (r ∷ rows) h =
-    elim (in_scope scope r && nat_lt e r.etag) as (λ b. (b && true) || list_any (λ x. in_scope scope x && nat_lt e x.etag && up_to None x.etag) rows ≡ false → cond b (r ∷ past scope e (record { rows = rows })) (past scope e (record { rows = rows })) ≡ []) [
+    elim (in_scope scope r && nat_lt e r.etag) as (λ b. (b && true) || list_any (λ x. in_scope scope x && nat_lt e x.etag && up_to None x.etag) rows ≡ false → cond b (r ∷ past scope e (store_of rows)) (past scope e (store_of rows)) ≡ []) [
       | true ↦ λ is. absurd cc
       | false ↦ λ is. none_past scope e rows is
     ] h
@@ -54,13 +54,14 @@ etag-some e rows (x ∷ left) false last some m = absurd (let h = m.1 (omega ari
 left-some : (max : ℕ) (all : List Row) (more : Bool) → (IsTrue more ↔ (max < length all)) → IsTrue more ↔ (0 < length (drop max all))
 left-some max all more m = (λ h. let lt = m.0 h in grind (arith, common_steps), λ h. m.1 (grind (arith, common_steps)))
 
-advances : (v : Version) (rows : List Row) (etag : ℕ) → (rows ≡ [] → ⊥) → advanced v rows etag ≡ Some (version_at v rows etag)
-advances v [] etag some = absurd (some refl)
-advances v (r ∷ rows) etag some = refl
+advances : (v : Version) (rows : List Row) (etag cleaned : ℕ) → (rows ≡ [] → ⊥) → advanced v rows etag cleaned ≡ Some (version_at v rows etag cleaned)
+advances v [] etag cleaned some = absurd (some refl)
+advances v (r ∷ rows) etag cleaned some = refl
 
-pub batch-some : (v : Version) (S : Store) (max : ℕ) (rows : List Row) (more : Bool) (etag : ℕ) → rows ≡ batch_rows (reads v) v.etag S max → (rows ≡ [] → ⊥)
-    → (IsTrue more ↔ (max < length (past (reads v) v.etag S))) → etag ≡ cond more (last_of 0 rows) (last S) → Some (version_at v rows etag) ≡ batch v S max
-batch-some v S max rows more etag is some m e =
+pub batch-some : (v : Version) (S : Store) (max : ℕ) (rows : List Row) (more : Bool) (etag cleaned : ℕ) → rows ≡ batch_rows (reads v) v.etag S max → (rows ≡ [] → ⊥)
+    → (IsTrue more ↔ (max < length (past (reads v) v.etag S))) → etag ≡ cond more (last_of 0 rows) (last S) → cleaned ≡ S.cleaned → Some (version_at v rows etag cleaned) ≡ batch v S max
+batch-some v S max rows more etag cleaned is some m e same =
     let at : etag ≡ etag_after v.etag rows (drop max (past (reads v) v.etag S)) (last S) =
     e ∙ etag-some v.etag rows (drop max (past (reads v) v.etag S)) more (last S) some (left-some max (past (reads v) v.etag S) more m) in
-    sym (advances v rows etag some) ∙ ap (advanced v rows) at ∙ ap (λ batch_rows. advanced v batch_rows (etag_after v.etag batch_rows (drop max (past (reads v) v.etag S)) (last S))) is
+    sym (advances v rows etag cleaned some) ∙ ap (advanced v rows etag) same ∙ ap (λ n. advanced v rows n S.cleaned) at
+    ∙ ap (λ batch_rows. advanced v batch_rows (etag_after v.etag batch_rows (drop max (past (reads v) v.etag S)) (last S)) S.cleaned) is

@@ -62,6 +62,7 @@ pub fn next<R: Threads, M: Mapper + Sync, L: Ledger>(
         return Ok(None);
     }
     let etag = etag_after(taken.as_slice(), more, store);
-    let next = index.after(rt, alloc, taken.as_slice(), etag, mapper, steps)?;
+    let cleaned = store.cleaned();
+    let next = index.after(rt, alloc, taken.as_slice(), etag, cleaned, mapper, steps)?;
     Ok(Some(next))
 }

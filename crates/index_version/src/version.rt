@@ -53,6 +53,8 @@ pub struct IndexVersion {
     kept: Kept,
     groups: Option<GivenGroups>,
     terms: Terms,
+    /// The etag up to which the store that it read last was cleaned of tombstones, or 0.
+    cleaned: u64,
 }
 
 // Opaque drop: see raven_base.
@@ -66,6 +68,7 @@ impl Drop for IndexVersion {
             kept: _kept,
             groups: _groups,
             terms: _terms,
+            cleaned: _cleaned,
         } = self;
     }
 }
@@ -87,7 +90,7 @@ impl Model for IndexVersion {
 
     ghost view = { λ a. record {
       name = a.definition.value.name;
-      version = record { definition = definition_view a.definition.value.body; etag = a.etag; table = a.table };
+      version = record { definition = definition_view a.definition.value.body; etag = a.etag; table = a.table; cleaned = a.cleaned };
     } };
 
     ghost invariant = { λ a. AreKept (mapper_of (definition_view a.definition.value.body)) a.table (by_folded a.kept.given) a.kept.referrers × AreReduced (reduce_of (definition_view a.definition.value.body)) (by_folded a.kept.given) a.groups × AreTermed a.definition.value.body (by_folded a.kept.given) a.terms × (a.scope ≡ scope_of (mapper_of (definition_view a.definition.value.body))) };
@@ -110,10 +113,11 @@ impl IndexVersion {
             kept: Kept::new(alloc)?,
             groups,
             terms,
+            cleaned: 0,
         })
     }
 
-    /// The index once it has taken these rows, at an etag.
+    /// The index once it has taken these rows, at an etag, of a store that was cleaned of tombstones up to `cleaned`.
     ///
     /// The map is asked for the documents that these rows touch, each at most once, and for no others: for those that are taken,
     /// and for those that have looked a taken id up. Time and memory grow with the number of these, times the logarithm of the
@@ -126,12 +130,13 @@ impl IndexVersion {
         alloc: Global,
         taken: &[Shared<Row>],
         etag: u64,
+        cleaned: u64,
         mapper: &M,
         steps: &mut Steps<L>,
     ) -> Result<IndexVersion, NoMemory>
         requires means { Means (M.meaning mapper.now) self.now.version.definition }
         ensures name { IfOk result (λ index. index.name ≡ self.now.name) }
-        ensures version { IfOk result (λ index. index.version ≡ record self.now.version { etag = etag; table = note_rows self.now.version.table taken.now }) }
+        ensures version { IfOk result (λ index. index.version ≡ record self.now.version { etag = etag; table = note_rows self.now.version.table taken.now; cleaned = cleaned }) }
         ensures maps { steps.new.maps ≤ steps.old.maps + length (touched_documents self.now.version taken.now) }
         ensures reads { steps.new.reads ≡ steps.old.reads }
         ensures plain { reduce_of self.now.version.definition ≡ None → steps.new.merges ≡ steps.old.merges }
@@ -163,6 +168,7 @@ impl IndexVersion {
             kept,
             groups,
             terms,
+            cleaned,
         })
     }
 
@@ -171,6 +177,13 @@ impl IndexVersion {
         ensures { result ≡ self.now.version.etag }
     {
         self.etag
+    }
+
+    /// The etag up to which the store that it read last was cleaned of tombstones. It is 0 if it has read nothing.
+    pub fn cleaned(&self) -> u64
+        ensures { result ≡ self.now.version.cleaned }
+    {
+        self.cleaned
     }
 
     /// The definition.

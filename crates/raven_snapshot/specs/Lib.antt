@@ -1,2 +1,3 @@
 pub mod AnsweredView
 pub mod Asked
+pub mod Unread

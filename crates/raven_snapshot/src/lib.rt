@@ -4,6 +4,7 @@
 mod answer;
 mod answered;
 mod ask;
+mod cleaning;
 mod documents;
 mod entries;
 mod find;

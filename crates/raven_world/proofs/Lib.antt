@@ -3,3 +3,4 @@ pub mod Batches
 pub mod Names
 pub mod Steps
 pub mod Openings
+pub mod Cleanings

@@ -11,7 +11,7 @@ use Rattle.std.specs.Char.{to_ascii_lowercase}
 use Rattle.spec_data.specs.Folding.{folded}
 use Rattle.spec_data.specs.Rows.{Row, is_document}
 use Rattle.spec_store.specs.Commit.{Setting, is_index_id}
-use Rattle.spec_store.specs.Store.{AreRising, IsStore, Store, last_of}
+use Rattle.spec_store.specs.Store.{AreRising, IsStore, Store, last_of, store_of}
 use Rattle.spec_store.proofs.StoreLemmas.{both_true}
 use Rattle.spec_server.specs.Machine.{Machine, machine_of}
 use Rattle.index_tree.specs.Definitions.{Definition}
@@ -164,7 +164,7 @@ ends-here s rows count slots x lt is right taken h = record {
 none_left : (rows : List Row) → drop (length rows) rows ≡ []
 none_left rows = grind (arith, common_steps)
 
-pub opens : (s : Setting) (rows : List Row) (count : ℕ) (store : Store) (slots : List Slot) → count ≡ length rows → store ≡ record { rows = rows } → HasRead s rows count slots
+pub opens : (s : Setting) (rows : List Row) (count : ℕ) (store : Store) (slots : List Slot) → count ≡ length rows → store ≡ store_of rows → HasRead s rows count slots
     → OpensAs s rows (machine_of (record { setting = s; store = store; slots = slots; notes = [] }))
 opens s rows count store slots all is h =
     let whole : rows_of h.read ≡ rows = sym (append-nil (rows_of h.read)) ∙ ap (λ ys. rows_of h.read ++ ys) (sym (ap (λ n. drop n rows) all ∙ none_left rows)) ∙ h.rows in
@@ -173,7 +173,7 @@ opens s rows count store slots all is h =
       rows = whole;
       right = h.right;
       opened = ap (opened_with s (rows_of h.read)) h.slots
-          ∙ (λ i. Ok (let m : Machine = machine_of (record { setting = s; store = record { rows = whole i }; slots = slots; notes = [] }) in m))
+          ∙ (λ i. Ok (let m : Machine = machine_of (record { setting = s; store = store_of (whole i); slots = slots; notes = [] }) in m))
           ∙ ap (λ (S : Store). Ok (machine_of (record { setting = s; store = S; slots = slots; notes = [] }))) (sym is);
     }
 
@@ -182,7 +182,7 @@ pub ruleset opening = (none-read, one-read, ends-here, opens)
 -- THE NUMBERS
 
 -- the rows of a store rise
-pub rows-rise : (S : Store) (rows : List Row) → S ≡ record { rows = rows } → IsStore S → AreRising 0 rows
+pub rows-rise : (S : Store) (rows : List Row) → S ≡ store_of rows → IsStore S → AreRising 0 rows
 rows-rise S rows is h = subst (λ (T : Store). AreRising 0 T.rows) is h.rising
 
 -- the slots of rows that rise, so far

@@ -7,7 +7,7 @@ use Rattle.index_version.specs.Named.{NamedVersion}
 use Rattle.side_by_side.specs.Naming.{IsNamedAs}
 use Rattle.raven_world.specs.declared.publish.Batch.{Batch}
 use Rattle.raven_world.specs.declared.publish.PublishRefusal.{PublishRefusal}
-use Rattle.raven_world.specs.declared.publish.PublishRefusal.TheVariants.{Gone, Passed, NoMemory}
+use Rattle.raven_world.specs.declared.publish.PublishRefusal.TheVariants.{Gone, Passed, Cleaned, NoMemory}
 
 -- what is read for this index: its number, how far it has come, and the version after its next batch, if it is not up to date
 pub record IsReadOf (S : Store) (max : ℕ) (s : Slot) (b : Batch) : Type 0 where
@@ -36,6 +36,7 @@ abbrev pub published_view : Result World PublishRefusal → Option (Result World
 published_view (Ok W) = Some (Ok W)
 published_view (Err (Gone number)) = Some (Err (is.Gone number))
 published_view (Err (Passed now)) = Some (Err (is.Passed now))
+published_view (Err (Cleaned upto)) = Some (Err (is.Cleaned upto))
 published_view (Err NoMemory) = None
 
 -- the index of which a batch is read, if there is one

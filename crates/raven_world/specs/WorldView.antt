@@ -1,7 +1,7 @@
 -- What the answers of a world say of the course of a request.
 use Rattle.std.specs.Prelude.{ℕ, List, [], ◌∷◌, ◌++◌, Option, Some, None, Result, Ok, Err}
 use Rattle.spec_index.specs.World as is
-use Rattle.spec_server.specs.Machine.{Course, one_change, only_reply, then_course}
+use Rattle.spec_server.specs.Machine.{Course, one_change, only_reply, storing, then_course}
 use Rattle.raven_reply.specs.ReplyView.{reply_view}
 use Rattle.raven_world.specs.declared.switch.Taken.{Taken}
 use Rattle.raven_world.specs.declared.world.Change.{Change}
@@ -22,6 +22,6 @@ answer_view (Err NoMemory) = None
 -- switched so far; a refusal ends it
 abbrev pub tried_view : is.World → List (List ℕ) → (is.World → List (List ℕ) → Course) → Result (Option Taken) WorldFault → Option Course
 tried_view W switched more (Ok None) = Some (more W switched)
-tried_view W switched more (Ok (Some t)) = Some (then_course (record { rows = t.rows; world = t.world }) (more t.world (switched ++ t.name ∷ [])))
+tried_view W switched more (Ok (Some t)) = Some (then_course (storing t.rows t.world) (more t.world (switched ++ t.name ∷ [])))
 tried_view W switched more (Err (Refused reply)) = Some (only_reply (reply_view reply))
 tried_view W switched more (Err NoMemory) = None

@@ -1,6 +1,7 @@
 //! The world: a store with its indexes, of which each change makes a new one and leaves the old one.
 #![tactic(auto)]
 
+mod clean;
 mod define;
 mod make;
 mod naming;
@@ -12,6 +13,7 @@ mod switch;
 mod world;
 mod write;
 
+pub use clean::Cleaning;
 pub use doc_store::OpenFault;
 pub use publish::{Batch, PublishRefusal};
 pub use raven_reply::{

@@ -7,7 +7,7 @@ ghost use Rattle.index_definition.specs.DefinitionView.{definition_view};
 ghost use Rattle.index_lang.specs.Openings.{IsReadRow, OpensAs};
 ghost use Rattle.raven_world.specs.Opened.{TakesRow, TellsBadRow, read_as};
 ghost use Rattle.spec_data.specs.Folding.{folded};
-ghost use Rattle.spec_store.specs.Store.{row_at};
+ghost use Rattle.spec_store.specs.Store.{row_at, store_of};
 ghost use Rattle.spec_index.specs.World.{index_id as spec_index_id, new_version};
 ghost use Rattle.raven_world.specs.Kinds.{HasOwnName};
 ghost use Rattle.spec_server.specs.Machine.{machine_of};
@@ -186,7 +186,7 @@ impl World {
         limits: Limits,
     ) -> Result<World, OpenFault>
         requires few { length rows.now < 2 ^ 32 }
-        requires stored { store ≡ record { rows = rows.now } }
+        requires stored { store ≡ store_of rows.now }
         ensures opened { IfOk result (λ world. OpensAs (setting_of base limits) rows.now (machine_of world)) }
         ensures fault { IfErr result (TellsBadRow (setting_of base limits) rows.now) }
     {

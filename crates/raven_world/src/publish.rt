@@ -2,12 +2,13 @@
 ghost use Rattle.std.specs.Prelude.{◌≡◌, IfOk, IfSome, nat_lt, option_copied};
 ghost use Rattle.std.specs.Result.{is_ok};
 ghost use Rattle.spec_index.specs.World.{numbered, serving};
-ghost use Rattle.spec_server.specs.Machine.{published};
+ghost use Rattle.spec_server.specs.Machine.{published, was_cleaned as spec_was_cleaned};
 ghost use Rattle.slot_batches.specs.Batches.{CountFew};
 ghost use Rattle.raven_world.specs.Publishing.{IsRead, MayPublish, published_view, read_of};
 ghost use Rattle.raven_world.specs.declared.publish.PublishRefusal.TheVariants.{NoMemory as OutOfMemory};
 
 use crate::world::World;
+use doc_store::Store;
 use index_version::IndexVersion;
 use raven_base::{NoMemory, Steps};
 use raven_value::Name;
@@ -40,6 +41,9 @@ pub enum PublishRefusal {
     /// The index has come as far as the batch, or further.
     Passed { now: u64 },
 
+    /// Tombstones past the batch were cleaned since it was read, up to this etag.
+    Cleaned { upto: u64 },
+
     /// No memory was found.
     NoMemory,
 }
@@ -57,6 +61,13 @@ fn is_further(version: &IndexVersion, slot: &Slot) -> bool
     ensures { result ≡ nat_lt slot.now.version.etag version.now.version.etag }
 {
     slot.version.etag() < version.etag()
+}
+
+// Whether more of the store was cleaned than of the one that the version has read, and past the version's etag.
+fn was_cleaned(version: &IndexVersion, store: &Store) -> bool
+    ensures { result ≡ spec_was_cleaned store.now version.now.version }
+{
+    version.cleaned() < store.cleaned() && version.etag() < store.cleaned()
 }
 
 // How far an index has come.
@@ -97,7 +108,8 @@ impl World {
         }))
     }
 
-    /// The world in which the version takes the place of that of the index of this number, if it has come further.
+    /// The world in which the version takes the place of that of the index of this number, if it has come further, and if no tombstones
+    /// past it were cleaned since it was read.
     pub fn publish(
         &self,
         alloc: Global,
@@ -112,6 +124,11 @@ impl World {
         };
         if !is_further(&version, slot) {
             return Err(PublishRefusal::Passed { now: etag_of(slot) });
+        }
+        if was_cleaned(&version, &self.store) {
+            return Err(PublishRefusal::Cleaned {
+                upto: self.store.cleaned(),
+            });
         }
         let slots = self.slots.with_version(alloc, number, version)?;
         Ok(self.with_slots(slots)?)

@@ -27,12 +27,13 @@ pub returns-clause-next : goal.returns-clause-next
 returns-clause-next g c =
     let v = c.args.index.now.version in
     let S = c.args.store.now in
-    ap Some (c.in_ok-next.ensures.version ∙ λ i. record v { etag = c.etag_after-etag.result; table = note_rows v.table (c.as_slice-2.ensures i) })
-    ∙ batch-some v S c.args.max c.in_ok-taken.taken c.in_ok-taken.more c.etag_after-etag.result
+    ap Some (c.in_ok-next.ensures.version ∙ λ i. record v { etag = c.etag_after-etag.result; table = note_rows v.table (c.as_slice-2.ensures i); cleaned = c.cleaned-cleaned.result })
+    ∙ batch-some v S c.args.max c.in_ok-taken.taken c.in_ok-taken.more c.etag_after-etag.result c.cleaned-cleaned.result
     (c.in_ok-taken.ensures.rows ∙ λ i. batch_rows (c.scope-scope.ensures i) (c.etag-seen.ensures i) S c.args.max)
     (λ e. let t = c.is_empty.ensures.1 e in cc)
     (rw (c.scope-scope.ensures, c.etag-seen.ensures) at c.in_ok-taken.ensures.more)
     (c.etag_after-etag.ensures ∙ ap (λ rows. cond c.in_ok-taken.more (last_of 0 rows) (last S)) c.as_slice.ensures)
+    c.cleaned-cleaned.ensures
 
 pub returns-clause-maps : goal.returns-clause-maps
 returns-clause-maps g c =

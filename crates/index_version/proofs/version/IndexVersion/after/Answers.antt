@@ -60,8 +60,8 @@ returns-clause-plain g c = plain_taken (definition_view c.self.inside.definition
 
 pub returns-clause-merges : goal.returns-clause-merges
 returns-clause-merges g c =
-    let own : Version = record { definition = definition_view c.self.inside.definition.value.body; etag = c.self.inside.etag; table = c.self.inside.table } in
-    let new : Version = record { definition = definition_view c.in_ok-share.field-0.value.body; etag = c.args.etag; table = c.in_ok-table.table } in
+    let own : Version = record { definition = definition_view c.self.inside.definition.value.body; etag = c.self.inside.etag; table = c.self.inside.table; cleaned = c.self.inside.cleaned } in
+    let new : Version = record { definition = definition_view c.in_ok-share.field-0.value.body; etag = c.args.etag; table = c.in_ok-table.table; cleaned = c.args.cleaned } in
     let shared = ap (λ (d : Definition). definition_view d.body) c.in_ok-share.ensures in
     merges_taken own c.args.self.now.version new c.self.inside.kept.given c.in_ok-kept.kept.given c.self.inside.kept.referrers c.in_ok-kept.kept.referrers c.args.taken.now c.in_ok-ids.ids c.as_slice-ids.result.now c.self.inside.groups
     c.in_ok-groups.groups c.args.steps.now c.renewed.new.steps c.regrouped.new.steps (ap (λ (v : NamedVersion). v.version) c.self.view_is) c.self.invariant.0 c.in_ok-ids.ensures.ids c.in_ok-ids.ensures.once c.as_slice-ids.ensures shared
