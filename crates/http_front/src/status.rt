@@ -19,6 +19,7 @@ pub fn status_of(reply: &Reply) -> StatusCode
         | Reply::Pumped { .. }
         | Reply::Switched { .. }
         | Reply::Tidied { .. }
+        | Reply::CleanDone { .. }
         | Reply::Held { .. }
         | Reply::Published { .. }
         | Reply::Stale { .. }
@@ -55,6 +56,7 @@ pub fn status_of(reply: &Reply) -> StatusCode
         | Reply::NothingHeld
         | Reply::Gone { .. }
         | Reply::Passed { .. }
+        | Reply::Cleaned { .. }
         | Reply::ReservedId { .. } => StatusCode::BAD_REQUEST,
     }
 }

@@ -1,12 +1,12 @@
 -- Making the changes of a course on a live value.
-use Rattle.std.proofs.Common.{◌≡◌, ℕ, List, [], ◌∷◌, true, Result, Ok, Err, IfOk, OnErr, IfSome, None, length, refl, sym, ap, ◌∙◌, subst, arith}
+use Rattle.std.proofs.Common.{◌≡◌, ℕ, List, [], ◌∷◌, true, Result, Ok, Err, IfOk, OnErr, IfNone, IfSome, Option, None, Some, length, refl, sym, ap, ◌∙◌, subst, arith}
 use Rattle.spec_data.specs.Kept.{EtagsRise, all_kept, last_kept}
 use Rattle.spec_index.specs.World.{World}
 use Rattle.spec_server.specs.Machine.{Change, Course, Do, Request, course_of, machine_of}
 use Rattle.spec_server.specs.Replies.{Reply}
 use Rattle.spec_server.specs.Sound.{Sound}
 use Rattle.spec_server.specs.WellFormed.{IsWellFormed}
-use Rattle.raven_laws.specs.Keeping.{IsItsRows}
+use Rattle.raven_laws.specs.Keeping.{IsDone, IsItsRows}
 use Rattle.raven_ports.specs.States.{KeeperState}
 use Rattle.spec_desk.specs.Keepers.{IsKept, Keeps}
 use Rattle.spec_desk.specs.Lived.{Lived, lived}
@@ -20,17 +20,26 @@ use Rattle.spec_desk.proofs.Making.{may_make, stepped}
 own_rows : (W : World) (k : KeeperState) (fronts : ℕ) (x : Lived) (c : Change) → lived W k fronts ≡ x → IsItsRows x.world.store c → IsItsRows W.store c
 own_rows W k fronts x c e own = subst (λ (z : Lived). IsItsRows z.world.store c) (sym e) own
 
-pub rises : (x : Lived) (c : Change) → IsItsRows x.world.store c → EtagsRise None (all_kept c.rows)
-rises x c own = rising x.world.store c.rows own.next
+-- the rows that it is to store go on after those that it holds
+pub rises : (x : Lived) (c : Change) → IsItsRows x.world.store c → IfNone c.cleans (EtagsRise None (all_kept c.rows))
+rises x c own = by c.cleans own
+  where
+    by : (cleans : Option ℕ) → IsDone x.world.store c cleans → IfNone cleans (EtagsRise None (all_kept c.rows))
+    by None own = rising x.world.store c.rows own.next
+    by (Some upto) own = tt
 
 pub is_past : (W : World) (k : KeeperState) (fronts : ℕ) (x : Lived) (c : Change) → lived W k fronts ≡ x → Keeps k.held (machine_of W) → IsItsRows x.world.store c
-    → IfSome k.held (λ all. EtagsRise (last_kept None all) (all_kept c.rows))
-is_past W k fronts x c e keeps own = past k.held W c.rows keeps (own_rows W k fronts x c e own).next
+    → IfNone c.cleans (IfSome k.held (λ all. EtagsRise (last_kept None all) (all_kept c.rows)))
+is_past W k fronts x c e keeps own = by c.cleans (own_rows W k fronts x c e own)
+  where
+    by : (cleans : Option ℕ) → IsDone W.store c cleans → IfNone cleans (IfSome k.held (λ all. EtagsRise (last_kept None all) (all_kept c.rows)))
+    by None own = past k.held W c.rows keeps own.next
+    by (Some upto) own = tt
 
 pub keeps_change : (W : World) (k l : KeeperState) (fronts : ℕ) (x : Lived) (c : Change) (N : World) → lived W k fronts ≡ x → Keeps k.held (machine_of W) → IsItsRows x.world.store c → Sound c.world
-    → IsKept k l c.rows true → N ≡ c.world → Keeps l.held (machine_of N)
+    → IsKept k l c.rows c.cleans true → N ≡ c.world → Keeps l.held (machine_of N)
 keeps_change W k l fronts x c N e keeps own sound kept is =
-    subst (λ (V : World). Keeps l.held (machine_of V)) (sym is) (keeps_taken k l W c.world c.rows keeps (own_rows W k fronts x c e own).store sound kept)
+    subst (λ (V : World). Keeps l.held (machine_of V)) (sym is) (keeps_taken k l W c keeps (own_rows W k fronts x c e own) sound kept)
 
 -- A COURSE
 

@@ -4,7 +4,7 @@ use Rattle.std.proofs.lemmas.List.{append-nil, drop_more}
 use Rattle.std.specs.List.{slice_get}
 use Rattle.spec_data.specs.Rows.{Row}
 use Rattle.spec_index.specs.World.{World, switch}
-use Rattle.spec_server.specs.Machine.{Change, Course, one_change, only_reply, retire, then_course, tidy, try_switch}
+use Rattle.spec_server.specs.Machine.{Change, Course, one_change, only_reply, retire, storing, then_course, tidy, try_switch}
 use Rattle.spec_server.specs.Replies.{Reply}
 use Rattle.spec_desk.specs.Stepped.{world_after}
 use Rattle.raven_reply.specs.ReplyView.{reply_view}
@@ -49,8 +49,8 @@ next_name now all names W changes switched i name lt is g =
 
 -- a name was switched
 pub goes_on : (now : ℕ) (all : List (List ℕ)) (W : World) (changes : List Change) (name : List ℕ) (left switched : List (List ℕ)) (rows : List Row) (N : World) (taken : List ℕ) (c : Change)
-    → Goes now all W changes (name ∷ left) switched → c ≡ record { rows = rows; world = N }
-    → then_course (record { rows = rows; world = N }) (tidy now left N (switched ++ taken ∷ []))
+    → Goes now all W changes (name ∷ left) switched → c ≡ storing rows N
+    → then_course (storing rows N) (tidy now left N (switched ++ taken ∷ []))
     ≡ try_switch (world_after W changes) now switched (λ V done. tidy now left V done) (switch (world_after W changes) name)
     → Goes now all W (changes ++ c ∷ []) left (switched ++ taken ∷ [])
 goes_on now all W changes name left switched rows N taken c g is e = record {
@@ -80,7 +80,7 @@ ends now all W changes switched course g e = e ∙ sym g.whole
 
 -- RETIREMENT
 
-pub retired_as : (changes : List Change) (reply : Reply) (rows : List Row) (N : World) (c : Change) (course : Course) → c ≡ record { rows = rows; world = N } → one_change reply rows N ≡ course
+pub retired_as : (changes : List Change) (reply : Reply) (rows : List Row) (N : World) (c : Change) (course : Course) → c ≡ storing rows N → one_change reply rows N ≡ course
     → record { changes = changes ++ c ∷ []; reply = reply } ≡ after_changes changes course
 retired_as changes reply rows N c course is e =
     ap (λ (d : Change). (let x : Course = record { changes = changes ++ d ∷ []; reply = reply } in x)) is ∙ ap (after_changes changes) e
@@ -100,8 +100,8 @@ tried_on now all W changes name left switched V None g at h =
     passes now all W changes name left switched g
     (subst (λ (U : World). tidy now left U switched ≡ try_switch U now switched (λ X done. tidy now left X done) (switch U name)) at h)
 tried_on now all W changes name left switched V (Some t) g at h =
-    goes_on now all W changes name left switched t.rows t.world t.name (record { rows = t.rows; world = t.world }) g refl
-    (subst (λ (U : World). then_course (record { rows = t.rows; world = t.world }) (tidy now left t.world (switched ++ t.name ∷ []))
+    goes_on now all W changes name left switched t.rows t.world t.name (storing t.rows t.world) g refl
+    (subst (λ (U : World). then_course (storing t.rows t.world) (tidy now left t.world (switched ++ t.name ∷ []))
     ≡ try_switch U now switched (λ X done. tidy now left X done) (switch U name)) at h)
 
 pub left_as : (now : ℕ) (all : List (List ℕ)) (W : World) (left : List (List ℕ)) (changes new : List Change) (names more : List (List ℕ)) → new ≡ changes → more ≡ names

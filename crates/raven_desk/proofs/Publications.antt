@@ -1,7 +1,7 @@
 -- Publishing a batch on a live value.
 use Rattle.std.proofs.Common.{◌≡◌, ℕ, [], ◌∷◌, Option, Some, None, Result, Ok, Err, IfOk, sym, ap, ◌∙◌, subst}
 use Rattle.spec_index.specs.World.{Slot, Version, World, numbered}
-use Rattle.spec_server.specs.Machine.{Change, Course, PublishRefusal, machine_of, only_reply, publish_refused, published, published_in, published_reply}
+use Rattle.spec_server.specs.Machine.{Change, Course, PublishRefusal, machine_of, only_reply, publish_refused, published, published_in, published_reply, storing}
 use Rattle.spec_server.specs.Replies as replies
 use Rattle.spec_server.specs.Replies.{Reply}
 use Rattle.spec_server.specs.Sound.{IsHeld, Sound}
@@ -22,10 +22,10 @@ pub is_refused : (W : World) (n : ℕ) (v : Version) (refusal : PublishRefusal) 
 is_refused W n v refusal e = ap (publishes (published_reply v (numbered W.slots n))) e
 
 pub is_published : (W V : World) (n : ℕ) (v : Version) (s : Slot) (reply : Reply) (c : Change) → Some s ≡ numbered W.slots n → reply ≡ published_reply v (Some s)
-    → (let r : Result World PublishRefusal = Ok V in r) ≡ published W n v → c ≡ record { rows = []; world = V } → record { changes = c ∷ []; reply = reply } ≡ publication W n v
+    → (let r : Result World PublishRefusal = Ok V in r) ≡ published W n v → c ≡ storing [] V → record { changes = c ∷ []; reply = reply } ≡ publication W n v
 is_published W V n v s reply c there told e is =
     ap (λ (d : Change). (let x : Course = record { changes = d ∷ []; reply = reply } in x)) is
-    ∙ ap (λ (r : Reply). (let x : Course = record { changes = record { rows = []; world = V } ∷ []; reply = r } in x)) (told ∙ ap (published_reply v) there)
+    ∙ ap (λ (r : Reply). (let x : Course = record { changes = storing [] V ∷ []; reply = r } in x)) (told ∙ ap (published_reply v) there)
     ∙ ap (publishes (published_reply v (numbered W.slots n))) e
 
 -- ON A LIVE VALUE

@@ -15,7 +15,7 @@ after_changes changes course = record { changes = changes ++ course.changes; rep
 -- these changes and that of a switch, if there is one
 abbrev pub changes_with : List is.Change → Option Taken → List is.Change
 changes_with changes None = changes
-changes_with changes (Some t) = changes ++ record { rows = t.rows; world = t.world } ∷ []
+changes_with changes (Some t) = changes ++ is.storing t.rows t.world ∷ []
 
 -- and the names
 abbrev pub names_with : List (List ℕ) → Option Taken → List (List ℕ)

@@ -1,3 +1,4 @@
+pub mod AsksView
 pub mod CourseView
 pub mod SettledView
 pub mod ReceiptView

@@ -1,9 +1,9 @@
 //! What a request does to a world: its reply, and its changes, which are not made yet.
-ghost use Rattle.std.specs.Prelude.{◌≡◌, ◌≤◌, IfOk, Some, true};
+ghost use Rattle.std.specs.Prelude.{◌≡◌, ◌≤◌, IfOk, Some, length, true};
 ghost use Rattle.raven_value.specs.View.{data_of};
 ghost use Rattle.spec_store.specs.Commit.{Put as PutOf};
 ghost use Rattle.doc_txn.specs.CommandView.{command_view, expect_view};
-ghost use Rattle.spec_server.specs.Machine.{Ask, Auto, Do, Find, course_of as spec_course_of, only_reply, pump_for};
+ghost use Rattle.spec_server.specs.Machine.{Ask, Auto, Do, Find, clean_course, cleaning, course_of as spec_course_of, only_reply, pump_for, storing};
 ghost use Rattle.spec_server.specs.WellFormed.{IsWellFormed, is_body};
 ghost use Rattle.raven_request.specs.RequestView.{request_view};
 ghost use Rattle.raven_world.specs.WorldView.{answer_view, change_view};
@@ -17,18 +17,28 @@ use raven_base::{NoMemory, Shared, Steps};
 use raven_ports::KeptRows;
 use raven_request::Request;
 use raven_value::{Id, Name, Rows, Shallow, Text, Value};
-use raven_world::{Answered, Change, Reply, Snapshot, World, WorldFault};
+use raven_world::{Answered, Change, Cleaning, Reply, Snapshot, World, WorldFault};
 use rql_plan::QueryAsk;
 use std::alloc::Global;
 use std::marker::{Brand, Model};
 use std::sync::ledger::{Blank, Ledger};
 use std::thread::Threads;
 
-/// A change that is not made yet: its rows, also as a keeper takes them, and the world once they are stored. It has all the memory that it
-/// takes to make it.
+/// What the keeper is asked for a change that has rows.
+#[derive(Drop)]
+pub(crate) enum Asks {
+    /// To store the rows, which are these as it takes them.
+    Store(KeptRows),
+
+    /// To remove the tombstones up to this etag, which are the rows.
+    Clean(u64),
+}
+
+/// A change that is not made yet: its rows, what the keeper is asked for them, and the world once it has done that. It has all the memory that
+/// it takes to make it.
 pub struct Pending {
     pub(crate) rows: Rows,
-    pub(crate) kept: KeptRows,
+    pub(crate) asks: Asks,
     pub(crate) world: Shared<World>,
 }
 
@@ -37,29 +47,28 @@ impl Drop for Pending {
     fn drop(self) {
         let Pending {
             rows: _rows,
-            kept: _kept,
+            asks: _asks,
             world: _world,
         } = self;
     }
 }
 
 impl Model for Pending {
-    ghost use Rattle.std.specs.Prelude.{◌≡◌};
-    ghost use Rattle.spec_data.specs.Kept.{all_kept};
     ghost use Rattle.spec_server.specs.Machine as is;
     ghost use Rattle.spec_desk.specs.Codes.{change_code};
+    ghost use Rattle.raven_desk.specs.AsksView.{IsAskedFor, cleans_in};
 
     ghost Value = { is.Change };
 
     ghost coded = { change_code };
 
-    ghost view = { λ p. record { rows = p.rows; world = p.world } };
+    ghost view = { λ p. record { rows = p.rows; cleans = cleans_in p.asks; world = p.world } };
 
-    ghost invariant = { λ p. p.kept ≡ all_kept p.rows };
+    ghost invariant = { λ p. IsAskedFor p.rows p.asks };
 }
 
 impl Pending {
-    /// The world once the rows are stored.
+    /// The world once the keeper has done what it is asked.
     pub(crate) fn world(&self) -> &World
         ensures { result.now ≡ self.now.world }
     {
@@ -72,7 +81,7 @@ impl Pending {
     {
         let Pending {
             rows: _rows,
-            kept: _kept,
+            asks: _asks,
             world,
         } = self;
         world
@@ -96,13 +105,58 @@ pub(crate) fn unchanged(alloc: Global, reply: Reply) -> Course
     }
 }
 
-/// A change of these rows, which leaves this world.
+/// A change that stores these rows, and leaves this world.
 pub(crate) fn make_pending(alloc: Global, rows: Rows, world: World) -> Result<Pending, NoMemory>
-    ensures { IfOk result (λ pending. pending ≡ record { rows = rows; world = world }) }
+    ensures { IfOk result (λ pending. pending ≡ storing rows world) }
 {
-    let kept = all_kept(alloc, &rows)?;
+    let asks = Asks::Store(all_kept(alloc, &rows)?);
     let world = Shared::of(alloc, world)?;
-    Ok(Pending { rows, kept, world })
+    Ok(Pending { rows, asks, world })
+}
+
+// A change that removes these tombstones, which are those up to this etag, and leaves this world.
+fn make_cleaning(
+    alloc: Global,
+    tombstones: Rows,
+    upto: u64,
+    world: World,
+) -> Result<Pending, NoMemory>
+    ensures { IfOk result (λ pending. pending ≡ cleaning tombstones upto world) }
+{
+    let world = Shared::of(alloc, world)?;
+    Ok(Pending {
+        rows: tombstones,
+        asks: Asks::Clean(upto),
+        world,
+    })
+}
+
+// How many tombstones these are. A world has fewer than 2^32 rows.
+fn count_of(tombstones: &Rows, world: &World) -> u32
+    requires { length tombstones.now ≤ length world.now.store.rows }
+    ensures { result ≡ length tombstones.now }
+{
+    let most = world.snapshot().store.len() as usize;
+    tombstones.len().min(most) as u32
+}
+
+// What a CLEAN does: one change, for which the keeper is asked if a tombstone goes.
+#[tactic(auto, using(crate::proofs::Cleanings::cleanings))]
+fn cleaned(alloc: Global, world: &World) -> Result<Course, NoMemory>
+    ensures { IfOk result (λ course. course_view course ≡ clean_course world.now) }
+{
+    let Cleaning {
+        world: left,
+        gone,
+        upto,
+    } = world.clean(alloc)?;
+    let cleaned = count_of(&gone, world);
+    let mut changes = Vec::new(alloc);
+    changes.push(make_cleaning(alloc, gone, upto, left)?)?;
+    Ok(Course {
+        reply: Reply::CleanDone { cleaned, upto },
+        changes,
+    })
 }
 
 fn changed(alloc: Global, change: Change) -> Result<Course, NoMemory>
@@ -267,6 +321,7 @@ pub fn course_of<R: Threads>(
         }
         Request::Switch { name } => changed_or_refused(alloc, world.switch(alloc, &name, now)),
         Request::Tidy => tidied(alloc, world, now),
+        Request::Clean => cleaned(alloc, world),
         Request::Stale { name, cutoff } => Ok(unchanged(alloc, seen.stale(alloc, &name, cutoff)?)),
         Request::Indexes => Ok(unchanged(alloc, seen.indexes(alloc)?)),
         Request::Stats => Ok(unchanged(alloc, seen.stats())),

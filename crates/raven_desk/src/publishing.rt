@@ -52,13 +52,14 @@ fn publication_of(
         }
         Err(PublishRefusal::Gone { number }) => Ok(unchanged(alloc, Reply::Gone { number })),
         Err(PublishRefusal::Passed { now }) => Ok(unchanged(alloc, Reply::Passed { now })),
+        Err(PublishRefusal::Cleaned { upto }) => Ok(unchanged(alloc, Reply::Cleaned { upto })),
         Err(PublishRefusal::NoMemory) => Err(NoMemory),
     }
 }
 
 impl<K: Keeper> Live<K> {
     /// What it does to publish the version of the index of this number, which was read in this world or in an earlier one: one change without
-    /// rows, or none if the index is gone or as far already.
+    /// rows, or none if the index is gone or as far already, or if tombstones past the version were cleaned since it was read.
     pub fn publication(
         &self,
         alloc: Global,

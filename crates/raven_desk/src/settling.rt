@@ -1,4 +1,4 @@
-//! Making the changes of a course while the keeper takes their rows.
+//! Making the changes of a course while the keeper does what it is asked for them.
 ghost use Rattle.std.specs.Prelude.{◌≡◌, ◌≢◌, ◌≤◌, [], IfOk, OnErr};
 ghost use Rattle.spec_server.specs.Sound.{Sound};
 ghost use Rattle.raven_laws.specs.Keeping.{IsItsRows};
@@ -18,7 +18,7 @@ pub enum Settled {
     /// All were made.
     All,
 
-    /// The keeper did not take the rows of one of them. Those before it were made.
+    /// The keeper did not do what it was asked for one of them. Those before it were made.
     Stopped {
         /// The keeper's count of faults before the first of the changes.
         before: u64,
@@ -29,7 +29,7 @@ pub enum Settled {
 }
 
 impl<K: Keeper> Live<K> {
-    // Makes a change if the keeper takes its rows, and returns whether it did.
+    // Makes a change if the keeper stores its rows, or removes them, and returns whether it did.
     fn make(&mut self, change: Pending) -> Result<bool, NoMemory>
         requires rows { IsItsRows self.old.world.store change }
         requires sound { Sound change.world }
@@ -46,8 +46,8 @@ impl<K: Keeper> Live<K> {
         Ok(true)
     }
 
-    /// Makes the changes one after another, each once the keeper has taken its rows, of which it is asked once if there are any. The first whose
-    /// rows it does not take is not made, and none after it. It takes no memory of its own: out of memory is the keeper's. Then too the change is
+    /// Makes the changes one after another, each once the keeper has stored or removed its rows, for which it is asked once if there are any. The
+    /// first for which it fails is not made, and none after it. It takes no memory of its own: out of memory is the keeper's. Then too the change is
     /// not made, and none after it. The changes before stand. So of one change at most nothing was made.
     pub fn settle(&mut self, changes: Vec<Pending>) -> Result<Settled, NoMemory>
         requires may { MayMake self.old changes.items }

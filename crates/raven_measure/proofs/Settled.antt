@@ -1,16 +1,16 @@
 -- What is left of a request once its changes were settled.
-use Rattle.std.proofs.Common.{◌≡◌, ◌≢◌, ℕ, ◌+◌, ◌≤◌, List, [], ◌∷◌, Bool, true, false, Option, length, map, refl, sym, ap, ◌∙◌, subst, arith}
+use Rattle.std.proofs.Common.{◌≡◌, ◌≢◌, ℕ, ◌+◌, ◌≤◌, List, [], ◌∷◌, Bool, true, false, Option, length, refl, sym, ap, ◌∙◌, subst, arith}
 use Rattle.std.specs.Int.{from_bool}
 use Rattle.spec_data.specs.Rows.{Row}
 use Rattle.spec_measure.specs.Summary.{is_moving, one_if}
 use Rattle.spec_server.specs.Machine.{Change, Course, Keeping, Machine, Replied, Request, Tidy, course_of, made, takes_all, with_world}
 use Rattle.spec_server.specs.Replies.{KeeperFault, Reply, UnknownLine}
-use Rattle.raven_ports.specs.Asking.{Asked}
+use Rattle.raven_ports.specs.Asking.{Asked, Task}
 use Rattle.raven_ports.specs.Faults.{Rose}
 use Rattle.raven_ports.specs.States.{KeeperState}
 use Rattle.spec_desk.proofs.Few.{one_at_most}
 use Rattle.spec_desk.proofs.Parts.{alone}
-use Rattle.spec_desk.specs.Keepers.{MayGive}
+use Rattle.spec_desk.specs.Keepers.{MayGive, task, tasks_of}
 use Rattle.spec_desk.specs.Lived.{Follows, Lived, machine_in}
 use Rattle.spec_desk.specs.Stepped.{All, IsMadeInPart, Settles, Stays, Stopped}
 use Rattle.raven_measure.specs.Defining.{MakesOneChange, MayBeMade}
@@ -33,10 +33,10 @@ made_all : (k : Keeping) (M : Machine) (takes : List Bool) (changes : List Chang
 made_all k M takes [] reply h = refl
 made_all k M takes (c ∷ more) reply h = by c.rows takes h (λ ts g. made_all k (with_world M c.world) ts more reply g)
   where
-    by : (rows : List Row) (ts : List Bool) → (made k M ts (record { rows = rows; world = c.world } ∷ more) UnknownLine).reply ≡ UnknownLine
+    by : (rows : List Row) (ts : List Bool) → (made k M ts (record { rows = rows; cleans = c.cleans; world = c.world } ∷ more) UnknownLine).reply ≡ UnknownLine
         → ((us : List Bool) → (made k (with_world M c.world) us more UnknownLine).reply ≡ UnknownLine
         → (made k (with_world M c.world) us more UnknownLine).machine ≡ (made takes_all (with_world M c.world) [] more reply).machine)
-        → (made k M ts (record { rows = rows; world = c.world } ∷ more) UnknownLine).machine ≡ (made takes_all M [] (record { rows = rows; world = c.world } ∷ more) reply).machine
+        → (made k M ts (record { rows = rows; cleans = c.cleans; world = c.world } ∷ more) UnknownLine).machine ≡ (made takes_all M [] (record { rows = rows; cleans = c.cleans; world = c.world } ∷ more) reply).machine
     by [] ts g rest = rest ts g
     by (r ∷ rows) [] g rest = rest [] g
     by (r ∷ rows) (true ∷ ts) g rest = rest ts g
@@ -77,16 +77,16 @@ as_one false = refl
 pub rose_later : (before between after : ℕ) → before ≤ between → Rose between after → Rose before after
 rose_later before between after h r = omega (arith, h, r)
 
-made_stops : (k : Keeping) (before after : KeeperState) (M : Machine) (takes : List Bool) (changes : List Change) (a b : ℕ) → Asked before after takes (map (λ (c : Change). c.rows) changes)
+made_stops : (k : Keeping) (before after : KeeperState) (M : Machine) (takes : List Bool) (changes : List Change) (a b : ℕ) → Asked before after takes (tasks_of changes)
     → (made k M takes changes UnknownLine).reply ≡ KeeperFault a b → Rose before.count after.count
 made_stops k before after M takes [] a b asked h = absurd cc
 made_stops k before after M takes (c ∷ more) a b asked h =
     by c.rows takes asked h (λ between ts t g. made_stops k between after (with_world M c.world) ts more a b t g)
   where
-    later : List (List Row)
-    later = map (λ (x : Change). x.rows) more
+    later : List Task
+    later = tasks_of more
 
-    by : (rows : List Row) (ts : List Bool) → Asked before after ts (rows ∷ later) → (made k M ts (record { rows = rows; world = c.world } ∷ more) UnknownLine).reply ≡ KeeperFault a b
+    by : (rows : List Row) (ts : List Bool) → Asked before after ts (task rows c.cleans ∷ later) → (made k M ts (record { rows = rows; cleans = c.cleans; world = c.world } ∷ more) UnknownLine).reply ≡ KeeperFault a b
         → ((between : KeeperState) (us : List Bool) → Asked between after us later → (made k (with_world M c.world) us more UnknownLine).reply ≡ KeeperFault a b → Rose between.count after.count)
         → Rose before.count after.count
     by [] ts t g rest = rest before ts t g

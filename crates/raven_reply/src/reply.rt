@@ -301,6 +301,20 @@ pub enum Reply {
         now: u64,
     },
 
+    /// Tombstones past the batch were cleaned since it was read.
+    Cleaned {
+        /// The etag up to which they were.
+        upto: u64,
+    },
+
+    /// Tombstones were cleaned.
+    CleanDone {
+        /// How many went.
+        cleaned: u32,
+        /// The etag up to which they may go.
+        upto: u64,
+    },
+
     /// The id or the collection is the server's.
     ReservedId {
         at: u64,
@@ -409,7 +423,11 @@ impl Drop for Reply {
                 index_etag: _,
                 newest: _,
             } => {}
-            Reply::Gone { number: _ } | Reply::Passed { now: _ } => {}
+            Reply::Gone { number: _ } | Reply::Passed { now: _ } | Reply::Cleaned { upto: _ } => {}
+            Reply::CleanDone {
+                cleaned: _,
+                upto: _,
+            } => {}
             Reply::TooLong { len: _ } | Reply::NameTooLong { len: _ } => {}
             Reply::Control { at: _ } | Reply::ReservedId { at: _ } => {}
             Reply::BadMember { name: _name } | Reply::NoIndex { name: _name } => {}

@@ -2,7 +2,7 @@
 ghost use Rattle.std.specs.Prelude.{◌≡◌, ◌++◌, IfOk, OnOk, false, map};
 ghost use Rattle.spec_data.specs.Data.{items_of, text as spec_text};
 ghost use Rattle.spec_data.specs.Written.{items_text, text_of};
-ghost use Rattle.spec_server.specs.Replies.{Bulk, Deleted, Found as FoundIds, Held, Index, Indexes as IndexesAll, Published, Pumped as PumpedAll, Put as PutOne, Removed, Stale, Stats, Switched, Tidied, listing_data, pumping_data, reply_data, result_data};
+ghost use Rattle.spec_server.specs.Replies.{Bulk, CleanDone, Deleted, Found as FoundIds, Held, Index, Indexes as IndexesAll, Published, Pumped as PumpedAll, Put as PutOne, Removed, Stale, Stats, Switched, Tidied, listing_data, pumping_data, reply_data, result_data};
 ghost use Rattle.raven_reply.specs.ReplyView.{reply_view, result_view};
 
 use crate::error::{
@@ -307,6 +307,24 @@ fn write_switched(alloc: Global, out: &mut Vec<u8>, etag: u64, name: &str) -> Re
     )
 }
 
+fn write_clean_done(
+    alloc: Global,
+    out: &mut Vec<u8>,
+    cleaned: u32,
+    upto: u64,
+) -> Result<(), NoMemory>
+    ensures { OnOk result (out.new.items ≡ out.old.items ++ text_of (reply_data (CleanDone cleaned upto))) }
+{
+    write_object(
+        alloc,
+        out,
+        &[
+            ("Cleaned", Piece::Number(u64::from(cleaned))),
+            ("Upto", Piece::Number(upto)),
+        ],
+    )
+}
+
 fn write_held(alloc: Global, out: &mut Vec<u8>, from: u64, to: u64) -> Result<(), NoMemory>
     ensures { OnOk result (out.new.items ≡ out.old.items ++ text_of (reply_data (Held from to))) }
 {
@@ -432,6 +450,10 @@ fn write_reply(alloc: Global, out: &mut Vec<u8>, reply: &Reply) -> Result<(), No
             write_error_with(alloc, out, "Gone", "Number", Piece::Number(*number))
         }
         Reply::Passed { now } => write_error_with(alloc, out, "Passed", "Now", Piece::Number(*now)),
+        Reply::Cleaned { upto } => {
+            write_error_with(alloc, out, "Cleaned", "Upto", Piece::Number(*upto))
+        }
+        Reply::CleanDone { cleaned, upto } => write_clean_done(alloc, out, *cleaned, *upto),
         Reply::ReservedId { at } => write_error_at(alloc, out, *at, "ReservedId"),
         Reply::TooLarge { at, len } => {
             write_error_at_with(alloc, out, *at, "TooLarge", "Len", Piece::Number(*len))

@@ -33,6 +33,7 @@ request_view (r.Ask ask) = is.Ask ask
 request_view (r.Pump max index) = is.Pump max index
 request_view (r.Switch name) = is.Switch name
 request_view r.Tidy = is.Tidy
+request_view r.Clean = is.Clean
 request_view (r.Stale name cutoff) = is.Stale name cutoff
 request_view r.Indexes = is.Indexes
 request_view r.Stats = is.Stats

@@ -98,6 +98,9 @@ pub enum Request {
     /// Let each replacement that does not lag take its name, and let automatic indexes go that are no longer needed.
     Tidy,
 
+    /// Let the tombstones go that no index has to read any more.
+    Clean,
+
     /// Report how far an index is.
     Stale {
         /// The name of the index.

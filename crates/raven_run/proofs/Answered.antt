@@ -14,11 +14,11 @@ use Rattle.raven_request.specs.RequestRead.{IsRefusal}
 use Rattle.raven_script.specs.LineView.{Answers, line_view}
 use Rattle.raven_script.specs.declared.request.Line.{Line}
 use Rattle.raven_run.specs.Answering.{IsAnswered, IsCut, IsCutAt, IsHandled}
-use Rattle.raven_run.specs.Devices.{circumstance, rows_in}
+use Rattle.raven_run.specs.Devices.{circumstance, tasks_in}
 
 -- nothing was asked of the keeper
 unasked : (line : List ℕ) (now : ℕ) (before after : KeeperState) (M N : Machine) (text : List ℕ) (read : LineRead) → IsLine line read → after ≡ before → N ≡ M
-    → text ≡ written_for M (circumstance now [] before after) read → M ≡ left_by M (circumstance now [] before after) read → [] ≡ rows_in M now read → IsAnswered line now before after M N text
+    → text ≡ written_for M (circumstance now [] before after) read → M ≡ left_by M (circumstance now [] before after) read → [] ≡ tasks_in M now read → IsAnswered line now before after M N text
 unasked line now before after M N text read means same still t m r = record {
   read = read;
   takes = [];

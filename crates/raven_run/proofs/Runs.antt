@@ -10,7 +10,7 @@ use Rattle.spec_server.specs.Machine.{Machine}
 use Rattle.spec_server.specs.Script.{Given, reply_to, replies_to, after_line, after_lines}
 use Rattle.raven_run.specs.Answering.{IsAnswered, IsCutAt}
 use Rattle.spec_desk.specs.Keepers.{MayGive}
-use Rattle.raven_run.specs.Devices.{AreGiven, IsGiven, given, rows_in}
+use Rattle.raven_run.specs.Devices.{AreGiven, IsGiven, given, tasks_in}
 use Rattle.raven_desk.specs.Giving.{GivesPrefix}
 use Rattle.raven_run.specs.Answers.{Answers, ServerState, StopsBefore, StopsIn, texts_of}
 use Rattle.raven_desk.proofs.Pieces.{appended-appended, appended-nil}
@@ -61,7 +61,7 @@ line_given clock at after M line moment reply e a = record {
   is = refl;
   means = a.answer.means;
   moment = a.moment_is;
-  asked = let P : Machine → Type 0 = λ x. Asked at.keeper after.keeper a.answer.takes (rows_in x moment a.answer.read) in subst P e a.answer.asked;
+  asked = let P : Machine → Type 0 = λ x. Asked at.keeper after.keeper a.answer.takes (tasks_in x moment a.answer.read) in subst P e a.answer.asked;
 }
 
 pub starts : (clock : Option ℕ) (script : List ℕ) (state : ServerState) → HasRun clock script state state script

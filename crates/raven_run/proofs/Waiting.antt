@@ -74,7 +74,7 @@ pub may_publish : (W : World) (b : NamedBatch) (n : ℕ) (v : NamedVersion) → 
 may_publish W b n v m e f = subst (λ (k : ℕ). MayPublish W k v) (sym e) (subst (MayPublish W b.number) (sym f) (publish-here W b m))
 
 held-here : (W : World) (b : NamedBatch) → MayWait W b → IsHeld W (record { worker = 0; number = b.number; version = b.version.version })
-held-here W b m = record { fits = m.held.fits; within = m.held.within; same = m.held.same }
+held-here W b m = record { fits = m.held.fits; since = m.held.since; within = m.held.within; same = m.held.same }
 
 -- whoever holds it
 pub is_held : (W : World) (b : NamedBatch) (n : ℕ) (v : NamedVersion) → MayWait W b → n ≡ b.number → v ≡ b.version → IsHeld W (record { worker = 0; number = n; version = v.version })

@@ -1,5 +1,5 @@
 -- What READ and PUBLISH do.
-use Rattle.std.proofs.Common.{◌≡◌, ℕ, ◌==◌, List, [], ◌∷◌, ◌++◌, Bool, true, false, cond, not, find, filter, map, Option, Some, None, Result, Ok, Err, inl, inr, ◌⊎◌, refl, sym, ap, ◌∙◌, subst, arith}
+use Rattle.std.proofs.Common.{◌≡◌, ℕ, ◌==◌, List, [], ◌∷◌, ◌++◌, Bool, true, false, cond, not, find, filter, Option, Some, None, Result, Ok, Err, inl, inr, ◌⊎◌, refl, sym, ap, ◌∙◌, subst, arith}
 use Rattle.std.specs.Prelude.{option_map}
 use Rattle.index_version.specs.Named.{NamedVersion}
 use Rattle.raven_ports.specs.Asking.{Asked}
@@ -7,10 +7,10 @@ use Rattle.raven_ports.specs.States.{KeeperState}
 use Rattle.raven_world.specs.Publishing.{IsReadAt}
 use Rattle.raven_world.specs.declared.publish.Batch.{Batch}
 use Rattle.spec_index.specs.World.{Slot, World, batch, numbered, serving}
-use Rattle.spec_server.specs.Machine.{Change, Course, Held, Keeping, Machine, Publish, PublishRefusal, Read, Replied, held_by, machine_of, made, publish_by, published, published_reply, read_at, read_batch, step}
+use Rattle.spec_server.specs.Machine.{Change, Course, Held, Keeping, Machine, Publish, PublishRefusal, Read, Replied, held_by, machine_of, made, publish_by, published, published_reply, read_at, read_batch, step, storing}
 use Rattle.spec_server.specs.Replies as replies
 use Rattle.spec_server.specs.Replies.{Reply, printed}
-use Rattle.spec_desk.specs.Keepers.{keeping}
+use Rattle.spec_desk.specs.Keepers.{keeping, tasks_of}
 use Rattle.spec_desk.specs.Lived.{Lived, machine_in, machine_with}
 use Rattle.spec_desk.specs.Publishing.{publication, publishes}
 use Rattle.spec_desk.specs.Stepped.{IsMadeInPart, Stays}
@@ -119,7 +119,7 @@ publishes-nothing keeper now worker W batches text e t =
     }
 
 -- the keeper is not asked for a change without rows
-unasked : (before after : KeeperState) (takes : List Bool) (reply : Reply) (o : Result World PublishRefusal) → Asked before after takes (map (λ (c : Change). c.rows) (publishes reply o).changes)
+unasked : (before after : KeeperState) (takes : List Bool) (reply : Reply) (o : Result World PublishRefusal) → Asked before after takes (tasks_of (publishes reply o).changes)
     → (takes ≡ []) × (after ≡ before)
 unasked before after takes reply (Err refusal) a = a
 unasked before after takes reply (Ok W) a = a
@@ -177,4 +177,4 @@ publishes-short x y n v course is (inr part) =
   where
     by : (reply : Reply) (o : Result World PublishRefusal) → IsMadeInPart (publishes reply o).changes x y → Stays x y
     by reply (Err refusal) p = alone [] x y (omega arith) p
-    by reply (Ok W) p = alone (record { rows = []; world = W } ∷ []) x y (omega arith) p
+    by reply (Ok W) p = alone (storing [] W ∷ []) x y (omega arith) p

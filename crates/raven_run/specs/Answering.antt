@@ -7,24 +7,24 @@ use Rattle.spec_server.specs.Machine.{Course, Do, Line, Machine, Request, Tidy, 
 use Rattle.spec_server.specs.Replies.{Reply, printed}
 use Rattle.spec_server.specs.Script.{LineRead, after_line, reply_to}
 use Rattle.raven_lines.specs.Lines.{IsLine}
-use Rattle.spec_desk.specs.Keepers.{keeping, rows_of}
+use Rattle.spec_desk.specs.Keepers.{keeping, tasks_on}
 use Rattle.spec_desk.specs.Lived.{Lived}
 use Rattle.spec_desk.specs.Stepped.{IsStep, MadeInPart, Makes}
-use Rattle.raven_run.specs.Devices.{given, rows_in}
+use Rattle.raven_run.specs.Devices.{given, tasks_in}
 
--- the line has a meaning, its reply is this text, the keeper was asked for the rows of its changes, and the machine is that after it
+-- the line has a meaning, its reply is this text, the keeper was asked for each of its changes, and the machine is that after it
 pub record IsAnswered (line : List ℕ) (now : ℕ) (before after : KeeperState) (M N : Machine) (text : List ℕ) : Type 0 where
   pub read : LineRead
   pub takes : List Bool
   pub means : IsLine line read
   pub reply : text ≡ reply_to (given line read now takes before after) M
   pub machine : N ≡ after_line (given line read now takes before after) M
-  pub asked : Asked before after takes (rows_in M now read)
+  pub asked : Asked before after takes (tasks_in M now read)
 
--- this was done: the keeper was asked for the rows of its changes, its reply is printed as this text, and the machine is that after it
+-- this was done: the keeper was asked for each of its changes, its reply is printed as this text, and the machine is that after it
 pub record IsHandled (line : Line) (now : ℕ) (before after : KeeperState) (M N : Machine) (text : List ℕ) : Type 0 where
   pub takes : List Bool
-  pub asked : Asked before after takes (rows_of M now line)
+  pub asked : Asked before after takes (tasks_on M now line)
   pub reply : text ≡ printed (step M (keeping takes before after) now line).reply
   pub machine : N ≡ (step M (keeping takes before after) now line).machine
 

@@ -28,7 +28,8 @@ pub record AnswersTruly (M : Machine) : Type 0 where
   pub served : (k : Keeping) (now : ℕ) (line : Line) → ServedStays M k now line
   -- what a worker reads is the next batch of the index, and it holds that
   pub reads : (k : Keeping) (now worker max : ℕ) (name : List ℕ) → IsReadAnswer M worker max name (step M k now (Read worker max name))
-  -- what a worker publishes is the batch that it holds, unless the index is gone or as far already, and then it holds nothing
+  -- what a worker publishes is the batch that it holds, unless the index is gone or as far already or tombstones past the batch were cleaned, and then
+  -- it holds nothing
   pub publishes : (k : Keeping) (now worker : ℕ) → IsPublishAnswer M worker (step M k now (Publish worker))
 
 -- The lines from the state `first` on, cut in two: the state after the earlier lines and before the later ones.

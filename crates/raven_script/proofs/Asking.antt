@@ -33,7 +33,7 @@ other-word word name other = false_from_ne_true (bytes_eq word name) (λ same. o
 module _ (line word rest : List ℕ) (is : argument_and_rest line ≡ Some (word, rest)) where
   request : request_of line ≡ by_command word rest
   request =
-      rw (other_line line (codes "STATS") (word, rest) is refl, other_line line (codes "INDEXES") (word, rest) is refl, other_line line (codes "TIDY") (word, rest) is refl, is) refl
+      rw (other_line line (codes "STATS") (word, rest) is refl, other_line line (codes "INDEXES") (word, rest) is refl, other_line line (codes "TIDY") (word, rest) is refl, other_line line (codes "CLEAN") (word, rest) is refl, is) refl
 
   told : (utf8 : is_utf8 line ≡ true) → line_of line ≡ line_told (word_told word rest)
   told utf8 = by line refl

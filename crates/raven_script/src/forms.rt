@@ -204,6 +204,7 @@ fn lone_request(text: &str) -> Result<Request, ReadRefusal>
         "STATS" => Ok(Request::Stats),
         "INDEXES" => Ok(Request::Indexes),
         "TIDY" => Ok(Request::Tidy),
+        "CLEAN" => Ok(Request::Clean),
         _ => Err(ReadRefusal::UnknownLine),
     }
 }

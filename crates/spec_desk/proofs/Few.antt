@@ -6,7 +6,7 @@ use Rattle.spec_query.specs.Query as query
 use Rattle.spec_index.specs.Optimiser.{Choice, Make, Use, pick}
 use Rattle.spec_index.specs.World.{Slot, SlotChange, SlotRefusal, World, define_named, remove, serving, switch}
 use Rattle.spec_server.specs.Asking.{Answered, MustMake, Ready, answer_ask}
-use Rattle.spec_server.specs.Machine.{Ask, Auto, Bulk, Course, Define, Delete, Find, Get, Indexes, Pump, Put, Remove, Request, Stale, Stats, Switch, Tidy, answer_made, answer_making, ask_course, change_of_slots, course_of, made_name, make, one_field, pump_at, pump_for, rewrote, single_reply, use_or_make, wrote}
+use Rattle.spec_server.specs.Machine.{Ask, Auto, Bulk, Course, Define, Delete, Find, Get, Indexes, Pump, Put, Remove, Request, Stale, Stats, Switch, Tidy, Clean, answer_made, answer_making, ask_course, change_of_slots, course_of, made_name, make, one_field, pump_at, pump_for, rewrote, single_reply, use_or_make, wrote}
 use Rattle.spec_server.specs.Replies as replies
 use Rattle.spec_server.specs.Replies.{Reply}
 
@@ -62,6 +62,7 @@ one_at_most W now (Ask ask) other = ask_few W now ask (answer_ask W ask)
 one_at_most W now (Pump max index) other = pump_for_few W max index
 one_at_most W now (Switch name) other = reslotted_few W now (replies.Switched (last W.store + 1)) name (switch W name)
 one_at_most W now Tidy other = absurd (other refl)
+one_at_most W now Clean other = omega arith
 one_at_most W now (Stale name cutoff) other = omega arith
 one_at_most W now Indexes other = omega arith
 one_at_most W now Stats other = omega arith

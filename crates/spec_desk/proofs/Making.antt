@@ -2,7 +2,7 @@
 use Rattle.std.proofs.Common.{◌≡◌, ◌≢◌, ℕ, ◌≤◌, List, [], ◌∷◌, Bool, true, false, map, refl, sym, ap, ◌∙◌, subst, arith, inl, inr}
 use Rattle.spec_data.specs.Rows.{Row}
 use Rattle.spec_index.specs.World.{World}
-use Rattle.spec_server.specs.Machine.{Auto, Ask, Bulk, Change, Define, Delete, Do, Find, Get, Indexes, IsFromClient, Pump, Put, Remove, Replied, Request, Stale, Stats, Switch, Tidy, course_of, is_taken, machine_of, made}
+use Rattle.spec_server.specs.Machine.{Auto, Ask, Bulk, Change, Define, Delete, Do, Find, Get, Indexes, IsFromClient, Pump, Put, Remove, Replied, Request, Stale, Stats, Switch, Tidy, Clean, course_of, is_taken, machine_of, made}
 use Rattle.spec_server.specs.Replies.{KeeperFault, Reply}
 use Rattle.spec_server.specs.Sound.{Has, LaterW, Sound}
 use Rattle.spec_server.specs.WellFormed.{IsWellFormed}
@@ -11,7 +11,7 @@ use Rattle.raven_laws.proofs.KeepLemmas.{changes-rows}
 use Rattle.raven_laws.proofs.MachineLemmas.{changes-Move}
 use Rattle.raven_ports.specs.Asking.{Asked, AskedOnce}
 use Rattle.raven_ports.specs.States.{KeeperState}
-use Rattle.spec_desk.specs.Keepers.{IsKept, Keeps}
+use Rattle.spec_desk.specs.Keepers.{IsKept, Keeps, task, tasks_of}
 use Rattle.spec_desk.specs.Lived.{Follows, Lived, machine_in}
 use Rattle.spec_desk.specs.Stepped.{All, IsMadeInPart, IsStep, Makes, MakesOne, MayMake, Settles, Stays, Stopped}
 use Rattle.spec_desk.proofs.Later.{Follows-itself}
@@ -19,41 +19,38 @@ use Rattle.spec_desk.proofs.Parts.{part_failed, part_more, part_none}
 
 -- ONE CHANGE MORE, IN FRONT
 
-abbrev rows_in : List Change → List (List Row)
-rows_in changes = map (λ (c : Change). c.rows) changes
-
 makes_none : (before : ℕ) (due : Reply) (x : Lived) → Makes before [] due x due x
 makes_none before due x = record { takes = []; asked = (refl, refl); made_is = λ all. refl; fronts = refl }
 
-makes_taken : (before : ℕ) (c : Change) (more : List Change) (due : Reply) (x z y : Lived) (reply : Reply) → IsKept x.keeper z.keeper c.rows true → z.world ≡ c.world → z.fronts ≡ x.fronts
+makes_taken : (before : ℕ) (c : Change) (more : List Change) (due : Reply) (x z y : Lived) (reply : Reply) → IsKept x.keeper z.keeper c.rows c.cleans true → z.world ≡ c.world → z.fronts ≡ x.fronts
     → Makes before more due z reply y → Makes before (c ∷ more) due x reply y
 makes_taken before c more due x z y reply k w f m = by c.rows k.takes k.asked k.taken_is
   where
     left : (all : List Bool) → record { reply = reply; machine = machine_in y } ≡ made (record { takes = all; before = before; after = y.keeper.count }) (machine_of c.world) m.takes more due
     left all = m.made_is all ∙ ap (λ (V : World). made (record { takes = all; before = before; after = y.keeper.count }) (machine_of V) m.takes more due) w
 
-    by : (rows : List Row) (ts : List Bool) → Asked x.keeper z.keeper ts (rows ∷ []) → is_taken ts rows ≡ true → Makes before (record { rows = rows; world = c.world } ∷ more) due x reply y
+    by : (rows : List Row) (ts : List Bool) → Asked x.keeper z.keeper ts (task rows c.cleans ∷ []) → is_taken ts rows ≡ true → Makes before (record { rows = rows; cleans = c.cleans; world = c.world } ∷ more) due x reply y
     by [] ts asked is = record {
       takes = m.takes;
-      asked = subst (λ (s : KeeperState). Asked s y.keeper m.takes (rows_in more)) asked.1 m.asked;
+      asked = subst (λ (s : KeeperState). Asked s y.keeper m.takes (tasks_of more)) asked.1 m.asked;
       made_is = left;
       fronts = m.fronts ∙ f;
     }
     by (r ∷ rows) [] asked is = absurd asked
     by (r ∷ rows) (true ∷ ts) asked is = record {
       takes = true ∷ m.takes;
-      asked = (z.keeper, subst (λ (s : KeeperState). AskedOnce x.keeper s true (r ∷ rows)) (sym asked.2.1) asked.1, m.asked);
+      asked = (z.keeper, subst (λ (s : KeeperState). AskedOnce x.keeper s true (r ∷ rows) c.cleans) (sym asked.2.1) asked.1, m.asked);
       made_is = left;
       fronts = m.fronts ∙ f;
     }
     by (r ∷ rows) (false ∷ ts) asked is = absurd cc
 
-makes_failed : (before : ℕ) (c : Change) (more : List Change) (due : Reply) (x y : Lived) → IsKept x.keeper y.keeper c.rows false → y.world ≡ x.world → y.fronts ≡ x.fronts
+makes_failed : (before : ℕ) (c : Change) (more : List Change) (due : Reply) (x y : Lived) → IsKept x.keeper y.keeper c.rows c.cleans false → y.world ≡ x.world → y.fronts ≡ x.fronts
     → Makes before (c ∷ more) due x (KeeperFault before y.keeper.count) y
 makes_failed before c more due x y k w f = by c.rows k.takes k.asked k.taken_is
   where
-    by : (rows : List Row) (ts : List Bool) → Asked x.keeper y.keeper ts (rows ∷ []) → is_taken ts rows ≡ false
-        → Makes before (record { rows = rows; world = c.world } ∷ more) due x (KeeperFault before y.keeper.count) y
+    by : (rows : List Row) (ts : List Bool) → Asked x.keeper y.keeper ts (task rows c.cleans ∷ []) → is_taken ts rows ≡ false
+        → Makes before (record { rows = rows; cleans = c.cleans; world = c.world } ∷ more) due x (KeeperFault before y.keeper.count) y
     by [] ts asked is = absurd cc
     by (r ∷ rows) [] asked is = absurd asked
     by (r ∷ rows) (true ∷ ts) asked is = absurd cc
@@ -90,6 +87,7 @@ from_client (Ask ask) h = tt
 from_client (Pump max index) h = tt
 from_client (Switch name) h = tt
 from_client Tidy h = tt
+from_client Clean h = tt
 from_client (Stale name cutoff) h = tt
 from_client Indexes h = tt
 from_client Stats h = tt

@@ -3,20 +3,17 @@ use Rattle.std.proofs.Common.{◌≡◌, ◌≢◌, ℕ, ◌≤◌, List, [], �
 use Rattle.spec_data.specs.Kept.{KeptRow}
 use Rattle.spec_data.specs.Rows.{Row}
 use Rattle.spec_index.specs.World.{Slot, Version, World, numbered, with_version}
-use Rattle.spec_server.specs.Machine.{Change, Do, Held, Keeping, Machine, Publish, Passed, PublishRefusal, Replied, Request, course_of, held_by, is_taken, let_go, machine_of, made, publish_by, publish_to, published, published_in, published_reply, settled, step, with_slots, with_world}
+use Rattle.spec_server.specs.Machine.{Change, Do, Held, Keeping, Machine, Publish, Passed, Cleaned, PublishRefusal, put_in, was_cleaned, Replied, Request, course_of, held_by, is_taken, let_go, machine_of, made, publish_by, publish_to, published, published_in, published_reply, settled, step, with_slots, with_world}
 use Rattle.spec_server.specs.Replies.{KeeperFault, Reply}
 use Rattle.spec_server.specs.Sound.{IsHeld, LaterW, Sound}
 use Rattle.raven_laws.proofs.MachineLemmas.{published-Moves}
 use Rattle.raven_ports.specs.Asking.{Asked, AskedOnce}
 use Rattle.raven_ports.specs.States.{KeeperState}
-use Rattle.spec_desk.specs.Keepers.{IsKept}
+use Rattle.spec_desk.specs.Keepers.{IsKept, task, tasks_of}
 use Rattle.spec_desk.specs.Lived.{Lived}
 use Rattle.spec_desk.specs.Publishing.{publication, publishes}
 use Rattle.spec_desk.specs.Stepped.{IsMadeInPart, MadeInPart, MakesOne, MayMake, Stays, world_after}
 use Rattle.spec_desk.proofs.Keeping.{failed_held}
-
-abbrev rows_in : List Change → List (List Row)
-rows_in changes = map (λ (c : Change). c.rows) changes
 
 -- MADE IN PART
 
@@ -37,33 +34,33 @@ part_none c more x y some s = record {
 }
 
 -- one change more, in front
-pub part_more : (c : Change) (more : List Change) (x z y : Lived) → IsKept x.keeper z.keeper c.rows true → z.world ≡ c.world → IsMadeInPart more z y → IsMadeInPart (c ∷ more) x y
+pub part_more : (c : Change) (more : List Change) (x z y : Lived) → IsKept x.keeper z.keeper c.rows c.cleans true → z.world ≡ c.world → IsMadeInPart more z y → IsMadeInPart (c ∷ more) x y
 part_more c more x z y k w m = by c.rows k.takes k.asked k.taken_is
   where
-    by : (rows : List Row) (ts : List Bool) → Asked x.keeper z.keeper ts (rows ∷ []) → is_taken ts rows ≡ true → IsMadeInPart (record { rows = rows; world = c.world } ∷ more) x y
+    by : (rows : List Row) (ts : List Bool) → Asked x.keeper z.keeper ts (task rows c.cleans ∷ []) → is_taken ts rows ≡ true → IsMadeInPart (record { rows = rows; cleans = c.cleans; world = c.world } ∷ more) x y
     by [] ts asked is = record {
-      done = record { rows = []; world = c.world } ∷ m.done;
+      done = record { rows = []; cleans = c.cleans; world = c.world } ∷ m.done;
       next = m.next;
       left = m.left;
-      split = ap (λ (l : List Change). record { rows = []; world = c.world } ∷ l) m.split;
+      split = ap (λ (l : List Change). record { rows = []; cleans = c.cleans; world = c.world } ∷ l) m.split;
       has_rows = m.has_rows;
       takes = m.takes;
       reached = m.reached;
-      asked = subst (λ (s : KeeperState). Asked s m.reached m.takes (rows_in m.done)) asked.1 m.asked;
+      asked = subst (λ (s : KeeperState). Asked s m.reached m.takes (tasks_of m.done)) asked.1 m.asked;
       taken = (refl, m.taken);
       world = m.world ∙ ap (λ (V : World). world_after V m.done) w;
       holds = m.holds;
     }
     by (r ∷ rows) [] asked is = absurd asked
     by (r ∷ rows) (true ∷ ts) asked is = record {
-      done = record { rows = r ∷ rows; world = c.world } ∷ m.done;
+      done = record { rows = r ∷ rows; cleans = c.cleans; world = c.world } ∷ m.done;
       next = m.next;
       left = m.left;
-      split = ap (λ (l : List Change). record { rows = r ∷ rows; world = c.world } ∷ l) m.split;
+      split = ap (λ (l : List Change). record { rows = r ∷ rows; cleans = c.cleans; world = c.world } ∷ l) m.split;
       has_rows = m.has_rows;
       takes = true ∷ m.takes;
       reached = m.reached;
-      asked = (z.keeper, subst (λ (s : KeeperState). AskedOnce x.keeper s true (r ∷ rows)) (sym asked.2.1) asked.1, m.asked);
+      asked = (z.keeper, subst (λ (s : KeeperState). AskedOnce x.keeper s true (r ∷ rows) c.cleans) (sym asked.2.1) asked.1, m.asked);
       taken = (refl, m.taken);
       world = m.world ∙ ap (λ (V : World). world_after V m.done) w;
       holds = m.holds;
@@ -71,19 +68,19 @@ part_more c more x z y k w m = by c.rows k.takes k.asked k.taken_is
     by (r ∷ rows) (false ∷ ts) asked is = absurd cc
 
 -- a change that was not taken has rows
-pub has_rows : (before after : KeeperState) (rows : List Row) → IsKept before after rows false → rows ≢ []
-has_rows before after [] k = absurd (let is = k.taken_is in cc)
-has_rows before after (r ∷ rows) k = λ e. cc
+pub has_rows : (before after : KeeperState) (rows : List Row) (cleans : Option ℕ) → IsKept before after rows cleans false → rows ≢ []
+has_rows before after [] cleans k = absurd (let is = k.taken_is in cc)
+has_rows before after (r ∷ rows) cleans k = λ e. cc
 
 -- the first change was not taken
 pub part_failed : (c : Change) (more : List Change) (x y : Lived) → MakesOne x c false y → IsMadeInPart (c ∷ more) x y
-part_failed c more x y m = part_none c more x y (has_rows x.keeper y.keeper c.rows m.kept) (m.world, failed_held x.keeper y.keeper c.rows m.kept)
+part_failed c more x y m = part_none c more x y (has_rows x.keeper y.keeper c.rows c.cleans m.kept) (m.world, failed_held x.keeper y.keeper c.rows c.cleans m.kept)
 
 -- of one change at most nothing was made
 pub alone : (changes : List Change) (x y : Lived) → length changes ≤ 1 → IsMadeInPart changes x y → Stays x y
 alone changes x y few m = by m.done m.split m.asked m.world
   where
-    by : (done : List Change) → changes ≡ done ++ m.next ∷ m.left → Asked x.keeper m.reached m.takes (rows_in done) → y.world ≡ world_after x.world done → Stays x y
+    by : (done : List Change) → changes ≡ done ++ m.next ∷ m.left → Asked x.keeper m.reached m.takes (tasks_of done) → y.world ≡ world_after x.world done → Stays x y
     by [] e asked w = (w, m.holds ∙ ap (λ (k : KeeperState). k.held) asked.1)
     by (d ∷ done) e asked w = absurd (let n = ap length e ∙ length-append (d ∷ done) (m.next ∷ m.left) in omega arith)
 
@@ -102,14 +99,14 @@ made_cut : (k : Keeping) (M : Machine) (done : List Change) (next : Change) (lef
 made_cut k M [] next left due some = by next.rows some
   where
     by : (rows : List Row) → rows ≢ []
-        → made k M (false ∷ []) (record { rows = rows; world = next.world } ∷ left) due ≡ record { reply = KeeperFault k.before k.after; machine = M }
+        → made k M (false ∷ []) (record { rows = rows; cleans = next.cleans; world = next.world } ∷ left) due ≡ record { reply = KeeperFault k.before k.after; machine = M }
     by [] none = absurd (none refl)
     by (r ∷ rows) h = refl
 made_cut k M (c ∷ done) next left due some = by c.rows (made_cut k (with_world M c.world) done next left due some)
   where
     by : (rows : List Row) → made k (with_world M c.world) (cut_after done) (done ++ next ∷ left) due
         ≡ record { reply = KeeperFault k.before k.after; machine = with_world M (world_after c.world done) }
-        → made k M (takes_of rows (cut_after done)) (record { rows = rows; world = c.world } ∷ (done ++ next ∷ left)) due
+        → made k M (takes_of rows (cut_after done)) (record { rows = rows; cleans = c.cleans; world = c.world } ∷ (done ++ next ∷ left)) due
         ≡ record { reply = KeeperFault k.before k.after; machine = with_world M (world_after c.world done) }
     by [] rest = rest
     by (r ∷ rows) rest = rest
@@ -138,8 +135,8 @@ made_held k W held takes [] due = refl
 made_held k W held takes (c ∷ more) due = by c.rows takes (λ ts. made_held k c.world held ts more due)
   where
     by : (rows : List Row) (ts : List Bool) → ((us : List Bool) → made k (record { world = c.world; held = held }) us more due ≡ holding held (made k (machine_of c.world) us more due))
-        → made k (record { world = W; held = held }) ts (record { rows = rows; world = c.world } ∷ more) due
-        ≡ holding held (made k (machine_of W) ts (record { rows = rows; world = c.world } ∷ more) due)
+        → made k (record { world = W; held = held }) ts (record { rows = rows; cleans = c.cleans; world = c.world } ∷ more) due
+        ≡ holding held (made k (machine_of W) ts (record { rows = rows; cleans = c.cleans; world = c.world } ∷ more) due)
     by [] ts rest = rest ts
     by (r ∷ rows) [] rest = rest []
     by (r ∷ rows) (true ∷ ts) rest = rest ts
@@ -158,8 +155,11 @@ publish_step M k now worker h e =
 
 same_store : (W : World) (n : ℕ) (v : Version) (there : Option Slot) (V : World) → published_in W n v there ≡ Ok V → V.store ≡ W.store
 same_store W n v None V h = absurd cc
-same_store W n v (Some s) V h = elim (nat_lt s.version.etag v.etag) as (λ b. cond b (Ok (with_slots W (map (with_version n v) W.slots))) (Err (Passed s.version.etag)) ≡ Ok V → V.store ≡ W.store) [
-  | true ↦ λ e. sym (ap (λ (X : World). X.store) (same (with_slots W (map (with_version n v) W.slots)) V e))
+same_store W n v (Some s) V h = elim (nat_lt s.version.etag v.etag) as (λ b. cond b (put_in W n v) (Err (Passed s.version.etag)) ≡ Ok V → V.store ≡ W.store) [
+  | true ↦ λ e. elim (was_cleaned W.store v) as (λ c. cond c (Err (Cleaned W.store.cleaned)) (Ok (with_slots W (map (with_version n v) W.slots))) ≡ Ok V → V.store ≡ W.store) [
+    | true ↦ λ f. absurd cc
+    | false ↦ λ f. sym (ap (λ (X : World). X.store) (same (with_slots W (map (with_version n v) W.slots)) V f))
+  ] e
   | false ↦ λ e. absurd cc
 ] h
   where

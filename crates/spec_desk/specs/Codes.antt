@@ -12,7 +12,8 @@ use Rattle.spec_server.specs.Machine.{Change}
 use Rattle.spec_desk.specs.Lived.{Lived, Seen}
 
 abbrev pub change_code : Coded Change
-change_code = code_by (List Row × World) (coded× (coded_list row_code) world_code) (λ c. (c.rows, c.world)) (λ p. record { rows = p.0; world = p.1 }) (λ _. refl)
+change_code = code_by (List Row × (Option ℕ × World)) (coded× (coded_list row_code) (coded× (coded_option coded_ℕ) world_code))
+    (λ c. (c.rows, (c.cleans, c.world))) (λ p. record { rows = p.0; cleans = p.1.0; world = p.1.1 }) (λ _. refl)
 
 abbrev pub plan_code : Coded Plan
 plan_code = code_by (List ℕ × ℕ) (coded× (coded_list coded_ℕ) coded_ℕ) (λ p. (p.fails, p.calls)) (λ q. record { fails = q.0; calls = q.1 }) (λ _. refl)

@@ -3,14 +3,24 @@ use Rattle.std.specs.Prelude.{◌≡◌, ℕ, ◌<◌, List, [], ◌∷◌, Bool
 use Rattle.spec_data.specs.Kept.{KeptRow, all_kept}
 use Rattle.spec_data.specs.Moments.{moments_end}
 use Rattle.spec_data.specs.Rows.{Row}
-use Rattle.raven_ports.specs.Asking.{Asked}
+use Rattle.raven_ports.specs.Asking.{Asked, Task}
 use Rattle.raven_ports.specs.States.{KeeperState}
-use Rattle.spec_server.specs.Machine.{Keeping, Line, Machine, changes_of, is_taken}
+use Rattle.spec_server.specs.Machine.{Change, Keeping, Line, Machine, changes_of, is_taken}
 use Rattle.spec_server.specs.Sound.{IsMachine}
 
--- the rows of each change that a line makes
-abbrev pub rows_of : Machine → ℕ → Line → List (List Row)
-rows_of M now line = map (λ c. c.rows) (changes_of M.world now line)
+abbrev pub task : List Row → Option ℕ → Task
+task rows cleans = record { rows = rows; cleans = cleans }
+
+-- what the keeper is asked for a change, and for each of some changes
+abbrev pub task_of : Change → Task
+task_of c = task c.rows c.cleans
+
+abbrev pub tasks_of : List Change → List Task
+tasks_of changes = map task_of changes
+
+-- for each change that a line makes
+abbrev pub tasks_on : Machine → ℕ → Line → List Task
+tasks_on M now line = tasks_of (changes_of M.world now line)
 
 -- what the keeper did: whether it took the rows of each call, and its counts before and after
 abbrev pub keeping : List Bool → KeeperState → KeeperState → Keeping
@@ -21,10 +31,10 @@ pub record MayGive (clock : Option ℕ) (now : ℕ) : Type 0 where
   pub below : now < moments_end
   pub still : IfSome clock (λ moment. now ≡ moment)
 
--- the keeper was asked once to store these rows, if there are any, and it took them or not
-pub record IsKept (before after : KeeperState) (rows : List Row) (taken : Bool) : Type 0 where
+-- the keeper was asked once to store these rows, or to clean up to an etag, if there are any, and it did it or not
+pub record IsKept (before after : KeeperState) (rows : List Row) (cleans : Option ℕ) (taken : Bool) : Type 0 where
   pub takes : List Bool
-  pub asked : Asked before after takes (rows ∷ [])
+  pub asked : Asked before after takes (task rows cleans ∷ [])
   pub taken_is : is_taken takes rows ≡ taken
 
 -- it holds the rows of the machine's store, if it reports them

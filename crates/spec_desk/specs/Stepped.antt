@@ -1,5 +1,5 @@
 -- One request, answered on one value.
-use Rattle.std.specs.Prelude.{◌≡◌, ◌≢◌, ℕ, List, [], ◌∷◌, ◌++◌, Bool, true, if◌then◌else◌, Option, map}
+use Rattle.std.specs.Prelude.{◌≡◌, ◌≢◌, ℕ, List, [], ◌∷◌, ◌++◌, Bool, true, if◌then◌else◌, Option}
 use Rattle.spec_data.specs.Kept.{KeptRow}
 use Rattle.raven_ports.specs.Asking.{Asked}
 use Rattle.raven_ports.specs.States.{KeeperState}
@@ -8,14 +8,14 @@ use Rattle.spec_server.specs.Machine.{Change, Do, Request, is_taken, made, step,
 use Rattle.spec_server.specs.Replies.{KeeperFault, Reply}
 use Rattle.spec_server.specs.Sound.{Has, LaterW, Sound}
 use Rattle.raven_laws.specs.Keeping.{AreTheirRows}
-use Rattle.spec_desk.specs.Keepers.{IsKept, MayGive, keeping, rows_of}
+use Rattle.spec_desk.specs.Keepers.{IsKept, MayGive, keeping, tasks_of, tasks_on}
 use Rattle.spec_desk.specs.Lived.{Lived, machine_in}
 
--- The request was answered on x, and y is left: the keeper was asked for the rows of each change, and the reply and the world are those of the
+-- The request was answered on x, and y is left: the keeper was asked for each change, and the reply and the world are those of the
 -- machine, given what the keeper did.
 pub record IsStep (now : ℕ) (q : Request) (x : Lived) (reply : Reply) (y : Lived) : Type 0 where
   pub takes : List Bool
-  pub asked : Asked x.keeper y.keeper takes (rows_of (machine_in x) now (Do q))
+  pub asked : Asked x.keeper y.keeper takes (tasks_on (machine_in x) now (Do q))
   pub reply_is : reply ≡ (step (machine_in x) (keeping takes x.keeper y.keeper) now (Do q)).reply
   pub machine : machine_in y ≡ (step (machine_in x) (keeping takes x.keeper y.keeper) now (Do q)).machine
   pub fronts : y.fronts ≡ x.fronts
@@ -34,7 +34,7 @@ pub record MayMake (x : Lived) (changes : List Change) : Type 0 where
 
 -- The keeper was asked once to store the rows of a change, if it has any, and the change was made if it took them.
 pub record MakesOne (x : Lived) (c : Change) (taken : Bool) (y : Lived) : Type 0 where
-  pub kept : IsKept x.keeper y.keeper c.rows taken
+  pub kept : IsKept x.keeper y.keeper c.rows c.cleans taken
   pub world : y.world ≡ (if taken then c.world else x.world)
   pub fronts : y.fronts ≡ x.fronts
 
@@ -42,7 +42,7 @@ pub record MakesOne (x : Lived) (c : Change) (taken : Bool) (y : Lived) : Type 0
 -- the keeper's counts, of which `before` is that at the beginning of the step.
 pub record Makes (before : ℕ) (changes : List Change) (due : Reply) (x : Lived) (reply : Reply) (y : Lived) : Type 0 where
   pub takes : List Bool
-  pub asked : Asked x.keeper y.keeper takes (map (λ c. c.rows) changes)
+  pub asked : Asked x.keeper y.keeper takes (tasks_of changes)
   pub made_is : (all : List Bool) → record { reply = reply; machine = machine_in y }
       ≡ made (record { takes = all; before = before; after = y.keeper.count }) (machine_in x) takes changes due
   pub fronts : y.fronts ≡ x.fronts
@@ -91,7 +91,7 @@ pub record MadeInPart (changes : List Change) (W : World) (keeper : KeeperState)
   pub has_rows : next.rows ≢ []
   pub takes : List Bool
   pub reached : KeeperState
-  pub asked : Asked keeper reached takes (map (λ c. c.rows) done)
+  pub asked : Asked keeper reached takes (tasks_of done)
   pub taken : AreTaken takes done
   pub world : V ≡ world_after W done
   pub holds : held ≡ reached.held

@@ -15,7 +15,7 @@ invariant_of-self-2 g c =
     let before = g.K.Keeper.state c.self.inside.keeper in
     let after = g.K.Keeper.state c.keep.new.keeper in
     keeps_change c.self.inside.world before after c.self.inside.fronts c.args.self.now c.args.change c.into_world.result c.self.view_is c.self.invariant c.requires.rows c.requires.sound
-    (subst (IsKept before after c.args.change.rows) c.if-not-branch.false c.in_ok-keep.ensures.asked) c.into_world.ensures
+    (subst (IsKept before after c.args.change.rows c.args.change.cleans) c.if-not-branch.false c.in_ok-keep.ensures.asked) c.into_world.ensures
 
 pub returns-in_err-keep-clause-asks : goal.returns-in_err-keep-clause-asks
 returns-in_err-keep-clause-asks g c = on_err c.from_residual.result _ c.in_err-keep.ensures.asks
