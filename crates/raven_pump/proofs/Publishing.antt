@@ -1,7 +1,9 @@
 -- What comes of a batch that is published.
 use Rattle.std.proofs.Common.{◌≡◌, ◌≤◌, ℕ, [], ◌∷◌, true, false, cond, Option, Some, None, Result, Ok, Err, length, map, refl, sym, ap, ◌∙◌, subst, arith, nat_lt}
+use Rattle.std.proofs.lemmas.Bool.{ltb-true}
+use Rattle.spec_store.proofs.StoreLemmas.{both_true}
 use Rattle.spec_index.specs.World.{Slot, Version, World, numbered, with_version}
-use Rattle.spec_server.specs.Machine.{Change, Course, Keeping, PublishRefusal, Replied, machine_of, made, one_change, only_reply, published, published_in, with_slots}
+use Rattle.spec_server.specs.Machine.{Change, Course, Keeping, PublishRefusal, Replied, machine_of, made, one_change, only_reply, published, published_in, put_in, storing, was_cleaned, with_slots}
 use Rattle.spec_server.specs.Machine as is
 use Rattle.spec_server.specs.Replies as replies
 use Rattle.spec_server.specs.Replies.{Reply}
@@ -9,17 +11,18 @@ use Rattle.spec_desk.specs.Lived.{Lived, etags, lived, machine_in}
 use Rattle.spec_desk.specs.Publishing.{publication, publishes}
 use Rattle.spec_desk.specs.Stepped.{IsMadeInPart, Settled, Settles}
 use Rattle.spec_desk.proofs.Parts.{alone}
-use Rattle.raven_pump.specs.Turning.{Publishes, told_by}
+use Rattle.raven_pump.specs.Turning.{IsOvertaken, Publishes, told_by}
 use Rattle.raven_pump.specs.declared.turned.Turned.{Turned}
-use Rattle.raven_pump.specs.declared.turned.Turned.TheVariants.{Gone, Moved, Passed}
+use Rattle.raven_pump.specs.declared.turned.Turned.TheVariants.{Cleaned, Gone, Moved, Passed}
 
 -- THE COURSE OF A PUBLICATION
 
--- it is one of three
+-- it is one of four
 data Comes (W : World) (n : ℕ) (v : Version) (c : Course) : Type 0 where
   moves : (s : Slot) (V : World) → numbered W.slots n ≡ Some s → published W n v ≡ Ok V → V.store ≡ W.store → c ≡ one_change (replies.Published s.version.etag s.name v.etag) [] V → Comes W n v c
   gone : published W n v ≡ Err (is.Gone n) → c ≡ only_reply (replies.Gone n) → Comes W n v c
   passed : (now : ℕ) → published W n v ≡ Err (is.Passed now) → c ≡ only_reply (replies.Passed now) → Comes W n v c
+  cleaned : (upto : ℕ) → IsOvertaken W n v upto → published W n v ≡ Err (is.Cleaned upto) → c ≡ only_reply (replies.Cleaned upto) → Comes W n v c
 
 comes : (W : World) (n : ℕ) (v : Version) → Comes W n v (publication W n v)
 comes W n v = by (numbered W.slots n) refl
@@ -30,16 +33,34 @@ comes W n v = by (numbered W.slots n) refl
     course : (there : Option Slot) (r : Result World PublishRefusal) → numbered W.slots n ≡ there → published_in W n v there ≡ r → publication W n v ≡ publishes (is.published_reply v there) r
     course there r e p = ap (λ (t : Option Slot). publishes (is.published_reply v t) (published_in W n v t)) e ∙ ap (publishes (is.published_reply v there)) p
 
+    -- it is past its index
+    put : (s : Slot) → numbered W.slots n ≡ Some s → nat_lt s.version.etag v.etag ≡ true → published_in W n v (Some s) ≡ put_in W n v → Comes W n v (publication W n v)
+    put s e ahead goes =
+        let V = with_slots W (map (with_version n v) W.slots) in
+        let upto = W.store.cleaned in
+        elim (was_cleaned W.store v) as (λ b. was_cleaned W.store v ≡ b → Comes W n v (publication W n v)) [
+          | true ↦ λ t.
+              let both = both_true (nat_lt v.cleaned upto) (nat_lt v.etag upto) t in
+              let here : published_in W n v (Some s) ≡ Err (is.Cleaned upto) = goes ∙ ap (λ b. cond b (let r : Result World PublishRefusal = Err (is.Cleaned upto) in r) (Ok V)) t in
+              cleaned upto (record {
+                slot = s;
+                live = e;
+                ahead = ltb-true s.version.etag v.etag ahead;
+                cleaned = refl;
+                since = ltb-true v.cleaned upto both.0;
+                past = ltb-true v.etag upto both.1;
+              }) (at (Some s) (Err (is.Cleaned upto)) e here) (course (Some s) (Err (is.Cleaned upto)) e here)
+          | false ↦ λ t.
+              let here : published_in W n v (Some s) ≡ Ok V = goes ∙ ap (λ b. cond b (let r : Result World PublishRefusal = Err (is.Cleaned upto) in r) (Ok V)) t in
+              moves s V e (at (Some s) (Ok V) e here) refl (course (Some s) (Ok V) e here)
+        ] refl
+
     by : (there : Option Slot) → numbered W.slots n ≡ there → Comes W n v (publication W n v)
     by None e = gone (at None (Err (is.Gone n)) e refl) (course None (Err (is.Gone n)) e refl)
     by (Some s) e = elim (nat_lt s.version.etag v.etag) as (λ b. nat_lt s.version.etag v.etag ≡ b → Comes W n v (publication W n v)) [
-      | true ↦ λ t.
-          let V = with_slots W (map (with_version n v) W.slots) in
-          let here : published_in W n v (Some s) ≡ Ok V = ap (λ b. cond b (let r : Result World PublishRefusal = Ok V in r) (Err (is.Passed s.version.etag))) t in
-          moves s V e (at (Some s) (Ok V) e here) refl (course (Some s) (Ok V) e here)
+      | true ↦ λ t. put s e t (ap (λ b. cond b (put_in W n v) (Err (is.Passed s.version.etag))) t)
       | false ↦ λ t.
-          let V = with_slots W (map (with_version n v) W.slots) in
-          let here : published_in W n v (Some s) ≡ Err (is.Passed s.version.etag) = ap (λ b. cond b (let r : Result World PublishRefusal = Ok V in r) (Err (is.Passed s.version.etag))) t in
+          let here : published_in W n v (Some s) ≡ Err (is.Passed s.version.etag) = ap (λ b. cond b (put_in W n v) (Err (is.Passed s.version.etag))) t in
           passed s.version.etag (at (Some s) (Err (is.Passed s.version.etag)) e here) (course (Some s) (Err (is.Passed s.version.etag)) e here)
     ] refl
 
@@ -54,6 +75,7 @@ is_told W n v c reply same shown none = by (comes W n v)
     by (moves s V e p store d) = let t = sym (ap (λ (k : Course). told_by k.reply) d) ∙ sym (ap told_by whole) ∙ none in cc
     by (gone p d) = let t = sym (ap (λ (k : Course). told_by k.reply) d) ∙ sym (ap told_by whole) ∙ none in cc
     by (passed now p d) = let t = sym (ap (λ (k : Course). told_by k.reply) d) ∙ sym (ap told_by whole) ∙ none in cc
+    by (cleaned upto o p d) = let t = sym (ap (λ (k : Course). told_by k.reply) d) ∙ sym (ap told_by whole) ∙ none in cc
 
 -- A COURSE THAT WAS SETTLED
 
@@ -69,10 +91,10 @@ lived_as : (x y : Lived) (W : World) → y.world ≡ W → y.keeper ≡ x.keeper
 lived_as x y W w k f = record { world = w; rest = λ i. lived (w i) (k i) (f i) }
 
 -- a change without rows
-left_one : (x y : Lived) (reply : Reply) (V : World) (s : Settled) → Settles (record { rows = []; world = V } ∷ []) x s y → Left x y V
+left_one : (x y : Lived) (reply : Reply) (V : World) (s : Settled) → Settles (storing [] V ∷ []) x s y → Left x y V
 left_one x y reply V s settles =
     let m = settles reply in
-    lived_as x y V (ap (λ (r : Replied). r.machine.world) (m.made_is [] ∙ ap (λ ts. made (record { takes = []; before = x.keeper.count; after = y.keeper.count }) (machine_in x) ts (record { rows = []; world = V } ∷ []) reply) m.asked.0))
+    lived_as x y V (ap (λ (r : Replied). r.machine.world) (m.made_is [] ∙ ap (λ ts. made (record { takes = []; before = x.keeper.count; after = y.keeper.count }) (machine_in x) ts (storing [] V ∷ []) reply) m.asked.0))
     m.asked.1 m.fronts
 
 -- no change
@@ -105,6 +127,9 @@ does n v x y c s t same settles told = by (comes x.world n v)
     by (passed now p d) =
         let l = left_same x y c.reply s (settled (only_reply (replies.Passed now)) d) in
         so (Passed now) (says (only_reply (replies.Passed now)) d) ((p, l.rest), ap (λ (z : Lived). etags z) l.rest)
+    by (cleaned upto o p d) =
+        let l = left_same x y c.reply s (settled (only_reply (replies.Cleaned upto)) d) in
+        so (Cleaned upto) (says (only_reply (replies.Cleaned upto)) d) ((o, p, l.rest), ap (λ (z : Lived). etags z) l.rest)
 
 -- it is one change at most
 few : (W : World) (n : ℕ) (v : Version) → length (publication W n v).changes ≤ 1
@@ -117,6 +142,7 @@ few W n v = by (comes W n v)
     by (moves s V e p store d) = at (one_change (replies.Published s.version.etag s.name v.etag) [] V) d (omega arith)
     by (gone p d) = at (only_reply (replies.Gone n)) d (omega arith)
     by (passed now p d) = at (only_reply (replies.Passed now)) d (omega arith)
+    by (cleaned upto o p d) = at (only_reply (replies.Cleaned upto)) d (omega arith)
 
 -- if memory runs out, no row is written
 pub lacks : (n : ℕ) (v : Version) (x y : Lived) (c : Course) → c ≡ publication x.world n v → IsMadeInPart c.changes x y → etags y ≡ etags x

@@ -60,7 +60,7 @@ no_batch S s max fresh =
     let scope = reads s.version in
     let e = s.version.etag in
     let all : list_any (λ (r : Row). in_scope scope r && nat_lt e r.etag) S.rows ≡ false = sym (stale_past S scope e) ∙ fresh in
-    ap (λ (rows : List Row). advanced s.version rows (etag_of_batch scope e S max)) (ap (take max) (none_left (λ (r : Row). in_scope scope r && nat_lt e r.etag) S.rows all) ∙ take_none max)
+    ap (λ (rows : List Row). advanced s.version rows (etag_of_batch scope e S max) S.cleaned) (ap (take max) (none_left (λ (r : Row). in_scope scope r && nat_lt e r.etag) S.rows all) ∙ take_none max)
 
 pub is_behind : (S : Store) (s : Slot) (max : ℕ) (v : Version) → batch s.version S max ≡ Some v → is_stale S s ≡ true
 is_behind S s max v is = elim (is_stale S s) as (λ b. is_stale S s ≡ b → is_stale S s ≡ true) [

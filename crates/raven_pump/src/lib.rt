@@ -1,11 +1,9 @@
-//! Pumps: turns of indexes, whose batches are read while no thread waits for them, and tidying.
+//! Turns of indexes, whose batches are read while no thread waits for them.
 #![tactic(auto)]
 
 mod indexing;
 mod publish;
-mod tidying;
 mod turned;
 
 pub use indexing::turn_index;
-pub use tidying::tidy;
 pub use turned::Turned;

@@ -24,6 +24,7 @@ fn told(reply: &Reply) -> Option<Turned>
         }),
         Reply::Gone { .. } => Some(Turned::Gone),
         Reply::Passed { now } => Some(Turned::Passed { now: *now }),
+        Reply::Cleaned { upto } => Some(Turned::Cleaned { upto: *upto }),
         _ => None,
     }
 }

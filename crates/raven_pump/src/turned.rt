@@ -23,4 +23,10 @@ pub enum Turned {
         /// Its etag.
         now: u64,
     },
+
+    /// The index was not moved: tombstones past the batch were cleaned since it was read.
+    Cleaned {
+        /// The etag up to which they were.
+        upto: u64,
+    },
 }

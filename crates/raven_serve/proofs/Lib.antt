@@ -5,5 +5,6 @@ pub mod Ending
 pub mod Ordered
 pub mod Goings
 pub mod Receiving
+pub mod Standings
 pub mod Completing
 pub mod Crossing

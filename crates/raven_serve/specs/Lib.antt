@@ -5,5 +5,6 @@ pub mod Works
 pub mod Codes
 pub mod Finishing
 pub mod Receipts
+pub mod Standing
 pub mod Completeness
 pub mod Options

@@ -1,18 +1,24 @@
 //! The laws of what a door's calls do, each the contract of a function without a body.
-ghost use Rattle.std.specs.Prelude.{◌≡◌, ◌≢◌, ℕ, List, [], ◌∷◌, Option};
+ghost use Rattle.std.specs.Prelude.{◌≡◌, ◌≢◌, ℕ, List, [], ◌∷◌, Option, Some};
+ghost use Rattle.spec_data.specs.Rows.{Row};
+ghost use Rattle.spec_store.specs.Store.{row_at};
+ghost use Rattle.spec_server.specs.Sound.{Sound};
+ghost use Rattle.raven_laws.specs.Cleaning.{Stands};
 ghost use Rattle.raven_ports.specs.States.{KeeperState};
 ghost use Rattle.http_session.specs.Sessions.{Finishes, SoFar};
 ghost use Rattle.http_session.specs.declared.why.Why.{Why};
 ghost use Rattle.http_session.specs.declared.why.Why.TheVariants.{NoMemory as OutOfMemory};
+ghost use Rattle.http_desk.specs.Chains.{Given};
 ghost use Rattle.spec_desk.specs.Lived.{Follows, Lived};
 ghost use Rattle.turn_desk.specs.Seated.{Seated};
 ghost use Rattle.serve_ports.specs.Doors.{Doorway};
 ghost use Rattle.raven_serve.specs.Chains.{Chain};
 ghost use Rattle.raven_serve.specs.Fronts.{AnswersSeated, KeepsSeated};
 ghost use Rattle.raven_serve.specs.InOrder.{ServesInOrder};
-ghost use Rattle.raven_serve.specs.Receipts.{HasReceipts};
+ghost use Rattle.raven_serve.specs.Receipts.{HasReceipts, Receipts};
+ghost use Rattle.raven_serve.specs.Standing.{AllShow};
 ghost use Rattle.raven_serve.specs.Completeness.{HasNoFault, IsFinished, IsValid};
-ghost use Rattle.raven_serve.specs.Finishing.{EndsSo, Server};
+ghost use Rattle.raven_serve.specs.Finishing.{EndsSo, IsKeeperOf, Server};
 ghost use Rattle.raven_serve.specs.declared.ends.ServeEnd.{ServeEnd};
 ghost use Rattle.raven_serve.specs.declared.ends.ServeEnd.TheVariants.{NoThread};
 
@@ -37,6 +43,17 @@ pub fn sessions_have_receipts()
         → SoFar AnswersSeated first bytes count written last rest → HasReceipts first.0 last.0 }
     ensures finished { (first : Seated × List ℕ) (bytes : List ℕ) (held : Option (List ℕ)) (why : Why) (last : Seated × List ℕ) (now : Option (List ℕ))
         → why ≢ OutOfMemory → Finishes AnswersSeated KeepsSeated first bytes held why last now → HasReceipts first.0 last.0 }
+{}
+
+/// A row stands in each value that follows, or its id has a newer row there, or the store there was cleaned at least up to the row. So it is in each look of the
+/// requests that come after: a client's own write is found, unless a later write or a cleaning took its place. And so it is in what is left of what a server
+/// opened, whose rows the keeper that is handed back holds if it reports them.
+pub fn writes_stand_unless_cleaned()
+    ensures follows { (x y : Lived) (q : List ℕ) (r : Row) → Sound x.world → Follows x y → row_at q x.world.store.rows ≡ Some r → Stands y.world.store q r }
+    ensures sessions { (clock : Option ℕ) (x : Lived) (given : List Given) (seen : List Lived) (took : ℕ) (q : List ℕ) (r : Row)
+        → Sound x.world → Receipts clock (x ∷ []) given seen took → row_at q x.world.store.rows ≡ Some r → AllShow given q r }
+    ensures servers { (x y : Lived) (keeper : KeeperState) (q : List ℕ) (r : Row)
+        → Sound x.world → IsKeeperOf x y keeper → row_at q x.world.store.rows ≡ Some r → Stands y.world.store q r }
 {}
 
 /// A server whose stored rows open is served until each door is closed, if no device fails and there is memory.

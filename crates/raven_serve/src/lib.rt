@@ -13,7 +13,8 @@ mod work;
 
 pub use ends::{ServeEnd, Served, Serving};
 pub use laws::{
-    calls_go_on, connections_are_served_in_order, servers_come_to_their_end, sessions_have_receipts,
+    calls_go_on, connections_are_served_in_order, servers_come_to_their_end,
+    sessions_have_receipts, writes_stand_unless_cleaned,
 };
 pub use next::{Next, serve_next};
 pub use server::serve;

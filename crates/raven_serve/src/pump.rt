@@ -5,7 +5,7 @@ ghost use Rattle.raven_serve.specs.Fronts.{SamePass};
 use raven_base::{NoMemory, Steps};
 use raven_desk::{Live, Shot};
 use raven_ports::{Clock, Keeper};
-use raven_pump::{Turned, tidy, turn_index};
+use raven_pump::{Turned, turn_index};
 use raven_turn::{Pass, Turn};
 use serve_ports::Gate;
 use std::alloc::Global;
@@ -13,6 +13,7 @@ use std::marker::Brand;
 use std::sync::Wait;
 use std::sync::ledger::{Blank, Ledger};
 use std::thread::Threads;
+use turn_desk::{clean, tidy};
 
 /// The most rows of one batch.
 const BATCH: u32 = 1024;
@@ -75,7 +76,33 @@ fn batches<R: Threads + Wait, K: Keeper, G: Gate, L: Ledger>(
     round
 }
 
-// Makes a look, one batch for each index there, and a Tidy.
+// Whether a CLEAN is worth a hold, by the look of the round: there is something to clean, and each index that lags has read something. The first batch of an
+// index is the one that a cleaning can overtake, again and again: so no CLEAN is made before it is published.
+fn may_clean(shot: &Shot) -> bool {
+    let seen = shot.world().snapshot();
+    seen.has_to_clean() && !seen.has_unread()
+}
+
+// Makes a Tidy, and a CLEAN if the look of the round is for one.
+fn keep_up<R: Threads + Wait, K: Keeper, C: Clock>(
+    rt: &R,
+    alloc: Global,
+    turn: &Turn<Live<K>>,
+    pass: &mut Pass<Live<K>>,
+    shot: &Shot,
+    clock: &C,
+) -> Result<(), NoMemory>
+    requires own { pass.old.turn ≡ turn.now.turn }
+    ensures same { SamePass pass.old pass.new }
+{
+    tidy(rt, alloc, turn, pass, clock)?;
+    if may_clean(shot) {
+        clean(rt, alloc, turn, pass, clock)?;
+    }
+    Ok(())
+}
+
+// Makes a look, one batch for each index there, a Tidy, and perhaps a CLEAN.
 fn make_round<R: Threads + Wait, K: Keeper + Drop, C: Clock, G: Gate>(
     rt: &R,
     alloc: Global,
@@ -95,14 +122,14 @@ fn make_round<R: Threads + Wait, K: Keeper + Drop, C: Clock, G: Gate>(
         return Round::Last;
     }
     let made = batches::<R, K, G, Brand>(rt, alloc, turn, pass, &shot, begin, gate, Blank::new(3));
-    match tidy(rt, alloc, turn, pass, clock) {
-        Ok(_) => made,
+    match keep_up(rt, alloc, turn, pass, &shot, clock) {
+        Ok(()) => made,
         Err(NoMemory) => Round::Lacking,
     }
 }
 
-/// Makes one batch for each index and then a Tidy, round after round, until no front is left. Each round begins with the index at this
-/// place, counted round. It naps after a round that published no batch or ran out of memory.
+/// Makes one batch for each index, then a Tidy, and a CLEAN if there is something to clean and no index waits for its first batch, round after round, until
+/// no front is left. Each round begins with the index at this place, counted round. It naps after a round that published no batch or ran out of memory.
 pub(crate) fn pump<R: Threads + Wait, K: Keeper + Drop, C: Clock, G: Gate>(
     rt: &R,
     alloc: Global,

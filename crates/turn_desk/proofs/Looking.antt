@@ -3,7 +3,7 @@ use Rattle.std.proofs.Common.{◌≡◌, ℕ, ◌+◌, ◌-◌, List, [], ◌∷
 use Rattle.spec_query.specs.Query as query
 use Rattle.spec_index.specs.World.{World}
 use Rattle.spec_server.specs.Asking.{Ready, answer_ask}
-use Rattle.spec_server.specs.Machine.{Ask, Auto, Bulk, Course, Define, Delete, Find, Get, Indexes, Pump, Put, Remove, Request, Stale, Stats, Switch, Tidy, ask_course, course_of, only_reply}
+use Rattle.spec_server.specs.Machine.{Ask, Auto, Bulk, Clean, Course, Define, Delete, Find, Get, Indexes, Pump, Put, Remove, Request, Stale, Stats, Switch, Tidy, ask_course, course_of, only_reply}
 use Rattle.spec_server.specs.Replies.{Reply}
 use Rattle.spec_desk.specs.Keepers.{MayGive}
 use Rattle.spec_desk.specs.Lived.{Follows, Lived, Seen, etags, seen_of}
@@ -35,6 +35,7 @@ makes_nothing W now (Ask ask) e = absurd cc
 makes_nothing W now (Pump max index) e = absurd cc
 makes_nothing W now (Switch name) e = absurd cc
 makes_nothing W now Tidy e = absurd cc
+makes_nothing W now Clean e = absurd cc
 
 -- a course without changes is a step that leaves what it found
 stays : (now : ℕ) (q : Request) (x : Lived) (o : Course) → o ≡ course_of x.world now q → o.changes ≡ [] → IsStep now q x o.reply x

@@ -22,7 +22,7 @@ use std::thread::Threads;
 
 /// One hold with the step of the request. It returns the reply, and what the hold found. If memory runs out, nothing was changed, unless the request is a
 /// Tidy.
-pub fn write<K: Keeper, C: Clock, R: Threads + Wait>(
+pub(crate) fn write<K: Keeper, C: Clock, R: Threads + Wait>(
     rt: &R,
     alloc: Global,
     turn: &Turn<Live<K>>,
