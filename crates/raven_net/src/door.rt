@@ -28,6 +28,8 @@ pub struct Listening {
     most: Option<u32>,
     /// How often a door was about to accept one.
     begun: AtomicU64,
+    /// How many doors wait for a connection.
+    waiting: AtomicU64,
 }
 
 impl Listening {
@@ -43,6 +45,7 @@ impl Listening {
             listener: TcpListener::bind(rt, address)?,
             most,
             begun: AtomicU64::new(0),
+            waiting: AtomicU64::new(0),
         })
     }
 
@@ -67,12 +70,30 @@ impl Listening {
         }
     }
 
+    /// Whether each door serves a connection, and a further connection would be accepted.
+    pub(crate) fn is_full(&self) -> bool {
+        let has_more = match self.most {
+            Some(most) => self.begun.load(SeqCst) < u64::from(most),
+            None => true,
+        };
+        has_more && self.waiting.load(SeqCst) == 0
+    }
+
+    // Waits for a connection, and counts as a door that waits meanwhile.
+    fn accept(&self) -> io::Result<TcpStream> {
+        self.waiting.fetch_add(1, SeqCst);
+        let accepted = self.listener.accept();
+        self.waiting.fetch_sub(1, SeqCst);
+        let (stream, _) = accepted?;
+        Ok(stream)
+    }
+
     // Waits for a connection. Clients that are gone again are passed over.
-    fn next<R: SystemClock>(&self, rt: &R) -> Result<RealConn, Failed> {
+    fn next<R: SystemClock>(&self, rt: &R) -> Result<RealConn<'_>, Failed> {
         for _ in 0..TRIES {
-            match self.listener.accept() {
-                Ok((stream, _)) => {
-                    if let Ok(conn) = RealConn::of(stream) {
+            match self.accept() {
+                Ok(stream) => {
+                    if let Ok(conn) = RealConn::of(stream, self) {
                         return Ok(conn);
                     }
                 }
@@ -106,11 +127,11 @@ impl<'a, R: SystemClock> TcpDoor<'a, R> {
 }
 
 impl<'a, R: SystemClock> Door for TcpDoor<'a, R> {
-    type Conn = RealConn;
+    type Conn = RealConn<'a>;
 
     ghost state = { λ d. record { left = None; back = None; out = None; plan = None; closed = d.closed; faults = d.faults } };
 
-    fn accept(&mut self) -> Result<Option<RealConn>, Failed> {
+    fn accept(&mut self) -> Result<Option<RealConn<'a>>, Failed> {
         if self.closed || !self.listening.begins() {
             self.closed = true;
             return Ok(None);
@@ -125,7 +146,7 @@ impl<'a, R: SystemClock> Door for TcpDoor<'a, R> {
         }
     }
 
-    fn done(&mut self, conn: RealConn) {
+    fn done(&mut self, conn: RealConn<'a>) {
         conn.end(self.rt);
     }
 }
