@@ -40,7 +40,7 @@ def test_lines_that_are_unknown() -> None:
     unknown = {"Error": "UnknownLine"}
     wrong = ["READ", "READ 0", "READ 0 64", "READ 0 64 ", "READ 16 64 U", "READ 0 0 U", "READ 0 65537 U", "READ 0  U", "READ 16 64 a\tb"]
     wrong += ["READ x 64 U", "READ 0 00000000000000064 U", "PUBLISH", "PUBLISH ", "PUBLISH 16", "PUBLISH 0 ", "PUBLISH -1", "PUBLISH 1 x"]
-    wrong += ["SWITCH", "SWITCH ", "switch U", "TIDY ", "TIDY x", "CLEAN"]
+    wrong += ["SWITCH", "SWITCH ", "switch U", "TIDY ", "TIDY x", "CLEAN ", "CLEAN x"]
     good = ["SWITCH U", "SWITCH " + "n" * 215, "READ 0 64 U", "READ 0 64 a\tb", "PUBLISH 00", "TIDY"]
     assert replies_of(*wrong, database=database()) == [unknown] * len(wrong)
     no_index = {"Error": "NoIndex", "Name": "U"}

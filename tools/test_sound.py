@@ -26,7 +26,8 @@ OWN = [slot_scripts.SlotMaker, slot_scripts.SlotMaker, choice_scripts.ChoiceMake
 REACHED = """
 switched by a line, switched by tidying, retired, published, Gone, Passed, NotFresh, NoReplacement, NothingHeld, NotesFull, TooManyIndexes,
 KeeperFault, made by a query, a fresh answer of a query that chose, a fresh answer of groups, a replacement, kept by tidying,
-a replacement in place of another, a replacement that ended, removed together, published after a switch, tidied up to a fault
+a replacement in place of another, a replacement that ended, removed together, published after a switch, tidied up to a fault,
+tombstones cleaned, nothing cleaned, Cleaned, published after a cleaning
 """
 
 
@@ -40,7 +41,8 @@ def reached(before: model.Database, after: model.Database, line: bytes, reply: d
     added = len(after.indexes) - len(before.indexes)
     is_noted = len(after.notes) > len(before.notes)
     switched = {note.new for note in before.notes}
-    published = [batch.number for worker, batch in before.held.items() if word == "PUBLISH" and worker not in after.held and "To" in reply]
+    gone = [batch for worker, batch in before.held.items() if word == "PUBLISH" and worker not in after.held]
+    published = [batch.number for batch in gone if "To" in reply]
     tests = {
         "switched by a line": "Switched" in reply and word == "SWITCH",
         "switched by tidying": word == "TIDY" and reply.get("Switched"),
@@ -54,6 +56,9 @@ def reached(before: model.Database, after: model.Database, line: bytes, reply: d
         "published after a switch": switched.intersection(published),
         "tidied up to a fault": word == "TIDY" and is_noted and "Error" in reply,
         "made by a query": is_made,
+        "tombstones cleaned": reply.get("Cleaned"),
+        "nothing cleaned": reply.get("Cleaned") == 0,
+        "published after a cleaning": published and any(batch.cleaned < before.store.cleaned for batch in gone),
         "a fresh answer of a query that chose": is_chosen and not ask.query.groups,
         "a fresh answer of groups": is_chosen and ask.query.groups,
         reply.get("Error", ""): True,

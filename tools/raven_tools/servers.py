@@ -78,8 +78,13 @@ class Answer(typing.NamedTuple):
     ended: float
 
 
+# How a client finds a connection that the server has closed, and how often in a row it connects again.
+CLOSED = (http.client.RemoteDisconnected, ConnectionResetError, BrokenPipeError)
+MOST_CLOSED = 2
+
+
 class Client:
-    """Keeps its connection open until it leaves."""
+    """Keeps its connection open until it leaves, or the server needs it for others."""
 
     def __init__(self, port: int, patience: float = PATIENCE, name: str = "db"):
         self.connection = http.client.HTTPConnection("127.0.0.1", port, timeout=patience)
@@ -99,14 +104,26 @@ class Client:
         data = body if body is None or isinstance(body, bytes) else json.dumps(body).encode()
         began = time.monotonic()
         try:
-            self.connection.request(method, self.before + page, data, **given)
-            response = self.connection.getresponse()
-            written = response.read()
+            status, written = self.exchanged(method, self.before + page, data, given)
         except (OSError, http.client.HTTPException) as fault:
             self.connection.close()
             raise Wrong(f"{method} {page}: no response after {time.monotonic() - began:.1f} s: {fault!r}") from None
-        ended = time.monotonic()
-        return Answer(response.status, json.loads(written) if written else None, began, ended)
+        return Answer(status, json.loads(written) if written else None, began, time.monotonic())
+
+    def exchanged(self, method: str, target: str, data: bytes | None, given: dict) -> tuple[int, bytes]:
+        """The status and the body. The server may close a connection that waits for a request, of which it has then read nothing: it is asked
+        again over a new connection, as most clients do."""
+        for _ in range(MOST_CLOSED):
+            try:
+                return self.exchange(method, target, data, given)
+            except CLOSED:
+                self.connection.close()
+        return self.exchange(method, target, data, given)
+
+    def exchange(self, method: str, target: str, data: bytes | None, given: dict) -> tuple[int, bytes]:
+        self.connection.request(method, target, data, **given)
+        response = self.connection.getresponse()
+        return response.status, response.read()
 
     # requests
 

@@ -107,11 +107,12 @@ class Trial:
     def after(self, database: model.Database, line: bytes, reply: bytes) -> model.Database:
         following = database.copied()
         expected = reply_to(following, line)
+        is_changed = (following.store.last, following.store.cleaned) != (database.store.last, database.store.cleaned)
         if model.at_no_moment(reply) == expected:
             self.remember(following)
-            self.counts["writes acknowledged"] += following.store.last != database.store.last
+            self.counts["writes acknowledged"] += is_changed
             return following
-        if reply == KEEPER_FAULT and following.store.last != database.store.last:
+        if reply == KEEPER_FAULT and is_changed:
             self.counts["keeper faults"] += 1
             return database
         raise Crash("inventions", f"{line[:80]!r} was answered {reply[:200]!r} in place of {expected[:200]!r}")

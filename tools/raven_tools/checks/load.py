@@ -1,11 +1,12 @@
-"""Ages one file, and compares each reply with the model."""
+"""Ages one file: by scripts whose replies are compared with the model, or by clients of a server that delete as much as they write."""
 
 import argparse
 import pathlib
 import tempfile
 import time
 
-from raven_tools import model, programs
+from raven_tools import model, programs, servers
+from raven_tools.checks import ageing
 from raven_tools.making.load_scripts import LoadMaker
 from raven_tools.places import PROGRAM
 
@@ -56,23 +57,35 @@ def rounds(options: argparse.Namespace) -> None:
     print(f"{options.rounds} rounds of {options.lines + 4} lines: all replies right")
 
 
+def is_takable(options: argparse.Namespace) -> bool:
+    if options.model:
+        return True
+    is_built = programs.is_built(options.program)
+    return is_built and (servers.takes_serve(options.program) if options.age else programs.takes_data(options.program))
+
+
 def main() -> int:
-    options = argparse.ArgumentParser(description="Ages one file, and compares each reply with the model.")
-    options.add_argument("program", nargs="?", default=str(PROGRAM))
-    options.add_argument("--rounds", type=int, default=10)
-    options.add_argument("--lines", type=int, default=2_000)
-    options.add_argument("--ids", type=int, default=5_000)
-    options.add_argument("--seed", type=int, default=1)
-    options = options.parse_args()
-    if not programs.is_built(options.program):
-        print("skipped: the program is not built")
+    parser = argparse.ArgumentParser(description="Ages one file, by scripts or by clients of a server.")
+    parser.add_argument("program", nargs="?", default=str(PROGRAM))
+    parser.add_argument("--model", action="store_true", help="with --age: the model in Python, which stores nothing")
+    parser.add_argument("--age", type=int, default=0, metavar="ROUNDS", help="so many rounds of a server, of as many deletions as writes")
+    parser.add_argument("--rounds", type=int, default=10)
+    parser.add_argument("--lines", type=int, default=2_000)
+    parser.add_argument("--ids", type=int, default=5_000)
+    parser.add_argument("--seed", type=int, default=1)
+    options = parser.parse_args()
+    if options.model and not options.age:
+        parser.error("the model serves with --age alone")
+    if not is_takable(options):
+        print("skipped: the program is not built, or takes no --data or no serve")
         return 0
-    if not programs.takes_data(options.program):
-        print("skipped: the program takes no --data")
-        return 0
+    command = servers.MODEL if options.model else (options.program,)
     try:
-        rounds(options)
-    except Wrong as wrong:
+        if options.age:
+            ageing.age(command, not options.model, options.age, options.lines, options.ids, options.seed)
+        else:
+            rounds(options)
+    except (Wrong, servers.Wrong) as wrong:
         print(wrong)
         return 1
     return 0

@@ -39,6 +39,10 @@ class Recorder(keeping.Keeper):
         super().commit(rows)
         self.states.append(list(self.rows))
 
+    def clean(self, upto: int) -> None:
+        super().clean(upto)
+        self.states.append(list(self.rows))
+
 
 @dataclasses.dataclass
 class Stop:

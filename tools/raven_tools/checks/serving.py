@@ -54,8 +54,11 @@ class Checks:
                 wrong.append(f"the server ended: {server.end()}")
         if not judge.fresh or not judge.stale:
             wrong.append(f"{judge.fresh} answers were fresh and {judge.stale} stale, so one kind was not judged")
+        if not judge.cleaned:
+            wrong.append("no tombstone was cleaned")
         remark = f": {log.requests} requests of {clients} clients, {len(log.history.writes)} writes, the longest {log.longest:.2f} s, "
-        return wrong, remark + f"{judge.fresh} fresh and {judge.stale} stale answers, {judge.unsure} of unknown etags"
+        answers = f"{judge.fresh} fresh and {judge.stale} stale answers, {judge.unsure} of unknown etags"
+        return wrong, remark + f"{answers}, {judge.cleaned} deleted ids were cleaned"
 
     def killed(self, rounds: int, seed: int):
         wrong, writes, times = kills.kills(self.command, self.folder, rounds, seed)
@@ -70,6 +73,7 @@ def all_checks(checks: Checks, rounds: int, seed: int, is_model: bool) -> None:
     beside.start()
     checks.run("ends, ports and names", ends.ends, checks.command)
     checks.run("large bodies", slow.large, checks.command)
+    checks.run("connections that are kept", slow.idle, checks.command)
     for round_ in range(rounds):
         number = seed * 1_000 + round_
         clients, requests = (10, 30) if is_model else (30 + number * 17 % 71, 60)

@@ -88,11 +88,20 @@ def check_rows(database: model.Database) -> None:
 
 
 def check_held(database: model.Database) -> None:
-    """What a worker holds may be put in at any time."""
+    """What a worker holds may be put in at any time, unless tombstones past it were cleaned since it was read."""
     for batch in database.held.values():
         index = database.numbered(batch.number)
-        assert not index or batch.etag <= database.store.last
-        assert not index or is_recorded(database, index.definition, batch.table, batch.etag), index.name
+        assert batch.cleaned <= database.store.cleaned
+        if index and not batch.cleaned < database.store.cleaned > batch.etag:
+            assert batch.etag <= database.store.last
+            assert is_recorded(database, index.definition, batch.table, batch.etag), index.name
+
+
+def check_cleaned(store: model.Store) -> None:
+    """What is cleaned is below the last etag, and no tombstone is left up to there."""
+    assert store.last == max([row.etag for row in store.rows.values()], default=0)
+    assert store.cleaned == 0 or store.cleaned < store.last, store.cleaned
+    assert all(row.is_document() or row.etag > store.cleaned for row in store.rows.values()), store.cleaned
 
 
 def check_alone(database: model.Database) -> None:
@@ -100,6 +109,7 @@ def check_alone(database: model.Database) -> None:
     check_numbers(database)
     check_rows(database)
     check_held(database)
+    check_cleaned(database.store)
 
 
 # A line
@@ -107,21 +117,35 @@ def check_alone(database: model.Database) -> None:
 
 def check_tables(before: model.Database, after: model.Database) -> None:
     """Each index agrees with the store, and a fresh one has what it would find anew. What did not change was looked at before."""
+    is_store_same = before.store.rows == after.store.rows and before.store.cleaned == after.store.cleaned
     for index in after.indexes:
         was = before.numbered(index.number)
-        if before.store.rows == after.store.rows and was and was.table == index.table and was.etag == index.etag:
+        if is_store_same and was and was.table == index.table and was.etag == index.etag:
             continue
         assert agrees(after, index), index.name
         assert not is_fresh(after, index) or index.mapped() == scratch(after, index), index.name
 
 
 def check_store(before: model.Store, after: model.Store) -> None:
-    """Rows are only written again, under new etags, and keep their collections and spellings."""
-    assert before.last <= after.last
+    """Rows are only written again, under new etags, and keep their collections and spellings. Only tombstones that are cleaned go."""
+    assert before.last <= after.last and before.cleaned <= after.cleaned
     assert all(row.etag > before.last or before.rows.get(key) is row for key, row in after.rows.items())
     for key, row in before.rows.items():
-        now = after.rows[key]
-        assert (now.collection, now.spelling) == (row.collection, row.spelling) and now.etag >= row.etag, key
+        now = after.rows.get(key)
+        if now is None:
+            assert not row.is_document() and before.cleaned < row.etag <= after.cleaned, key
+        else:
+            assert (now.collection, now.spelling) == (row.collection, row.spelling) and now.etag >= row.etag, key
+
+
+def check_clean(before: model.Database, after: model.Database, reply: dict) -> None:
+    """Exactly the tombstones went that no index has to read any more, but for the row with the greatest etag."""
+    bounds = [index.etag for index in before.indexes if index.etag > 0]
+    upto = min([*bounds, before.store.last, max(before.store.last - 1, 0)])
+    old = {key for key, row in before.store.rows.items() if not row.is_document() and row.etag <= upto}
+    assert reply == {"Cleaned": len(old), "Upto": upto}, reply
+    assert set(before.store.rows) - set(after.store.rows) == old and before.store.last == after.store.last, old
+    assert after.store.cleaned == (upto if old else before.store.cleaned), upto
 
 
 def check_definitions(before: model.Database, after: model.Database) -> None:
@@ -155,7 +179,7 @@ def check_switch(before: model.Database, after: model.Database, note: model.Note
 def state(database: model.Database) -> tuple:
     """What a refused line leaves as it was."""
     indexes = [(index.number, index.name, index.etag) for index in database.indexes]
-    return database.store.last, database.store.rows, database.notes, indexes
+    return database.store.last, database.store.cleaned, database.store.rows, database.notes, indexes
 
 
 # Automatic indexes
@@ -238,6 +262,10 @@ def check_line(before: model.Database, after: model.Database, line: bytes, reply
     check_choice(before, after, line, reply)
     if "Retired" in reply:
         check_retired(before, after, reply)
+    if line == b"CLEAN" and "Error" not in reply:
+        check_clean(before, after, reply)
+    else:
+        assert before.store.cleaned == after.store.cleaned, line
     check_tables(before, after)
     check_store(before.store, after.store)
     check_definitions(before, after)

@@ -57,7 +57,7 @@ class ChoiceMaker(QueryMaker):
 
     def kinds_of_lines(self) -> list:
         kinds = [self.put] * 4 + [self.several] + [self.delete] * 2 + [self.pump] * 2 + [self.pump_one] * 4 + [self.tidy] * 3
-        kinds += [self.auto] * 2 + [self.drop, self.listed, self.stats, self.find, self.stale]
+        kinds += [self.clean] * 2 + [self.auto] * 2 + [self.drop, self.listed, self.stats, self.find, self.stale]
         return kinds + [self.query] * 8 + [self.ask] * 5 + [self.twice] * 8
 
     def script(self, count: int) -> bytes:

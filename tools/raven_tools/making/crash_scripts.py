@@ -102,12 +102,16 @@ class CrashMaker(Maker):
     def pump(self):
         return f"PUMP {self.one_of([1, 2, 7, 64])}"
 
+    def clean(self):
+        return "CLEAN"
+
     def look(self):
         return self.one_of(["STATS", self.get(), f"FIND {self.one_of(AUTOS + NAMED)} Name ada", "INDEXES"])
 
     def script(self) -> list[bytes]:
         kinds = [self.put] * 8 + [self.put_if] * 2 + [self.delete] * 3 + [self.delete_if] + [self.bulk] * 5
         kinds += [self.auto, self.query, self.query, self.define, self.drop, self.pump, self.pump, self.look, self.take_over]
+        kinds += [self.clean] * 2
         count = 1 if self.chance(25) else self.one_of([2, 5, 10, 20, 40, 80])
         script: list[str] = []
         while len(script) < count:

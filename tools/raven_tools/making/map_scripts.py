@@ -53,7 +53,7 @@ class MapMaker(RandomMaker):
         return f"DEL {name}" if self.chance(25) else f"PUT {name} {self.usual_body(name)}"
 
     def kinds_of_lines(self):
-        kinds = [self.put] * 10 + [self.delete] * 2 + [self.bulk, self.get, self.auto, self.drop] + [self.stale] * 2
+        kinds = [self.put] * 10 + [self.delete] * 2 + [self.bulk, self.get, self.auto, self.drop, self.clean] + [self.stale] * 2
         kinds += [self.index] * 4 + [self.pump] * 4 + [self.pump_one] * 2 + [self.find] * 4 + [self.listed] * 2
         kinds += [self.query] * 3 + [self.ask] * 2
         return kinds + [self.change] * 5

@@ -57,10 +57,10 @@ OTHERS = ["", "", " ", "\r", "PUT", "PUT ", "PUT a", "PUT a ", "AUTO", "AUTO C",
           "FIND x y ", "PUMP", "put a {}", "Put a {}", "get a", "DEL", "DEL ", "DEL  a", "GET", "GET ", "STATS ", "STATS x",
           "stats", "STALE", "STALE ", "STALE a b", "DELIF", "DELIF a", "DELIF a ", "DELIF  a", "DELIF a  b", "PUTIF a",
           "PUTIF a x", "PUTIF a x ", "PUTIF a  {}", "PUTIF  a x {}", "BULK", "BULK ", "BULK  {}", "BULK{}", "TIDY", "INDEXES",
-          "CLEAN", "PUMP 64 Auto/C/ByF", "QUERY from Users", "INDEX {}", "ASK {}", "DROP x", "SWITCH", "SWITCH ", "SWITCH  x", "SWITCH x",
+          "CLEAN x", "PUMP 64 Auto/C/ByF", "QUERY from Users", "INDEX {}", "ASK {}", "DROP x", "SWITCH", "SWITCH ", "SWITCH  x", "SWITCH x",
           "SWITCH a\tb", "switch x", "READ", "READ 0", "READ 0 1", "READ 0 1 ", "READ 0  x", "READ 0 1  x", "READ  0 1 x", "READ 0 1 x",
           "READ 0 0 x", "READ 16 1 a\tb", "READ 0 1 a\tb", "PUBLISH", "PUBLISH ", "PUBLISH 0", "PUBLISH  0", "PUBLISH 0 x", "TIDY ", "TIDY x",
-          "tidy", "CLEAN ", "INDEX", "INDEX ", "INDEX  {}", "INDEX{}", "INDEXES ", "INDEXES x", "indexes", "DROP", "DROP ",
+          "tidy", "clean", "CLEAN ", "INDEX", "INDEX ", "INDEX  {}", "INDEX{}", "INDEXES ", "INDEXES x", "indexes", "DROP", "DROP ",
           "DROP  x", "DROPx", "PUMP 1 ", "PUMP 1  x", "PUMP 1 x y", "PUMP 0 x", "PUMP x y", "PUMP x a\tb", "PUMP 1 a\tb", "#",
           "\ufeffPUMP 1", "PUT  a {}", "AUTO  C F", "FIND  x y z", "FIND x  y z", "PUMP  1", "PUTa {}"]
 # The fill of the longest document.
@@ -292,6 +292,9 @@ class RandomMaker(Maker):
     def tidy(self):
         return "TIDY"
 
+    def clean(self):
+        return "CLEAN"
+
     def worker(self):
         return self.one_of(WORKERS[:4] if self.chance(92) else WORKERS)
 
@@ -433,7 +436,7 @@ class RandomMaker(Maker):
     def kinds_of_lines(self):
         kinds = [self.put] * 7 + [self.put_if] * 2 + [self.delete] * 3 + [self.delete_if] * 2 + [self.bulk] * 4 + [self.get] * 3
         kinds += [self.auto] * 2 + [self.pump] * 3 + [self.find] * 6 + [self.stale] * 2 + [self.stats, self.other]
-        kinds += [self.query] * 5 + [self.ask] * 4 + [self.switch, self.tidy, self.read, self.read, self.publish, self.publish]
+        kinds += [self.query] * 5 + [self.ask] * 4 + [self.switch, self.tidy, self.clean, self.read, self.read, self.publish, self.publish]
         return kinds + [self.index] * 5 + [self.drop] + [self.listed] * 2 + [self.pump_one] * 2
 
     def line(self) -> bytes:

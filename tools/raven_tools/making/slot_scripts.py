@@ -68,6 +68,29 @@ class SlotMaker(LagMaker):
         self.ahead = [lambda: f"DROP {self.in_other_case(index.name)}", self.publish, self.listed]
         return f"READ {self.worker()} {self.size()} {self.one_of(['', 'ReplacementOf/'])}{index.name}"
 
+    def behind(self) -> list[model.Index]:
+        """The indexes that have something to read, mostly those that have read nothing."""
+        stale = [index for index in self.database.indexes if self.database.is_stale(index)]
+        unread = [index for index in stale if index.etag == 0]
+        return unread if unread and self.chance(70) else stale
+
+    def removal(self) -> str:
+        """The deletion of a document, if there is one."""
+        documents = [row for row in self.database.store.rows.values() if row.is_document() and row.collection != "@indexes"]
+        return f"DEL {self.in_other_case(self.one_of(documents).spelling)}" if documents else self.delete()
+
+    def held_too_long(self) -> str:
+        """A batch, mostly a first one, that is held while documents are deleted, and cleaned as far as the other indexes have read."""
+        behind = self.behind()
+        if not behind:
+            self.ahead = [self.write, self.held_too_long]
+            return self.define()
+        worker, index = self.worker(), self.one_of(behind)
+        others = [other.name for other in self.database.indexes if other.etag > 0 and other is not index]
+        self.ahead = [self.removal, self.write, self.write, *(lambda name=name: f"PUMP 65536 {name}" for name in others)]
+        self.ahead += [self.clean, lambda: f"PUBLISH {worker}", self.ask_one]
+        return f"READ {worker} {self.one_of(['1', '2', '64'])} {self.in_other_case(index.name)}"
+
     def waiting(self) -> list[model.Index]:
         """The indexes with another one beside them."""
         return [index for index in self.database.indexes if self.database.replacement_of(index)]
@@ -118,7 +141,7 @@ class SlotMaker(LagMaker):
 
     def hold(self) -> str:
         """A batch that is read, and what may come before it is published."""
-        ways = [self.write, self.write, self.read, self.define, self.switch, self.pump_one, self.publish, self.tidy, self.drop]
+        ways = [self.write, self.write, self.read, self.define, self.switch, self.pump_one, self.publish, self.tidy, self.clean, self.drop]
         self.ahead = [self.read, *(self.one_of(ways) for _ in range(self.random.randint(1, 3))), self.publish, self.ask_one]
         return self.write()
 
@@ -127,8 +150,9 @@ class SlotMaker(LagMaker):
 
     def kinds_of_lines(self) -> list:
         kinds = [self.write] * 6 + [self.define] * 2 + [self.take_over] * 5 + [self.hold] * 5 + [self.again] * 2 + [self.pump] * 2
-        kinds += [self.once_more] * 2 + [self.take_over_all] * 2 + [self.drop_both]
-        kinds += [self.pump_one] * 3 + [self.switch] * 2 + [self.tidy, self.drop, self.listed, self.stats, self.auto, self.publish]
+        kinds += [self.once_more] * 2 + [self.take_over_all] * 4 + [self.drop_both]
+        kinds += [self.pump_one] * 3 + [self.switch] * 2 + [self.clean] * 3 + [self.held_too_long] * 4
+        kinds += [self.tidy, self.drop, self.listed, self.stats, self.auto, self.publish]
         return kinds + [self.ask_one] * 5 + [self.query] * 3 + [self.stale, self.bulk, self.get]
 
     def script(self, count: int) -> bytes:

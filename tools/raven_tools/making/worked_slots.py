@@ -203,6 +203,100 @@ TIDIED_IN_TURN = """
 """
 
 
+# The row with the greatest etag stays. Once a tombstone is cleaned its id may be put into another collection.
+CLEANED = """
+> PUT a {[Users]}
+> DEL a
+> PUT a {[Teams]}
+> CLEAN
+> PUT b {}
+> CLEAN
+> PUT a {[Teams]}
+> STATS
+> CLEAN
+< {"ChangeVector":"A:1-{B}","Id":"a"}
+< {"Deleted":true,"Id":"a"}
+< {"At":0,"Error":"CollectionChanged","From":"Users"}
+< {"Cleaned":0,"Upto":1}
+< {"ChangeVector":"A:3-{B}","Id":"b"}
+< {"Cleaned":1,"Upto":2}
+< {"ChangeVector":"A:4-{B}","Id":"a"}
+< {"CountOfDocuments":2,"CountOfIndexes":0,"CountOfTombstones":0,"LastDocEtag":4}
+< {"Cleaned":0,"Upto":3}
+"""
+
+# A batch that is held has a document whose tombstone was cleaned since: it is not put in.
+HELD_ACROSS_A_CLEANING = """
+> AUTO Users F
+> PUT x {"F":"a",[Users]}
+> READ 0 64 Auto/Users/ByF
+> DEL x
+> PUT y {}
+> CLEAN
+> PUBLISH 0
+> PUMP 64
+> FIND Auto/Users/ByF F a
+< {"Index":"Auto/Users/ByF"}
+< {"ChangeVector":"A:2-{B}","Id":"x"}
+< {"From":0,"To":2}
+< {"Deleted":true,"Id":"x"}
+< {"ChangeVector":"A:4-{B}","Id":"y"}
+< {"Cleaned":1,"Upto":3}
+< {"Error":"Cleaned","Upto":3}
+< {"Pumped":[{"From":0,"Index":"Auto/Users/ByF","To":0}]}
+< {"Ids":[],"IndexEtag":0,"IsStale":false}
+"""
+
+# An index that has read something keeps the tombstones that it has still to read. A batch that has read all that goes is put in.
+CLEANED_BEHIND_AN_INDEX = """
+> AUTO Users F
+> PUT x {"F":"a",[Users]}
+> DEL x
+> PUT y {"F":"a",[Users]}
+> PUMP 1
+> DEL y
+> PUT z {}
+> CLEAN
+> READ 0 64 Auto/Users/ByF
+> PUT u {}
+> DEL u
+> PUT v {}
+> PUMP 64
+> DEL v
+> CLEAN
+> PUBLISH 0
+> READ 1 64 Auto/Users/ByF
+> PUT w {"F":"a",[Users]}
+> READ 1 64 Auto/Users/ByF
+> PUMP 64
+> CLEAN
+> PUBLISH 1
+> FIND Auto/Users/ByF F a
+< {"Index":"Auto/Users/ByF"}
+< {"ChangeVector":"A:2-{B}","Id":"x"}
+< {"Deleted":true,"Id":"x"}
+< {"ChangeVector":"A:4-{B}","Id":"y"}
+< {"Pumped":[{"From":0,"Index":"Auto/Users/ByF","To":3}]}
+< {"Deleted":true,"Id":"y"}
+< {"ChangeVector":"A:6-{B}","Id":"z"}
+< {"Cleaned":1,"Upto":3}
+< {"From":3,"To":6}
+< {"ChangeVector":"A:7-{B}","Id":"u"}
+< {"Deleted":true,"Id":"u"}
+< {"ChangeVector":"A:9-{B}","Id":"v"}
+< {"Pumped":[{"From":3,"Index":"Auto/Users/ByF","To":9}]}
+< {"Deleted":true,"Id":"v"}
+< {"Cleaned":2,"Upto":9}
+< {"Error":"Passed","Now":9}
+< {"From":9,"To":9}
+< {"ChangeVector":"A:11-{B}","Id":"w"}
+< {"From":9,"To":11}
+< {"Pumped":[{"From":9,"Index":"Auto/Users/ByF","To":11}]}
+< {"Cleaned":1,"Upto":10}
+< {"Error":"Passed","Now":11}
+< {"Ids":["w"],"IndexEtag":11,"IsStale":false}
+"""
+
 # With their names.
 WORKED = {
     "built beside": BUILT_BESIDE,
@@ -212,6 +306,9 @@ WORKED = {
     "read again": READ_AGAIN,
     "as indexes": AS_INDEXES,
     "tidied in turn": TIDIED_IN_TURN,
+    "cleaned": CLEANED,
+    "held across a cleaning": HELD_ACROSS_A_CLEANING,
+    "cleaned behind an index": CLEANED_BEHIND_AN_INDEX,
 }
 
 

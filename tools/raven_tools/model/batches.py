@@ -15,7 +15,7 @@ def batch_of(database: Database, index: Index, most: int) -> Batch | None:
         if row.is_document():
             table[folded(row.spelling)] = row
     etag = rows[most - 1].etag if len(rows) > most else database.store.last
-    return Batch(index.number, table, etag) if rows else None
+    return Batch(index.number, table, etag, database.store.cleaned) if rows else None
 
 
 def put_in(index: Index, batch: Batch) -> Reply:
@@ -45,7 +45,10 @@ def read(database: Database, worker: int, most: int, name: str) -> Reply:
 
 
 def publish(database: Database, worker: int) -> Reply:
-    """Puts in what the worker holds, if the index is still there and has not come as far by itself. Then it holds nothing."""
+    """Puts in what the worker holds, if the index is still there and has not come as far by itself. Then it holds nothing.
+
+    If tombstones were cleaned since, and past what it holds, it may have a document that is gone, and is not put in.
+    """
     batch = database.held.pop(worker, None)
     if not batch:
         raise Refused("NothingHeld")
@@ -54,4 +57,6 @@ def publish(database: Database, worker: int) -> Reply:
         raise Refused("Gone", Number=batch.number)
     if index.etag >= batch.etag:
         raise Refused("Passed", Now=index.etag)
+    if database.store.cleaned > max(batch.cleaned, batch.etag):
+        raise Refused("Cleaned", Upto=database.store.cleaned)
     return put_in(index, batch)

@@ -18,6 +18,8 @@ class Keeper(typing.Protocol):
 
     def commit(self, rows: list[Row]) -> None: ...
 
+    def clean(self, upto: int) -> None: ...
+
 
 class Database:
     """What a run has in memory."""
@@ -40,6 +42,15 @@ class Database:
             self.keeper.commit(written)
         self.store = store
         return results
+
+    def clean(self, upto: int) -> int:
+        """The tombstones up to this etag go, or none if the keeper fails. It gives how many went."""
+        gone = self.store.tombstones(upto)
+        if gone and self.keeper:
+            self.keeper.clean(upto)
+        if gone:
+            self.store = self.store.without(gone, upto)
+        return len(gone)
 
     def write(self, command: Command) -> Reply:
         """A transaction of one command; the reply does not name its type."""
@@ -95,7 +106,7 @@ class Database:
 
     def opened(self) -> "Database":
         """The database after its file was opened: each index begins again at etag 0, with the number and the name of its row."""
-        other = Database(self.store.copy(), None, self.limits)
+        other = Database(self.store.without([], 0), None, self.limits)
         for index in self.indexes:
             row = self.store.row("@index/" + index.name)
             other.indexes.append(Index(row.etag, row.spelling.removeprefix("@index/"), index.definition))

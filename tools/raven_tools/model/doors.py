@@ -13,16 +13,23 @@ def is_defined(database: model.Database) -> bool:
     return any(row.collection == "@indexes" for row in database.store.rows.values())
 
 
+def is_cleanable(database: model.Database) -> bool:
+    """Whether there is a tombstone below the last etag: it goes when a pump cleans."""
+    return bool(database.store.tombstones(database.store.last - 1))
+
+
 def session(database: model.Database, options: Options, connection: Outside, clock: Clock) -> bytes:
     """What is written to a connection. How its session ends is nobody's concern."""
     _, written = http_session.session(database, options, dataclasses.replace(connection, clock=clock))
     if is_defined(database):
         raise LeftOpen("when a pump makes a batch")
+    if is_cleanable(database):
+        raise LeftOpen("when a pump cleans")
     return written
 
 
 def serve(database: model.Database, options: Options, doors: list[Door], clock: Clock) -> None:
-    """Serves each door up to an accept that fails. The pumps make batches, and no session does."""
+    """Serves each door up to an accept that fails. The pumps make batches and clean, and no session does."""
     if sum(any(connection.script for connection in door.accepted()) for door in doors) > 1:
         raise LeftOpen("which of two doors is served first")
     for door in doors:

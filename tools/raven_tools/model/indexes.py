@@ -55,11 +55,12 @@ class Index:
 
 @dataclasses.dataclass(frozen=True)
 class Batch:
-    """What a batch makes of the index of this number: its table, and its etag."""
+    """What a batch makes of the index of this number: its table, and its etag. The store that it read was cleaned up to `cleaned`."""
 
     number: int
     table: dict[str, Row]
     etag: int
+    cleaned: int = 0
 
 
 @dataclasses.dataclass(frozen=True)

@@ -51,17 +51,27 @@ class Keeper:
         self.call()
         return [row for row in self.rows if after is None or row.etag > after][:most]
 
-    def commit(self, rows: list[model.Row]) -> None:
-        """Puts each row in place of the row of its id, or behind the others. A failure is the reply to the line."""
+    def asked(self) -> None:
+        """A call for a change. A failure is the reply to the line."""
         try:
             self.call()
         except Failed:
             raise model.Refused("KeeperFault") from None
+
+    def commit(self, rows: list[model.Row]) -> None:
+        """Puts each row in place of the row of its id, or behind the others."""
+        self.asked()
         replaced = {model.folded(row.spelling) for row in rows}
         if not replaced.isdisjoint(self.ids):
             self.rows = [row for row in self.rows if model.folded(row.id) not in replaced]
         self.rows += [kept(row) for row in rows]
         self.ids |= replaced
+
+    def clean(self, upto: int) -> None:
+        """Removes the tombstones with an etag of at most this."""
+        self.asked()
+        self.rows = [row for row in self.rows if row.body is not None or row.etag > upto]
+        self.ids = {model.folded(row.id) for row in self.rows}
 
 
 def kept(row: model.Row) -> KeptRow:

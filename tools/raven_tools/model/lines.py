@@ -3,7 +3,7 @@
 import collections.abc
 import re
 
-from raven_tools.model import answers, batches, optimiser, slots, tidying
+from raven_tools.model import answers, batches, cleaning, optimiser, slots, tidying
 from raven_tools.model.asking import Ask, answer_to, read_query
 from raven_tools.model.database import Database, Reply
 from raven_tools.model.definitions import Static
@@ -248,6 +248,7 @@ ALONE: dict[str, collections.abc.Callable[[Database], Reply]] = {
     "STATS": answers.stats,
     "INDEXES": answers.listed,
     "TIDY": tidying.tidy,
+    "CLEAN": cleaning.clean,
 }
 
 

@@ -1,4 +1,4 @@
-"""The command `serve`: connections beside one another over one database, and pumps that let its indexes catch up.
+"""The command `serve`: connections beside one another over one database, and pumps that let its indexes catch up and clean it.
 
 One lock is held for each request, each look of a query that waits, and each round of a pump. It stores nothing.
 """
@@ -11,11 +11,11 @@ import threading
 import time
 
 from raven_tools import model
-from raven_tools.model import http_asking, http_session, keeping
+from raven_tools.model import cleaning, http_asking, http_session, keeping
 from raven_tools.model.database import Reply
 from raven_tools.model.http_reading import HttpRequest
 from raven_tools.model.limits import MAX_LOOKS
-from raven_tools.model.lines import pump_line
+from raven_tools.model.lines import answer, pump_line
 from raven_tools.model.outside import NUMBER, base_of, name_of, pairs_of
 
 # The most documents that one batch takes.
@@ -23,6 +23,10 @@ BATCH = 1_024
 # How long a nap is, and how long a client may do nothing, in seconds.
 NAP = 0.01
 SILENCE = 10
+# A connection between two requests is kept for so many pieces of so many seconds if no worker is free: for its first request, and for
+# each further one.
+PIECE = 0.2
+FIRST_PIECES, NEXT_PIECES = 5, 1
 # At the end of a connection what the client still sends is dropped, for so many seconds and bytes.
 LAST_SECONDS = 2
 LAST_BYTES = 16_777_216
@@ -71,6 +75,7 @@ class Service:
         self.options = options
         self.lock = threading.Lock()
         self.begun = 0
+        self.waiting = 0
 
     # requests
 
@@ -99,26 +104,72 @@ class Service:
             self.begun += 1
             return self.options.connections is None or self.begun <= self.options.connections
 
+    def is_full(self) -> bool:
+        """Whether each worker serves a connection, and a further one would be accepted."""
+        with self.lock:
+            return self.waiting == 0 and (self.options.connections is None or self.begun < self.options.connections)
+
+    def accepted(self, listening: socket.socket) -> socket.socket:
+        with self.lock:
+            self.waiting += 1
+        connection, _ = listening.accept()
+        with self.lock:
+            self.waiting -= 1
+        return connection
+
     def front(self, listening: socket.socket) -> None:
         while self.begins():
-            connection, _ = listening.accept()
-            with connection:
-                connection.settimeout(SILENCE)
+            with self.accepted(listening) as connection:
+                kept = Connection(self, connection)
                 try:
-                    http_session.converse(lambda: connection.recv(65_536), connection.sendall, self.replied)
+                    http_session.converse(kept.take, kept.give, self.replied)
                     hang_up(connection)
                 except OSError:
                     pass
 
     # batches
 
+    def round(self) -> bool:
+        """A batch of each index, what TIDY does, and what CLEAN does if that was due before. Whether a batch moved its index."""
+        is_due = cleaning.is_due(self.database)
+        pumped = pump_line(self.database, str(BATCH))["Pumped"]
+        http_session.tidy(self.database)
+        if is_due:
+            answer(self.database, b"CLEAN")
+        return any(step["From"] != step["To"] for step in pumped)
+
     def pump(self, is_over: collections.abc.Callable[[], bool]) -> None:
         while not is_over():
             with self.lock:
-                pumped = pump_line(self.database, str(BATCH))["Pumped"]
-                http_session.tidy(self.database)
-            if all(step["From"] == step["To"] for step in pumped):
+                is_moved = self.round()
+            if not is_moved:
                 time.sleep(NAP)
+
+
+class Connection:
+    """A client's connection, which between two requests gives way if no worker is free."""
+
+    def __init__(self, service: Service, connection: socket.socket):
+        self.service, self.connection = service, connection
+        self.kept: int | None = FIRST_PIECES
+
+    def take(self) -> bytes:
+        self.connection.settimeout(PIECE)
+        for waited in range(1, round(SILENCE / PIECE) + 1):
+            try:
+                found = self.connection.recv(65_536)
+            except TimeoutError:
+                if self.kept is not None and self.kept <= waited and self.service.is_full():
+                    raise
+            else:
+                self.kept = None
+                return found
+        raise TimeoutError
+
+    def give(self, written: bytes) -> None:
+        self.connection.settimeout(SILENCE)
+        self.connection.sendall(written)
+        self.kept = NEXT_PIECES
 
 
 def hang_up(connection: socket.socket) -> None:

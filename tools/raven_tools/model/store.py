@@ -35,9 +35,10 @@ class Store:
     last: int
     base: str = BASE
     now: int = 0  # the moment of the line that is answered
+    cleaned: int = 0  # the etag up to which tombstones were cleaned
 
     def copy(self) -> "Store":
-        return Store(dict(self.rows), self.last, self.base, self.now)
+        return Store(dict(self.rows), self.last, self.base, self.now, self.cleaned)
 
     def vector(self, etag: int) -> str:
         return vector_of(etag, self.base)
@@ -53,6 +54,16 @@ class Store:
         """The id as its row spells it, or as it was given if there is no row."""
         row = self.row(name)
         return row.spelling if row else name
+
+    def tombstones(self, upto: int) -> list[Row]:
+        """Those with an etag of at most this."""
+        return [row for row in self.rows.values() if not row.is_document() and row.etag <= upto]
+
+    def without(self, gone: list[Row], cleaned: int) -> "Store":
+        """The store without these rows. The row with the greatest etag is none of them."""
+        ids = {folded(row.spelling) for row in gone}
+        rows = {key: row for key, row in self.rows.items() if key not in ids}
+        return Store(rows, self.last, self.base, self.now, cleaned)
 
     def write(self, name: str, collection: str, body: dict[str, Json] | None) -> int:
         """Puts a row under the next etag, and gives the etag."""

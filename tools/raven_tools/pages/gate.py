@@ -12,7 +12,7 @@ from raven_tools.places import CRATES
 # In the order of the file of costs, without the costs of what is no proof.
 KINDS = ("Proof", "Tests", "Edits", "Program")
 # The budget in CPU minutes, and the lines that it is for.
-BUDGET, LINES = 360, 143_000
+BUDGET, LINES = 360, 175_000
 KEPT = re.compile(r"^rt: (\w+) is kept: ", re.MULTILINE)
 RESULT = re.compile(r"^(\d+ passed, \d+ failed.*)$", re.MULTILINE)
 

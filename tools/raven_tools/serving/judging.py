@@ -2,10 +2,11 @@
 
 import collections.abc
 import itertools
+import time
 
 from raven_tools.serving.history import History, Version, etag_of
 from raven_tools.serving.load import GROUPS, QUIET, THINGS, Definer, Log, Question, plain
-from raven_tools.servers import Client
+from raven_tools.servers import PATIENCE, Answer, Client
 
 Row = tuple[str, list[Version | None]]
 Says = collections.abc.Iterator[str]
@@ -21,6 +22,10 @@ SCOPES = {
 
 def is_document(version: Version | None) -> bool:
     return version is not None and version.body is not None
+
+
+def is_tombstone(version: Version | None) -> bool:
+    return version is not None and version.body is None
 
 
 # Rows that an answer has to show
@@ -64,6 +69,7 @@ class Judge:
         self.fresh = 0
         self.stale = 0
         self.unsure = 0
+        self.cleaned = 0  # the ids that are deleted at the end, and whose tombstones are gone
 
     # what is read
 
@@ -89,12 +95,27 @@ class Judge:
         for first, end in self.history.transactions:
             if first <= last < end:
                 yield f"the last etag was {last}, within a transaction from {first} to {end}"
-        least = greatest = 0
+        least = greatest = most = 0
         for versions in self.history.ids.values():
-            possible = [is_document(version) for version in versions.at(last)]
-            least, greatest = least + all(possible), greatest + any(possible)
+            possible = versions.at(last)
+            is_there = [is_document(version) for version in possible]
+            least, greatest, most = least + all(is_there), greatest + any(is_there), most + any(map(is_tombstone, possible))
         if not least <= question.answer.reply["CountOfDocuments"] <= greatest:
             yield f"{question.answer.reply} with last etag {last}, though there were {least} to {greatest} documents"
+        if question.answer.reply["CountOfTombstones"] > most:
+            yield f"{question.answer.reply} with last etag {last}, though there were at most {most} tombstones"
+
+    def tombstones(self, listed: list[dict], client: Client) -> Says:
+        """Those go that all indexes have read, but for the row with the last etag; and no others."""
+        upto = min([index["Etag"] for index in listed if index["Etag"]] + [self.history.last - 1])
+        deleted = [versions.all[-1] for versions in self.history.ids.values() if is_tombstone(versions.all[-1])]
+        least, greatest = sum(version.low > upto for version in deleted), sum(version.high > upto for version in deleted)
+        until = time.monotonic() + PATIENCE
+        while not least <= (left := client.stats()["CountOfTombstones"]) <= greatest and time.monotonic() < until:
+            time.sleep(0.03)
+        self.cleaned = len(deleted) - left
+        if not least <= left <= greatest:
+            yield f"{left} tombstones of {len(deleted)} are left at the end, in place of the {least} to {greatest} past {upto}"
 
     # the flag
 
@@ -113,9 +134,15 @@ class Judge:
                 yield f"{name} is said to be stale at etag {etag} up to {most}, but nothing was written past it"
             return
         if cutoff is None:
-            missed = max((v.low for v in scope if v.ended < answer.began and v.low > etag), default=None)
+            before = (v for v in scope if v.ended < answer.began and v.low > etag)
+            missed = max((v.low for v in before if etag or not self.may_be_cleaned(v, answer)), default=None)
             if missed:
                 yield f"{name} is said to be fresh at etag {etag}, though {missed} was acknowledged before the question"
+
+    def may_be_cleaned(self, version: Version, answer: Answer) -> bool:
+        """Whether nothing may be left of a write: its id was deleted then or later. It is missed by no index that has read nothing."""
+        later = (other for other in self.history.ids[version.name].all if other.low >= version.low)
+        return any(is_tombstone(other) and other.began < answer.ended for other in later)
 
     def staleness(self, question: Question) -> Says:
         yield from self.flag(question, question.value)
@@ -257,7 +284,7 @@ def judged(log: Log, definer: Definer, listed: list[dict], client: Client) -> tu
     history.end(last)
     judge = Judge(history)
     wrong = [*log.wrong, *etags_are_right(history), *counts_are_right(history, definer.own, last), *shared_are_right(log)]
-    wrong += [*indexes_are_right(listed), *documents_are_right(history, client)]
+    wrong += [*indexes_are_right(listed), *documents_are_right(history, client), *judge.tombstones(listed, client)]
     kinds = {"get": judge.get, "stats": judge.stats, "staleness": judge.staleness}
     for question in log.questions:
         wrong += kinds.get(question.kind, judge.answered)(question)

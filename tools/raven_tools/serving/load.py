@@ -30,7 +30,7 @@ REMOVED = 2
 AUTOMATIC = 3
 KINDS = 5
 TITLES = 4
-GROUP_COUNT, COUNTERS, ONCE = 5, 3, 12
+GROUP_COUNT, LOST, COUNTERS, ONCE = 5, 3, 3, 12
 
 
 @dataclasses.dataclass(frozen=True)
@@ -117,7 +117,7 @@ class Writer:
     # writes
 
     def body(self, name: str) -> Body:
-        kind, group = f"k{self.chance.randrange(KINDS)}", f"groups/{self.chance.randrange(GROUP_COUNT)}"
+        kind, group = f"k{self.chance.randrange(KINDS)}", self.chance.choice([f"groups/{self.chance.randrange(GROUP_COUNT)}", self.lost()])
         pad = "x" * self.chance.choice([0, 10, 10, 2_000])
         return tagged(THINGS, Own=name, N=self.chance.randrange(-1_000, 1_000), Kind=kind, G=group, Pad=pad)
 
@@ -237,6 +237,23 @@ class Writer:
         name, title = f"groups/{self.chance.randrange(GROUP_COUNT)}", f"t{self.chance.randrange(TITLES)}"
         self.raise_shared(name, lambda body: tagged(GROUPS, Title=title, Count=body["Count"] + 1 if body else 1))
 
+    def lost(self) -> str:
+        return f"groups/lost-{self.chance.randrange(LOST)}"
+
+    def lose(self) -> None:
+        """A document that others load is written, and mostly deleted in the same transaction, so that the etags of both are known."""
+        name, body = self.lost(), tagged(GROUPS, Title=f"t{self.chance.randrange(TITLES)}")
+        left = self.chance.choice([[body], [body, None], [body, None]])
+        put, delete = {"Type": "PUT", "Id": name, "Document": body}, {"Type": "DELETE", "Id": name}
+        answer = self.told(self.client.bulk([put, delete][: len(left)]), 201)
+        written, *deleted = answer.reply["Results"]
+        if written["Id"] != name or deleted != [{"Deleted": True, "Id": name, "Type": "DELETE"}] * (len(left) - 1):
+            raise Wrong(f"{name} was answered {answer.reply}")
+        first = self.rises(etag_of(written["ChangeVector"]))
+        self.last = first + len(deleted)
+        versions = [Version(name, GROUPS, body, etag, etag, answer.began, answer.ended) for etag, body in enumerate(left, first)]
+        self.log.history.add(*versions)
+
     def create(self) -> None:
         """A document that is created on condition that there is none: one client alone may do that."""
         name = f"once/{self.chance.randrange(ONCE)}"
@@ -260,7 +277,7 @@ class Writer:
             raise Wrong(f"{name} was written with etag {version and version.low}, but is read as {str(found)[:200]}")
 
     def see_other(self) -> None:
-        name = f"Things/{self.chance.randrange(self.number + 10)}-{self.chance.randrange(4)}"
+        name = self.chance.choice([f"Things/{self.chance.randrange(self.number + 10)}-{self.chance.randrange(4)}", self.lost()])
         self.asked("get", self.told(self.client.get(name), 200, 404), name)
 
     def see_stats(self) -> None:
@@ -316,8 +333,8 @@ class Writer:
         if not answer.reply["IsStale"] and found != expected:
             raise Wrong(f"{self.quiet} was written with etag {version.low} and N {number}; fresh up to it, N >= {least} gives {found}")
 
-    WAYS = [put, put_quiet, conflict, delete, bulk, count, rename, create, see_own, see_other, see_stats, see_staleness, query]
-    WEIGHTS = [20, 8, 2, 5, 8, 6, 3, 2, 4, 8, 3, 3, 28]
+    WAYS = [put, put_quiet, conflict, delete, bulk, count, rename, lose, create, see_own, see_other, see_stats, see_staleness, query]
+    WEIGHTS = [20, 8, 2, 7, 8, 6, 3, 4, 2, 4, 8, 3, 3, 28]
 
 
 class Definer:

@@ -101,10 +101,11 @@ def good(port: int, until: float, found: list[float]) -> str | None:
 
 
 def slow(command: Command) -> list[str]:
-    """All of these at once. There is one worker more than there are bad clients, and in the end all of them serve again."""
+    """All of these at once. There are so many workers, also while they end the connections of clients that left, that no connection has to give
+    way. In the end all of them serve again."""
     half = b"PUT /databases/db/docs?id=half HTTP/1.1\r\nContent-Length: 100\r\n\r\n" + b"x" * 50
     calls = [(silent, b""), (silent, STATS[:20]), (silent, half), (dripping,), (stuck,), (leaving,)]
-    workers = len(calls) + 1
+    workers = 48
     wrong: list[str] = []
     took: list[float] = []
 
@@ -134,6 +135,40 @@ def slow(command: Command) -> list[str]:
     if len(took) < 20:
         wrong.append(f"a client beside slow ones was served {len(took)} times")
     return wrong
+
+
+# Connections that are kept
+
+# How many clients keep a connection, and how long a request may take behind them, in seconds. If each held a worker for as long as a
+# client may do nothing, it would take 80 seconds, so a client waits for longer than is right.
+KEEPERS, BEHIND, AT_MOST = 16, 30, 60
+
+
+def idle(command: Command) -> list[str]:
+    """Clients that keep connections which they do not use hold up no other client, and find their connections closed, not a fault."""
+    wrong = []
+    with Server(command, "--workers", "2") as server:
+        with contextlib.ExitStack() as kept:
+            for _ in range(KEEPERS):
+                kept.enter_context(opened(server.port))
+            wrong += late(server.port, "that sent nothing")
+        with contextlib.ExitStack() as kept:
+            clients = [kept.enter_context(Client(server.port, AT_MOST)) for _ in range(KEEPERS)]
+            for _ in range(2):
+                for client in clients:
+                    client.stats()
+            wrong += late(server.port, "between two requests")
+        wrong += all_at_once(server.port, 2)
+    return wrong
+
+
+def late(port: int, which: str) -> list[str]:
+    """What is wrong if a request takes too long behind connections of this kind."""
+    began = time.monotonic()
+    with Client(port, AT_MOST) as client:
+        client.stats()
+    took = time.monotonic() - began
+    return [f"a request behind {KEEPERS} connections {which} took {took:.1f} s"] if took > BEHIND else []
 
 
 # Large bodies
