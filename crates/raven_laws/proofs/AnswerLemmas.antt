@@ -19,7 +19,10 @@ use Rattle.spec_index.specs.Mapping.{mapped_documents, entry_of, scratch}
 use Rattle.spec_store.specs.Commit.{Setting}
 use Rattle.spec_index.specs.World.{Slot, World, reads, serving}
 use Rattle.spec_server.specs.Replies.{Reply}
-use Rattle.spec_server.specs.Machine.{Machine, Event, AreFromClients, start, run, answer_find, has_reduce, ids_found, is_stale}
+use Rattle.spec_server.specs.Requests.{Event, AreFromClients}
+use Rattle.spec_server.specs.Courses.{Machine}
+use Rattle.spec_server.specs.Answers.{answer_find, has_reduce, ids_found, is_stale}
+use Rattle.spec_server.specs.Machine.{start, run}
 use Rattle.spec_index.specs.Find.{field_is_text, found_in}
 use Rattle.spec_server.specs.Sound.{Has, Sound}
 use Rattle.raven_laws.specs.Claims.{IsSpelledAsStored, ids_in, find_reply, FreshIsFromScratch, IdsAreSpelledAsStored}

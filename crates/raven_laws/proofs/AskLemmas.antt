@@ -12,7 +12,9 @@ use Rattle.spec_index.specs.Optimiser.{Choice, Make, Shape, Use, best, chosen, c
 use Rattle.spec_index.specs.World.{Slot, SlotRefusal, World, added, serving}
 use Rattle.index_tree.specs.Definitions.{Auto, AutoReduce}
 use Rattle.spec_server.specs.Asking.{Answered, answer_from_collection, answer_from_index, answer_picked, unless_refused}
-use Rattle.spec_server.specs.Machine.{Keeping, Machine, answer_made, answer_making, ask_course, changed, is_taken, made_name, make, same_machine, settled, with_world}
+use Rattle.spec_server.specs.Requests.{Keeping}
+use Rattle.spec_server.specs.Courses.{Machine, changed, is_taken, same_machine, settled, with_world}
+use Rattle.spec_server.specs.Indexing.{answer_made, answer_making, ask_course, made_name, make}
 use Rattle.spec_server.specs.Replies.{Reply}
 use Rattle.spec_server.specs.Shapes.{grouped_shape, path_in, plain_shape, shape_asked, sum_in}
 use Rattle.spec_server.specs.Sound.{Has, Sound}

@@ -8,7 +8,9 @@ use Rattle.spec_store.specs.Store.{Store, row_at, last}
 use Rattle.spec_store.specs.Commit.{AnyVector, Put, Delete, Refused, Server, Written, after_command, after_commands, commit, document_at, row_spelling, tombstone, with_option}
 use Rattle.spec_index.specs.World.{SlotChange}
 use Rattle.spec_server.specs.Replies.{Reply}
-use Rattle.spec_server.specs.Machine.{Keeping, Machine, Replied, changed, is_taken, rewrote, same_machine, settled, with_world}
+use Rattle.spec_server.specs.Requests.{Keeping}
+use Rattle.spec_server.specs.Courses.{Machine, Replied, changed, is_taken, same_machine, settled, with_world}
+use Rattle.spec_server.specs.Indexing.{rewrote}
 use Rattle.raven_laws.specs.Definitions.{IsRowRefused}
 use Rattle.raven_laws.specs.Writes.{IsKeeperFault, row_given}
 use Rattle.spec_store.proofs.StoreLemmas.{found_key, row_at-put}

@@ -4,7 +4,9 @@ use Rattle.std.proofs.lemmas.Bool.{leb-true, ltb-false, ltb-true}
 use Rattle.spec_store.specs.Store.{Store, last}
 use Rattle.spec_index.specs.Optimiser.{Choice, Make, Shape, Use, beats, best, better, chosen, covers, definition_of, first_free, free_name, is_fresh, pick, slot_shape, width}
 use Rattle.spec_index.specs.World.{Slot, SlotRefusal, added, serving}
-use Rattle.spec_server.specs.Machine.{Keeping, Machine, made_name, make, one_field, change_of_slots, settled, use_or_make}
+use Rattle.spec_server.specs.Requests.{Keeping}
+use Rattle.spec_server.specs.Courses.{Machine, settled}
+use Rattle.spec_server.specs.Indexing.{made_name, make, one_field, change_of_slots, use_or_make}
 use Rattle.spec_server.specs.Replies.{Reply}
 use Rattle.spec_server.specs.Sound.{Has, NumbersRise, Sound}
 use Rattle.raven_laws.specs.Choices.{AutoIsAnswered, Before, FollowsChoice, IsMakeAnswer, IsBefore, IsChosen, IsFirstFree, IsNumberedName, IsUsed, numbered_name}

@@ -1,19 +1,18 @@
 -- What a cleaning removes, and what it leaves.
-use Rattle.std.proofs.Common.{◌≡◌, ◌↔◌, ℕ, ◌≤◌, ◌<◌, ◌+◌, ◌-◌, List, [], ◌∷◌, ◌++◌, Bool, true, false, cond, nat_lt, length, Option, Some, None, Result, Ok, Err, refl, sym, ap, ◌∙◌, subst, arith, ◌⊎◌, inl, inr}
+use Rattle.std.proofs.Common.{◌≡◌, ◌↔◌, ℕ, ◌≤◌, ◌-◌, List, [], ◌∷◌, Bool, true, false, cond, length, Some, None, refl, sym, ap, ◌∙◌, subst, arith, ◌⊎◌, inl, inr}
 use Rattle.std.proofs.lemmas.Bool.Decides.{leb_tells}
 use Rattle.spec_data.specs.Rows.{Row, is_document}
-use Rattle.spec_store.specs.Store.{Store, IsStore, last, row_at, with_rows}
-use Rattle.spec_store.specs.Later.{Later, MayBeCleaned, StillHas}
-use Rattle.spec_store.specs.Cleaning.{clean, is_old_tombstone, old_tombstones}
-use Rattle.spec_index.specs.Cleaning.{clean_upto, cleaned_world, etags_reached, least}
-use Rattle.spec_index.specs.World.{Slot, World, SlotChange, SlotRefusal, define_named, remove, serving, switch}
-use Rattle.spec_store.specs.Commit.{Client, Command, Refused, Server, Written, commit}
-use Rattle.spec_query.specs.Query as query
-use Rattle.spec_index.specs.Optimiser.{Choice, Use, Make, pick}
-use Rattle.spec_server.specs.Asking.{Answered, MustMake, Ready, answer_ask}
-use Rattle.spec_server.specs.Machine.{AreFromClients, Change, Event, IsFromClient, Keeping, Line, Machine, Request, Put as PutOne, Delete as DeleteOne, Bulk, Get, Define, Remove, Auto, Find, Ask, Pump, Switch, Tidy, Clean, Stale, Indexes, Stats, Do, Publish, Read, after, ask_course, change_of_slots, cleaning, course_of, held_by, is_taken, made_name, make, one_field, pump_at, pump_for, replaced_names, rewrote, run, same_machine, single_reply, step, tidy, use_or_make, with_world, write, wrote}
-use Rattle.spec_server.specs.Replies.{Reply, Result as Done}
-use Rattle.spec_server.specs.Sound.{Has, IsMachine, Sound}
+use Rattle.spec_store.specs.Store.{Store, IsStore, last, row_at}
+use Rattle.spec_store.specs.Later.{Later, StillHas}
+use Rattle.spec_store.specs.Cleaning.{is_old_tombstone, old_tombstones}
+use Rattle.spec_index.specs.Cleaning.{clean_upto, cleaned_world, etags_reached}
+use Rattle.spec_index.specs.World.{World, serving}
+use Rattle.spec_server.specs.Requests.{AreFromClients, Event, IsFromClient, Keeping, Line, Request, Clean, Do, Publish, Read}
+use Rattle.spec_server.specs.Courses.{Change, Machine, is_taken, same_machine, with_world}
+use Rattle.spec_server.specs.Workers.{held_by}
+use Rattle.spec_server.specs.Machine.{after, course_of, run, step}
+use Rattle.spec_server.specs.Replies.{Reply}
+use Rattle.spec_server.specs.Sound.{IsMachine, Sound}
 use Rattle.raven_laws.specs.Cleaning.{CleanIsAnswered, IsCleanDone, IsOld, IsReached, Stands, WasDeleted}
 use Rattle.raven_laws.specs.Keeping.{AreTheirRows, IsDone, IsStored}
 use Rattle.raven_laws.specs.Writes.{IsKeeperFault}
@@ -22,7 +21,9 @@ use Rattle.spec_store.proofs.LaterLemmas.{StillHas-itself, StillHas-then}
 use Rattle.spec_store.proofs.CommitLemmas.{cleaned-with_rows}
 use Rattle.spec_store.proofs.CleanLemmas.{clean-iff, last-clean, not_old, old_means, past_stays}
 use Rattle.raven_laws.proofs.KeepLemmas.{changes-rows}
-use Rattle.raven_laws.proofs.MachineLemmas.{AllDo, AllLeave, clean-within, least-greatest, least-most, least-reached, making-changes, publish-store, read-world, run-Steps, settled-leaves, step-Steps, tidy-do}
+use Rattle.raven_laws.proofs.Acts.{AllDo, AllLeave, IsAct, all-acts, course-acts, leave-weaker}
+use Rattle.raven_laws.proofs.Moving.{clean-within, least-greatest, least-most, least-reached}
+use Rattle.raven_laws.proofs.MachineLemmas.{publish-store, read-world, run-Steps, settled-leaves, step-Steps}
 
 -- HOW FAR IT GOES
 
@@ -110,60 +111,22 @@ abbrev AreStored : List Change → Type 0
 AreStored [] = Unit {0}
 AreStored (c ∷ more) = (c.cleans ≡ None) × AreStored more
 
-wrote-stored : (W : World) (reply : List Done → Reply) (now : ℕ) (commands : List Command) (o : Result Written Refused) → AreStored (wrote W reply now commands o).changes
-wrote-stored W reply now commands (Err refused) = tt
-wrote-stored W reply now commands (Ok w) = (refl, tt)
+-- only a cleaning cleans
+act-stored : (now : ℕ) (r : Request) (W : World) (c : Change) → IsAct now r W c → (c.cleans ≡ None) ⊎ (r ≡ Clean)
+act-stored now r W c (IsAct.writes w is e) = inl (ap (λ (x : Change). x.cleans) e)
+act-stored now r W c (IsAct.reslots a) = inl (ap (λ (x : Change). x.cleans) a.is)
+act-stored now r W c (IsAct.advances max chosen e) = inl (ap (λ (x : Change). x.cleans) e)
+act-stored now r W c (IsAct.cleans is e) = inr is
 
-write-stored : (W : World) (reply : List Done → Reply) (now : ℕ) (commands : List Command) → AreStored (write W reply now commands).changes
-write-stored W reply now commands = wrote-stored W reply now commands (commit W.setting Client now commands W.store)
+all-stored : (now : ℕ) (r : Request) (W : World) (changes : List Change) → AllDo (IsAct now r) W changes → AreStored changes ⊎ (r ≡ Clean)
+all-stored now r W [] all = inl tt
+all-stored now r W (c ∷ more) all = elim (act-stored now r W c all.0) [
+  | inr is ↦ inr is
+  | inl here ↦ elim (all-stored now r c.world more all.1) [ inl later ↦ inl (here, later) | inr is ↦ inr is ]
+]
 
-rewrote-stored : (W : World) (reply : Reply) (c : SlotChange) (o : Result Written Refused) → AreStored (rewrote W reply c o).changes
-rewrote-stored W reply c (Err refused) = tt
-rewrote-stored W reply c (Ok w) = (refl, tt)
-
-reslotted-stored : (W : World) (now : ℕ) (reply : List ℕ → Reply) (name : List ℕ) (r : Result SlotChange SlotRefusal) → AreStored (change_of_slots W now reply name r).changes
-reslotted-stored W now reply name (Err refusal) = tt
-reslotted-stored W now reply name (Ok c) = rewrote-stored W (reply c.name) c (commit W.setting Server now c.commands W.store)
-
-auto-stored : (W : World) (now : ℕ) (c : Choice) → AreStored (use_or_make W now c).changes
-auto-stored W now (Use s) = tt
-auto-stored W now (Make shape) = reslotted-stored W now Reply.Index (made_name W shape) (make W shape)
-
-ask-stored : (W : World) (now : ℕ) (ask : query.Ask) (a : Answered) → AreStored (ask_course W now ask a).changes
-ask-stored W now ask (Ready reply) = tt
-ask-stored W now ask (MustMake shape) = subst AreStored (sym (making-changes W now ask (made_name W shape) (make W shape))) (reslotted-stored W now Reply.Index (made_name W shape) (make W shape))
-
-pump-stored : (W : World) (max : ℕ) (index : Option (List ℕ)) → AreStored (pump_for W max index).changes
-pump-stored W max None = (refl, tt)
-pump-stored W max (Some name) = by (serving W.slots name)
-  where
-    by : (there : Option Slot) → AreStored (pump_at W max name there).changes
-    by None = tt
-    by (Some s) = (refl, tt)
-
-all-stored : (W : World) (changes : List Change) → AllDo (λ V c. c.cleans ≡ None) W changes → AreStored changes
-all-stored W [] all = tt
-all-stored W (c ∷ more) all = (all.0, all-stored c.world more all.1)
-
--- the course cleans nothing, or it is that of a cleaning
-course-stored : (W : World) (now : ℕ) (request : Request) → AreStored (course_of W now request).changes ⊎ ((course_of W now request).changes ≡ cleaning (old_tombstones (clean_upto W) W.store.rows) (clean_upto W) (cleaned_world W) ∷ [])
-course-stored W now (PutOne id expected body) = inl (write-stored W single_reply now (Command.Put id expected body ∷ []))
-course-stored W now (DeleteOne id expected) = inl (write-stored W single_reply now (Command.Delete id expected ∷ []))
-course-stored W now (Bulk commands) = inl (write-stored W Reply.Bulk now commands)
-course-stored W now (Get id) = inl tt
-course-stored W now (Define name d) = inl (reslotted-stored W now Reply.Index name (define_named W name d))
-course-stored W now (Remove name) = inl (reslotted-stored W now Reply.Removed name (remove W name))
-course-stored W now (Auto collection field) = inl (auto-stored W now (pick (one_field collection field) W.store W.slots))
-course-stored W now (Find index field ws) = inl tt
-course-stored W now (Ask ask) = inl (ask-stored W now ask (answer_ask W ask))
-course-stored W now (Pump max index) = inl (pump-stored W max index)
-course-stored W now (Switch name) = inl (reslotted-stored W now (Reply.Switched (last W.store + 1)) name (switch W name))
-course-stored W now Tidy = inl (all-stored W (tidy now (replaced_names W) W []).changes
-    (tidy-do now (λ V. Unit {0}) (λ V c. c.cleans ≡ None) (λ V c w i is e. (refl, tt)) (replaced_names W) W [] tt))
-course-stored W now Clean = inr refl
-course-stored W now (Stale name cutoff) = inl tt
-course-stored W now Indexes = inl tt
-course-stored W now Stats = inl tt
+course-stored : (W : World) (now : ℕ) (r : Request) → AreStored (course_of W now r).changes ⊎ (r ≡ Clean)
+course-stored W now r = let cs = (course_of W now r).changes in all-stored now r W cs (all-acts now r W cs (course-acts W now r))
 
 -- storing rows cleans nothing
 stored-cleaned : (S : Store) (n : ℕ) (changes : List Change) → S.cleaned ≤ n → AreStored changes → AreTheirRows S changes → AllLeave (λ V. V.store.cleaned ≤ n) changes
@@ -180,18 +143,14 @@ stored-cleaned S n (c ∷ more) le all a = (here, stored-cleaned c.world.store n
 abbrev Cleans : Store → Store → Type 0
 Cleans S N = (N.cleaned ≤ S.cleaned) ⊎ (last N ≡ last S)
 
-leave-either : (P Q : World → Type 0) (changes : List Change) → ((V : World) → P V → Q V) → AllLeave P changes → AllLeave Q changes
-leave-either P Q [] by all = tt
-leave-either P Q (c ∷ more) by all = (by c.world all.0, leave-either P Q more by all.1)
-
 step-Cleans : (M : Machine) (k : Keeping) (now : ℕ) (line : Line) → Sound M.world → Cleans M.world.store (step M k now line).machine.world.store
 step-Cleans M k now (Do request) o =
     let course = course_of M.world now request in
     let S = M.world.store in
     settled-leaves (λ V. Cleans S V.store) M k course (inl (omega arith)) (elim (course-stored M.world now request) [
-      | inl all ↦ leave-either (λ V. V.store.cleaned ≤ S.cleaned) (λ V. Cleans S V.store) course.changes (λ V le. inl le)
+      | inl all ↦ leave-weaker (λ V. V.store.cleaned ≤ S.cleaned) (λ V. Cleans S V.store) (λ V le. inl le) course.changes
           (stored-cleaned S S.cleaned course.changes (omega arith) all (changes-rows M.world now (Do request)))
-      | inr one ↦ subst (AllLeave (λ V. Cleans S V.store)) (sym one) (inr (last-clean (clean_upto M.world) S o.store (clean-within M.world)), tt)
+      | inr is ↦ subst (λ r. AllLeave (λ V. Cleans S V.store) (course_of M.world now r).changes) (sym is) (inr (last-clean (clean_upto M.world) S o.store (clean-within M.world)), tt)
     ])
 step-Cleans M k now (Read worker max index) o = subst (λ (V : World). Cleans M.world.store V.store) (sym (read-world M worker max index (serving M.world.slots index))) (inl (omega arith))
 step-Cleans M k now (Publish worker) o = subst (Cleans M.world.store) (sym (publish-store M worker (held_by M.held worker))) (inl (omega arith))

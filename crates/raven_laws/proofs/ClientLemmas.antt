@@ -5,8 +5,11 @@ use Rattle.std.specs.Str.{bytes_eq, is_utf8}
 use Rattle.spec_data.specs.Data.{Data}
 use Rattle.spec_data.specs.Json.{JsonRefusal, reading}
 use Rattle.spec_store.specs.Commit.{Expect, AnyVector, Vector}
-use Rattle.spec_server.specs.Machine.{AreFromClients, Auto, Do, Event, Indexes, IsFromClient, Line, Request, Stats, Tidy, Clean}
-use Rattle.spec_server.specs.Script.{Circumstance, LineRead, ReadRefusal, UnknownLine, argument_and_rest, auto_of, bulk_read, by_command, commands_of, delete_if_of, delete_read, do_read, drop_of, event_of, find_of, get_of, id_read, is_collection, is_field, json_read, line_of, max_read, name_read, object_read, parts_read, publish_of, pump_of, pump_read, put_if_of, put_of, put_read, read_of, request_of, stale_of, switch_of, then_read, told_of, worker_read}
+use Rattle.spec_server.specs.Requests.{AreFromClients, Auto, Do, Event, Indexes, IsFromClient, Line, Request, Stats, Tidy, Clean}
+use Rattle.spec_server.specs.Words.{LineRead, ReadRefusal, UnknownLine, argument_and_rest, id_read, is_collection, is_field, json_read, max_read, name_read, object_read, parts_read, then_read, worker_read}
+use Rattle.spec_server.specs.Commands.{bulk_read, commands_of, delete_if_of, delete_read, put_if_of, put_of, put_read}
+use Rattle.spec_server.specs.Reading.{auto_of, by_command, do_read, drop_of, find_of, get_of, line_of, publish_of, pump_of, pump_read, read_of, request_of, stale_of, switch_of, told_of}
+use Rattle.spec_server.specs.Script.{Circumstance, event_of}
 
 -- what is read is a request that a client may send, or a refusal
 abbrev Fits : Result Request ReadRefusal → Type 0

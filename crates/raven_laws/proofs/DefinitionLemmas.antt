@@ -15,7 +15,11 @@ use Rattle.spec_store.specs.Commit.{Command, AnyVector, Server, after_command, c
 use Rattle.spec_index.specs.World.{Slot, SlotRefusal, World, added, added_if_room, added_to, define_at, define_beside, define_named, dropped, index_id, is_named, is_reserved_name, max_index_name, removed, row_body, serving, taken_out, unchanged, unless_refused, without}
 use Rattle.spec_server.specs.Sound.{Has, IsListed, Sound}
 use Rattle.spec_server.specs.Replies.{Reply}
-use Rattle.spec_server.specs.Machine.{Machine, Keeping, Replied, Pump, after_batch, after_batch_if_named, change_of_slots, changed, pump_at, rewrote, settled, step, Do, with_world}
+use Rattle.spec_server.specs.Requests.{Keeping, Pump, Do}
+use Rattle.spec_server.specs.Courses.{Machine, Replied, changed, settled, with_world}
+use Rattle.spec_server.specs.Indexing.{change_of_slots, rewrote}
+use Rattle.spec_server.specs.Batches.{after_batch, after_batch_if_named, pump_at}
+use Rattle.spec_server.specs.Machine.{step}
 use Rattle.raven_laws.specs.Definitions.{BatchIsAnswered, DefineIsAnswered, IsAdvanced, IsBuiltFor, IsDefineAnswer, IsDeletedRow, IsNewIndex, IsNewReplacement, IsNoIndex, IsRemoveAnswer, IsRemoved, IsReplacementDropped, IsRowRefused, MayBeGiven, OtherNamesStay, OtherSlotsStay, RemoveIsAnswered, SaysTheSame, ServesAnother, ServesIt, new_slot}
 use Rattle.raven_laws.specs.Writes.{IsKeeperFault}
 use Rattle.spec_store.proofs.StoreLemmas.{both_true, same_itself}

@@ -12,12 +12,17 @@ use Rattle.spec_index.specs.World.{Slot, SlotChange, SlotRefusal, reads, serving
 use Rattle.spec_server.specs.Asking.{Answered, MustMake, Ready, answer_ask, answer_from, answer_from_collection, answer_from_index, answer_if_bound, answer_picked, unless_refused}
 use Rattle.spec_server.specs.Replies.{Reply}
 use Rattle.spec_server.specs.Shapes.{shape_asked}
-use Rattle.spec_server.specs.Machine.{Machine, Keeping, Put, Delete, Bulk, Get, Define, Remove, Auto, Find, Ask, Pump, Switch, Tidy, Clean, Stale, Indexes, Stats, Read, Publish, Replied, answer_made, answer_making, ask_course, changed, is_taken, made_name, make, refused_at, same_machine, settled, slot_refused, step, answer_find, answer_stale, is_stale, listing, with_world, write_refused, Line, Do}
+use Rattle.spec_server.specs.Requests.{Keeping, Find, Ask, Stale, Indexes, Line, Do}
+use Rattle.spec_server.specs.Courses.{Machine, Replied, changed, is_taken, same_machine, settled, with_world}
+use Rattle.spec_server.specs.Writes.{refused_at, write_refused}
+use Rattle.spec_server.specs.Indexing.{answer_made, answer_making, ask_course, made_name, make, slot_refused}
+use Rattle.spec_server.specs.Answers.{answer_find, answer_stale, is_stale, listing}
+use Rattle.spec_server.specs.Machine.{step}
 use Rattle.spec_server.specs.Sound.{Has, Sound}
 use Rattle.raven_laws.specs.Flags.{Flag, FlagIsExact, FlagsAreExact, ShowsFlag, flag, flags_in, listed_flag}
 use Rattle.raven_laws.specs.Queries.{AsksIndex, FitsIndex}
 use Rattle.spec_store.proofs.StaleLemmas.{stale-Unseen, Unseen-stale, fresh-seen, seen-fresh}
-use Rattle.raven_laws.proofs.MachineLemmas.{CourseMoves, ask-Moves}
+use Rattle.raven_laws.proofs.Moving.{Moves, made-Moves}
 use Rattle.raven_laws.proofs.PickLemmas.{picked-has}
 use Rattle.raven_laws.proofs.SlotLemmas.{Has-map, Has-mapped, served, serves}
 use Rattle.raven_laws.proofs.QueryLemmas.{answer_by_origin, not-whole, plan-answer}
@@ -120,27 +125,28 @@ slot_none ask f name (SlotRefusal.NotFresh e n) at = at
 slot_none ask f name (SlotRefusal.NameTooLong len) at = at
 
 -- the index that a query makes is in the state after it
-made_flag : (M : Machine) (k : Keeping) (now : ℕ) (ask : query.Ask) (f : Flag) (name : List ℕ) (r : Result SlotChange SlotRefusal) → CourseMoves M.world (answer_making M.world now ask name r)
+made_flag : (M : Machine) (k : Keeping) (now : ℕ) (ask : query.Ask) (f : Flag) (name : List ℕ) (r : Result SlotChange SlotRefusal)
+    → ((c : SlotChange) (w : Written) → r ≡ Ok c → commit M.world.setting Server now c.commands M.world.store ≡ Ok w → Moves M.world (changed M.world w.store c))
     → let replied = settled M k (answer_making M.world now ask name r) in Has (flags_in (Do (Ask ask)) replied.reply) f → FlagIsExact replied.machine f
 made_flag M k now ask f name (Err refusal) moves at = absurd (slot_none ask f name refusal at)
-made_flag M k now ask f name (Ok c) moves at = by (commit M.world.setting Server now c.commands M.world.store) moves at
+made_flag M k now ask f name (Ok c) moves at = by (commit M.world.setting Server now c.commands M.world.store) refl at
   where
-    by : (o : Result Written Refused) → CourseMoves M.world (answer_made M.world ask c o)
+    by : (o : Result Written Refused) → commit M.world.setting Server now c.commands M.world.store ≡ o
         → let replied = settled M k (answer_made M.world ask c o) in Has (flags_in (Do (Ask ask)) replied.reply) f → FlagIsExact replied.machine f
-    by (Err refused) m h = absurd (write_none ask f refused h)
-    by (Ok w) m h =
+    by (Err refused) e h = absurd (write_none ask f refused h)
+    by (Ok w) e h =
         let V = changed M.world w.store c in
         let N = with_world M V in
         let yes : Replied = record { reply = answer_from_index V ask c.name (serving V.slots c.name); machine = N } in
         elim (is_taken k.takes w.rows) as (λ b. let replied : Replied = cond b yes (same_machine M (Reply.KeeperFault k.before k.after)) in Has (flags_in (Do (Ask ask)) replied.reply) f → FlagIsExact replied.machine f) [
-          | true ↦ λ g. index_flag N ask f c.name (serving V.slots c.name) (m.0).sound refl g
+          | true ↦ λ g. index_flag N ask f c.name (serving V.slots c.name) (moves c w refl e).sound refl g
           | false ↦ λ g. absurd g
         ] h
 
 ask_flag : (M : Machine) (k : Keeping) (now : ℕ) (ask : query.Ask) (f : Flag) (a : Answered) → Sound M.world → IsExactIfReady M ask f a
     → let replied = settled M k (ask_course M.world now ask a) in Has (flags_in (Do (Ask ask)) replied.reply) f → FlagIsExact replied.machine f
 ask_flag M k now ask f (Ready reply) o exact at = exact at
-ask_flag M k now ask f (MustMake shape) o exact at = made_flag M k now ask f (made_name M.world shape) (make M.world shape) (ask-Moves now M.world ask (MustMake shape) o) at
+ask_flag M k now ask f (MustMake shape) o exact at = made_flag M k now ask f (made_name M.world shape) (make M.world shape) (λ c w e g. made-Moves now M.world shape c w o e g) at
 
 -- a query on an index shows the flag under the index's own name
 asked_flag : (M : Machine) (ask : query.Ask) (s : Slot) → AsksIndex M.world ask s → FitsIndex ask s → ShowsFlag M (Do (Ask ask)) s.name ask.cutoff
@@ -154,24 +160,11 @@ asked_flag M ask s asks fits =
 -- ALL REPLIES
 
 shown_flag : (M : Machine) (k : Keeping) (now : ℕ) (line : Line) (f : Flag) → Sound M.world → Has (flags_in line (step M k now line).reply) f → FlagIsExact (step M k now line).machine f
-shown_flag M k now (Do (Put id expected body)) f o at = absurd at
-shown_flag M k now (Do (Delete id expected)) f o at = absurd at
-shown_flag M k now (Do (Bulk commands)) f o at = absurd at
-shown_flag M k now (Do (Get id)) f o at = absurd at
-shown_flag M k now (Do (Define name d)) f o at = absurd at
-shown_flag M k now (Do (Remove name)) f o at = absurd at
-shown_flag M k now (Do (Auto collection field)) f o at = absurd at
 shown_flag M k now (Do (Find index field ws)) f o at = find_flag M index field ws f (serving M.world.slots index) o refl at
 shown_flag M k now (Do (Ask ask)) f o at = ask_flag M k now ask f (answer_ask M.world ask) o (refused_flag M ask f (answer_from M.world ask) (check ask) (origin_flag M ask f ask.query.origin o)) at
-shown_flag M k now (Do (Pump max index)) f o at = absurd at
-shown_flag M k now (Do (Switch name)) f o at = absurd at
-shown_flag M k now (Do Tidy) f o at = absurd at
-shown_flag M k now (Do Clean) f o at = absurd at
 shown_flag M k now (Do (Stale name cutoff)) f o at = stale_flag M name cutoff f (serving M.world.slots name) o refl at
 shown_flag M k now (Do Indexes) f o at = listing_flag M f o at
-shown_flag M k now (Do Stats) f o at = absurd at
-shown_flag M k now (Read worker max index) f o at = absurd at
-shown_flag M k now (Publish worker) f o at = absurd at
+shown_flag M k now other f o at = absurd at
 
 pub Sound-flags : (M : Machine) → Sound M.world → FlagsAreExact M
 Sound-flags M o = record {

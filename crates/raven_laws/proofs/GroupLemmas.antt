@@ -26,7 +26,8 @@ use Rattle.spec_index.specs.World.{Slot, World, reads}
 use Rattle.spec_index.proofs.Reordering.{rows_at}
 use Rattle.spec_index.proofs.Ties.{key_order-total}
 use Rattle.spec_server.specs.Asking.{found_by, without_ids}
-use Rattle.spec_server.specs.Machine.{Machine, is_stale}
+use Rattle.spec_server.specs.Courses.{Machine}
+use Rattle.spec_server.specs.Answers.{is_stale}
 use Rattle.spec_server.specs.Shown.{shown}
 use Rattle.spec_server.specs.Sound.{Has, Sound}
 use Rattle.raven_laws.specs.Queries.{AsksIndex, FitsIndex, HasNoPage, IsEntry, IsRowOfKey, entries_in, query_reply, results_in}

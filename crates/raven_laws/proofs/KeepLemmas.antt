@@ -1,21 +1,22 @@
 -- What a keeper stores is the rows of the store.
-use Rattle.std.proofs.Common.{◌≡◌, ℕ, ◌+◌, ◌-◌, List, [], ◌∷◌, Bool, true, false, cond, Option, Some, None, Result, Ok, Err, refl, sym, ap, ◌∙◌, subst}
+use Rattle.std.proofs.Common.{◌≡◌, ℕ, ◌+◌, List, [], ◌∷◌, Bool, true, false, cond, Option, Some, None, Ok, refl, sym, ap, ◌∙◌, subst}
 use Rattle.std.specs.Option.{option_map}
 use Rattle.spec_data.specs.Folding.{folded}
 use Rattle.spec_data.specs.Rows.{Row}
 use Rattle.spec_data.specs.Kept.{all_kept}
 use Rattle.spec_store.specs.Store.{Store, last, with_row, with_rows}
 use Rattle.spec_store.specs.Cleaning.{kept_by}
-use Rattle.spec_store.specs.Commit.{AreNext, Client, Command, Put, Delete, Refused, Server, Setting, Writer, Written, commit, commit_from, document_at, refusal_of, row_of, tombstone, or_refused, with_written}
-use Rattle.spec_index.specs.Optimiser.{Choice, Use, Make, pick}
-use Rattle.spec_query.specs.Query as query
-use Rattle.spec_server.specs.Asking.{Answered, MustMake, Ready, answer_ask}
+use Rattle.spec_store.specs.Commit.{AreNext, Client, Command, Put, Delete, Server, Setting, Writer, Written, commit, commit_from, document_at, refusal_of, row_of, tombstone, or_refused, with_written}
 use Rattle.spec_server.specs.Replies as replies
-use Rattle.spec_index.specs.Cleaning.{etags_reached}
-use Rattle.spec_index.specs.World.{Slot, World, serving, SlotChange, SlotRefusal, define_named, remove, switch}
-use Rattle.spec_server.specs.Machine.{Machine, Request, Put as PutOne, Delete as DeleteOne, Bulk, Get, Define, Remove, Auto, Find, Ask, Pump, Switch, Tidy, Clean, Stale, Indexes, Stats, Line, Do, Read, Publish, Event, Keeping, Change, after, ask_course, changes_of, course_of, is_taken, held_by, made, made_name, make, one_field, pump_at, pump_for, change_of_slots, replaced_names, rewrote, tidy, run, same_machine, single_reply, step, takes_after, use_or_make, with_world, write, wrote}
+use Rattle.spec_index.specs.World.{World, serving}
+use Rattle.spec_server.specs.Requests.{Request, Line, Do, Read, Publish, Event, Keeping, commands_in}
+use Rattle.spec_server.specs.Courses.{Machine, Change, is_taken, made, same_machine, takes_after, with_world}
+use Rattle.spec_server.specs.Workers.{held_by}
+use Rattle.spec_server.specs.Machine.{after, changes_of, course_of, run, step}
 use Rattle.spec_server.specs.Script.{Given, after_lines, events_of}
-use Rattle.raven_laws.proofs.MachineLemmas.{AllDo, least-most, making-changes, publish-store, read-world, tidy-do}
+use Rattle.raven_laws.proofs.Acts.{AllDo, IsAct, all-acts, all-weaker, course-acts}
+use Rattle.raven_laws.proofs.MachineLemmas.{publish-store, read-world}
+use Rattle.raven_laws.proofs.Moving.{clean-within}
 use Rattle.raven_laws.proofs.ScriptLemmas.{lines-run}
 use Rattle.raven_laws.specs.Keeping.{AreTheirRows, IsDone, IsItsRows, changes_made, kept_after_all, stored_after}
 use Rattle.spec_store.proofs.StoreLemmas.{same_row}
@@ -63,68 +64,23 @@ commit-Adds s w now cs S new is = commit_from-Adds S 0 s w now cs (record { stor
 
 -- CHANGES
 
-wrote-rows : (W : World) (reply : List replies.Result → replies.Reply) (now : ℕ) (commands : List Command) (o : Result Written Refused)
-    → commit W.setting Client now commands W.store ≡ o → AreTheirRows W.store (wrote W reply now commands o).changes
-wrote-rows W reply now commands (Err refused) is = tt
-wrote-rows W reply now commands (Ok w) is =
-    let a = commit-Adds W.setting Client now commands W.store w is in (record { store = a.store; next = a.next }, tt)
+-- what a change is tells what it does to the store
+act-rows : (now : ℕ) (r : Request) (W : World) (c : Change) → IsAct now r W c → IsItsRows W.store c
+act-rows now r W c (IsAct.writes w is e) =
+    let a = commit-Adds W.setting Client now (commands_in r) W.store w is in subst (IsItsRows W.store) (sym e) (record { store = a.store; next = a.next })
+act-rows now r W c (IsAct.reslots a) =
+    let b = commit-Adds W.setting Server now a.slots.commands W.store a.written a.commits in subst (IsItsRows W.store) (sym a.is) (record { store = b.store; next = b.next })
+act-rows now r W c (IsAct.advances max chosen e) = subst (IsItsRows W.store) (sym e) (record { store = refl; next = tt })
+act-rows now r W c (IsAct.cleans is e) = subst (IsItsRows W.store) (sym e) (record { store = refl; rows = refl; below = clean-within W })
 
-write-rows : (W : World) (reply : List replies.Result → replies.Reply) (now : ℕ) (commands : List Command) → AreTheirRows W.store (write W reply now commands).changes
-write-rows W reply now commands = wrote-rows W reply now commands (commit W.setting Client now commands W.store) refl
-
-rewrote-rows : (W : World) (reply : replies.Reply) (c : SlotChange) (now : ℕ) (o : Result Written Refused)
-    → commit W.setting Server now c.commands W.store ≡ o → AreTheirRows W.store (rewrote W reply c o).changes
-rewrote-rows W reply c now (Err refused) is = tt
-rewrote-rows W reply c now (Ok w) is =
-    let a = commit-Adds W.setting Server now c.commands W.store w is in (record { store = a.store; next = a.next }, tt)
-
-reslotted-rows : (W : World) (now : ℕ) (reply : List ℕ → replies.Reply) (name : List ℕ) (r : Result SlotChange SlotRefusal) → AreTheirRows W.store (change_of_slots W now reply name r).changes
-reslotted-rows W now reply name (Err refusal) = tt
-reslotted-rows W now reply name (Ok c) = rewrote-rows W (reply c.name) c now (commit W.setting Server now c.commands W.store) refl
-
-auto-rows : (W : World) (now : ℕ) (c : Choice) → AreTheirRows W.store (use_or_make W now c).changes
-auto-rows W now (Use s) = tt
-auto-rows W now (Make shape) = reslotted-rows W now replies.Index (made_name W shape) (make W shape)
-
-ask-rows : (W : World) (now : ℕ) (ask : query.Ask) (a : Answered) → AreTheirRows W.store (ask_course W now ask a).changes
-ask-rows W now ask (Ready reply) = tt
-ask-rows W now ask (MustMake shape) = subst (AreTheirRows W.store) (sym (making-changes W now ask (made_name W shape) (make W shape))) (reslotted-rows W now replies.Index (made_name W shape) (make W shape))
-
-pump_at-rows : (W : World) (max : ℕ) (name : List ℕ) (there : Option Slot) → AreTheirRows W.store (pump_at W max name there).changes
-pump_at-rows W max name None = tt
-pump_at-rows W max name (Some s) = (record { store = refl; next = tt }, tt)
-
-pump_for-rows : (W : World) (max : ℕ) (index : Option (List ℕ)) → AreTheirRows W.store (pump_for W max index).changes
-pump_for-rows W max None = (record { store = refl; next = tt }, tt)
-pump_for-rows W max (Some name) = pump_at-rows W max name (serving W.slots name)
-
--- each change of a Tidy adds its rows
 all-rows : (W : World) (changes : List Change) → AllDo (λ V c. IsItsRows V.store c) W changes → AreTheirRows W.store changes
 all-rows W [] all = tt
 all-rows W (c ∷ more) all = (all.0, all-rows c.world more all.1)
 
-tidy-rows : (W : World) (now : ℕ) → AreTheirRows W.store (tidy now (replaced_names W) W []).changes
-tidy-rows W now = all-rows W (tidy now (replaced_names W) W []).changes
-    (tidy-do now (λ V. Unit {0}) (λ V c. IsItsRows V.store c) (λ V c w i is e. let a = commit-Adds V.setting Server now c.commands V.store w e in (record { store = a.store; next = a.next }, tt))
-    (replaced_names W) W [] tt)
-
 course-rows : (W : World) (now : ℕ) (request : Request) → AreTheirRows W.store (course_of W now request).changes
-course-rows W now (PutOne id expected body) = write-rows W single_reply now (Command.Put id expected body ∷ [])
-course-rows W now (DeleteOne id expected) = write-rows W single_reply now (Command.Delete id expected ∷ [])
-course-rows W now (Bulk commands) = write-rows W replies.Bulk now commands
-course-rows W now (Get id) = tt
-course-rows W now (Define name d) = reslotted-rows W now replies.Index name (define_named W name d)
-course-rows W now (Remove name) = reslotted-rows W now replies.Removed name (remove W name)
-course-rows W now (Auto collection field) = auto-rows W now (pick (one_field collection field) W.store W.slots)
-course-rows W now (Find index field ws) = tt
-course-rows W now (Ask ask) = ask-rows W now ask (answer_ask W ask)
-course-rows W now (Pump max index) = pump_for-rows W max index
-course-rows W now (Switch name) = reslotted-rows W now (replies.Switched (last W.store + 1)) name (switch W name)
-course-rows W now Tidy = tidy-rows W now
-course-rows W now Clean = (record { store = refl; rows = refl; below = least-most (last W.store - 1) (etags_reached W.slots) }, tt)
-course-rows W now (Stale name cutoff) = tt
-course-rows W now Indexes = tt
-course-rows W now Stats = tt
+course-rows W now request =
+    let cs = (course_of W now request).changes in
+    all-rows W cs (all-weaker (IsAct now request) (λ V c. IsItsRows V.store c) (act-rows now request) W cs (all-acts now request W cs (course-acts W now request)))
 
 pub changes-rows : (W : World) (now : ℕ) (line : Line) → AreTheirRows W.store (changes_of W now line)
 changes-rows W now (Do request) = course-rows W now request

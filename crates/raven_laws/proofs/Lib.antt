@@ -5,6 +5,8 @@ pub mod ListedLemmas
 pub mod LimitLemmas
 pub mod KindLemmas
 pub mod WorldLemmas
+pub mod Acts
+pub mod Moving
 pub mod MachineLemmas
 pub mod PickLemmas
 pub mod QueryLemmas

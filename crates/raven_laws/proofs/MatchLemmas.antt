@@ -8,7 +8,10 @@ use Rattle.index_tree.specs.Mapper.{mapper_of, scope_of}
 use Rattle.spec_index.specs.Mapping.{scratch}
 use Rattle.spec_index.specs.World.{Slot, serving}
 use Rattle.spec_store.specs.Commit.{Setting}
-use Rattle.spec_server.specs.Machine.{Machine, Event, AreFromClients, ids_found, is_stale, start, run}
+use Rattle.spec_server.specs.Requests.{Event, AreFromClients}
+use Rattle.spec_server.specs.Courses.{Machine}
+use Rattle.spec_server.specs.Answers.{ids_found, is_stale}
+use Rattle.spec_server.specs.Machine.{start, run}
 use Rattle.spec_index.specs.Find.{field_is_text, found_in}
 use Rattle.spec_server.specs.Sound.{Has, Sound}
 use Rattle.raven_laws.specs.Claims.{IsMatch, find_reply, ids_in, FreshIsExact}

@@ -9,7 +9,8 @@ use Rattle.std.specs.Fmt.{decimal}
 use Rattle.std.specs.Str.Parse.{AllDigits}
 use Rattle.spec_data.specs.Folding.{folded, same_key}
 use Rattle.spec_store.specs.Commit.{Setting}
-use Rattle.spec_server.specs.Machine.{Event, AreFromClients, start, run}
+use Rattle.spec_server.specs.Requests.{Event, AreFromClients}
+use Rattle.spec_server.specs.Machine.{start, run}
 use Rattle.spec_store.specs.Store.{last}
 use Rattle.spec_data.specs.Faults.{is_fit}
 use Rattle.spec_index.specs.World.{Slot, serving}

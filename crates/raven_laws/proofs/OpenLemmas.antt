@@ -21,7 +21,7 @@ use Rattle.spec_store.specs.Store.{row_at, last_of, AreRising, AreApart, IsStore
 use Rattle.index_tree.specs.Definitions.{Definition, Auto, AutoReduce, Texts}
 use Rattle.spec_store.specs.Commit.{Setting, is_index_id, stored_body}
 use Rattle.spec_index.specs.World.{Slot, new_version, index_id, row_body, path_list, text_list, text_or_null, is_automatic, is_reserved_name, begins_with_auto, begins_with_replacement}
-use Rattle.spec_server.specs.Machine.{Machine}
+use Rattle.spec_server.specs.Courses.{Machine}
 use Rattle.spec_server.specs.Opening.{OpenedFrom, and_then_some, words_of, is_path, path_of, paths_of, are_rising, paths_read, is_empty_object, is_kind, text_in, auto_read, reduce_read, texts_read, form_of, reduce_form, body_form, NoForm, ReadRow, is_defining, name_in, may_be_named, is_filed, is_too_many, is_live, is_beside, slot_of, with_slot, slots_with, slots_after, or_bad, and_then, slots_from, opened_with, rows_of}
 use Rattle.spec_store.specs.Kept.{max_body, max_etag, is_stored, document_of, document_in, body_in, is_etag, row_in, can_follow, row_if_it_follows, or_bad_row, rows_after, rows_in}
 use Rattle.spec_server.specs.Sound.{Has, Fits, NumbersRise, NamesApart, HaveTheirSlots, AreListed, IsMachine, Sound}

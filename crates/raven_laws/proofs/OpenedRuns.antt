@@ -2,7 +2,9 @@
 use Rattle.std.proofs.Common.{List, ◌++◌, sym, ◌∙◌, subst}
 use Rattle.spec_data.specs.Kept.{KeptRow}
 use Rattle.spec_store.specs.Commit.{Setting}
-use Rattle.spec_server.specs.Machine.{Machine, Event, AreFromClients, run}
+use Rattle.spec_server.specs.Requests.{Event, AreFromClients}
+use Rattle.spec_server.specs.Courses.{Machine}
+use Rattle.spec_server.specs.Machine.{run}
 use Rattle.spec_server.specs.Script.{Given, after_lines, events_of}
 use Rattle.spec_server.specs.Sound.{IsMachine, Sound, LaterW}
 use Rattle.raven_laws.specs.Claims.{FreshIsFromScratch, FreshIsExact, IdsAreSpelledAsStored}

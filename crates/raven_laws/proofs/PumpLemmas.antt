@@ -9,7 +9,10 @@ use Rattle.spec_data.specs.Tables.{Scope, in_scope}
 use Rattle.spec_store.specs.Stale.{past, batch_rows, left_over, stale}
 use Rattle.spec_index.specs.Index.{etag_after, etag_of_batch}
 use Rattle.spec_index.specs.World.{Version, Slot, reads, advanced}
-use Rattle.spec_server.specs.Machine.{Do, Event, AreFromClients, Pump, or_as_before, after_batch, pumping, is_stale, start, step, run, takes_all}
+use Rattle.spec_server.specs.Requests.{Do, Event, AreFromClients, Pump, takes_all}
+use Rattle.spec_server.specs.Batches.{or_as_before, after_batch, pumping}
+use Rattle.spec_server.specs.Answers.{is_stale}
+use Rattle.spec_server.specs.Machine.{start, step, run}
 use Rattle.spec_store.specs.Commit.{Setting}
 use Rattle.spec_server.specs.Sound.{Has}
 use Rattle.spec_store.proofs.StoreLemmas.{either_false, same_itself, found_etag}

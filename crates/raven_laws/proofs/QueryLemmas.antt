@@ -3,7 +3,7 @@ use Rattle.std.proofs.Common.{◌≡◌, ℕ, List, Bool, true, false, not, ◌&
 use Rattle.std.specs.Option.{option_map, option_or}
 use Rattle.spec_data.specs.Tables.{Table}
 use Rattle.spec_store.specs.Stale.{stale}
-use Rattle.spec_query.specs.Binding.{NoField, PlanRefusal, check, plan_of}
+use Rattle.spec_query.specs.Binding.{NoField, check, plan_of}
 use Rattle.spec_query.specs.Binding as plan
 use Rattle.spec_query.specs.Fields.{not_offered}
 use Rattle.spec_query.specs.Offering.{offered_of}
@@ -14,7 +14,10 @@ use Rattle.spec_index.specs.World.{Slot, World, reads, serving}
 use Rattle.spec_index.specs.Optimiser.{pick}
 use Rattle.spec_server.specs.Asking.{Answered, Ready, answer_ask, answer_by, answer_from_collection, answer_from_index, answer_if_bound, answer_over, answer_picked, unless_refused}
 use Rattle.spec_server.specs.Shapes.{shape_asked}
-use Rattle.spec_server.specs.Machine.{Machine, ask_course, is_stale, settled, takes_all}
+use Rattle.spec_server.specs.Requests.{takes_all}
+use Rattle.spec_server.specs.Courses.{Machine, settled}
+use Rattle.spec_server.specs.Indexing.{ask_course}
+use Rattle.spec_server.specs.Answers.{is_stale}
 use Rattle.spec_server.specs.Replies.{Reply}
 use Rattle.spec_server.specs.Sound.{Has, Sound}
 use Rattle.raven_laws.specs.Queries.{AsksIndex, FitsIndex, IsAnsweredUpTo, by_name, by_shape, query_reply}

@@ -30,7 +30,8 @@ use Rattle.spec_index.specs.World.{Slot, World, reads}
 use Rattle.spec_index.specs.Optimiser.{pick}
 use Rattle.spec_server.specs.Asking.{Ready, answer_from_collection, answer_picked, found_by, unless_refused}
 use Rattle.spec_server.specs.Shapes.{shape_asked}
-use Rattle.spec_server.specs.Machine.{Machine, has_reduce, is_stale}
+use Rattle.spec_server.specs.Courses.{Machine}
+use Rattle.spec_server.specs.Answers.{has_reduce, is_stale}
 use Rattle.spec_server.specs.Shown.{shown}
 use Rattle.spec_server.specs.Sound.{Has, Sound}
 use Rattle.raven_laws.specs.Queries.{AsksForAll, AsksIndex, FitsIndex, HasNoPage, IsFound, IsInCollection, IsShown, query_reply, results_in}

@@ -3,9 +3,12 @@ use Rattle.std.proofs.Common.{◌≡◌, List, [], ◌∷◌, ◌++◌, Some, No
 use Rattle.std.proofs.lemmas.List.Elements.{filter_map-append}
 use Rattle.std.specs.List.{cons_option}
 use Rattle.spec_store.specs.Commit.{Setting}
-use Rattle.spec_server.specs.Machine.{Machine, Event, AreFromClients, start, run}
+use Rattle.spec_server.specs.Requests.{Event, AreFromClients}
+use Rattle.spec_server.specs.Courses.{Machine}
+use Rattle.spec_server.specs.Machine.{start, run}
 use Rattle.spec_server.specs.Sound.{IsMachine, Sound, LaterW}
-use Rattle.spec_server.specs.Script.{LineRead, Circumstance, Given, event_of, left_by, after_line, after_lines, events_of}
+use Rattle.spec_server.specs.Words.{LineRead}
+use Rattle.spec_server.specs.Script.{Circumstance, Given, event_of, left_by, after_line, after_lines, events_of}
 use Rattle.raven_laws.specs.Claims.{FreshIsFromScratch, FreshIsExact, IdsAreSpelledAsStored}
 use Rattle.raven_laws.specs.Flags.{FlagsAreExact}
 use Rattle.raven_laws.proofs.MachineLemmas.{clients-append, run-IsMachine, run-Steps}

@@ -7,18 +7,23 @@ use Rattle.spec_data.specs.Faults.{replacement_of}
 use Rattle.spec_data.specs.Folding.{folded, same_key}
 use Rattle.index_tree.specs.Definitions.{Definition, same_definition}
 use Rattle.spec_store.specs.Store.{Store, last}
-use Rattle.spec_store.specs.Commit.{Client, Command, Refused, Server, Written, commit}
-use Rattle.spec_index.specs.Optimiser.{Choice, Make, Shape, Use, definition_of, is_retired, pick, retired, retirement}
-use Rattle.spec_query.specs.Query as query
-use Rattle.spec_server.specs.Asking.{Answered, MustMake, Ready, answer_ask}
+use Rattle.spec_store.specs.Commit.{Refused, Server, Written, commit}
+use Rattle.spec_index.specs.Optimiser.{definition_of, is_retired, retired, retirement}
 use Rattle.spec_index.specs.Cleaning.{cleaned_world}
 use Rattle.spec_index.specs.World.{Slot, SlotChange, SlotRefusal, World, added, added_if_room, added_to, batch, begins_with_replacement, define, define_at, define_beside, define_named, dropped, is_automatic, is_named, is_stale, name_refusal, named_anew, numbered, removed, renamed, serving, switch, taken_out, takes_over, unchanged, unless_refused, without}
-use Rattle.spec_server.specs.Replies.{Reply, Result as Done}
-use Rattle.spec_server.specs.Replies as replies
-use Rattle.spec_server.specs.Machine.{Ask, Auto, Bulk, Change, Clean, Cleaned, Course, Define, Delete, Do, Find, Get, Held, Indexes, Keeping, Line, Machine, Passed, Publish, PublishRefusal, Pump, Put, Read, Remove, Replied, Stale, Stats, Switch, Tidy, after_batch, after_batch_if_named, ask_course, change_of_slots, changed, made_name, make, course_of, held_by, in_world, is_taken, made, one_field, or_as_before, publish_by, publish_to, published, published_in, published_reply, pump_at, pump_for, replaced_names, retire, rewrote, same_machine, settled, single_reply, switch_and, takes_after, tidied, tidy, try_switch, use_or_make, with_slots, with_version, with_world, write, write_refused, wrote, put_in, was_cleaned}
+use Rattle.spec_server.specs.Replies.{Reply}
+use Rattle.spec_server.specs.Requests.{Request, Do, Keeping, Line, Publish, Read, Remove, Switch, Tidy}
+use Rattle.spec_server.specs.Courses.{Change, Course, Held, Machine, Replied, changed, in_world, is_taken, made, same_machine, settled, takes_after, with_slots, with_world}
+use Rattle.spec_server.specs.Writes.{write_refused}
+use Rattle.spec_server.specs.Indexing.{change_of_slots, made_name, replaced_names, retire, rewrote, switch_and, tidied, tidy, try_switch}
+use Rattle.spec_server.specs.Batches.{after_batch, or_as_before}
+use Rattle.spec_server.specs.Workers.{Cleaned, Passed, PublishRefusal, held_by, publish_by, publish_to, published, published_in, published_reply, with_version, put_in, was_cleaned}
+use Rattle.spec_server.specs.Machine.{course_of}
 use Rattle.spec_server.specs.Sound.{Continues, Has, IsHeld, IsMachine, LaterW, NamesApart, Sound}
 use Rattle.raven_laws.specs.Served.{IsSwitch, ServedStays, StaysOrGoes, StillServes}
-use Rattle.raven_laws.proofs.MachineLemmas.{AllDo, AllLeave, AllMove, CourseMoves, Moves, brought-Keeps, chain, made-leaves, making-changes, read-world, settled-leaves, tidy_from-Moves, tidying-Moves}
+use Rattle.raven_laws.proofs.Acts.{AllDo, AllLeave, AreActs, IsAct, IsReslot, advanced_by, batch_if, chain, course-acts}
+use Rattle.raven_laws.proofs.MachineLemmas.{made-leaves, read-world, settled-leaves}
+use Rattle.raven_laws.proofs.Moving.{AllMove, CourseMoves, Moves, kept-by-batch, reslot-Moves, tidy-Moves}
 use Rattle.raven_laws.proofs.SlotLemmas.{Has-mapped, batch-Brought, find-Has, into-filter, left_or, replacing, served, serves}
 use Rattle.raven_laws.proofs.WorldLemmas.{LaterW-itself, LaterW-then, Replaces, client-unretired, found-Replaces, one_number, past_test, r_left, same_change, switch-Switches, take-apart, taken}
 
@@ -72,27 +77,11 @@ itself W name s plain h = still W name s h
 settled-Stays : (M : Machine) (k : Keeping) (c : Course) → AllLeave (Stays M.world) c.changes → Stays M.world (settled M k c).machine.world
 settled-Stays M k c all = settled-leaves (Stays M.world) M k c (itself M.world) all
 
-wrote-Stays : (W : World) (reply : List Done → Reply) (now : ℕ) (commands : List Command) (o : Result Written Refused) → AllLeave (Stays W) (wrote W reply now commands o).changes
-wrote-Stays W reply now commands (Err refused) = tt
-wrote-Stays W reply now commands (Ok w) = (λ name s plain h. still (in_world W w.store W.slots) name s h, tt)
-
-write-Stays : (M : Machine) (k : Keeping) (reply : List Done → Reply) (now : ℕ) (commands : List Command) → Stays M.world (settled M k (write M.world reply now commands)).machine.world
-write-Stays M k reply now commands = settled-Stays M k (write M.world reply now commands) (wrote-Stays M.world reply now commands (commit M.world.setting Client now commands M.world.store))
-
 -- NEW INDEXES
 
 -- the slots of a change have each that served a name
 abbrev HasServed : World → SlotChange → Type 0
 HasServed W c = (name : List ℕ) (s : Slot) → begins_with_replacement name ≡ false → serving W.slots name ≡ Some s → serving c.slots name ≡ Some s
-
-rewrote-Stays : (W : World) (reply : Reply) (c : SlotChange) (o : Result Written Refused) → HasServed W c → AllLeave (Stays W) (rewrote W reply c o).changes
-rewrote-Stays W reply c (Err refused) has = tt
-rewrote-Stays W reply c (Ok w) has = (λ name s plain h. still (changed W w.store c) name s (has name s plain h), tt)
-
-reslotted-Stays : (W : World) (now : ℕ) (reply : List ℕ → Reply) (name : List ℕ) (r : Result SlotChange SlotRefusal) → ((c : SlotChange) → r ≡ Ok c → HasServed W c)
-    → AllLeave (Stays W) (change_of_slots W now reply name r).changes
-reslotted-Stays W now reply name (Err refusal) has = tt
-reslotted-Stays W now reply name (Ok c) has = rewrote-Stays W (reply c.name) c (commit W.setting Server now c.commands W.store) (has c refl)
 
 added-has : (W : World) (name : List ℕ) (d : Definition) → HasServed W (added W name d)
 added-has W name d = λ n s plain h. serving-append W.slots _ n s h
@@ -152,17 +141,6 @@ define_named-has W name d c o = elim (name_refusal name) as (λ r. unless_refuse
   | Some refusal ↦ λ h. absurd cc
 ]
 
-make-Stays : (W : World) (now : ℕ) (shape : Shape) → AllLeave (Stays W) (change_of_slots W now replies.Index (made_name W shape) (make W shape)).changes
-make-Stays W now shape = reslotted-Stays W now replies.Index (made_name W shape) (make W shape) (define-has W (made_name W shape) (definition_of shape))
-
-auto-Stays : (W : World) (now : ℕ) (c : Choice) → AllLeave (Stays W) (use_or_make W now c).changes
-auto-Stays W now (Use s) = tt
-auto-Stays W now (Make shape) = make-Stays W now shape
-
-ask-Stays : (W : World) (now : ℕ) (ask : query.Ask) (a : Answered) → AllLeave (Stays W) (ask_course W now ask a).changes
-ask-Stays W now ask (Ready reply) = tt
-ask-Stays W now ask (MustMake shape) = subst (AllLeave (Stays W)) (sym (making-changes W now ask (made_name W shape) (make W shape))) (make-Stays W now shape)
-
 -- BATCHES
 
 brought-Continues : (W : World) (x : Slot) (max : ℕ) → Sound W → Has W.slots x → Continues x (after_batch W.store max x)
@@ -172,36 +150,15 @@ brought-Continues W x max o h =
       | Some v ↦ λ e. let b = batch-Brought W.store x.version v max o.store (o.fits x h) e in record { number = refl; definition = b.definition; onward = b.onward; named = refl }
     ] refl
 
-pump-Stays : (W : World) (max : ℕ) → Sound W → Stays W (with_slots W (map (after_batch W.store max) W.slots))
-pump-Stays W max o name s plain h = record {
-  slot = after_batch W.store max s;
-  serves = serving-map (after_batch W.store max) W.slots name s (λ x. (brought-Keeps W.store max x).name) h;
-  continues = brought-Continues W s max o (served W.slots name s h).0;
+advanced-Stays : (W : World) (max : ℕ) (chosen : Slot → Bool) → Sound W → Stays W (advanced_by W max chosen)
+advanced-Stays W max chosen o name s plain h = record {
+  slot = batch_if W.store max chosen s;
+  serves = serving-map (batch_if W.store max chosen) W.slots name s (λ x. (kept-by-batch W.store max chosen x).name) h;
+  continues = elim (chosen s) as (λ b. Continues s (cond b (after_batch W.store max s) s)) [
+    | true ↦ brought-Continues W s max o (served W.slots name s h).0
+    | false ↦ record { number = refl; definition = refl; onward = omega arith; named = refl }
+  ];
 }
-
-if_named-name : (S : Store) (max : ℕ) (name : List ℕ) (x : Slot) → (after_batch_if_named S max name x).name ≡ x.name
-if_named-name S max name x = elim (is_named name x) as (λ b. (cond b (after_batch S max x) x).name ≡ x.name) [ true ↦ (brought-Keeps S max x).name | false ↦ refl ]
-
-if_named-Continues : (W : World) (x : Slot) (max : ℕ) (name : List ℕ) → Sound W → Has W.slots x → Continues x (after_batch_if_named W.store max name x)
-if_named-Continues W x max name o h = elim (is_named name x) as (λ b. Continues x (cond b (after_batch W.store max x) x)) [
-  | true ↦ brought-Continues W x max o h
-  | false ↦ record { number = refl; definition = refl; onward = omega arith; named = refl }
-]
-
-pump_at-Stays : (W : World) (max : ℕ) (name : List ℕ) (there : Option Slot) → Sound W → AllLeave (Stays W) (pump_at W max name there).changes
-pump_at-Stays W max name None o = tt
-pump_at-Stays W max name (Some t) o = (
-  λ n s plain h. record {
-    slot = after_batch_if_named W.store max name s;
-    serves = serving-map (after_batch_if_named W.store max name) W.slots n s (if_named-name W.store max name) h;
-    continues = if_named-Continues W s max name o (served W.slots n s h).0;
-  },
-  tt,
-)
-
-pump_for-Stays : (W : World) (max : ℕ) (index : Option (List ℕ)) → Sound W → AllLeave (Stays W) (pump_for W max index).changes
-pump_for-Stays W max None o = (pump-Stays W max o, tt)
-pump_for-Stays W max (Some name) o = pump_at-Stays W max name (serving W.slots name) o
 
 -- REMOVALS
 
@@ -420,10 +377,10 @@ tidy-go k now name names M takes done o rest c e (Ok w) f =
     let N = with_world M V in
     let all = done ++ c.name ∷ [] in
     let left = takes_after w.rows takes in
-    let m = tidying-Moves now M.world c w o (inl (name, e)) f in
+    let m = reslot-Moves now Tidy M.world c w tt o (IsReslot.switched name (inr refl) e) f in
     let x = tidy now names V all in
     elim (is_taken takes w.rows) as (λ b. Along M.world (Do Tidy) (cond b (made k N left x.changes x.reply) (same_machine M (Reply.KeeperFault k.before k.after)))) [
-      | true ↦ switched-along M V (made k N left x.changes x.reply) m (switch-one M.world name c w.store o e) (made-later k N left x (tidy_from-Moves now names V all m.sound)) (rest N left all m.sound)
+      | true ↦ switched-along M V (made k N left x.changes x.reply) m (switch-one M.world name c w.store o e) (made-later k N left x (tidy-Moves now names V all m.sound)) (rest N left all m.sound)
       | false ↦ unmade M (Reply.KeeperFault k.before k.after)
     ]
 
@@ -516,25 +473,58 @@ publish-Stays M worker (Some h) i e = by (published M.world h.number h.version) 
 
 -- ONE STEP
 
+-- the requests after which a name may be served by another index, or by none
+data Ends (r : Request) : Type 0 where
+  removes : (name : List ℕ) → r ≡ Remove name → Ends r
+  switches : (name : List ℕ) → r ≡ Switch name → Ends r
+  tidies : r ≡ Tidy → Ends r
+
+reslot-has : (r : Request) (W : World) (c : SlotChange) → Sound W → IsReslot r W c → HasServed W c ⊎ Ends r
+reslot-has r W c o (IsReslot.defined name d is e) = inl (define_named-has W name d c o e)
+reslot-has r W c o (IsReslot.made shape by e) = inl (define-has W (made_name W shape) (definition_of shape) c e)
+reslot-has r W c o (IsReslot.removed name is e) = inr (removes name is)
+reslot-has r W c o (IsReslot.switched name (inl is) e) = inr (switches name is)
+reslot-has r W c o (IsReslot.switched name (inr is) e) = inr (tidies is)
+reslot-has r W c o (IsReslot.retires is e) = inr (tidies is)
+
+has-Stays : (W V : World) → ((name : List ℕ) (s : Slot) → begins_with_replacement name ≡ false → serving W.slots name ≡ Some s → serving V.slots name ≡ Some s) → Stays W V
+has-Stays W V has name s plain h = still V name s (has name s plain h)
+
+act-Stays : (now : ℕ) (r : Request) (W : World) (c : Change) → Sound W → IsAct now r W c → Stays W c.world ⊎ Ends r
+act-Stays now r W c o (IsAct.writes w is e) = inl (subst (λ (x : Change). Stays W x.world) (sym e) (has-Stays W (in_world W w.store W.slots) (λ n x p g. g)))
+act-Stays now r W c o (IsAct.reslots a) = elim (reslot-has r W a.slots o a.by) [
+  | inl has ↦ inl (subst (λ (x : Change). Stays W x.world) (sym a.is) (has-Stays W (changed W a.written.store a.slots) has))
+  | inr ends ↦ inr ends
+]
+act-Stays now r W c o (IsAct.advances max chosen e) = inl (subst (λ (x : Change). Stays W x.world) (sym e) (advanced-Stays W max chosen o))
+act-Stays now r W c o (IsAct.cleans is e) = inl (subst (λ (x : Change). Stays W x.world) (sym e) (has-Stays W (cleaned_world W) (λ n x p g. g)))
+
+course-Stays : (now : ℕ) (r : Request) (W : World) (changes : List Change) → Sound W → AreActs now r W changes → AllLeave (Stays W) changes ⊎ Ends r
+course-Stays now r W changes o (AreActs.none e) = inl (subst (AllLeave (Stays W)) (sym e) tt)
+course-Stays now r W changes o (AreActs.one c act e) = elim (act-Stays now r W c o act) [
+  | inl stays ↦ inl (subst (AllLeave (Stays W)) (sym e) (stays, tt))
+  | inr ends ↦ inr ends
+]
+course-Stays now r W changes o (AreActs.several is all) = inr (tidies is)
+
+-- what becomes of a name at a request
+abbrev ServedBy : Machine → Keeping → ℕ → Request → List ℕ → Slot → Type 0
+ServedBy M k now r name s = StaysOrGoes M.world (Do r) (settled M k (course_of M.world now r)) name s
+
+ended : (M : Machine) (k : Keeping) (now : ℕ) (r : Request) → Ends r → Sound M.world → (name : List ℕ) (s : Slot) → begins_with_replacement name ≡ false
+    → serving M.world.slots name ≡ Some s → ServedBy M k now r name s
+ended M k now r (removes given is) o name s plain h =
+    subst (λ q. ServedBy M k now q name s) (sym is) (remove-answered M k now given (serving M.world.slots given) o refl name s plain h)
+ended M k now r (switches given is) o name s plain h = subst (λ q. ServedBy M k now q name s) (sym is) (switch-along M k now given (switch M.world given) o refl name s plain h)
+ended M k now r (tidies is) o name s plain h = subst (λ q. ServedBy M k now q name s) (sym is) (tidy-along k now (replaced_names M.world) M k.takes [] o name s plain h)
+
 pub step-served : (M : Machine) (k : Keeping) (now : ℕ) (line : Line) → IsMachine M → ServedStays M k now line
-step-served M k now (Do (Put id expected body)) i name s plain h = inl (write-Stays M k single_reply now (Command.Put id expected body ∷ []) name s plain h)
-step-served M k now (Do (Delete id expected)) i name s plain h = inl (write-Stays M k single_reply now (Command.Delete id expected ∷ []) name s plain h)
-step-served M k now (Do (Bulk commands)) i name s plain h = inl (write-Stays M k replies.Bulk now commands name s plain h)
-step-served M k now (Do (Get id)) i name s plain h = inl (still M.world name s h)
-step-served M k now (Do (Define given d)) i name s plain h =
-    inl (settled-Stays M k (course_of M.world now (Define given d)) (reslotted-Stays M.world now replies.Index given (define_named M.world given d) (λ c e. define_named-has M.world given d c i.world e)) name s plain h)
-step-served M k now (Do (Remove given)) i name s plain h = remove-answered M k now given (serving M.world.slots given) i.world refl name s plain h
-step-served M k now (Do (Auto collection field)) i name s plain h =
-    inl (settled-Stays M k (course_of M.world now (Auto collection field)) (auto-Stays M.world now (pick (one_field collection field) M.world.store M.world.slots)) name s plain h)
-step-served M k now (Do (Find index field ws)) i name s plain h = inl (still M.world name s h)
-step-served M k now (Do (Ask ask)) i name s plain h = inl (settled-Stays M k (course_of M.world now (Ask ask)) (ask-Stays M.world now ask (answer_ask M.world ask)) name s plain h)
-step-served M k now (Do (Pump max index)) i name s plain h = inl (settled-Stays M k (pump_for M.world max index) (pump_for-Stays M.world max index i.world) name s plain h)
-step-served M k now (Do (Switch given)) i name s plain h = switch-along M k now given (switch M.world given) i.world refl name s plain h
-step-served M k now (Do Tidy) i name s plain h = tidy-along k now (replaced_names M.world) M k.takes [] i.world name s plain h
-step-served M k now (Do Clean) i name s plain h = inl (settled-Stays M k (course_of M.world now Clean) ((λ n x p is. still (cleaned_world M.world) n x is), tt) name s plain h)
-step-served M k now (Do (Stale index cutoff)) i name s plain h = inl (still M.world name s h)
-step-served M k now (Do Indexes) i name s plain h = inl (still M.world name s h)
-step-served M k now (Do Stats) i name s plain h = inl (still M.world name s h)
+step-served M k now (Do request) i name s plain h =
+    let course = course_of M.world now request in
+    elim (course-Stays now request M.world course.changes i.world (course-acts M.world now request)) [
+      | inl all ↦ inl (settled-Stays M k course all name s plain h)
+      | inr ends ↦ ended M k now request ends i.world name s plain h
+    ]
 step-served M k now (Read worker max index) i name s plain h =
     inl (subst (λ (W : World). StillServes W name s) (sym (read-world M worker max index (serving M.world.slots index))) (still M.world name s h))
 step-served M k now (Publish worker) i name s plain h = inl (publish-Stays M worker (held_by M.held worker) i refl name s plain h)

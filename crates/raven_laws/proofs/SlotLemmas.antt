@@ -13,7 +13,7 @@ use Rattle.spec_store.specs.Stale.{batch_rows, newest, stale, up_to}
 use Rattle.spec_data.specs.Tables.{Scope, in_scope, note_rows}
 use Rattle.index_tree.specs.Definitions.{Definition}
 use Rattle.spec_index.specs.World.{Version, Slot, reads, new_version, advanced, batch, begins_with_auto, begins_with_replacement, is_reserved_name, replaced_name, serving, without}
-use Rattle.spec_server.specs.Machine.{was_cleaned}
+use Rattle.spec_server.specs.Workers.{was_cleaned}
 use Rattle.spec_server.specs.Sound.{Has, Fits, StillFits, NumbersRise, NamesApart, HaveTheirSlots}
 use Rattle.spec_store.proofs.StoreLemmas.{either_false, found_etag, same_itself, same_means}
 use Rattle.raven_laws.proofs.IndexLemmas.{Taken, Agrees-later, Agrees-batch, Taken-batch}

@@ -9,7 +9,9 @@ use Rattle.spec_store.specs.Store.{Store, last, row_at}
 use Rattle.spec_store.specs.Commit.{Command, AnyVector, after_command, document_at, tombstone}
 use Rattle.spec_index.specs.World.{Slot, SlotChange, SlotRefusal, begins_with_replacement, index_id, is_named, is_stale, named_anew, newest_read, reads, renamed, row_body, serving, switched, switched_to, takes_over, without}
 use Rattle.spec_server.specs.Replies.{Reply}
-use Rattle.spec_server.specs.Machine.{Keeping, Machine, Replied, change_of_slots, changed, settled, with_world}
+use Rattle.spec_server.specs.Requests.{Keeping}
+use Rattle.spec_server.specs.Courses.{Machine, Replied, changed, settled, with_world}
+use Rattle.spec_server.specs.Indexing.{change_of_slots}
 use Rattle.spec_server.specs.Sound.{Has, IsListed, Sound}
 use Rattle.raven_laws.specs.Definitions.{AreRowsAllowed, IsBuiltFor, IsDeletedRow, IsSwitchAnswer, IsSwitched, OtherNamesStay, SwitchIsAnswered}
 use Rattle.raven_laws.specs.Served.{IsSwitch}

@@ -5,11 +5,15 @@ use Rattle.spec_store.specs.Commit.{Refusal, Refused, Server, Written, commit}
 use Rattle.spec_store.specs.Store.{Store}
 use Rattle.spec_index.specs.Optimiser.{is_retired, retired, retirement}
 use Rattle.spec_index.specs.World.{Note, Slot, SlotChange, SlotRefusal, World, serving, switch, switch_note, takes_over}
-use Rattle.spec_server.specs.Machine.{Keeping, Machine, Replied, changed, is_taken, made, refused_at, replaced_names, retire, rewrote, same_machine, switch_and, takes_after, tidied, tidy, try_switch, with_world, write_refused}
+use Rattle.spec_server.specs.Requests.{Keeping, Tidy}
+use Rattle.spec_server.specs.Courses.{Machine, Replied, changed, is_taken, made, same_machine, takes_after, with_world}
+use Rattle.spec_server.specs.Writes.{refused_at, write_refused}
+use Rattle.spec_server.specs.Indexing.{replaced_names, retire, rewrote, switch_and, tidied, tidy, try_switch}
 use Rattle.spec_server.specs.Replies.{Reply}
 use Rattle.spec_server.specs.Sound.{Has, LaterW, Sound}
 use Rattle.raven_laws.specs.Served.{IsPartOf, IsRetirement, TidyIsAnswered, WasSwitched}
-use Rattle.raven_laws.proofs.MachineLemmas.{tidy_from-Moves, tidying-Moves}
+use Rattle.raven_laws.proofs.Acts.{IsReslot}
+use Rattle.raven_laws.proofs.Moving.{reslot-Moves, tidy-Moves}
 use Rattle.raven_laws.proofs.ServedLemmas.{made-later}
 use Rattle.raven_laws.proofs.SlotLemmas.{Has-filter, Has-map, passes, served, serves}
 use Rattle.raven_laws.proofs.SwitchLemmas.{switched-it}
@@ -198,10 +202,10 @@ go-Answers k now name names M takes done o rest c e (Ok w) f =
     let N = with_world M V in
     let all = done ++ c.name ∷ [] in
     let left = takes_after w.rows takes in
-    let m = tidying-Moves now M.world c w o (inl (name, e)) f in
+    let m = reslot-Moves now Tidy M.world c w tt o (IsReslot.switched name (inr refl) e) f in
     let x = tidy now names V all in
     let end = made k N left x.changes x.reply in
-    let later = made-later k N left x (tidy_from-Moves now names V all m.sound) in
+    let later = made-later k N left x (tidy-Moves now names V all m.sound) in
     let after = rest N left all m.sound in
     elim (is_taken takes w.rows) as (λ b. Answers M.world done (name ∷ names) (cond b end (same_machine M (Reply.KeeperFault k.before k.after)))) [
       | true ↦ λ gone told is. before-Tells M.world name names done c w.store end.machine.world gone told (switch-Noted M now name c w.store o e) m.later later (after gone told is)

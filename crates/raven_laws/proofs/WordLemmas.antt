@@ -5,7 +5,7 @@ use Rattle.std.proofs.lemmas.Fmt.{decimal-digits_value, decimal_is_IsNumeral, di
 use Rattle.std.proofs.lemmas.Str.Parse.{IsDigitsTest, IsNumeralModel, digits_value_short, numerals_by_fold}
 use Rattle.std.specs.Fmt.{decimal}
 use Rattle.std.specs.List.{list_all}
-use Rattle.spec_server.specs.Script.{after_space, before_space, both_parts, has_byte, is_digit, number_from, number_of, argument_and_rest}
+use Rattle.spec_server.specs.Words.{after_space, before_space, both_parts, has_byte, is_digit, number_from, number_of, argument_and_rest}
 use Rattle.raven_laws.specs.Words.{IsNumber, IsSplit, zeros}
 
 -- THE FIRST SPACE

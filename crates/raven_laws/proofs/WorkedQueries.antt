@@ -11,12 +11,14 @@ use Rattle.index_tree.specs.Mapper.{is_mapped}
 use Rattle.index_tree.specs.Meaning.{Fields}
 use Rattle.spec_query.specs.Binding.{NoField, BadPage, plan_of}
 use Rattle.spec_query.specs.Finding.{find_entries}
-use Rattle.spec_query.specs.Query.{At, Cond, Compare, CompareOp, Const, OfIndex, OfCollection, Origin, Query}
+use Rattle.spec_query.specs.Query.{At, Cond, Compare, CompareOp, Const, OfIndex, OfCollection, Origin}
 use Rattle.spec_query.specs.Query as query
 use Rattle.spec_index.specs.Mapping.{entry_of}
 use Rattle.spec_store.specs.Store.{row_at}
 use Rattle.spec_server.specs.Replies.{Answer, BadPlan, Index, NoIndex, Pumped, QueryAnswer}
-use Rattle.spec_server.specs.Machine.{Machine, Request, Do, Ask, Auto, Pump, start, step, takes_all}
+use Rattle.spec_server.specs.Requests.{Request, Do, Ask, Auto, Pump, takes_all}
+use Rattle.spec_server.specs.Courses.{Machine}
+use Rattle.spec_server.specs.Machine.{start, step}
 use Rattle.spec_store.specs.Limits.{program}
 use Rattle.spec_server.specs.Shown.{shown}
 use Rattle.spec_store.proofs.KeyedLemmas.{values-table_of}

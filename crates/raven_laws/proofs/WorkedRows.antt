@@ -15,7 +15,9 @@ use Rattle.spec_query.specs.Refusals as query
 use Rattle.spec_store.specs.Commit.{Command, AnyVector, Vector}
 use Rattle.spec_index.specs.World.{definition_data}
 use Rattle.spec_server.specs.Replies.{Result as Done, Reply, Index, Indexes, Removed, ReservedName, NameTooLong, Pumped, Pumping, Found, Answer, BadQuery, BadPlan, NoIndex, UnknownLine, Stale, Stats, Document, NoDocument, Deleted, CollectionChanged, ReservedId, Conflict, TooLong, KeeperFault, printed}
-use Rattle.spec_server.specs.Machine.{Machine, Request, Do, Put, Delete, Bulk, Get, Define, Remove, Auto, Find, Pump, Stale as AskStale, Stats as AskStats, start, step, takes_all}
+use Rattle.spec_server.specs.Requests.{Request, Do, Put, Delete, Bulk, Get, Define, Remove, Auto, Find, Pump, Stale as AskStale, Stats as AskStats, takes_all}
+use Rattle.spec_server.specs.Courses.{Machine}
+use Rattle.spec_server.specs.Machine.{start, step}
 use Rattle.spec_index.specs.Find.{found}
 use Rattle.spec_store.specs.Limits.{program}
 use Rattle.spec_store.proofs.KeyedLemmas.{values-table_of}

@@ -16,9 +16,15 @@ use Rattle.spec_data.specs.Json.{JsonRefusal, not_json, too_deep, reading, whole
 use Rattle.spec_data.specs.Scan.{is_too_deep, outside}
 use Rattle.spec_store.specs.Commit.{AnyVector, Vector}
 use Rattle.spec_server.specs.Replies.{Found, printed}
-use Rattle.spec_server.specs.Machine.{Machine, Request, Do, Delete, Get, Remove, Auto, Find, Pump, Stale, Indexes, Stats, start, takes_all}
+use Rattle.spec_server.specs.Requests.{Request, Do, Delete, Get, Remove, Auto, Find, Pump, Stale, Indexes, Stats, takes_all}
+use Rattle.spec_server.specs.Courses.{Machine}
+use Rattle.spec_server.specs.Machine.{start}
 use Rattle.spec_server.specs.Lines.{lines}
-use Rattle.spec_server.specs.Script.{ReadRefusal, UnknownLine, BadJson, BadId, BadName, BadMember, Given, argument_and_rest, do_read, told_of, then_read, put_read, json_read, request_of, line_of, LineRead, Asked, Plain, Defining, Querying, texts_of_body, index_of, plain_asking, asking_of, asking_of_body, asked_to_define, asked_to_query, asked_with, asked_of, written_for, left_by, reply_to, after_line, replies_to}
+use Rattle.spec_server.specs.Words.{ReadRefusal, UnknownLine, BadJson, BadId, BadName, BadMember, argument_and_rest, then_read, json_read, LineRead}
+use Rattle.spec_server.specs.Commands.{put_read}
+use Rattle.spec_server.specs.Reading.{do_read, told_of, request_of, line_of}
+use Rattle.spec_server.specs.Texts.{Asked, Plain, Defining, Querying, texts_of_body, index_of, plain_asking, asking_of, asking_of_body, asked_to_define, asked_to_query, asked_with, asked_of}
+use Rattle.spec_server.specs.Script.{Given, written_for, left_by, reply_to, after_line, replies_to}
 use Rattle.spec_store.specs.Limits.{program}
 use Rattle.spec_store.proofs.StoreLemmas.{both_true}
 use Rattle.spec_store.proofs.KeyedLemmas.{values-table_of}

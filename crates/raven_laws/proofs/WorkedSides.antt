@@ -4,7 +4,9 @@ use Rattle.std.specs.Fmt.{digits}
 use Rattle.spec_store.specs.Commit.{AnyVector}
 use Rattle.spec_store.specs.Limits.{program}
 use Rattle.spec_index.specs.Optimiser.{plain_name}
-use Rattle.spec_server.specs.Machine.{Ask, Auto, Clean, Do, Line, Machine, Publish, Pump, Read, Request, Stats, Tidy, start, step, takes_all}
+use Rattle.spec_server.specs.Requests.{Ask, Auto, Clean, Do, Line, Publish, Pump, Read, Request, Stats, Tidy, takes_all}
+use Rattle.spec_server.specs.Courses.{Machine}
+use Rattle.spec_server.specs.Machine.{start, step}
 use Rattle.spec_server.specs.Replies.{Reply, Index, Pumped, Tidied}
 use Rattle.raven_laws.proofs.WorkedRows.{moved, put, replies, replies_from, was_put}
 use Rattle.raven_laws.proofs.WorkedQueries.{of_users}

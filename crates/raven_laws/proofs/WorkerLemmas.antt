@@ -1,9 +1,12 @@
 -- The answers to the lines of workers.
-use Rattle.std.proofs.Common.{◌≡◌, ℕ, ◌<◌, ◌≤◌, List, [], ◌∷◌, ◌++◌, Bool, true, false, not, ◌&&◌, ◌==◌, cond, nat_lt, Option, Some, None, Ok, Err, filter, map, refl, sym, ap, ◌∙◌, subst, ◌⊎◌, inl, inr}
+use Rattle.std.proofs.Common.{◌≡◌, ℕ, ◌<◌, ◌≤◌, List, [], ◌∷◌, ◌++◌, true, false, not, ◌&&◌, ◌==◌, cond, nat_lt, Option, Some, None, Ok, Err, filter, map, refl, sym, ap, ◌∙◌, subst, ◌⊎◌, inl, inr}
 use Rattle.std.proofs.lemmas.Bool.{eq-eqb, eqb-true, ltb-true, ltb-false}
 use Rattle.std.specs.Option.{option_map}
 use Rattle.spec_index.specs.World.{Slot, Version, World, batch, numbered, serving}
-use Rattle.spec_server.specs.Machine.{Held, Keeping, Machine, Passed, Cleaned, Publish, Read, put_in, was_cleaned, held_by, let_go, publish_by, publish_to, published_in, published_reply, read_at, read_batch, step, with_slots, with_version, with_world}
+use Rattle.spec_server.specs.Requests.{Keeping, Publish, Read}
+use Rattle.spec_server.specs.Courses.{Held, Machine, with_slots, with_world}
+use Rattle.spec_server.specs.Workers.{Passed, Cleaned, put_in, was_cleaned, held_by, let_go, publish_by, publish_to, published_in, published_reply, read_at, read_batch, with_version}
+use Rattle.spec_server.specs.Machine.{step}
 use Rattle.spec_server.specs.Replies.{Reply}
 use Rattle.spec_server.specs.Sound.{Has}
 use Rattle.raven_laws.specs.Workers.{IsPublishAnswer, IsReadAnswer, LetsGo}

@@ -8,20 +8,25 @@ use Rattle.spec_data.specs.Folding.{folded, same_key}
 use Rattle.spec_data.specs.Rows.{Row, key}
 use Rattle.spec_store.specs.Store.{Store, AreApart, row_at, last, put, with_row, with_rows}
 use Rattle.spec_store.specs.Cleaning.{clean, is_old_tombstone}
-use Rattle.spec_index.specs.Cleaning.{clean_upto}
+use Rattle.spec_index.specs.Cleaning.{clean_upto, cleaned_world}
 use Rattle.index_tree.specs.Definitions.{Definition, same_definition}
 use Rattle.spec_store.specs.Commit.{Command, AnyVector, Expect, Client, Server, Setting, Refused, Written, after_command, after_commands, commit, document_at, id_of, is_index_id, row_spelling, refusal_of, row_of, tombstone, or_refused, vector_of, with_option, with_written, etags_taken}
 use Rattle.spec_server.specs.Replies.{Reply, Result as Done}
-use Rattle.spec_server.specs.Replies as replies
 use Rattle.spec_index.specs.World.{Slot, World, SlotChange, SlotRefusal, added, added_if_room, added_to, define, define_at, define_beside, define_named, dropped, index_id, name_refusal, remove, removed, serving, switch, taken_out, unchanged, unless_refused, without}
-use Rattle.spec_index.specs.Optimiser.{Choice, Shape, Use, Make, definition_of, pick, retired, retirement}
+use Rattle.spec_index.specs.Optimiser.{definition_of, pick, retired, retirement}
 use Rattle.spec_query.specs.Binding.{PlanRefusal, check}
 use Rattle.spec_query.specs.Query as query
 use Rattle.spec_query.specs.Query.{Origin, OfIndex, OfCollection, is_dynamic, is_of_index, is_whole}
-use Rattle.spec_server.specs.Asking.{Answered, MustMake, Ready, answer_ask, answer_from, answer_from_collection, answer_from_index, answer_picked, unless_refused as unless_refused_ask}
+use Rattle.spec_server.specs.Asking.{Answered, Ready, answer_ask, answer_from, answer_from_collection, answer_from_index, answer_picked, unless_refused as unless_refused_ask}
 use Rattle.spec_server.specs.Shapes.{shape_asked}
 use Rattle.raven_laws.proofs.QueryLemmas.{answer_by_origin, of_collection}
-use Rattle.spec_server.specs.Machine.{Machine, Course, Event, Keeping, Replied, Line, Do, Put, Delete, Bulk, Get, Define, Remove, Auto, Find, Ask, Pump, Switch, Tidy, Clean, Stale, Indexes, Stats, Read, Publish, after, ask_course, changed, commands_on, made_name, make, course_of, in_world, is_first_taken, is_taken, held_by, one_change, one_field, pump_at, change_of_slots, replaced_names, rewrote, tidy, run, same_machine, settled, single_reply, start, step, use_or_make, with_world, write, wrote, results_of, Change}
+use Rattle.spec_server.specs.Requests.{Event, Keeping, Line, Do, Get, Find, Ask, Pump, Stale, Indexes, Stats, Read, Publish, commands_in, Request}
+use Rattle.spec_server.specs.Courses.{Machine, Course, Replied, changed, in_world, is_first_taken, is_taken, one_change, same_machine, settled, with_world, Change}
+use Rattle.spec_server.specs.Writes.{single_reply, wrote, results_of}
+use Rattle.spec_server.specs.Indexing.{ask_course, made_name}
+use Rattle.spec_server.specs.Batches.{pump_at}
+use Rattle.spec_server.specs.Workers.{held_by}
+use Rattle.spec_server.specs.Machine.{after, course_of, run, start, step}
 use Rattle.raven_laws.specs.Writes.{row_given, AreWritten, BulkIsAnswered, DeleteIsAnswered, IsCommanded, IsDeleted, IsNotThere, IsPut, IsRefused, IsKeeperFault, IsWritten, OnlyReads, PutIsAnswered}
 use Rattle.spec_store.proofs.StoreLemmas.{AreApart-filter, AreApart-put, found_key, found_passing, row_at-put, same_itself, same_row}
 use Rattle.spec_store.proofs.CleanLemmas.{clean-rows}
@@ -29,7 +34,8 @@ use Rattle.raven_laws.specs.Keeping.{AreTheirRows, IsDone}
 use Rattle.raven_laws.proofs.KeepLemmas.{changes-rows}
 use Rattle.spec_store.proofs.CommitLemmas.{document_found, put_key}
 use Rattle.raven_laws.proofs.ListedLemmas.{commit_from-applied}
-use Rattle.raven_laws.proofs.MachineLemmas.{AllLeave, IsTidying, chain, making-changes, publish-store, read-world, settled-leaves, tidy-do}
+use Rattle.raven_laws.proofs.Acts.{AllLeave, AreActs, IsAct, IsReslot, Reslots, advanced_by, all-weaker, chain, course-acts, leave-weaker}
+use Rattle.raven_laws.proofs.MachineLemmas.{publish-store, read-world, settled-leaves}
 use Rattle.raven_laws.proofs.WorldLemmas.{same_change, past_test, switch-Switches}
 
 -- A FURTHER ROW
@@ -205,24 +211,13 @@ ask-changes-nothing : (M : Machine) (k : Keeping) (now : ℕ) (ask : query.Ask) 
 ask-changes-nothing M k now ask h = let r = still-ready M.world ask h in ap (λ a. (settled M k (ask_course M.world now ask a)).machine) r.1
 
 pub reads-change-nothing : (M : Machine) (k : Keeping) (now : ℕ) (line : Line) → OnlyReads line → (step M k now line).machine ≡ M
-reads-change-nothing M k now (Do (Put id expected body)) h = absurd h
-reads-change-nothing M k now (Do (Delete id expected)) h = absurd h
-reads-change-nothing M k now (Do (Bulk commands)) h = absurd h
 reads-change-nothing M k now (Do (Get id)) h = refl
-reads-change-nothing M k now (Do (Define name d)) h = absurd h
-reads-change-nothing M k now (Do (Remove name)) h = absurd h
-reads-change-nothing M k now (Do (Auto collection field)) h = absurd h
 reads-change-nothing M k now (Do (Find index field ws)) h = refl
 reads-change-nothing M k now (Do (Ask ask)) h = ask-changes-nothing M k now ask h
-reads-change-nothing M k now (Do (Pump max index)) h = absurd h
-reads-change-nothing M k now (Do (Switch name)) h = absurd h
-reads-change-nothing M k now (Do Tidy) h = absurd h
-reads-change-nothing M k now (Do Clean) h = absurd h
 reads-change-nothing M k now (Do (Stale name cutoff)) h = refl
 reads-change-nothing M k now (Do Indexes) h = refl
 reads-change-nothing M k now (Do Stats) h = refl
-reads-change-nothing M k now (Read worker max index) h = absurd h
-reads-change-nothing M k now (Publish worker) h = absurd h
+reads-change-nothing M k now other h = absurd h
 
 pub batches-change-no-row : (M : Machine) (k : Keeping) (now max : ℕ) (index : Option (List ℕ)) → (step M k now (Do (Pump max index))).machine.world.store ≡ M.world.store
 batches-change-no-row M k now max None = refl
@@ -297,16 +292,6 @@ indexed-Stays now W c w h e q x at not_index =
       | inr given ↦ absurd (let t = commanded-indexed now c.commands W.store x h given in cc)
     ]
 
-rewrote-Stays : (now : ℕ) (W : World) (reply : Reply) (c : SlotChange) (o : Result Written Refused) → AreIndexed c.commands
-    → commit W.setting Server now c.commands W.store ≡ o → AllLeave (Stays W) (rewrote W reply c o).changes
-rewrote-Stays now W reply c (Err refused) h e = tt
-rewrote-Stays now W reply c (Ok w) h e = (indexed-Stays now W c w h e, tt)
-
-reslotted-Stays : (now : ℕ) (W : World) (reply : List ℕ → Reply) (name : List ℕ) (r : Result SlotChange SlotRefusal) → ((c : SlotChange) → r ≡ Ok c → AreIndexed c.commands)
-    → AllLeave (Stays W) (change_of_slots W now reply name r).changes
-reslotted-Stays now W reply name (Err refusal) h = tt
-reslotted-Stays now W reply name (Ok c) h = rewrote-Stays now W (reply c.name) c (commit W.setting Server now c.commands W.store) (h c refl) refl
-
 -- the commands of each change of the indexes are of that kind
 added-indexed : (W : World) (name : List ℕ) (d : Definition) (c : SlotChange) → added_if_room W name d ≡ Ok c → AreIndexed c.commands
 added-indexed W name d c h =
@@ -367,63 +352,54 @@ retirement-indexed W = by (retired W.slots)
     by [] = tt
     by (s ∷ slots) = (refl, by slots)
 
-tidying-indexed : (W : World) (c : SlotChange) → IsTidying W c → AreIndexed c.commands
-tidying-indexed W c (inl n) = switch-indexed W n.0 c n.1
-tidying-indexed W c (inr e) = subst (λ (x : SlotChange). AreIndexed x.commands) (sym e) (retirement-indexed W)
+reslot-indexed : (r : Request) (W : World) (c : SlotChange) → IsReslot r W c → AreIndexed c.commands
+reslot-indexed r W c (IsReslot.defined name d is e) = define_named-indexed W name d c e
+reslot-indexed r W c (IsReslot.made shape by e) = define-indexed W (made_name W shape) (definition_of shape) c e
+reslot-indexed r W c (IsReslot.removed name is e) = remove-indexed W name c e
+reslot-indexed r W c (IsReslot.switched name is e) = switch-indexed W name c e
+reslot-indexed r W c (IsReslot.retires is e) = subst (λ (x : SlotChange). AreIndexed x.commands) (sym e) (retirement-indexed W)
 
-tidy-Stays : (now : ℕ) (W : World) → AllLeave (Stays W) (tidy now (replaced_names W) W []).changes
-tidy-Stays now W = chain Stays (λ A B C f g q x at not_index. f q x (g q x at not_index) not_index) W W (λ q x at not_index. at) (tidy now (replaced_names W) W []).changes
-    (tidy-do now (λ V. Unit {0}) (λ V c. Stays V c.world) (λ V c w i is e. (indexed-Stays now V c w (tidying-indexed V c is) e, tt)) (replaced_names W) W [] tt)
+reslots-Stays : (now : ℕ) (r : Request) (W : World) (c : Change) → Reslots now r W c → Stays W c.world
+reslots-Stays now r W c a =
+    subst (λ (x : Change). Stays W x.world) (sym a.is) (indexed-Stays now W a.slots a.written (reslot-indexed r W a.slots a.by) a.commits)
 
-make-Stays : (now : ℕ) (W : World) (shape : Shape) → AllLeave (Stays W) (change_of_slots W now replies.Index (made_name W shape) (make W shape)).changes
-make-Stays now W shape = reslotted-Stays now W replies.Index (made_name W shape) (make W shape) (define-indexed W (made_name W shape) (definition_of shape))
-
-auto-Stays : (now : ℕ) (W : World) (c : Choice) → AllLeave (Stays W) (use_or_make W now c).changes
-auto-Stays now W (Use s) = tt
-auto-Stays now W (Make shape) = make-Stays now W shape
-
-ask-Stays : (now : ℕ) (W : World) (ask : query.Ask) (a : Answered) → AllLeave (Stays W) (ask_course W now ask a).changes
-ask-Stays now W ask (Ready reply) = tt
-ask-Stays now W ask (MustMake shape) = subst (AllLeave (Stays W)) (sym (making-changes W now ask (made_name W shape) (make W shape))) (make-Stays now W shape)
-
--- a row of the store that a request leaves was there, or the request wrote it
+-- a document's row of the store that a request leaves was there, or the request wrote it
 abbrev Comes : World → ℕ → List Command → World → Type 0
-Comes W now commands V = (q : List ℕ) (x : Row) → row_at q V.store.rows ≡ Some x
+Comes W now commands V = (q : List ℕ) (x : Row) → row_at q V.store.rows ≡ Some x → is_index_id x.id ≡ false
     → (row_at q W.store.rows ≡ Some x) ⊎ (IsCommanded now commands W.store x × (V.store ≡ after_commands now commands W.store))
 
-wrote-Comes : (W : World) (reply : List Done → Reply) (now : ℕ) (commands : List Command) (o : Result Written Refused) → commit W.setting Client now commands W.store ≡ o
-    → AllLeave (Comes W now commands) (wrote W reply now commands o).changes
-wrote-Comes W reply now commands (Err refused) e = tt
-wrote-Comes W reply now commands (Ok w) e = (comes, tt)
-  where
-    comes : Comes W now commands (in_world W w.store W.slots)
-    comes q x h =
-        let all = commit_from-applied 0 W.setting Client now commands (record { store = W.store; rows = [] }) w e in
-        elim (after-commanded now commands W.store q x (subst (λ (S : Store). row_at q S.rows ≡ Some x) all h)) as (λ _.
-        (row_at q W.store.rows ≡ Some x) ⊎ (IsCommanded now commands W.store x × (w.store ≡ after_commands now commands W.store))) [
-          | inl there ↦ inl there
-          | inr given ↦ inr (given, all)
-        ]
+stays-Comes : (W : World) (now : ℕ) (commands : List Command) (V : World) → Stays W V → Comes W now commands V
+stays-Comes W now commands V stays q x at not_index = inl (stays q x at not_index)
 
-write-Comes : (M : Machine) (k : Keeping) (reply : List Done → Reply) (now : ℕ) (commands : List Command) → Comes M.world now commands (settled M k (write M.world reply now commands)).machine.world
-write-Comes M k reply now commands =
-    settled-leaves (Comes M.world now commands) M k (write M.world reply now commands) (λ q x h. inl h) (wrote-Comes M.world reply now commands (commit M.world.setting Client now commands M.world.store) refl)
-
--- a change that the keeper does not take leaves all as it was
-settled-Stays : (M : Machine) (k : Keeping) (c : Course) → AllLeave (Stays M.world) c.changes → Stays M.world (settled M k c).machine.world
-settled-Stays M k c all = settled-leaves (Stays M.world) M k c (λ q x at not_index. at) all
-
-step-written : (M : Machine) (e : Event) (more : List Event) (q : List ℕ) (x : Row)
-    → Comes M.world e.now (commands_on e.line) (after M e).world → row_at q (after M e).world.store.rows ≡ Some x
-    → (row_at q M.world.store.rows ≡ Some x) ⊎ IsWritten M (e ∷ more) x
-step-written M e more q x comes h = elim (comes q x h) as (λ _. (row_at q M.world.store.rows ≡ Some x) ⊎ IsWritten M (e ∷ more) x) [
-  | inl there ↦ inl there
-  | inr given ↦ inr (record { before = []; event = e; more = more; asked = refl; given = given.0; taken = given.1 })
-]
+written-Comes : (W : World) (now : ℕ) (commands : List Command) (w : Written) → commit W.setting Client now commands W.store ≡ Ok w
+    → Comes W now commands (in_world W w.store W.slots)
+written-Comes W now commands w e q x h not_index =
+    let all = commit_from-applied 0 W.setting Client now commands (record { store = W.store; rows = [] }) w e in
+    elim (after-commanded now commands W.store q x (subst (λ (S : Store). row_at q S.rows ≡ Some x) all h)) as (λ _.
+    (row_at q W.store.rows ≡ Some x) ⊎ (IsCommanded now commands W.store x × (w.store ≡ after_commands now commands W.store))) [
+      | inl there ↦ inl there
+      | inr given ↦ inr (given, all)
+    ]
 
 -- what is left by a cleaning was there
 left-found : (q : List ℕ) (S : Store) (upto : ℕ) (x : Row) → AreApart S.rows → row_at q (clean upto S).rows ≡ Some x → row_at q S.rows ≡ Some x
 left-found q S upto x apart h = (found_passing (λ r. not (is_old_tombstone upto r)) q S.rows x apart (subst (λ rows. row_at q rows ≡ Some x) (clean-rows upto S) h)).0
+
+act-Comes : (now : ℕ) (r : Request) (W : World) (c : Change) → AreApart W.store.rows → IsAct now r W c → Comes W now (commands_in r) c.world
+act-Comes now r W c apart (IsAct.writes w is e) = subst (λ (x : Change). Comes W now (commands_in r) x.world) (sym e) (written-Comes W now (commands_in r) w is)
+act-Comes now r W c apart (IsAct.reslots a) = stays-Comes W now (commands_in r) c.world (reslots-Stays now r W c a)
+act-Comes now r W c apart (IsAct.advances max chosen e) =
+    subst (λ (x : Change). Comes W now (commands_in r) x.world) (sym e) (stays-Comes W now (commands_in r) (advanced_by W max chosen) (λ q x at not_index. at))
+act-Comes now r W c apart (IsAct.cleans is e) =
+    subst (λ (x : Change). Comes W now (commands_in r) x.world) (sym e) (stays-Comes W now (commands_in r) (cleaned_world W) (λ q x at not_index. left-found q W.store (clean_upto W) x apart at))
+
+course-Comes : (now : ℕ) (r : Request) (W : World) (changes : List Change) → AreApart W.store.rows → AreActs now r W changes → AllLeave (Comes W now (commands_in r)) changes
+course-Comes now r W changes apart (AreActs.none e) = subst (AllLeave (Comes W now (commands_in r))) (sym e) tt
+course-Comes now r W changes apart (AreActs.one c act e) = subst (AllLeave (Comes W now (commands_in r))) (sym e) (act-Comes now r W c apart act, tt)
+course-Comes now r W changes apart (AreActs.several is all) =
+    leave-weaker (Stays W) (Comes W now (commands_in r)) (stays-Comes W now (commands_in r)) changes
+    (chain Stays (λ A B C f g q x at not_index. f q x (g q x at not_index) not_index) W W (λ q x at not_index. at) changes
+    (all-weaker (Reslots now r) (λ V c. Stays V c.world) (reslots-Stays now r) W changes all))
 
 -- no change gives two rows the same id
 apart-with_rows : (S : Store) (rows : List Row) → AreApart S.rows → AreApart (with_rows S rows).rows
@@ -447,29 +423,13 @@ step-apart M k now (Publish worker) h = subst (λ (T : Store). AreApart T.rows) 
 step-given : (M : Machine) (k : Keeping) (now : ℕ) (line : Line) (more : List Event) (q : List ℕ) (x : Row)
     → AreApart M.world.store.rows → row_at q (step M k now line).machine.world.store.rows ≡ Some x → is_index_id x.id ≡ false
     → (row_at q M.world.store.rows ≡ Some x) ⊎ IsWritten M (record { line = line; now = now; keeping = k } ∷ more) x
-step-given M k now (Do (Put id expected body)) more q x apart h not_index =
-    step-written M (record { line = Do (Put id expected body); now = now; keeping = k }) more q x (write-Comes M k single_reply now (Command.Put id expected body ∷ [])) h
-step-given M k now (Do (Delete id expected)) more q x apart h not_index =
-    step-written M (record { line = Do (Delete id expected); now = now; keeping = k }) more q x (write-Comes M k single_reply now (Command.Delete id expected ∷ [])) h
-step-given M k now (Do (Bulk commands)) more q x apart h not_index =
-    step-written M (record { line = Do (Bulk commands); now = now; keeping = k }) more q x (write-Comes M k Reply.Bulk now commands) h
-step-given M k now (Do (Get id)) more q x apart h not_index = inl h
-step-given M k now (Do (Define name d)) more q x apart h not_index =
-    inl (settled-Stays M k (course_of M.world now (Define name d)) (reslotted-Stays now M.world replies.Index name (define_named M.world name d) (define_named-indexed M.world name d)) q x h not_index)
-step-given M k now (Do (Remove name)) more q x apart h not_index =
-    inl (settled-Stays M k (course_of M.world now (Remove name)) (reslotted-Stays now M.world replies.Removed name (remove M.world name) (remove-indexed M.world name)) q x h not_index)
-step-given M k now (Do (Auto collection field)) more q x apart h not_index =
-    inl (settled-Stays M k (course_of M.world now (Auto collection field)) (auto-Stays now M.world (pick (one_field collection field) M.world.store M.world.slots)) q x h not_index)
-step-given M k now (Do (Find index field ws)) more q x apart h not_index = inl h
-step-given M k now (Do (Ask ask)) more q x apart h not_index = inl (settled-Stays M k (course_of M.world now (Ask ask)) (ask-Stays now M.world ask (answer_ask M.world ask)) q x h not_index)
-step-given M k now (Do (Pump max index)) more q x apart h not_index = inl (subst (λ (S : Store). row_at q S.rows ≡ Some x) (batches-change-no-row M k now max index) h)
-step-given M k now (Do (Switch name)) more q x apart h not_index =
-    inl (settled-Stays M k (course_of M.world now (Switch name)) (reslotted-Stays now M.world (Reply.Switched (last M.world.store + 1)) name (switch M.world name) (switch-indexed M.world name)) q x h not_index)
-step-given M k now (Do Tidy) more q x apart h not_index = inl (settled-Stays M k (course_of M.world now Tidy) (tidy-Stays now M.world) q x h not_index)
-step-given M k now (Do Clean) more q x apart h not_index = inl (settled-leaves (λ V. row_at q V.store.rows ≡ Some x → row_at q M.world.store.rows ≡ Some x) M k (course_of M.world now Clean) (λ at. at) ((λ at. left-found q M.world.store (clean_upto M.world) x apart at), tt) h)
-step-given M k now (Do (Stale name cutoff)) more q x apart h not_index = inl h
-step-given M k now (Do Indexes) more q x apart h not_index = inl h
-step-given M k now (Do Stats) more q x apart h not_index = inl h
+step-given M k now (Do request) more q x apart h not_index =
+    let course = course_of M.world now request in
+    let comes = course-Comes now request M.world course.changes apart (course-acts M.world now request) in
+    elim (settled-leaves (Comes M.world now (commands_in request)) M k course (λ p y at plain. inl at) comes q x h not_index) [
+      | inl there ↦ inl there
+      | inr given ↦ inr (record { before = []; event = record { line = Do request; now = now; keeping = k }; more = more; asked = refl; given = given.0; taken = given.1 })
+    ]
 step-given M k now (Read worker max index) more q x apart h not_index = inl (subst (λ (W : World). row_at q W.store.rows ≡ Some x) (read-world M worker max index (serving M.world.slots index)) h)
 step-given M k now (Publish worker) more q x apart h not_index = inl (subst (λ (S : Store). row_at q S.rows ≡ Some x) (publish-store M worker (held_by M.held worker)) h)
 

@@ -11,7 +11,10 @@ use Rattle.spec_query.specs.Query.{At, Field, OfCollection, OfIndex, Query, Sum,
 use Rattle.spec_index.specs.Optimiser.{Make, Shape, covers, definition_of, shape_of}
 use Rattle.spec_index.specs.World.{Slot}
 use Rattle.spec_server.specs.Asking.{answer_by, answer_from_collection}
-use Rattle.spec_server.specs.Machine.{Ask, Do, Keeping, Machine, Replied, made_name, same_machine, step}
+use Rattle.spec_server.specs.Requests.{Ask, Do, Keeping}
+use Rattle.spec_server.specs.Courses.{Machine, Replied, same_machine}
+use Rattle.spec_server.specs.Indexing.{made_name}
+use Rattle.spec_server.specs.Machine.{step}
 use Rattle.spec_server.specs.Replies.{Reply}
 use Rattle.spec_server.specs.Shapes.{shape_asked}
 use Rattle.spec_server.specs.Sound.{Has}

@@ -9,7 +9,10 @@ use Rattle.spec_data.specs.Members.{Path}
 use Rattle.index_tree.specs.Mapper.{joined}
 use Rattle.spec_index.specs.Optimiser.{Choice, Make, Shape, Use, covers, definition_of, is_alike, is_fresh, is_retired, path_order, slot_shape, width}
 use Rattle.spec_index.specs.World.{Slot, index_id, row_body, serving}
-use Rattle.spec_server.specs.Machine.{Auto, Keeping, Machine, Replied, made_name, one_field, same_machine, step, Do}
+use Rattle.spec_server.specs.Requests.{Auto, Keeping, Do}
+use Rattle.spec_server.specs.Courses.{Machine, Replied, same_machine}
+use Rattle.spec_server.specs.Indexing.{made_name, one_field}
+use Rattle.spec_server.specs.Machine.{step}
 use Rattle.spec_server.specs.Replies.{Reply}
 use Rattle.spec_server.specs.Sound.{Has}
 use Rattle.raven_laws.specs.Definitions.{IsNewIndex, IsRowRefused}

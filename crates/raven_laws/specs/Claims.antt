@@ -17,7 +17,10 @@ use Rattle.spec_index.specs.Reduces.{reduce_of}
 use Rattle.spec_index.specs.World.{Slot, reads, serving}
 use Rattle.spec_server.specs.Asking.{answer_by}
 use Rattle.spec_server.specs.Replies.{Reply, Found}
-use Rattle.spec_server.specs.Machine.{Machine, Do, Find, step, takes_all, has_reduce, ids_found, is_stale}
+use Rattle.spec_server.specs.Requests.{Do, Find, takes_all}
+use Rattle.spec_server.specs.Courses.{Machine}
+use Rattle.spec_server.specs.Answers.{has_reduce, ids_found, is_stale}
+use Rattle.spec_server.specs.Machine.{step}
 use Rattle.spec_index.specs.Find.{field_is_text}
 use Rattle.spec_server.specs.Sound.{Has}
 use Rattle.raven_laws.specs.Queries.{AsksForAll, AsksIndex, FitsIndex, HasNoPage, IsAnsweredUpTo, IsFound, IsInCollection, IsRowOfKey, query_reply, results_in}

@@ -5,7 +5,9 @@ use Rattle.spec_store.specs.Store.{Store, row_at, last}
 use Rattle.spec_store.specs.Cleaning.{old_tombstones}
 use Rattle.spec_index.specs.Cleaning.{clean_upto}
 use Rattle.spec_index.specs.World.{Slot, World}
-use Rattle.spec_server.specs.Machine.{Clean, Do, Event, Keeping, Machine, Replied, is_taken, run, same_machine, step}
+use Rattle.spec_server.specs.Requests.{Clean, Do, Event, Keeping}
+use Rattle.spec_server.specs.Courses.{Machine, Replied, is_taken, same_machine}
+use Rattle.spec_server.specs.Machine.{run, step}
 use Rattle.spec_server.specs.Replies.{Reply}
 use Rattle.spec_server.specs.Sound.{Has}
 use Rattle.raven_laws.specs.Writes.{IsKeeperFault}

@@ -13,7 +13,11 @@ use Rattle.spec_store.specs.Commit.{Command, AnyVector, Server, Refused, Written
 use Rattle.spec_index.specs.World.{Slot, SlotChange, define_named, index_id, is_named, is_reserved_name, is_stale, max_index_name, named_anew, newest_read, row_body, serving, taken_out, takes_over}
 use Rattle.spec_server.specs.Sound.{Has, IsListed}
 use Rattle.spec_server.specs.Replies.{Reply}
-use Rattle.spec_server.specs.Machine.{Machine, Keeping, Replied, Define, Remove, Switch, Pump, after_batch, is_taken, pumping, same_machine, step, write_refused, Do}
+use Rattle.spec_server.specs.Requests.{Keeping, Define, Remove, Switch, Pump, Do}
+use Rattle.spec_server.specs.Courses.{Machine, Replied, is_taken, same_machine}
+use Rattle.spec_server.specs.Writes.{write_refused}
+use Rattle.spec_server.specs.Batches.{after_batch, pumping}
+use Rattle.spec_server.specs.Machine.{step}
 use Rattle.raven_laws.specs.Served.{IsSwitch}
 use Rattle.raven_laws.specs.Writes.{IsKeeperFault}
 

@@ -6,7 +6,9 @@ use Rattle.spec_query.specs.Query.{is_whole}
 use Rattle.spec_index.specs.World.{Slot, reads, serving}
 use Rattle.spec_server.specs.Replies.{Reply, Listing, QueryAnswer, Found, Answer}
 use Rattle.spec_server.specs.Replies as replies
-use Rattle.spec_server.specs.Machine.{Machine, Line, Do, Find, Ask, Stale, Indexes, Keeping, step, takes_all}
+use Rattle.spec_server.specs.Requests.{Line, Do, Find, Ask, Stale, Indexes, Keeping, takes_all}
+use Rattle.spec_server.specs.Courses.{Machine}
+use Rattle.spec_server.specs.Machine.{step}
 use Rattle.spec_server.specs.Sound.{Has}
 use Rattle.raven_laws.specs.Queries.{AsksIndex, FitsIndex}
 

@@ -4,7 +4,9 @@ use Rattle.spec_data.specs.Kept.{KeptRow}
 use Rattle.spec_store.specs.Cleaning.{clean, kept_by, old_tombstones}
 use Rattle.spec_store.specs.Commit.{AreNext}
 use Rattle.spec_store.specs.Store.{Store, last, with_rows}
-use Rattle.spec_server.specs.Machine.{Machine, Change, Event, after, changes_of, is_taken, takes_after}
+use Rattle.spec_server.specs.Requests.{Event}
+use Rattle.spec_server.specs.Courses.{Machine, Change, is_taken, takes_after}
+use Rattle.spec_server.specs.Machine.{after, changes_of}
 
 -- the store of a change is the one before it with the rows of the change, whose etags go on from its last
 pub record IsStored (S : Store) (c : Change) : Type 0 where

@@ -4,7 +4,7 @@ use Rattle.spec_data.specs.Kept.{KeptRow}
 use Rattle.spec_data.specs.Rows.{Body, doc, gone}
 use Rattle.spec_store.specs.Commit.{Setting}
 use Rattle.spec_server.specs.Opening.{OpenedFrom, BodyForm, NoForm, AutoForm, StaticForm, ReadRow, body_form, is_defining}
-use Rattle.spec_server.specs.Machine.{Machine}
+use Rattle.spec_server.specs.Courses.{Machine}
 use Rattle.index_tree.specs.Definitions.{Definition, Static, Texts}
 use Rattle.index_tree.specs.declared.map_query.MapQuery.{MapQuery}
 use Rattle.index_tree.specs.declared.reduce_query.ReduceQuery.{ReduceQuery}

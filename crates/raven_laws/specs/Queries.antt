@@ -25,7 +25,9 @@ use Rattle.spec_index.specs.World.{Slot, World, reads, serving}
 use Rattle.spec_server.specs.Asking.{answer_by}
 use Rattle.spec_server.specs.Shapes.{shape_asked}
 use Rattle.spec_server.specs.Replies.{Reply, Answer}
-use Rattle.spec_server.specs.Machine.{Machine, Do, Ask, step, takes_all}
+use Rattle.spec_server.specs.Requests.{Do, Ask, takes_all}
+use Rattle.spec_server.specs.Courses.{Machine}
+use Rattle.spec_server.specs.Machine.{step}
 use Rattle.spec_server.specs.Shown.{shown}
 
 abbrev pub query_reply : Machine → query.Ask → Reply

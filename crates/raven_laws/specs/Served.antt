@@ -5,7 +5,10 @@ use Rattle.spec_data.specs.Folding.{folded}
 use Rattle.spec_store.specs.Store.{last}
 use Rattle.spec_index.specs.Optimiser as optimiser
 use Rattle.spec_index.specs.World.{Note, Slot, World, begins_with_replacement, is_automatic, is_stale, named_anew, serving, switch_note}
-use Rattle.spec_server.specs.Machine.{Do, Keeping, Line, Machine, Replied, Remove, Tidy, replaced_names, step}
+use Rattle.spec_server.specs.Requests.{Do, Keeping, Line, Remove, Tidy}
+use Rattle.spec_server.specs.Courses.{Machine, Replied}
+use Rattle.spec_server.specs.Indexing.{replaced_names}
+use Rattle.spec_server.specs.Machine.{step}
 use Rattle.spec_server.specs.Replies.{Reply}
 use Rattle.spec_server.specs.Sound.{Continues, Has, LaterW}
 

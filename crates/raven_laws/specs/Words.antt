@@ -1,7 +1,7 @@
 -- What the arguments of a line and its numbers are.
 use Rattle.std.specs.Prelude.{◌≡◌, ℕ, zero, suc, ◌<◌, ◌≤◌, ◌^◌, List, [], ◌∷◌, ◌++◌, false, length}
 use Rattle.std.specs.Fmt.{decimal}
-use Rattle.spec_server.specs.Script.{has_byte}
+use Rattle.spec_server.specs.Words.{has_byte}
 
 -- the text is a word without a space, one space, and the rest, both with a byte
 pub record IsSplit (text word rest : List ℕ) : Type 0 where

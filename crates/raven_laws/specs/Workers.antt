@@ -1,7 +1,8 @@
 -- What the laws claim of what workers read and publish.
 use Rattle.std.specs.Prelude.{◌≡◌, ℕ, ◌<◌, ◌≤◌, List, Some, None, ◌⊎◌}
 use Rattle.spec_index.specs.World.{Slot, Version, batch, numbered, serving}
-use Rattle.spec_server.specs.Machine.{Held, Machine, Replied, held_by, same_machine}
+use Rattle.spec_server.specs.Courses.{Held, Machine, Replied, same_machine}
+use Rattle.spec_server.specs.Workers.{held_by}
 use Rattle.spec_server.specs.Replies.{Reply}
 use Rattle.spec_server.specs.Sound.{Has}
 use Rattle.raven_laws.specs.Definitions.{IsNoIndex}

@@ -7,7 +7,10 @@ use Rattle.spec_store.specs.Store.{Store, row_at, last}
 use Rattle.spec_store.specs.Commit.{Command, Expect, Client, Refused, Written, after_commands, collection_of, commit, document_at, etags_taken, refusal_of, row_of, stored_body, tombstone, vector_of}
 use Rattle.spec_query.specs.Query.{is_dynamic}
 use Rattle.spec_server.specs.Replies.{Reply}
-use Rattle.spec_server.specs.Machine.{Machine, Event, Keeping, Replied, Line, Do, Put, Delete, Bulk, Get, Find, Ask, Stale, Indexes, Stats, after, commands_on, is_first_taken, is_taken, results_of, run, same_machine, spelling, step, write_refused}
+use Rattle.spec_server.specs.Requests.{Event, Keeping, Line, Do, Put, Delete, Bulk, Get, Find, Ask, Stale, Indexes, Stats, commands_on}
+use Rattle.spec_server.specs.Courses.{Machine, Replied, is_first_taken, is_taken, same_machine}
+use Rattle.spec_server.specs.Writes.{results_of, spelling, write_refused}
+use Rattle.spec_server.specs.Machine.{after, run, step}
 
 -- the row that a Put writes: the stored body under the next etag
 abbrev pub row_given : Store → ℕ → List ℕ → Data → Row

@@ -6,7 +6,9 @@ ghost use Rattle.spec_store.specs.Store.{IsStore, Store, last, row_at};
 ghost use Rattle.spec_store.specs.Later.{Later, StillHas};
 ghost use Rattle.spec_index.specs.Cleaning.{clean_upto, cleaned_world};
 ghost use Rattle.spec_index.specs.World.{Version, World};
-ghost use Rattle.spec_server.specs.Machine.{AreFromClients, Event, Keeping, Machine, run};
+ghost use Rattle.spec_server.specs.Requests.{AreFromClients, Event, Keeping};
+ghost use Rattle.spec_server.specs.Courses.{Machine};
+ghost use Rattle.spec_server.specs.Machine.{run};
 ghost use Rattle.spec_server.specs.Sound.{Fits, IsMachine, LaterW, Sound};
 ghost use Rattle.raven_laws.specs.Cleaning.{CleanIsAnswered, IsReached, Stands, WasDeleted};
 

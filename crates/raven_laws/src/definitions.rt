@@ -2,7 +2,9 @@
 
 ghost use Rattle.std.specs.Prelude.{◌≡◌, ◌↔◌, ◌<◌, ◌^◌, ℕ, List, Some, true};
 ghost use Rattle.index_tree.specs.Definitions.{same_definition, Definition};
-ghost use Rattle.spec_server.specs.Machine.{Do, Keeping, Machine, Pump, step};
+ghost use Rattle.spec_server.specs.Requests.{Do, Keeping, Pump};
+ghost use Rattle.spec_server.specs.Courses.{Machine};
+ghost use Rattle.spec_server.specs.Machine.{step};
 ghost use Rattle.spec_server.specs.Sound.{Sound};
 ghost use Rattle.raven_laws.specs.Choices.{AutoIsAnswered};
 ghost use Rattle.raven_laws.specs.Definitions.{BatchIsAnswered, DefineIsAnswered, OtherSlotsStay, RemoveIsAnswered, SaysTheSame, SwitchIsAnswered};

@@ -2,8 +2,11 @@
 
 ghost use Rattle.std.specs.Prelude.{◌≡◌, ◌↔◌, ◌++◌, ℕ, List, Some};
 ghost use Rattle.spec_store.specs.Commit.{Setting};
-ghost use Rattle.spec_server.specs.Machine.{AreFromClients, Machine, run, start};
-ghost use Rattle.spec_server.specs.Script.{Given, after_lines, events_of, number_of, argument_and_rest};
+ghost use Rattle.spec_server.specs.Requests.{AreFromClients};
+ghost use Rattle.spec_server.specs.Courses.{Machine};
+ghost use Rattle.spec_server.specs.Machine.{run, start};
+ghost use Rattle.spec_server.specs.Words.{number_of, argument_and_rest};
+ghost use Rattle.spec_server.specs.Script.{Given, after_lines, events_of};
 ghost use Rattle.spec_server.specs.Sound.{LaterW, Sound};
 ghost use Rattle.raven_laws.specs.Words.{IsNumber, IsSplit};
 ghost use Rattle.raven_laws.specs.Claims.{FreshIsExact, FreshIsFromScratch, IdsAreSpelledAsStored};

@@ -2,7 +2,10 @@
 
 ghost use Rattle.std.specs.Prelude.{◌≡◌, ℕ, List, Ok};
 ghost use Rattle.spec_index.specs.World.{World};
-ghost use Rattle.spec_server.specs.Machine.{Held, Keeping, Machine, Publish, Read, published, step};
+ghost use Rattle.spec_server.specs.Requests.{Keeping, Publish, Read};
+ghost use Rattle.spec_server.specs.Courses.{Held, Machine};
+ghost use Rattle.spec_server.specs.Workers.{published};
+ghost use Rattle.spec_server.specs.Machine.{step};
 ghost use Rattle.spec_server.specs.Sound.{IsHeld, LaterW, Sound};
 ghost use Rattle.raven_laws.specs.Workers.{IsPublishAnswer, IsReadAnswer};
 

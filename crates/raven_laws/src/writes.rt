@@ -5,7 +5,9 @@ ghost use Rattle.spec_data.specs.Data.{Data};
 ghost use Rattle.spec_data.specs.Rows.{Row};
 ghost use Rattle.spec_store.specs.Store.{row_at};
 ghost use Rattle.spec_store.specs.Commit.{Command, Expect, Setting, is_index_id};
-ghost use Rattle.spec_server.specs.Machine.{Do, Event, Keeping, Line, Machine, Pump, run, start, step};
+ghost use Rattle.spec_server.specs.Requests.{Do, Event, Keeping, Line, Pump};
+ghost use Rattle.spec_server.specs.Courses.{Machine};
+ghost use Rattle.spec_server.specs.Machine.{run, start, step};
 ghost use Rattle.raven_laws.specs.Writes.{BulkIsAnswered, DeleteIsAnswered, IsWritten, PutIsAnswered, OnlyReads};
 
 /// A Put is refused for a stated cause and changes nothing; or the keeper failed and nothing changes; or the store has the given document,

@@ -4,7 +4,9 @@ use Rattle.index_tree.specs.Language.{LangRefusal}
 use Rattle.index_tree.specs.Definitions.{Definition, Texts}
 use Rattle.spec_query.specs.Query.{Query}
 use Rattle.spec_query.specs.Refusals.{QueryRefusal}
-use Rattle.spec_server.specs.Script.{Asked, Asking, Plain, Defining, Querying, Given, LineRead, asked_by_text, asked_of, defined_by}
+use Rattle.spec_server.specs.Words.{LineRead}
+use Rattle.spec_server.specs.Texts.{Asked, Asking, Plain, Defining, Querying, asked_by_text, asked_of, defined_by}
+use Rattle.spec_server.specs.Script.{Given}
 use Rattle.index_lang.specs.Says.{Says}
 use Rattle.raven_lines.specs.SaysQuery.{SaysQuery}
 

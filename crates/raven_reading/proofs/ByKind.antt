@@ -5,7 +5,9 @@ use Rattle.index_tree.specs.Definitions.{Definition, Texts}
 use Rattle.index_tree.specs.Language.{LangRefusal}
 use Rattle.spec_query.specs.Query.{Query}
 use Rattle.spec_query.specs.Refusals.{QueryRefusal}
-use Rattle.spec_server.specs.Script.{Asked, Asking, LineRead, Plain, Querying, ReadRefusal, argument_and_rest, asked_by, asked_by_text, asked_to_define, asked_to_query, asked_with, asking_of, defined_by, index_of, line_of, plain_asking}
+use Rattle.spec_server.specs.Words.{LineRead, ReadRefusal, argument_and_rest}
+use Rattle.spec_server.specs.Reading.{line_of}
+use Rattle.spec_server.specs.Texts.{Asked, Asking, Plain, Querying, asked_by, asked_by_text, asked_to_define, asked_to_query, asked_with, asking_of, defined_by, index_of, plain_asking}
 use Rattle.raven_lines.specs.Lines.{Comes, IsLine}
 use Rattle.raven_lines.specs.SaysQuery.{SaysQuery}
 use Rattle.index_lang.specs.Says.{Says}

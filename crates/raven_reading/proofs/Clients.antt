@@ -5,8 +5,10 @@ use Rattle.index_tree.specs.Language.{LangRefusal}
 use Rattle.spec_index.specs.World.{is_automatic}
 use Rattle.spec_query.specs.Query.{Query}
 use Rattle.spec_query.specs.Refusals.{QueryRefusal}
-use Rattle.spec_server.specs.Machine.{AreFromClients}
-use Rattle.spec_server.specs.Script.{Asking, Given, LineRead, asked_by_text, defined_by, events_of, plain_asking}
+use Rattle.spec_server.specs.Requests.{AreFromClients}
+use Rattle.spec_server.specs.Words.{LineRead}
+use Rattle.spec_server.specs.Texts.{Asking, asked_by_text, defined_by, plain_asking}
+use Rattle.spec_server.specs.Script.{Given, events_of}
 use Rattle.raven_lines.specs.Lines.{AreLines, IsLine}
 use Rattle.index_lang.specs.Says.{Says}
 use Rattle.raven_laws.proofs.ClientLemmas.{IsReadFromClient, event-clients, line_of-client}

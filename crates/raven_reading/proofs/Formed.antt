@@ -9,7 +9,7 @@ use Rattle.index_tree.specs.Definitions.{Definition}
 use Rattle.spec_index.specs.World.{is_automatic}
 use Rattle.spec_query.specs.Fields.{asked_fields, cond_fields, selected_fields}
 use Rattle.spec_query.specs.Query.{At, Column, Cond, Count, Field, Query, Sort, Sum}
-use Rattle.spec_server.specs.Machine.{Line, Do, Put, Delete, Bulk, Get, Define, Remove, Auto, Find, Ask, Pump, Switch, Tidy, Clean, Stale, Indexes, Stats, Read, Publish}
+use Rattle.spec_server.specs.Requests.{Line, Do, Put, Bulk, Define, Auto, Ask}
 use Rattle.spec_server.specs.Opening.{is_part, is_path}
 use Rattle.spec_server.specs.WellFormed.{IsWellFormed, has_valid_path, has_valid_paths, is_body, put_bodies}
 use Rattle.raven_lines.specs.Lines.{IsLine}
@@ -61,23 +61,11 @@ query-formed q is =
 -- what can be stored and read again is well formed
 valid-formed : (asks : Line) → IsValidLine asks → IsWellFormed asks
 valid-formed (Do (Put id expected body)) valid = let are = valid.commands in body-formed body are.0.1
-valid-formed (Do (Delete id expected)) valid = tt
 valid-formed (Do (Bulk commands)) valid = commands-formed commands valid.commands
-valid-formed (Do (Get id)) valid = tt
 valid-formed (Do (Define name d)) valid = text-formed name d valid.indexing
-valid-formed (Do (Remove name)) valid = tt
 valid-formed (Do (Auto collection field)) valid = let is = valid.indexing in is.1.1
-valid-formed (Do (Find index field ws)) valid = tt
 valid-formed (Do (Ask ask)) valid = query-formed ask.query valid.indexing
-valid-formed (Do (Pump max index)) valid = tt
-valid-formed (Do (Switch name)) valid = tt
-valid-formed (Do Tidy) valid = tt
-valid-formed (Do Clean) valid = tt
-valid-formed (Do (Stale name cutoff)) valid = tt
-valid-formed (Do Indexes) valid = tt
-valid-formed (Do Stats) valid = tt
-valid-formed (Read worker max index) valid = tt
-valid-formed (Publish worker) valid = tt
+valid-formed other valid = tt
 
 pub line-formed : (line : List ℕ) (asks : Line) → IsLine line (Ok (Some asks)) → IsWellFormed asks
 line-formed line asks is = valid-formed asks (line-asked line (Ok (Some asks)) is)

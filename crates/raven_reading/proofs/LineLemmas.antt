@@ -15,9 +15,12 @@ use Rattle.index_tree.specs.Language.{LangRefusal}
 use Rattle.index_tree.specs.Definitions.{Definition, Texts}
 use Rattle.spec_query.specs.Query.{Query}
 use Rattle.spec_query.specs.Refusals.{QueryRefusal}
-use Rattle.spec_server.specs.Machine.{Request, Put, Delete, Bulk, Get, Remove, Auto, Find, Pump, Switch, Tidy, Clean, Stale, Indexes, Stats, Line}
+use Rattle.spec_server.specs.Requests.{Request, Put, Delete, Bulk, Get, Remove, Auto, Find, Pump, Switch, Tidy, Clean, Stale, Indexes, Stats, Line}
 use Rattle.spec_server.specs.Opening.{is_part}
-use Rattle.spec_server.specs.Script.{Asking, LineRead, ReadRefusal, asked_by_text, asking_in, asking_of, asking_of_body, beside_in, plain_asking, query_member, defined_by, index_of, map_member, name_member, reduce_member, texts_in, texts_of_body, unless_name_fault, UnknownLine, BadMember, then_read, before_space, after_space, both_parts, argument_and_rest, has_byte, unless_fault, id_read, json_read, object_read, put_read, delete_read, id_member, vector_member, put_command, delete_command, typed_command, command_read, commands_read, list_member, commands_of, bulk_read, or_unknown, parts_read, put_of, put_if_of, delete_if_of, get_of, is_collection, is_field, auto_of, drop_of, max_read, pump_of, pump_read, name_read, find_of, switch_of, stale_of, by_command, do_read, publish_of, read_of, request_of, told_of, worker_read, line_of}
+use Rattle.spec_server.specs.Words.{LineRead, ReadRefusal, unless_name_fault, UnknownLine, BadMember, then_read, before_space, after_space, both_parts, argument_and_rest, has_byte, unless_fault, id_read, json_read, object_read, or_unknown, parts_read, is_collection, is_field, max_read, name_read, worker_read}
+use Rattle.spec_server.specs.Commands.{put_read, delete_read, id_member, vector_member, put_command, delete_command, typed_command, command_read, commands_read, list_member, commands_of, bulk_read, put_of, put_if_of, delete_if_of}
+use Rattle.spec_server.specs.Reading.{get_of, auto_of, drop_of, pump_of, pump_read, find_of, switch_of, stale_of, by_command, do_read, publish_of, read_of, request_of, told_of, line_of}
+use Rattle.spec_server.specs.Texts.{Asking, asked_by_text, asking_in, asking_of, asking_of_body, beside_in, plain_asking, query_member, defined_by, index_of, map_member, name_member, reduce_member, texts_in, texts_of_body}
 use Rattle.spec_store.proofs.StoreLemmas.{both_true, either_false}
 use Rattle.raven_reading.specs.Requests.{IsRequestBody, IsCommand, AreCommands, IsValidLine, IsValidRequest}
 use Rattle.raven_lines.specs.Lines.{IsLine}

@@ -6,12 +6,13 @@ use Rattle.spec_store.specs.Commit.{Setting}
 use Rattle.spec_server.specs.Opening.{OpenedFrom, BodyForm, NoForm, AutoForm, StaticForm, ReadRow, and_then, body_form, is_defining, opened, opened_with, or_bad, rows_of, slots_after, slots_from}
 use Rattle.spec_store.specs.Kept.{rows_in}
 use Rattle.index_tree.specs.Language as is
-use Rattle.spec_server.specs.Machine.{Machine}
+use Rattle.spec_server.specs.Courses.{Machine}
 use Rattle.index_tree.specs.Definitions.{Definition, Texts}
 use Rattle.spec_index.specs.World.{Slot}
 use Rattle.spec_query.specs.Query.{Query}
 use Rattle.spec_query.specs.Refusals.{QueryRefusal}
-use Rattle.spec_server.specs.Script.{Asked, Plain, Defining, Querying, LineRead, asked_by_text, asked_of, defined_by}
+use Rattle.spec_server.specs.Words.{LineRead}
+use Rattle.spec_server.specs.Texts.{Asked, Plain, Defining, Querying, asked_by_text, asked_of, defined_by}
 use Rattle.index_definition.specs.DefinitionView.{definition_view}
 use Rattle.index_definition.specs.declared.definition.Definition as program
 use Rattle.index_definition.specs.declared.refusal.LangRefusal.TheVariants.{At}

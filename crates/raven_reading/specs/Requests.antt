@@ -8,7 +8,7 @@ use Rattle.spec_store.specs.Commit.{Command, Put, Delete}
 use Rattle.index_tree.specs.Definitions.{Definition, Texts}
 use Rattle.spec_query.specs.Fields.{cond_fields}
 use Rattle.spec_query.specs.Query.{Field, At, Count, Sum, Origin, OfIndex, OfCollection, Query}
-use Rattle.spec_server.specs.Machine.{Line, Do, Request, Ask, Define, Auto, commands_in}
+use Rattle.spec_server.specs.Requests.{Line, Do, Request, Ask, Define, Auto, commands_in}
 use Rattle.spec_server.specs.Opening.{is_part}
 use Rattle.raven_laws.specs.Opened.{AgreesWithTexts}
 use Rattle.index_lang.specs.Says.{Says}

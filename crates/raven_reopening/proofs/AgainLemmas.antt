@@ -1,5 +1,5 @@
 -- A world whose rows open again leaves such a world, whatever is asked.
-use Rattle.std.proofs.Common.{◌≡◌, ℕ, ◌+◌, ◌<◌, List, [], ◌∷◌, true, false, not, ◌==◌, cond, nat_lt, nat_le, is_some, length, filter, map, Option, Some, None, Result, Ok, Err, refl, sym, ap, ◌∙◌, subst, arith, inl, inr}
+use Rattle.std.proofs.Common.{◌≡◌, ℕ, ◌+◌, ◌<◌, List, [], ◌∷◌, Bool, true, false, not, ◌==◌, cond, nat_lt, nat_le, is_some, length, filter, map, Option, Some, None, Result, Ok, Err, refl, sym, ap, ◌∙◌, subst, arith}
 use Rattle.std.proofs.lemmas.Bool.{eqb-true, ltb-false}
 use Rattle.spec_data.specs.Faults.{replacement_of}
 use Rattle.spec_data.specs.Moments.{moments_end}
@@ -7,19 +7,24 @@ use Rattle.spec_store.specs.Store.{Store, last}
 use Rattle.spec_store.specs.Cleaning.{clean, is_old_tombstone}
 use Rattle.index_tree.specs.Definitions.{Definition, same_definition}
 use Rattle.spec_server.specs.Opening.{is_auto_name, is_static_name}
-use Rattle.spec_store.specs.Commit.{Command, AnyVector, Client, Server, Refused, Written, commit}
+use Rattle.spec_store.specs.Commit.{Command, AnyVector, Client, Server, Written, commit}
 use Rattle.spec_query.specs.Binding.{PlanRefusal, check}
 use Rattle.spec_query.specs.Query.{Ask as AskOf, OfCollection, OfIndex, Origin, is_whole}
-use Rattle.spec_index.specs.Optimiser.{Shape, best, chosen, covers, definition_of, is_retired, name_of, pick, retired, retirement, slot_shape, widened}
+use Rattle.spec_index.specs.Optimiser.{Choice, Make, Use, Shape, best, chosen, covers, definition_of, is_retired, name_of, pick, retired, retirement, slot_shape}
 use Rattle.spec_server.specs.Asking.{Answered, MustMake, Ready, answer_ask, answer_from_collection, answer_picked}
 use Rattle.spec_server.specs.Asking.{unless_refused as answered_unless}
 use Rattle.spec_server.specs.Shapes.{shape_asked}
-use Rattle.spec_server.specs.Replies as replies
 use Rattle.spec_index.specs.Cleaning.{clean_upto}
-use Rattle.spec_index.specs.World.{Slot, SlotChange, World, is_automatic, index_id, numbered, serving, SlotRefusal, added, added_if_room, added_to, define, define_at, define_beside, dropped, is_reserved_name, remove, removed, switch, taken_out, unchanged, unless_refused, without}
-use Rattle.spec_server.specs.Machine.{Machine, Request, Put as PutOne, Delete as DeleteOne, Bulk, Get, Define, Remove, Auto as AutoOne, Find, Ask, Pump, Switch, Tidy, Clean, Stale, Indexes, Stats, Line, Do, Read, Publish, IsFromClient, AreFromClients, Change, Event, Held, Keeping, Course, Passed, Cleaned, PublishRefusal, put_in, was_cleaned, after, answer_made, answer_making, ask_course, changed, course_of, commands_in, held_by, made_name, make, pump_at, pump_for, change_of_slots, one_field, publish_by, publish_to, published, published_in, published_reply, replaced_names, rewrote, run, settled, single_reply, step, tidy, use_or_make, with_slots, with_version, write, wrote}
+use Rattle.spec_index.specs.World.{Slot, SlotChange, World, is_automatic, index_id, numbered, serving, SlotRefusal, added, added_if_room, added_to, define, define_at, define_beside, define_named, dropped, is_reserved_name, removed, switch, taken_out, unchanged, unless_refused, without}
+use Rattle.spec_server.specs.Requests.{Request, Define, Line, Do, Read, Publish, IsFromClient, AreFromClients, Event, Keeping, commands_in}
+use Rattle.spec_server.specs.Courses.{Machine, Change, Held, Course, changed, in_world, settled, with_slots}
+use Rattle.spec_server.specs.Indexing.{made_name, make, one_field}
+use Rattle.spec_server.specs.Workers.{Passed, Cleaned, PublishRefusal, put_in, was_cleaned, held_by, publish_by, publish_to, published, published_in, published_reply, with_version}
+use Rattle.spec_server.specs.Machine.{after, course_of, run, step}
 use Rattle.spec_server.specs.Sound.{Has, IsHeld, IsMachine, Sound}
-use Rattle.raven_laws.proofs.MachineLemmas.{AllDo, AllLeave, IsTidying, Keeps, read-world, settled-leaves, step-Steps, tidy-do, tidying-Moves}
+use Rattle.raven_laws.proofs.Acts.{AllLeave, IsAct, IsReslot, Makes, advanced_by, all-acts, all-along, all-leave, course-acts}
+use Rattle.raven_laws.proofs.MachineLemmas.{read-world, settled-leaves, step-Steps}
+use Rattle.raven_laws.proofs.Moving.{Keeps, act-Moves}
 use Rattle.raven_laws.proofs.QueryLemmas.{answer_by_origin}
 use Rattle.spec_store.proofs.CleanLemmas.{clean-rows}
 use Rattle.raven_laws.proofs.SlotLemmas.{Has-filter, Has-map, Has-without, find-Has, replacing-no-auto, served}
@@ -28,7 +33,7 @@ use Rattle.raven_reading.specs.Requests.{IsAsked, IsByText, AreCommands, IsIndex
 use Rattle.raven_reopening.specs.Form.{AreEvents, IsKept}
 use Rattle.raven_reopening.proofs.FitLemmas.{few_slots, given-static, name_of-auto, named-fit, static-fit}
 use Rattle.raven_reopening.proofs.LastLemmas.{AllLast, AreServed, Stays, clients-Stay, deletes, puts, servers-Stay}
-use Rattle.raven_reopening.proofs.RightLemmas.{AllRight, IsNew, IsRight, added-right, filter-right, kept-right, made-new, pumped-right, pumped_at-right, renamed-right, replacement-new, static-new}
+use Rattle.raven_reopening.proofs.RightLemmas.{AllRight, IsNew, IsRight, added-right, filter-right, kept-right, made-new, advanced-right, renamed-right, replacement-new, static-new}
 use Rattle.raven_reopening.proofs.ShapeLemmas.{IsKeptShape, asked-kept, one-kept, widened-kept}
 
 -- its rows can be read again, and those of its indexes are read as their definitions
@@ -41,14 +46,10 @@ stays W o a = record { all = a.all; etags = o.limits.etags }
 
 -- WRITES OF CLIENTS
 
-wrote-Again : (W : World) (reply : List replies.Result → replies.Reply) (now : ℕ) (commands : List Command) (o : Result Written Refused) → commit W.setting Client now commands W.store ≡ o
-    → AreCommands commands → now < moments_end → Sound W → Again W → AllLeave Again (wrote W reply now commands o).changes
-wrote-Again W reply now commands (Err refused) is fits soon o a = tt
-wrote-Again W reply now commands (Ok w) is fits soon o a =
-    (record { slots = a.slots; all = (clients-Stay 0 W.setting now commands (record { store = W.store; rows = [] }) w is fits soon (stays W o a)).all }, tt)
-
-write-Again : (W : World) (reply : List replies.Result → replies.Reply) (now : ℕ) (commands : List Command) → AreCommands commands → now < moments_end → Sound W → Again W → AllLeave Again (write W reply now commands).changes
-write-Again W reply now commands = wrote-Again W reply now commands (commit W.setting Client now commands W.store) refl
+written-Again : (W : World) (now : ℕ) (commands : List Command) (w : Written) → commit W.setting Client now commands W.store ≡ Ok w
+    → AreCommands commands → now < moments_end → Sound W → Again W → Again (in_world W w.store W.slots)
+written-Again W now commands w is fits soon o a =
+    record { slots = a.slots; all = (clients-Stay 0 W.setting now commands (record { store = W.store; rows = [] }) w is fits soon (stays W o a)).all }
 
 -- CHANGES OF THE INDEXES
 
@@ -62,16 +63,6 @@ changed-Again W now c w is fit soon o a = record {
   slots = fit.slots;
   all = (servers-Stay 0 W.setting now c.commands (record { store = W.store; rows = [] }) w is fit.commands soon (stays W o a)).all;
 }
-
-rewrote-Again : (W : World) (now : ℕ) (reply : replies.Reply) (c : SlotChange) (o : Result Written Refused) → commit W.setting Server now c.commands W.store ≡ o
-    → IsFitChange c → now < moments_end → Sound W → Again W → AllLeave Again (rewrote W reply c o).changes
-rewrote-Again W now reply c (Err refused) is fit soon o a = tt
-rewrote-Again W now reply c (Ok w) is fit soon o a = (changed-Again W now c w is fit soon o a, tt)
-
-reslotted-Again : (W : World) (now : ℕ) (reply : List ℕ → replies.Reply) (name : List ℕ) (r : Result SlotChange SlotRefusal) → ((c : SlotChange) → r ≡ Ok c → IsFitChange c)
-    → now < moments_end → Sound W → Again W → AllLeave Again (change_of_slots W now reply name r).changes
-reslotted-Again W now reply name (Err refusal) fit soon o a = tt
-reslotted-Again W now reply name (Ok c) fit soon o a = rewrote-Again W now (reply c.name) c (commit W.setting Server now c.commands W.store) refl (fit c refl) soon o a
 
 -- NEW INDEXES
 
@@ -104,11 +95,14 @@ made-fit W shape c k o a e = by (made_name W shape) (definition_of shape) (made-
         let free = past_test (is_some (serving W.slots name)) SlotRefusal.NameServes (Ok (added W name d)) c room.1 in
         subst IsFitChange (same_change (added W name d) c free.1) (added-fit W W.slots name d new a.slots)
 
-auto-Again : (W : World) (now : ℕ) (shape : Shape) (found : Option Slot) → IsKeptShape shape → now < moments_end → Sound W → Again W → AllLeave Again (use_or_make W now (chosen shape W.slots found)).changes
-auto-Again W now shape (Some s) k soon o a = tt
-auto-Again W now shape None k soon o a =
-    let wide = widened shape W.slots in
-    reslotted-Again W now replies.Index (made_name W wide) (make W wide) (λ c e. made-fit W wide c (widened-kept shape W.slots (all-kept W a) k) o a e) soon o a
+-- a choice of an index that must be made has paths that can be kept
+abbrev MakesChoice : Choice → Type 0
+MakesChoice (Use s) = Unit {0}
+MakesChoice (Make shape) = IsKeptShape shape
+
+chosen-kept : (W : World) (shape : Shape) (found : Option Slot) → IsKeptShape shape → Again W → MakesChoice (chosen shape W.slots found)
+chosen-kept W shape (Some s) k a = tt
+chosen-kept W shape None k a = widened-kept shape W.slots (all-kept W a) k
 
 -- QUERIES
 
@@ -134,21 +128,15 @@ refused-kept : (answered : Answered) (o : Option PlanRefusal) → MakesKept answ
 refused-kept answered None k = k
 refused-kept answered (Some refusal) k = tt
 
-answered-Again : (W : World) (now : ℕ) (ask : AskOf) (answered : Answered) → MakesKept answered → now < moments_end → Sound W → Again W → AllLeave Again (ask_course W now ask answered).changes
-answered-Again W now ask (Ready reply) k soon o a = tt
-answered-Again W now ask (MustMake shape) k soon o a = by (make W shape) refl
-  where
-    written : (c : SlotChange) → IsFitChange c → (r : Result Written Refused) → commit W.setting Server now c.commands W.store ≡ r → AllLeave Again (answer_made W ask c r).changes
-    written c fit (Err refused) is = tt
-    written c fit (Ok w) is = (changed-Again W now c w is fit soon o a, tt)
+asked-Makes : (W : World) (ask : AskOf) → IsAsked ask.query → Again W → MakesKept (answer_ask W ask)
+asked-Makes W ask asked a = refused-kept (answer_by_origin W ask ask.query.origin) (check ask) (origin-kept W ask ask.query.origin asked.origin asked a)
 
-    by : (r : Result SlotChange SlotRefusal) → make W shape ≡ r → AllLeave Again (answer_making W now ask (made_name W shape) r).changes
-    by (Err refusal) e = tt
-    by (Ok c) e = written c (made-fit W shape c k o a e) (commit W.setting Server now c.commands W.store) refl
-
-ask-Again : (W : World) (now : ℕ) (ask : AskOf) → IsAsked ask.query → now < moments_end → Sound W → Again W → AllLeave Again (ask_course W now ask (answer_ask W ask)).changes
-ask-Again W now ask asked soon o a =
-    answered-Again W now ask (answer_ask W ask) (refused-kept (answer_by_origin W ask ask.query.origin) (check ask) (origin-kept W ask ask.query.origin asked.origin asked a)) soon o a
+-- so has each index that a request makes
+makes-kept : (r : Request) (W : World) (shape : Shape) → IsIndexing r → Again W → Makes r W shape → IsKeptShape shape
+makes-kept r W shape index a (Makes.for_auto c f is e) =
+    let paths = subst IsIndexing is index in
+    subst MakesChoice e (chosen-kept W (one_field c f) (best W.store (filter (λ s. covers (slot_shape s) (one_field c f)) W.slots)) (one-kept c f paths) a)
+makes-kept r W shape index a (Makes.for_ask ask is e) = subst MakesKept e (asked-Makes W ask (subst IsIndexing is index) a)
 
 -- DEFINITIONS BY TEXTS
 
@@ -191,17 +179,16 @@ define_at-fit W name d (Some s) c new is free a serves e =
     let right = a.slots s at.0 in
     define_beside-fit W name d s (serving W.slots (replacement_of s.name)) c new is (given-static s.version.definition s.name right.named (reserved-other name s.name at.1 free)) a e
 
-defined-Again : (W : World) (now : ℕ) (name : List ℕ) (d : Definition) → IsByText name d → now < moments_end → Sound W → Again W → AllLeave Again (course_of W now (Define name d)).changes
-defined-Again W now name d x soon o a =
+define_named-fit : (W : World) (name : List ℕ) (d : Definition) (c : SlotChange) → IsByText name d → Again W → define_named W name d ≡ Ok c → IsFitChange c
+define_named-fit W name d c x a =
     let there = serving W.slots name in
-    elim (is_reserved_name name) as (λ b. is_reserved_name name ≡ b → AllLeave Again (change_of_slots W now replies.Index name
-    (unless_refused (cond b (Some SlotRefusal.ReservedName) (cond (nat_lt 200 (length name)) (Some (SlotRefusal.NameTooLong (length name))) None)) (define_at W name d there))).changes) [
-      | true ↦ λ e. tt
+    elim (is_reserved_name name) as (λ b. is_reserved_name name ≡ b
+    → unless_refused (cond b (Some SlotRefusal.ReservedName) (cond (nat_lt 200 (length name)) (Some (SlotRefusal.NameTooLong (length name))) None)) (define_at W name d there) ≡ Ok c → IsFitChange c) [
+      | true ↦ λ e g. absurd cc
       | false ↦ λ e. elim (nat_lt 200 (length name)) as (λ b. nat_lt 200 (length name) ≡ b
-          → AllLeave Again (change_of_slots W now replies.Index name (unless_refused (cond b (Some (SlotRefusal.NameTooLong (length name))) None) (define_at W name d there))).changes) [
-            | true ↦ λ f. tt
-            | false ↦ λ f. reslotted-Again W now replies.Index name (define_at W name d there)
-                (λ c g. define_at-fit W name d there c (static-new name d x e (ltb-false 200 (length name) f)) (by_text-static name d x) e a refl g) soon o a
+          → unless_refused (cond b (Some (SlotRefusal.NameTooLong (length name))) None) (define_at W name d there) ≡ Ok c → IsFitChange c) [
+            | true ↦ λ f g. absurd cc
+            | false ↦ λ f g. define_at-fit W name d there c (static-new name d x e (ltb-false 200 (length name) f)) (by_text-static name d x) e a refl g
           ] refl
     ] refl
 
@@ -246,33 +233,18 @@ retirement-fit W a = record { commands = by (retired W.slots); slots = filter-ri
     by [] = tt
     by (s ∷ slots) = (deletes (index_id s.name), by slots)
 
-tidying-fit : (W : World) (c : SlotChange) → Sound W → Again W → IsTidying W c → IsFitChange c
-tidying-fit W c o a (inl n) = switch-fit W n.0 c o a n.1
-tidying-fit W c o a (inr e) = subst IsFitChange (sym e) (retirement-fit W a)
-
--- a world that opens again
-record Opens (W : World) : Type 0 where
-  pub sound : Sound W
-  pub again : Again W
-
-all-leave : (W : World) (changes : List Change) → AllDo (λ V c. Again c.world) W changes → AllLeave Again changes
-all-leave W [] all = tt
-all-leave W (c ∷ more) all = (all.0, all-leave c.world more all.1)
-
-tidy-Again : (W : World) (now : ℕ) → now < moments_end → Sound W → Again W → AllLeave Again (tidy now (replaced_names W) W []).changes
-tidy-Again W now soon o a = all-leave W (tidy now (replaced_names W) W []).changes (tidy-do now Opens (λ V c. Again c.world) (λ V c w i is e.
-    let kept = changed-Again V now c w e (tidying-fit V c i.sound i.again is) soon i.sound i.again in
-    (kept, record { sound = (tidying-Moves now V c w i.sound is e).sound; again = kept })) (replaced_names W) W [] (record { sound = o; again = a }))
+-- each change of the indexes
+reslot-fit : (r : Request) (W : World) (c : SlotChange) → IsIndexing r → Sound W → Again W → IsReslot r W c → IsFitChange c
+reslot-fit r W c index o a (IsReslot.defined name d is e) = define_named-fit W name d c (subst IsIndexing is index) a e
+reslot-fit r W c index o a (IsReslot.made shape by e) = made-fit W shape c (makes-kept r W shape index a by) o a e
+reslot-fit r W c index o a (IsReslot.removed name is e) = remove-fit W (serving W.slots name) c a e
+reslot-fit r W c index o a (IsReslot.switched name is e) = switch-fit W name c o a e
+reslot-fit r W c index o a (IsReslot.retires is e) = subst IsFitChange (sym e) (retirement-fit W a)
 
 -- BATCHES
 
-pump_for-Again : (W : World) (max : ℕ) (index : Option (List ℕ)) → Again W → AllLeave Again (pump_for W max index).changes
-pump_for-Again W max None a = (record { all = a.all; slots = pumped-right W.store max W.slots a.slots }, tt)
-pump_for-Again W max (Some name) a = by (serving W.slots name)
-  where
-    by : (there : Option Slot) → AllLeave Again (pump_at W max name there).changes
-    by None = tt
-    by (Some s) = (record { all = a.all; slots = pumped_at-right W.store max name W.slots a.slots }, tt)
+advanced-Again : (W : World) (max : ℕ) (chosen : Slot → Bool) → Again W → Again (advanced_by W max chosen)
+advanced-Again W max chosen a = record { all = a.all; slots = advanced-right W.store max chosen W.slots a.slots }
 
 -- CLEANING
 
@@ -282,23 +254,31 @@ cleaned-all upto S all = subst AllLast (sym (clean-rows upto S)) (λ r h. all r 
 
 -- EVENTS
 
-course-Again : (W : World) (now : ℕ) (request : Request) → AreCommands (commands_in request) → IsIndexing request → now < moments_end → Sound W → Again W → AllLeave Again (course_of W now request).changes
-course-Again W now (PutOne id expected body) fits index soon o a = write-Again W single_reply now (Command.Put id expected body ∷ []) fits soon o a
-course-Again W now (DeleteOne id expected) fits index soon o a = write-Again W single_reply now (Command.Delete id expected ∷ []) fits soon o a
-course-Again W now (Bulk commands) fits index soon o a = write-Again W replies.Bulk now commands fits soon o a
-course-Again W now (Get id) fits index soon o a = tt
-course-Again W now (Define name d) fits index soon o a = defined-Again W now name d index soon o a
-course-Again W now (Remove name) fits index soon o a = reslotted-Again W now replies.Removed name (remove W name) (λ c e. remove-fit W (serving W.slots name) c a e) soon o a
-course-Again W now (AutoOne c f) fits index soon o a = auto-Again W now (one_field c f) (best W.store (filter (λ s. covers (slot_shape s) (one_field c f)) W.slots)) (one-kept c f index) soon o a
-course-Again W now (Find index field ws) fits indexing soon o a = tt
-course-Again W now (Ask ask) fits asked soon o a = ask-Again W now ask asked soon o a
-course-Again W now (Pump max index) fits indexing soon o a = pump_for-Again W max index a
-course-Again W now (Switch name) fits index soon o a = reslotted-Again W now (replies.Switched (last W.store + 1)) name (switch W name) (λ c e. switch-fit W name c o a e) soon o a
-course-Again W now Tidy fits index soon o a = tidy-Again W now soon o a
-course-Again W now Clean fits index soon o a = (record { all = cleaned-all (clean_upto W) W.store a.all; slots = a.slots }, tt)
-course-Again W now (Stale name cutoff) fits index soon o a = tt
-course-Again W now Indexes fits index soon o a = tt
-course-Again W now Stats fits index soon o a = tt
+-- a world that opens again
+record Opens (W : World) : Type 0 where
+  pub sound : Sound W
+  pub again : Again W
+
+-- what a valid request may do
+record IsGiven (now : ℕ) (r : Request) : Type 0 where
+  pub commands : AreCommands (commands_in r)
+  pub indexing : IsIndexing r
+  pub client : IsFromClient (Do r)
+  pub soon : now < moments_end
+
+act-Again : (now : ℕ) (r : Request) (W : World) (c : Change) → IsGiven now r → Sound W → Again W → IsAct now r W c → Again c.world
+act-Again now r W c g o a (IsAct.writes w is e) = subst (λ (x : Change). Again x.world) (sym e) (written-Again W now (commands_in r) w is g.commands g.soon o a)
+act-Again now r W c g o a (IsAct.reslots s) =
+    subst (λ (x : Change). Again x.world) (sym s.is) (changed-Again W now s.slots s.written s.commits (reslot-fit r W s.slots g.indexing o a s.by) g.soon o a)
+act-Again now r W c g o a (IsAct.advances max chosen e) = subst (λ (x : Change). Again x.world) (sym e) (advanced-Again W max chosen a)
+act-Again now r W c g o a (IsAct.cleans is e) = subst (λ (x : Change). Again x.world) (sym e) (record { all = cleaned-all (clean_upto W) W.store a.all; slots = a.slots })
+
+course-Again : (W : World) (now : ℕ) (r : Request) → IsGiven now r → Sound W → Again W → AllLeave Again (course_of W now r).changes
+course-Again W now r g o a =
+    let cs = (course_of W now r).changes in
+    all-leave Again W cs (all-along (IsAct now r) (λ V c. Again c.world) Opens (λ V c i act.
+    let kept = act-Again now r V c g i.sound i.again act in
+    (kept, record { sound = (act-Moves now r V c g.client i.sound act).sound; again = kept })) W cs (record { sound = o; again = a }) (all-acts now r W cs (course-acts W now r)))
 
 settled-Again : (M : Machine) (k : Keeping) (c : Course) → Again M.world → AllLeave Again c.changes → Again (settled M k c).machine.world
 settled-Again M k c a all = settled-leaves Again M k c a all
@@ -341,30 +321,16 @@ publish-Again M worker (Some h) i e a = by (published M.world h.number h.version
     by (Err refusal) f = a
     by (Ok V) f = published-Again M.world h (numbered M.world.slots h.number) V (i.held h (find-Has (λ x. x.worker == worker) M.held h e).0) f a
 
+valid-client : (line : Line) → IsValidLine line → IsFromClient line
+valid-client (Do (Define name d)) valid = by_text-static name d valid.indexing
+valid-client other valid = tt
+
 step-Again : (M : Machine) (k : Keeping) (now : ℕ) (line : Line) → IsValidLine line → now < moments_end → IsMachine M → Again M.world → Again (step M k now line).machine.world
-step-Again M k now (Do request) valid soon i a = settled-Again M k (course_of M.world now request) a (course-Again M.world now request valid.commands valid.indexing soon i.world a)
+step-Again M k now (Do request) valid soon i a =
+    let given : IsGiven now request = record { commands = valid.commands; indexing = valid.indexing; client = valid-client (Do request) valid; soon = soon } in
+    settled-Again M k (course_of M.world now request) a (course-Again M.world now request given i.world a)
 step-Again M k now (Read worker max index) valid soon i a = subst Again (sym (read-world M worker max index (serving M.world.slots index))) a
 step-Again M k now (Publish worker) valid soon i a = publish-Again M worker (held_by M.held worker) i refl a
-
-valid-client : (line : Line) → IsValidLine line → IsFromClient line
-valid-client (Do (PutOne id expected body)) valid = tt
-valid-client (Do (DeleteOne id expected)) valid = tt
-valid-client (Do (Bulk commands)) valid = tt
-valid-client (Do (Get id)) valid = tt
-valid-client (Do (Define name d)) valid = by_text-static name d valid.indexing
-valid-client (Do (Remove name)) valid = tt
-valid-client (Do (AutoOne c f)) valid = tt
-valid-client (Do (Find index field ws)) valid = tt
-valid-client (Do (Ask ask)) valid = tt
-valid-client (Do (Pump max index)) valid = tt
-valid-client (Do (Switch name)) valid = tt
-valid-client (Do Tidy) valid = tt
-valid-client (Do Clean) valid = tt
-valid-client (Do (Stale name cutoff)) valid = tt
-valid-client (Do Indexes) valid = tt
-valid-client (Do Stats) valid = tt
-valid-client (Read worker max index) valid = tt
-valid-client (Publish worker) valid = tt
 
 pub events-clients : (es : List Event) → AreEvents es → AreFromClients es
 events-clients [] fits = tt

@@ -9,7 +9,9 @@ use Rattle.spec_data.specs.Folding.{folded, same_key}
 use Rattle.spec_data.specs.Kept.{KeptRow, all_kept}
 use Rattle.spec_data.specs.Rows.{Row, Body, doc, gone, key, is_document}
 use Rattle.spec_store.specs.Commit.{Setting, stored_body}
-use Rattle.spec_server.specs.Machine.{Event, Machine, run}
+use Rattle.spec_server.specs.Requests.{Event}
+use Rattle.spec_server.specs.Courses.{Machine}
+use Rattle.spec_server.specs.Machine.{run}
 use Rattle.index_tree.specs.Definitions.{Definition}
 use Rattle.spec_server.specs.Opening.{ReadRow, is_defining, name_in, may_be_named, is_beside, is_filed, is_live, is_too_many, slot_of, with_slot, slots_with, slots_after, or_bad, and_then, slots_from, opened_with, rows_of}
 use Rattle.spec_server.specs.Sound.{Has, Sound}

@@ -4,7 +4,7 @@ use Rattle.std.proofs.lemmas.Slice.Eq.{bytes_eq-Decides}
 use Rattle.std.specs.Str.{bytes_eq}
 use Rattle.spec_data.specs.Folding.{folded, same_key}
 use Rattle.spec_data.specs.Rows.{Row, key, is_document}
-use Rattle.spec_server.specs.Machine.{Machine}
+use Rattle.spec_server.specs.Courses.{Machine}
 use Rattle.spec_server.specs.Opening.{is_defining}
 use Rattle.spec_server.specs.Sound.{Has, Sound}
 use Rattle.spec_store.specs.Store.{AreApart, row_at}

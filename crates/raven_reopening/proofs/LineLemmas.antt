@@ -4,8 +4,10 @@ use Rattle.std.specs.List.{cons_option}
 use Rattle.spec_data.specs.Kept.{KeptRow}
 use Rattle.spec_data.specs.Moments.{moments_end}
 use Rattle.spec_store.specs.Commit.{Setting}
-use Rattle.spec_server.specs.Machine.{Event, Machine}
-use Rattle.spec_server.specs.Script.{Circumstance, Given, LineRead, after_lines, event_of, events_of}
+use Rattle.spec_server.specs.Requests.{Event}
+use Rattle.spec_server.specs.Courses.{Machine}
+use Rattle.spec_server.specs.Words.{LineRead}
+use Rattle.spec_server.specs.Script.{Circumstance, Given, after_lines, event_of, events_of}
 use Rattle.raven_lines.specs.Lines.{AreLines}
 use Rattle.index_lang.specs.Openings.{IsOpened}
 use Rattle.raven_laws.proofs.ScriptLemmas.{lines-run}

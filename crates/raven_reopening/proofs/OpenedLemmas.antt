@@ -14,7 +14,7 @@ use Rattle.spec_store.specs.Store.{store_of}
 use Rattle.spec_store.specs.Commit.{Setting, stored_body}
 use Rattle.index_tree.specs.Definitions.{Definition, Static, Auto, AutoReduce}
 use Rattle.spec_store.specs.Kept.{max_body, is_stored, document_of, body_in, is_etag, row_in, row_if_it_follows, or_bad_row, rows_after, rows_in}
-use Rattle.spec_server.specs.Machine.{Machine}
+use Rattle.spec_server.specs.Courses.{Machine}
 use Rattle.spec_server.specs.Opening.{ReadRow, is_defining, is_filed, may_be_named, slot_of, with_slot, slots_after, or_bad, and_then, slots_from, opened, opened_with, rows_of}
 use Rattle.spec_server.specs.Sound.{Has}
 use Rattle.spec_index.specs.World.{Slot, is_automatic, row_body}

@@ -8,12 +8,12 @@ use Rattle.index_tree.specs.Definitions.{Definition, Static, Auto, AutoReduce, T
 use Rattle.index_tree.specs.declared.map_query.MapQuery.{MapQuery}
 use Rattle.index_tree.specs.declared.reduce_query.ReduceQuery.{ReduceQuery}
 use Rattle.spec_server.specs.Opening.{is_auto_name, is_static_name, may_be_named}
-use Rattle.spec_server.specs.Machine.{after_batch, after_batch_if_named}
 use Rattle.spec_server.specs.Sound.{Has}
 use Rattle.spec_store.specs.Store.{Store}
 use Rattle.spec_index.specs.Optimiser.{Shape, definition_of}
-use Rattle.spec_index.specs.World.{Slot, World, added_to, is_automatic, is_named, is_reserved_name, named_anew, renamed, row_body}
-use Rattle.raven_laws.proofs.MachineLemmas.{Keeps, brought-Keeps}
+use Rattle.spec_index.specs.World.{Slot, World, added_to, is_automatic, is_reserved_name, named_anew, renamed, row_body}
+use Rattle.raven_laws.proofs.Acts.{batch_if}
+use Rattle.raven_laws.proofs.Moving.{Keeps, kept-by-batch}
 use Rattle.raven_laws.proofs.SlotLemmas.{Has-append, Has-filter, Has-map}
 use Rattle.index_lang.specs.Openings.{IsInBody, IsOfForm}
 use Rattle.index_lang.specs.Says.{Says}
@@ -115,14 +115,8 @@ kept-right x y k r = record {
 map-right : (f : Slot → Slot) (slots : List Slot) → ((x : Slot) → Keeps x (f x)) → AllRight slots → AllRight (map f slots)
 map-right f slots keeps all s h = let x = Has-map f slots s h in subst IsRight x.2 (kept-right x.0 (f x.0) (keeps x.0) (all x.0 x.1))
 
-pub pumped-right : (S : Store) (max : ℕ) (slots : List Slot) → AllRight slots → AllRight (map (after_batch S max) slots)
-pumped-right S max slots = map-right (after_batch S max) slots (brought-Keeps S max)
-
-pub pumped_at-right : (S : Store) (max : ℕ) (name : List ℕ) (slots : List Slot) → AllRight slots → AllRight (map (after_batch_if_named S max name) slots)
-pumped_at-right S max name slots = map-right (after_batch_if_named S max name) slots (λ x. elim (is_named name x) as (λ b. Keeps x (if b then after_batch S max x else x)) [
-  | true ↦ brought-Keeps S max x
-  | false ↦ record { number = refl; name = refl; row = refl; definition = refl }
-])
+pub advanced-right : (S : Store) (max : ℕ) (chosen : Slot → Bool) (slots : List Slot) → AllRight slots → AllRight (map (batch_if S max chosen) slots)
+advanced-right S max chosen slots = map-right (batch_if S max chosen) slots (kept-by-batch S max chosen)
 
 -- the slot that takes the name of another, which a client gave
 pub taker-right : (s r : Slot) (row : ℕ) → IsRight s → IsRight r → is_reserved_name s.name ≡ false → is_automatic r.version.definition ≡ false → IsRight (named_anew s.name row r)

@@ -11,7 +11,8 @@ use Rattle.spec_query.specs.Fields.{asked_fields, cond_fields, selected_fields}
 use Rattle.spec_query.specs.Query.{At, Cond, Query, Sum}
 use Rattle.spec_index.specs.Optimiser.{Shape, definition_of, path_order, shape_of, widened}
 use Rattle.spec_index.specs.World.{Slot, is_automatic}
-use Rattle.spec_server.specs.Machine.{Auto as AutoOne, one_field}
+use Rattle.spec_server.specs.Requests.{Auto as AutoOne}
+use Rattle.spec_server.specs.Indexing.{one_field}
 use Rattle.spec_server.specs.Opening.{are_rising, is_part}
 use Rattle.spec_server.specs.Shapes.{shape_asked}
 use Rattle.spec_server.specs.Sound.{Has}

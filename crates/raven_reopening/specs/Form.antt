@@ -9,7 +9,7 @@ use Rattle.spec_data.specs.Sound.{IsSound}
 use Rattle.spec_data.specs.Written.{text_of}
 use Rattle.spec_store.specs.Kept.{is_etag, is_stored, max_body}
 use Rattle.index_tree.specs.Definitions.{Definition, Auto, AutoReduce, Static}
-use Rattle.spec_server.specs.Machine.{Event}
+use Rattle.spec_server.specs.Requests.{Event}
 use Rattle.spec_server.specs.Opening.{are_rising}
 use Rattle.spec_server.specs.Script.{Given}
 use Rattle.raven_reading.specs.Requests.{ArePaths, IsValidLine}

@@ -4,7 +4,7 @@ use Rattle.spec_data.specs.Folding.{folded}
 use Rattle.spec_data.specs.Kept.{all_kept}
 use Rattle.spec_store.specs.Commit.{Setting}
 use Rattle.spec_store.specs.Store.{store_of}
-use Rattle.spec_server.specs.Machine.{Machine}
+use Rattle.spec_server.specs.Courses.{Machine}
 use Rattle.spec_server.specs.Sound.{Has}
 use Rattle.spec_index.specs.World.{Slot, World, new_version}
 use Rattle.index_lang.specs.Openings.{IsOpened}

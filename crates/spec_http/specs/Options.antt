@@ -5,7 +5,7 @@ use Rattle.std.specs.List.{list_all}
 use Rattle.std.specs.Option.{option_and_then}
 use Rattle.std.specs.Str.{bytes_eq}
 use Rattle.spec_server.specs.Options.{Pairs, are_known, are_once, base_in, pairs_in, value_named}
-use Rattle.spec_server.specs.Script.{number_of}
+use Rattle.spec_server.specs.Words.{number_of}
 
 abbrev pub option_names : List (List ℕ)
 option_names = codes "--data" ∷ codes "--id" ∷ codes "--db" ∷ codes "--pump" ∷ []

@@ -7,8 +7,10 @@ use Rattle.spec_data.specs.Json.{reading}
 use Rattle.spec_data.specs.Members.{member}
 use Rattle.spec_store.specs.Commit.{Expect, AnyVector, Vector}
 use Rattle.index_tree.specs.Definitions.{Texts}
-use Rattle.spec_server.specs.Machine.{Request, Put, Delete, Get, Remove, Stale, Indexes, Stats, Do}
-use Rattle.spec_server.specs.Script.{Asked, Plain, Querying, ReadRefusal, BadMember, asked_to_define, asked_to_query, asking_of, bulk_read, id_read, json_read, name_read, object_read, plain_asking, texts_in, then_read}
+use Rattle.spec_server.specs.Requests.{Request, Put, Delete, Get, Remove, Stale, Indexes, Stats, Do}
+use Rattle.spec_server.specs.Words.{ReadRefusal, BadMember, id_read, json_read, name_read, object_read, then_read}
+use Rattle.spec_server.specs.Commands.{bulk_read}
+use Rattle.spec_server.specs.Texts.{Asked, Plain, Querying, asked_to_define, asked_to_query, asking_of, plain_asking, texts_in}
 use Rattle.http_parts.specs.Parameters.{parameter}
 use Rattle.http_parts.specs.Routes.{route_at}
 use Rattle.http_parts.specs.declared.route.Route.{Route}

@@ -3,7 +3,7 @@ use Rattle.std.specs.Prelude.{ℕ, List, [], ◌∷◌, ◌&&◌, nat_le, if◌t
 use Rattle.std.specs.Option.{option_and_then}
 use Rattle.std.specs.Str.{bytes_eq}
 use Rattle.spec_server.specs.Options.{Pairs, are_known, are_once, pairs_in, value_named}
-use Rattle.spec_server.specs.Script.{number_of}
+use Rattle.spec_server.specs.Words.{number_of}
 use Rattle.spec_measure.specs.Requests.{Options}
 
 abbrev pub option_names : List (List ℕ)

@@ -4,8 +4,8 @@ use Rattle.index_tree.specs.Definitions.{Definition, Texts}
 use Rattle.index_tree.specs.Language.{LangRefusal}
 use Rattle.spec_store.specs.Commit.{AnyVector}
 use Rattle.spec_query.specs.Query.{Ask, OfIndex, Query}
-use Rattle.spec_server.specs.Machine.{Request, Define, Delete, Pump, Put}
-use Rattle.spec_server.specs.Script.{plain_asking, whole_ask}
+use Rattle.spec_server.specs.Requests.{Request, Define, Delete, Pump, Put}
+use Rattle.spec_server.specs.Texts.{plain_asking, whole_ask}
 use Rattle.spec_measure.specs.Orders.{order_after, order_id}
 
 -- how the orders are drawn: the seed, how many there are, and how many rows a batch takes

@@ -4,7 +4,10 @@ use Rattle.std.specs.List.{list_any}
 use Rattle.spec_data.specs.Data.{Data, flag, num}
 use Rattle.spec_data.specs.Members.{member_of}
 use Rattle.spec_data.specs.Written.{text_of}
-use Rattle.spec_server.specs.Machine.{Ask, Do, Event, Machine, Request, after, count_documents, course_of, takes_all}
+use Rattle.spec_server.specs.Requests.{Ask, Do, Event, Request, takes_all}
+use Rattle.spec_server.specs.Courses.{Machine}
+use Rattle.spec_server.specs.Answers.{count_documents}
+use Rattle.spec_server.specs.Machine.{after, course_of}
 use Rattle.spec_server.specs.Replies.{Answer, Pumped, Reply, members, number}
 use Rattle.spec_measure.specs.Requests.{rows_ask}
 

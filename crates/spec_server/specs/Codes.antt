@@ -6,7 +6,7 @@ use Rattle.spec_data.specs.DataCode.{data_code}
 use Rattle.spec_data.specs.Data.{Data}
 use Rattle.spec_index.specs.World.{Version, World}
 use Rattle.spec_server.specs.Replies.{Pumping, Listing}
-use Rattle.spec_server.specs.Machine.{Held, Machine}
+use Rattle.spec_server.specs.Courses.{Held, Machine}
 use Rattle.spec_index.specs.Codes.{version_code, world_code}
 
 abbrev pub held_code : Coded Held

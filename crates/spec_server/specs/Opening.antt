@@ -15,7 +15,8 @@ use Rattle.index_tree.specs.Mapper.{joined}
 use Rattle.spec_store.specs.Store.{row_at, store_of}
 pub use Rattle.spec_index.specs.World.{replaced_name}
 use Rattle.spec_index.specs.World.{Slot, index_id, new_version, begins_with_auto, begins_with_replacement, is_reserved_name, max_index_name}
-use Rattle.spec_server.specs.Machine.{Machine, machine_of}
+use Rattle.spec_server.specs.Courses.{Machine}
+use Rattle.spec_server.specs.Machine.{machine_of}
 use Rattle.spec_data.specs.Kept.{KeptRow}
 use Rattle.spec_store.specs.Kept.{rows_in}
 

@@ -10,7 +10,7 @@ use Rattle.spec_index.specs.Index.{Agrees}
 pub use Rattle.spec_index.specs.World.{NumbersRise}
 use Rattle.spec_index.specs.World.{Version, Slot, Note, World, reads, index_id, row_body, is_automatic, begins_with_auto, begins_with_replacement, is_reserved_name, replaced_name}
 use Rattle.spec_store.specs.Commit.{stored_body}
-use Rattle.spec_server.specs.Machine.{Held, Machine}
+use Rattle.spec_server.specs.Courses.{Held, Machine}
 
 -- the list has the element
 abbrev pub Has : {X : Type 0} → List X → X → Type 0

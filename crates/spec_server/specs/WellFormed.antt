@@ -7,7 +7,7 @@ use Rattle.spec_store.specs.Commit.{Command}
 use Rattle.spec_index.specs.World.{is_automatic}
 use Rattle.spec_query.specs.Fields.{asked_fields, selected_fields}
 use Rattle.spec_query.specs.Query.{Field, At, Count, Sum, Query}
-use Rattle.spec_server.specs.Machine.{Line, Do, Put, Bulk, Define, Auto, Ask}
+use Rattle.spec_server.specs.Requests.{Line, Do, Put, Bulk, Define, Auto, Ask}
 use Rattle.spec_server.specs.Opening.{is_part, is_path}
 
 -- a document as JSON can have it: an object at most a hundred deep

@@ -1,5 +1,5 @@
 use Rattle.raven_laws.proofs.CleaningLemmas.{newest-stays}
-use Rattle.raven_laws.proofs.MachineLemmas.{cleaned-Moves}
+use Rattle.raven_laws.proofs.Moving.{cleaned-Moves}
 use Rattle.raven_laws.proofs.cleaning.cleanings_go_on.Goals as goal
 
 pub returns-clause-sound : goal.returns-clause-sound
