@@ -147,6 +147,8 @@ fn page_by_order<'e, E: Reads<L>, L: Ledger>(
 
 /// The page that a query asks for, and how many entries meet its condition.
 ///
+/// No clause says more of the reads than that they are no more than entries meet the condition. Usually it goes so:
+///
 /// If the query asks for no order, an entry is read only if the page has it; or entries are walked from the first on, if it is known
 /// without a walk how many meet the condition, and then no more are read than meet it.
 ///

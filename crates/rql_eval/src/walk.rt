@@ -87,7 +87,8 @@ pub fn page_len(plan: &Plan, total: u64) -> u64
 /// The page of a query without an order, if it is known how many entries meet the condition, and if a walk over the entries comes to
 /// the end of the page before it has read more of them than meet the condition.
 ///
-/// Nothing is read if the walk is not expected to come to that end.
+/// Nothing is read if the walk is not expected to come to that end. So it is usually tried only where it succeeds; no clause says when
+/// there is a page.
 pub fn walked_page<'e, E: Reads<L>, L: Ledger>(
     alloc: Global,
     plan: &Plan,

@@ -155,8 +155,8 @@ fn count_without_tests<E: Entries>(entries: &E, condition: &Condition) -> u64
 
 /// How many entries meet a condition, if that is known without a walk. It reads no entry.
 ///
-/// It is known for a condition without tests, and for one whose tests are all on one field if `Terms::count` counts these; `and`,
-/// `or`, `not` and `exact` may join them in any way.
+/// No clause says when it is known. It usually is for a condition without tests, and for one whose tests are all on one field if
+/// `Terms::count` counts these; `and`, `or`, `not` and `exact` may join them in any way.
 pub fn count<E: Entries>(
     alloc: Global,
     entries: &E,

@@ -60,8 +60,9 @@ fn ids_of_values(
 /// Of the ids of the entries that meet a condition, in the order of one key, those after the first `start`, `size` at most. It finds
 /// them by the terms, and reads no entry.
 ///
-/// None if the terms do not give them: if a test of the condition is not on the field of the key; if an entry without that field
-/// meets the condition, and there are such entries; or if the terms are not in the order of the key, as `Terms::in_order` says.
+/// No clause says when there are ids. Usually there are none only if the terms do not give them: if a test of the condition is not on the
+/// field of the key; if an entry without that field meets the condition, and there are such entries; or if the terms are not in the
+/// order of the key, as `Terms::in_order` says.
 pub fn matching_in_order<E: Entries>(
     alloc: Global,
     entries: &E,

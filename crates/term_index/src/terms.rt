@@ -149,9 +149,9 @@ impl Terms {
     /// How many ids have values in a field that meet a condition, if that is known without a walk over them. The condition is one
     /// that these tests decide, each with whether it compares texts exactly.
     ///
-    /// It is known for `Is`, `Not`, `In`, `Starts` and `There`, and for bounds that are two numbers or two texts, unless a text is
-    /// compared exactly; and if these are at most 64 in all, where each value of an `In` is one. For each of them it costs some
-    /// searches, and the condition is asked of one value for each run of terms between their edges.
+    /// No clause says when it is known. It usually is for `Is`, `Not`, `In`, `Starts` and `There`, and for bounds that are two numbers
+    /// or two texts, unless a text is compared exactly; and if these are at most 64 in all, where each value of an `In` is one. For each
+    /// of them it costs some searches, and the condition is asked of one value for each run of terms between their edges.
     pub fn count<C: ValueCondition>(
         &self,
         alloc: Global,

@@ -34,9 +34,9 @@ impl Terms {
     /// values; ids of equal values are in order. The condition is one that these tests decide, each with whether it compares texts
     /// exactly. A field that is not known has no ids.
     ///
-    /// None if the terms are not in that order: if it is not known without a walk which values meet the condition, as `count` says
-    /// it; if there are others between them; or if not all of them are null or numbers in an order of numbers, null or texts in one
-    /// of texts.
+    /// No clause says when there are ids. Usually there are none only if the terms are not in that order: if it is not known without a
+    /// walk which values meet the condition, as `count` says it; if there are others between them; or if not all of them are null or
+    /// numbers in an order of numbers, null or texts in one of texts.
     ///
     /// It takes what `count` takes, some searches more for each value of the page if it goes from the greatest on, and then time that
     /// grows with the number of ids found. The ids before them are not read.
