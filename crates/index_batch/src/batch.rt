@@ -28,12 +28,12 @@ fn etag_after(taken: &[Shared<Row>], more: bool, store: &Store) -> u64
 /// The index after the first `max` rows that it has not seen, or nothing if there are none.
 /// Its etag is that of the last of them if more remain, else the store's last.
 ///
-/// The mapper maps the documents that these rows touch, each at most once, and no others; of many documents as many threads map
-/// some as there are processors, with the same result as one. For each row that is taken, and once
+/// The mapper maps the documents that these rows touch, each at most once, and no others; many documents are mapped by several
+/// threads, with the same result as by one. For each row that is taken, and once
 /// more, at most one row of each collection that the index reads is read. Entries are merged only if the definition has a reduce:
 /// the clause bounds how often, if no group has more than 16^h entries before or after. For an index that is not stale nothing
 /// is counted and no row is read: one search for each of these collections finds that.
-pub fn next<R: Threads, M: Mapper + Sync, L: Ledger>(
+pub fn next<R: Threads + Sync, M: Mapper + Sync, L: Ledger>(
     rt: &R,
     alloc: Global,
     index: &IndexVersion,

@@ -1,19 +1,8 @@
 -- Two lists that a relation joins place by place.
 use borrow.Author.Count.{below_more}
-use Rattle.std.proofs.Common.{◌≡◌, ℕ, suc, ◌<◌, ◌+◌, List, [], ◌∷◌, ◌++◌, length, arith, slice_index_or, slice_set, subst, sym}
+use Rattle.std.proofs.Common.{◌≡◌, ℕ, suc, ◌<◌, ◌+◌, List, [], ◌∷◌, length, arith, slice_index_or, slice_set, subst, sym}
 use Rattle.std.proofs.lemmas.List.{get_or-set_same, get_or-set_other}
 use Rattle.std.specs.List.{AllZip}
-
--- both are cut in two
-pub zip_parts : {X : Type 0} (R : X → X → Type 0) (first rest all first_after rest_after : List X) → all ≡ first ++ rest
-    → AllZip R first first_after → AllZip R rest rest_after → AllZip R all (first_after ++ rest_after)
-zip_parts {X} R first rest all first_after rest_after cut h k = subst (λ before. AllZip R before (first_after ++ rest_after)) (sym cut) (joined first first_after h)
-  where
-    joined : (before after : List X) → AllZip R before after → AllZip R (before ++ rest) (after ++ rest_after)
-    joined [] [] h = k
-    joined [] (b ∷ after) h = absurd h
-    joined (a ∷ before) [] h = absurd h
-    joined (a ∷ before) (b ∷ after) h = (h.0, joined before after h.1)
 
 -- it holds at each place
 pub zip_places : {X : Type 0} (R : X → X → Type 0) (before after : List X) → length after ≡ length before
@@ -33,10 +22,3 @@ one_place_more R before after k y inside below at i d within =
     (λ j h. subst (R (slice_index_or before j d)) (sym (get_or-set_other after k j y d (λ e. omega arith))) (below j d h))
     (subst (R (slice_index_or before k d)) (sym (get_or-set_same after k y d inside)) (at d))
     i within
-
--- a weaker one joins them too
-pub zip_weaker : {X : Type 0} (R Q : X → X → Type 0) → ((x y : X) → R x y → Q x y) → (before after : List X) → AllZip R before after → AllZip Q before after
-zip_weaker R Q weaker [] [] h = tt
-zip_weaker R Q weaker [] (b ∷ after) h = absurd h
-zip_weaker R Q weaker (a ∷ before) [] h = absurd h
-zip_weaker R Q weaker (a ∷ before) (b ∷ after) h = (weaker a b h.0, zip_weaker R Q weaker before after h.1)

@@ -4,7 +4,6 @@ pub mod Named
 pub mod Kept
 pub mod Asked
 pub mod Renewed
-pub mod Pieces
 pub mod Reduced
 pub mod Termed
 pub mod Entries

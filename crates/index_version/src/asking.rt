@@ -1,5 +1,5 @@
 //! What the map gives for the documents of a batch, which several threads ask it for.
-ghost use Rattle.std.specs.Prelude.{◌≡◌, ◌+◌, ◌≤◌, ◌<◌, Some, IfOk, cond, is_some, length, map, option_map};
+ghost use Rattle.std.specs.Prelude.{◌≡◌, ◌+◌, ◌≤◌, Some, IfOk, cond, is_some, length, map, option_map};
 ghost use Rattle.std.specs.FinMap.{get};
 ghost use Rattle.std.specs.List.{All, AllZip};
 ghost use Rattle.raven_base.specs.Counts.{one_map_more};
@@ -13,20 +13,18 @@ ghost use Rattle.index_version.specs.Renewed.{mapped_among};
 
 use crate::given::Given;
 use crate::mapping::mapped_collection;
-use crate::pieces::for_each_in_pieces;
 use crate::table::Table;
 use index_definition::{DefBody, Definition};
 use map_stage::{Lookup, Mapper, Ticket};
 use raven_base::{NoMemory, Steps};
 use raven_value::{Id, Row};
+use rayon::prelude::*;
 use std::alloc::Global;
-use std::num::NonZeroUsize;
 use std::sync::ledger::Ledger;
-use std::thread;
 use std::thread::Threads;
 
-/// How few documents are worth a thread of their own.
-const LEAST_PIECE: usize = 128;
+/// How few documents are worth threads, of which `rayon` starts one for each processor.
+const LEAST_BATCH: usize = 256;
 
 /// How few bytes the text of a map may have that is worth several threads. What a shorter one computes takes less time than threads lose
 /// that take memory beside one another.
@@ -120,46 +118,66 @@ fn questions<'a, L: Ledger>(
     Ok(all)
 }
 
-/// Asks the map in so many threads at most.
-fn answer_all<R: Threads, M: Mapper + Sync>(
+/// Asks the map for one document after another.
+fn answer_each<M: Mapper>(alloc: Global, asked: &mut [Asked<'_>], table: &Table, mapper: &M)
+    ensures { AllZip (IsAnswer (λ d. M.meaning mapper.now d (get table.now))) asked.old asked.new }
+{
+    for one in asked {
+        one.answer(alloc, table, mapper);
+    }
+}
+
+/// Asks the map in a thread for each processor.
+fn answer_in_threads<R: Threads + Sync, M: Mapper + Sync>(
     rt: &R,
     alloc: Global,
     asked: &mut [Asked<'_>],
     table: &Table,
     mapper: &M,
-    threads: usize,
 )
-    requires { 0 < threads }
     ensures { AllZip (IsAnswer (λ d. M.meaning mapper.now d (get table.now))) asked.old asked.new }
 {
-    for_each_in_pieces(
+    par_for_each_mut(
         rt,
-        &|one: &mut Asked<'_>|
-            ensures { IsAnswer (λ d. M.meaning mapper.entry.now d (get table.entry.now)) one.entry.now one.exit.now }
-        { one.answer(alloc, table, mapper) },
-        threads,
         asked,
+        |_place: usize, one: &mut Asked<'_>|
+            ensures { IsAnswer (λ d. M.meaning mapper.entry.now d (get table.entry.now)) one.old one.new }
+        { one.answer(alloc, table, mapper) },
     );
 }
 
-/// How many threads map so many documents.
-fn threads_for<R: Threads>(rt: &R, documents: usize, definition: &Definition) -> usize
-    ensures { 0 < result }
-{
-    let DefBody::Static { map_text, .. } = &definition.body else {
-        return 1;
-    };
-    if map_text.as_str().len() < LEAST_TEXT {
-        return 1;
+/// Whether to map so many documents in several threads.
+fn is_worth_threads(documents: usize, definition: &Definition) -> bool {
+    match &definition.body {
+        DefBody::Static { map_text, .. } => {
+            documents >= LEAST_BATCH && map_text.as_str().len() >= LEAST_TEXT
+        }
+        _ => false,
     }
-    let processors = thread::available_parallelism(rt).map_or(1, NonZeroUsize::get);
-    processors.min(documents / LEAST_PIECE).max(1)
+}
+
+/// Asks the map, in several threads if that is worth it.
+fn answer_all<R: Threads + Sync, M: Mapper + Sync>(
+    rt: &R,
+    alloc: Global,
+    asked: &mut [Asked<'_>],
+    table: &Table,
+    definition: &Definition,
+    mapper: &M,
+)
+    ensures { AllZip (IsAnswer (λ d. M.meaning mapper.now d (get table.now))) asked.old asked.new }
+{
+    if is_worth_threads(asked.len(), definition) {
+        answer_in_threads(rt, alloc, asked, table, mapper);
+    } else {
+        answer_each(alloc, asked, table, mapper);
+    }
 }
 
 /// What the map gives for each of these ids, in their order. The map is asked for those of them that are mapped: each is counted, also if
 /// no memory is found. If there are enough of them, and the map is long enough, several threads ask it; the answers are those that one
 /// thread gets.
-pub fn all_answers<'a, R: Threads, M: Mapper + Sync, L: Ledger>(
+pub fn all_answers<'a, R: Threads + Sync, M: Mapper + Sync, L: Ledger>(
     rt: &R,
     alloc: Global,
     ids: &'a [Id],
@@ -177,7 +195,6 @@ pub fn all_answers<'a, R: Threads, M: Mapper + Sync, L: Ledger>(
     ensures reads { steps.new.reads ≡ steps.old.reads }
 {
     let mut all = questions(alloc, ids, table, definition, steps)?;
-    let threads = threads_for(rt, ids.len(), definition);
-    answer_all(rt, alloc, &mut all, table, mapper, threads);
+    answer_all(rt, alloc, &mut all, table, definition, mapper);
     Ok(all)
 }

@@ -6,7 +6,6 @@ mod auto_reduce;
 mod given;
 mod kept;
 mod mapping;
-mod pieces;
 mod regrouping;
 mod renewal;
 mod results;

@@ -20,7 +20,7 @@ use std::thread::Threads;
 
 /// What is stored once these ids are mapped again, over a table, and no others. The map is asked for those of them that are
 /// mapped there, before anything is stored: each of these questions is counted, also if no memory is found for an answer.
-pub fn renewed<R: Threads, M: Mapper + Sync, L: Ledger>(
+pub fn renewed<R: Threads + Sync, M: Mapper + Sync, L: Ledger>(
     rt: &R,
     alloc: Global,
     kept: &Kept,

@@ -124,7 +124,7 @@ impl IndexVersion {
     /// number of documents. If there are many documents to map, as many threads as there are processors map them; what comes of it
     /// is what comes of one thread. If the definition has a reduce, rows are merged on the way from each changed entry to the root of the
     /// tree of its group; if not, none are.
-    pub fn after<R: Threads, M: Mapper + Sync, L: Ledger>(
+    pub fn after<R: Threads + Sync, M: Mapper + Sync, L: Ledger>(
         &self,
         rt: &R,
         alloc: Global,

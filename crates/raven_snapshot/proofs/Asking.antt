@@ -29,7 +29,7 @@ use Rattle.spec_index.specs.Reduces.{reduce_of}
 use Rattle.spec_index.specs.Find.{field_is_text, found_in, is_text}
 use Rattle.spec_index.specs.World.{Slot, Version, World, reads, serving}
 use Rattle.spec_server.specs.Asking.{Answered, MustMake, Ready, answer_ask, answer_by, answer_from_collection, answer_from_index, answer_if_bound, answer_of, answer_over, answer_picked, found_by, found_over, unless_refused, without_ids}
-use Rattle.spec_server.specs.Machine.{has_reduce, ids_found}
+use Rattle.spec_server.specs.Answers.{has_reduce, ids_found}
 use Rattle.spec_server.specs.Replies.{Reply, BadPlan, Index, NoIndex}
 use Rattle.spec_server.specs.Shapes.{shape_asked}
 use Rattle.spec_server.specs.Shown.{shown}

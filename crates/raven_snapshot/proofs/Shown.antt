@@ -4,7 +4,7 @@ use Rattle.spec_data.specs.Data.{Data, null, flag, num, text, array, object, ent
 use Rattle.spec_data.specs.Members.{member_of}
 use Rattle.spec_data.specs.Rising.{Pairs}
 use Rattle.spec_data.specs.Rows.{Row}
-use Rattle.spec_server.specs.Machine.{shown, shown_metadata}
+use Rattle.spec_server.specs.Answers.{shown, shown_metadata}
 use Rattle.raven_json.specs.Shown.{shown_with}
 
 shown-is : (base : List ℕ) (r : Row) (d : Data) → shown_with d (object (entries_of (shown_metadata base r (member_of (codes "@metadata") d)))) ≡ shown base r d

@@ -1,6 +1,6 @@
 //! Answers that change nothing.
 ghost use Rattle.std.specs.Prelude.{◌≡◌, IfOk, map};
-ghost use Rattle.spec_server.specs.Machine.{answer_get, answer_indexes, answer_stale, answer_stats, listing as spec_listing, shown as spec_shown};
+ghost use Rattle.spec_server.specs.Answers.{answer_get, answer_indexes, answer_stale, answer_stats, listing as spec_listing, shown as spec_shown};
 ghost use Rattle.spec_index.specs.World.{serving as spec_serving};
 ghost use Rattle.spec_server.specs.Replies.{Document as DocumentOf, Index as IndexOf, NoIndex as NoIndexOf};
 ghost use Rattle.raven_reply.specs.ReplyView.{reply_view};

@@ -1,7 +1,7 @@
 //! Answers, unless an automatic index has to be made first.
 ghost use Rattle.std.specs.Prelude.{◌≡◌, IfOk};
 ghost use Rattle.spec_index.specs.Optimiser.{pick as spec_pick};
-ghost use Rattle.spec_server.specs.Machine.{one_field};
+ghost use Rattle.spec_server.specs.Indexing.{one_field};
 ghost use Rattle.index_definition.specs.ShapeView.{shape_view};
 ghost use Rattle.raven_snapshot.specs.AnsweredView.{answered_view, name_of_choice};
 

@@ -4,7 +4,7 @@ ghost use Rattle.spec_data.specs.Data.{text as spec_text};
 ghost use Rattle.spec_data.specs.Rising.{put};
 ghost use Rattle.raven_json.specs.Shown.{shown_with};
 ghost use Rattle.raven_value.specs.View.{data_of};
-ghost use Rattle.spec_server.specs.Machine.{members_of, shown_metadata as spec_shown_metadata};
+ghost use Rattle.spec_server.specs.Answers.{members_of, shown_metadata as spec_shown_metadata};
 ghost use Rattle.spec_server.specs.Shown.{shown as spec_shown};
 ghost use Rattle.spec_store.specs.Store.{row_at};
 

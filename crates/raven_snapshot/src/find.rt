@@ -1,6 +1,6 @@
 //! Finding documents by a field.
 ghost use Rattle.std.specs.Prelude.{◌≡◌, IfOk, length};
-ghost use Rattle.spec_server.specs.Machine.{answer_find, has_reduce as spec_has_reduce, ids_found as spec_ids_found, is_stale as spec_is_stale};
+ghost use Rattle.spec_server.specs.Answers.{answer_find, has_reduce as spec_has_reduce, ids_found as spec_ids_found, is_stale as spec_is_stale};
 ghost use Rattle.index_definition.specs.DefinitionView.{definition_view};
 ghost use Rattle.spec_server.specs.Replies.{Found as FoundIds};
 ghost use Rattle.spec_index.specs.World.{serving as spec_serving};

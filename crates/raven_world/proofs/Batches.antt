@@ -4,7 +4,8 @@ use Rattle.std.specs.Prelude.{find}
 use Rattle.raven_base.specs.Counts.{Counts}
 use Rattle.spec_store.specs.Store.{Store, last}
 use Rattle.spec_index.specs.World.{Slot, World, is_named, serving}
-use Rattle.spec_server.specs.Machine.{Course, after_batch, after_batch_if_named, one_change, only_reply, pump, pump_at, pumping}
+use Rattle.spec_server.specs.Courses.{Course, one_change, only_reply}
+use Rattle.spec_server.specs.Batches.{after_batch, after_batch_if_named, pump, pump_at, pumping}
 use Rattle.raven_base.specs.declared.memory.NoMemory.{NoMemory}
 use Rattle.spec_server.specs.Replies.{NoIndex, Pumped, Pumping, Reply}
 use Rattle.side_by_side.specs.Standing.{Standing, world_of}

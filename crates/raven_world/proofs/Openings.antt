@@ -13,7 +13,8 @@ use Rattle.spec_data.specs.Rows.{Row, is_document}
 use Rattle.spec_store.specs.Commit.{Setting, is_index_id}
 use Rattle.spec_store.specs.Store.{AreRising, IsStore, Store, last_of, store_of}
 use Rattle.spec_store.proofs.StoreLemmas.{both_true}
-use Rattle.spec_server.specs.Machine.{Machine, machine_of}
+use Rattle.spec_server.specs.Courses.{Machine}
+use Rattle.spec_server.specs.Machine.{machine_of}
 use Rattle.index_tree.specs.Definitions.{Definition}
 use Rattle.spec_server.specs.Opening.{ReadRow, and_then, is_beside, is_defining, is_filed, is_too_many, may_be_named, name_in, opened_with, or_bad, rows_of, slot_of, slots_after, slots_from, slots_with, with_slot}
 use Rattle.spec_index.specs.World.{NumbersRise, Slot, begins_with_replacement, new_version}

@@ -12,7 +12,9 @@ use Rattle.index_tree.specs.Definitions.{Definition, Auto, AutoReduce}
 use Rattle.spec_index.specs.Optimiser.{Shape, definition_of, retired, retirement}
 use Rattle.spec_index.specs.World.{World, Slot, SlotChange, added, begins_with_auto, define, define_named, is_automatic, serving}
 use Rattle.spec_index.specs.World as is
-use Rattle.spec_server.specs.Machine.{Course, change_of_slots, changed, in_world, made_name, one_change, only_reply, refused_at, result_of, results_of, retire, rewrote, single_reply, slot_refused, try_switch, write_refused, wrote, write}
+use Rattle.spec_server.specs.Courses.{Course, changed, in_world, one_change, only_reply}
+use Rattle.spec_server.specs.Writes.{refused_at, result_of, results_of, single_reply, write_refused, wrote, write}
+use Rattle.spec_server.specs.Indexing.{change_of_slots, made_name, retire, rewrote, slot_refused, try_switch}
 use Rattle.raven_laws.proofs.KindLemmas.{name_of-begins}
 use Rattle.side_by_side.specs.Changes.{MayDefine, answer_view as slot_answer}
 use Rattle.side_by_side.specs.Standing.{Standing}

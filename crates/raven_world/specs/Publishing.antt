@@ -2,7 +2,7 @@
 use Rattle.std.specs.Prelude.{◌≡◌, ℕ, List, [], ◌∷◌, Option, Some, None, Result, Ok, Err, IfSome, option_map}
 use Rattle.spec_store.specs.Store.{Store}
 use Rattle.spec_index.specs.World.{Slot, World, batch, numbered, serving}
-use Rattle.spec_server.specs.Machine as is
+use Rattle.spec_server.specs.Workers as is
 use Rattle.index_version.specs.Named.{NamedVersion}
 use Rattle.side_by_side.specs.Naming.{IsNamedAs}
 use Rattle.raven_world.specs.declared.publish.Batch.{Batch}

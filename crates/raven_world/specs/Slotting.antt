@@ -3,7 +3,8 @@ use Rattle.std.specs.Prelude.{◌≡◌, ℕ, List, Option, Some, None, Result, 
 use Rattle.spec_store.specs.Commit.{Command, Refused, Server, Written, after_commands, commit}
 use Rattle.spec_store.specs.Store.{last}
 use Rattle.spec_index.specs.World as is
-use Rattle.spec_server.specs.Machine.{slot_refused, write_refused}
+use Rattle.spec_server.specs.Writes.{write_refused}
+use Rattle.spec_server.specs.Indexing.{slot_refused}
 use Rattle.spec_server.specs.Replies.{Reply}
 use Rattle.raven_reply.specs.ReplyView.{reply_view}
 use Rattle.side_by_side.specs.Changes.{change_view}

@@ -2,7 +2,7 @@
 use Rattle.std.specs.Prelude.{◌≡◌, ℕ, List, Result, Ok, Err}
 use Rattle.spec_data.specs.Data.{null}
 use Rattle.spec_store.specs.Commit.{AnyVector, Client, Command, Delete, Put, Refused, commit, etags_taken}
-use Rattle.spec_server.specs.Machine.{refused_at}
+use Rattle.spec_server.specs.Writes.{refused_at}
 use Rattle.spec_index.specs.World as is
 use Rattle.spec_server.specs.Replies.{Reply}
 use Rattle.raven_reply.specs.ReplyView.{reply_view}

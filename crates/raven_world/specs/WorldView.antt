@@ -1,7 +1,7 @@
 -- What the answers of a world say of the course of a request.
 use Rattle.std.specs.Prelude.{ℕ, List, [], ◌∷◌, ◌++◌, Option, Some, None, Result, Ok, Err}
 use Rattle.spec_index.specs.World as is
-use Rattle.spec_server.specs.Machine.{Course, one_change, only_reply, storing, then_course}
+use Rattle.spec_server.specs.Courses.{Course, one_change, only_reply, storing, then_course}
 use Rattle.raven_reply.specs.ReplyView.{reply_view}
 use Rattle.raven_world.specs.declared.switch.Taken.{Taken}
 use Rattle.raven_world.specs.declared.world.Change.{Change}

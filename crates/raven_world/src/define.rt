@@ -1,7 +1,9 @@
 //! Indexes that are defined and removed.
 ghost use Rattle.std.specs.Prelude.{◌≡◌, ◌+◌, ℕ, IfOk, IfSome, length, map, nat_le};
 ghost use Rattle.spec_store.specs.Commit.{Server, commit as spec_commit};
-ghost use Rattle.spec_server.specs.Machine.{Define, Remove, course_of, rewrote};
+ghost use Rattle.spec_server.specs.Requests.{Define, Remove};
+ghost use Rattle.spec_server.specs.Indexing.{rewrote};
+ghost use Rattle.spec_server.specs.Machine.{course_of};
 ghost use Rattle.spec_server.specs.Replies.{Index as IndexOf, Removed as RemovedOf};
 ghost use Rattle.spec_store.specs.Store.{last};
 ghost use Rattle.doc_txn.specs.CommandView.{command_view, writer_view};

@@ -3,7 +3,7 @@ ghost use Rattle.std.specs.Prelude.{◌≡◌, ℕ, IfOk, IfSome, None, false, l
 ghost use Rattle.spec_index.specs.Optimiser.{Make};
 ghost use Rattle.spec_index.specs.World.{serving};
 ghost use Rattle.spec_server.specs.Asking.{MustMake};
-ghost use Rattle.spec_server.specs.Machine.{ask_course, made_name, make as spec_make, use_or_make};
+ghost use Rattle.spec_server.specs.Indexing.{ask_course, made_name, make as spec_make, use_or_make};
 ghost use Rattle.doc_txn.specs.CommandView.{command_view};
 ghost use Rattle.index_definition.specs.ShapeView.{shape_view};
 ghost use Rattle.raven_reply.specs.ReplyView.{reply_view};

@@ -2,7 +2,7 @@
 ghost use Rattle.std.specs.Prelude.{◌≡◌, IfOk, IfSome, nat_lt, option_copied};
 ghost use Rattle.std.specs.Result.{is_ok};
 ghost use Rattle.spec_index.specs.World.{numbered, serving};
-ghost use Rattle.spec_server.specs.Machine.{published, was_cleaned as spec_was_cleaned};
+ghost use Rattle.spec_server.specs.Workers.{published, was_cleaned as spec_was_cleaned};
 ghost use Rattle.slot_batches.specs.Batches.{CountFew};
 ghost use Rattle.raven_world.specs.Publishing.{IsRead, MayPublish, published_view, read_of};
 ghost use Rattle.raven_world.specs.declared.publish.PublishRefusal.TheVariants.{NoMemory as OutOfMemory};
@@ -86,7 +86,7 @@ impl World {
     }
 
     /// Reads the next batch of at most `max` rows of the index that serves the name. The world stays as it is.
-    pub fn read<R: Threads, L: Ledger>(
+    pub fn read<R: Threads + Sync, L: Ledger>(
         &self,
         rt: &R,
         alloc: Global,

@@ -3,7 +3,8 @@ ghost use Rattle.std.specs.Prelude.{◌≡◌, [], IfOk, IfSome, None, Some, opt
 ghost use Rattle.std.specs.Result.{is_ok};
 ghost use Rattle.spec_store.specs.Store.{last};
 ghost use Rattle.spec_index.specs.World.{serving};
-ghost use Rattle.spec_server.specs.Machine.{one_change, pump as spec_pump, pump_at, pump_for};
+ghost use Rattle.spec_server.specs.Courses.{one_change};
+ghost use Rattle.spec_server.specs.Batches.{pump as spec_pump, pump_at, pump_for};
 ghost use Rattle.spec_server.specs.Replies.{Pumped as PumpedAll};
 ghost use Rattle.side_by_side.specs.Standing.{world_of};
 ghost use Rattle.slot_batches.specs.Batches.{CountFew, chosen};
@@ -47,7 +48,7 @@ impl World {
         Ok(Change { world, rows, reply })
     }
 
-    fn pump_all<R: Threads, L: Ledger>(
+    fn pump_all<R: Threads + Sync, L: Ledger>(
         &self,
         rt: &R,
         alloc: Global,
@@ -62,7 +63,7 @@ impl World {
     }
 
     // In a sound world one index serves the name.
-    fn pump_one<R: Threads, L: Ledger>(
+    fn pump_one<R: Threads + Sync, L: Ledger>(
         &self,
         rt: &R,
         alloc: Global,
@@ -83,7 +84,7 @@ impl World {
 
     /// Each index, or the one of this name, catches up by one batch of at most `max` rows. A document that several of them map counts for each, and
     /// so does a row that several of them read. Entries are merged only for definitions with a reduce.
-    pub fn pump<R: Threads, L: Ledger>(
+    pub fn pump<R: Threads + Sync, L: Ledger>(
         &self,
         rt: &R,
         alloc: Global,

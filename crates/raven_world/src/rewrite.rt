@@ -1,7 +1,7 @@
 //! Changes of the indexes, whose rows the server writes.
 ghost use Rattle.std.specs.Prelude.{◌≡◌, ℕ, List, IfOk, IfSome, Some, map, option_map};
 ghost use Rattle.spec_store.specs.Commit.{Server, commit as spec_commit};
-ghost use Rattle.spec_server.specs.Machine.{rewrote, slot_refused};
+ghost use Rattle.spec_server.specs.Indexing.{rewrote, slot_refused};
 ghost use Rattle.doc_txn.specs.CommandView.{command_view};
 ghost use Rattle.raven_reply.specs.ReplyView.{reply_view};
 ghost use Rattle.raven_world.specs.Slotting.{HasNumbers, Rewrites, change_to, refusal_view};

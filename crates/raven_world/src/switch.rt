@@ -1,7 +1,10 @@
 //! Replacements that take the names of their indexes, and automatic indexes that go.
 ghost use Rattle.std.specs.Prelude.{◌≡◌, ◌+◌, ℕ, List, IfOk, IfSome, is_none};
 ghost use Rattle.spec_index.specs.World.{World as WorldOf, switch as spec_switch};
-ghost use Rattle.spec_server.specs.Machine.{Course, Switch, course_of, replaced_names, retire as spec_retire, try_switch as spec_try_switch};
+ghost use Rattle.spec_server.specs.Requests.{Switch};
+ghost use Rattle.spec_server.specs.Courses.{Course};
+ghost use Rattle.spec_server.specs.Indexing.{replaced_names, retire as spec_retire, try_switch as spec_try_switch};
+ghost use Rattle.spec_server.specs.Machine.{course_of};
 ghost use Rattle.raven_world.specs.Slotting.{refusal_view};
 ghost use Rattle.raven_world.specs.WorldView.{answer_view, tried_view};
 

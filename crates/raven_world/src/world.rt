@@ -1,7 +1,7 @@
 //! The world.
 ghost use Rattle.std.specs.Prelude.{◌≡◌, [], IfOk};
 ghost use Rattle.spec_store.specs.Store.{last};
-ghost use Rattle.spec_server.specs.Machine.{one_change};
+ghost use Rattle.spec_server.specs.Courses.{one_change};
 ghost use Rattle.raven_reply.specs.ReplyView.{reply_view};
 ghost use Rattle.doc_txn.specs.SettingView.{setting_of};
 ghost use Rattle.side_by_side.specs.Standing.{world_of};

@@ -1,7 +1,8 @@
 //! Writes of clients.
 ghost use Rattle.std.specs.Prelude.{◌≡◌, ◌≤◌, ◌∷◌, [], IfOk, IfSome, map, true};
 ghost use Rattle.spec_store.specs.Store.{last};
-ghost use Rattle.spec_server.specs.Machine.{refused_at as spec_refused_at, result_of as spec_result_of, results_of as spec_results_of, in_world, one_change, single_reply, write};
+ghost use Rattle.spec_server.specs.Courses.{in_world, one_change};
+ghost use Rattle.spec_server.specs.Writes.{refused_at as spec_refused_at, result_of as spec_result_of, results_of as spec_results_of, single_reply, write};
 ghost use Rattle.spec_server.specs.Replies.{Bulk};
 ghost use Rattle.spec_server.specs.WellFormed.{put_bodies, puts_body};
 ghost use Rattle.doc_txn.specs.CommandView.{command_view};

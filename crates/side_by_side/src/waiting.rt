@@ -7,7 +7,7 @@ ghost use Rattle.spec_store.specs.Commit.{Setting};
 ghost use Rattle.spec_store.specs.Store.{Store};
 ghost use Rattle.spec_query.specs.Sorting.{inserted, sorted};
 ghost use Rattle.spec_index.specs.World.{serving};
-ghost use Rattle.spec_server.specs.Machine.{replaced_names};
+ghost use Rattle.spec_server.specs.Indexing.{replaced_names};
 ghost use Rattle.side_by_side.specs.Standing.{world_of};
 
 use crate::slot::Slot;

@@ -14,7 +14,7 @@ use Rattle.index_tree.specs.Mapper.{mapper_of}
 use Rattle.spec_index.specs.Index.{Agrees}
 use Rattle.spec_index.specs.Mapping.{touched}
 use Rattle.spec_index.specs.World.{NumbersRise, Slot, Version, batch, is_named, reads}
-use Rattle.spec_server.specs.Machine.{after_batch, or_as_before}
+use Rattle.spec_server.specs.Batches.{after_batch, or_as_before}
 use Rattle.spec_server.specs.Sound.{Fits}
 use Rattle.index_version.specs.Named.{NamedVersion}
 use Rattle.index_version.specs.Reduced.{HasSmallGroups, reduce_of}

@@ -7,7 +7,7 @@ use Rattle.spec_store.specs.Store.{IsStore, Store}
 use Rattle.index_tree.specs.Mapper.{mapper_of}
 use Rattle.spec_index.specs.Mapping.{touched}
 use Rattle.spec_index.specs.World.{Slot, is_named, reads}
-use Rattle.spec_server.specs.Machine.{after_batch, after_batch_if_named}
+use Rattle.spec_server.specs.Batches.{after_batch, after_batch_if_named}
 use Rattle.spec_server.specs.Sound.{Fits}
 use Rattle.index_version.specs.Reduced.{HasSmallGroups, reduce_of}
 use Rattle.index_version.specs.Renewed.{touched_documents}

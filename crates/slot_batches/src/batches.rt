@@ -1,7 +1,7 @@
 //! One batch of an index, and one of each index.
 ghost use Rattle.std.specs.Prelude.{◌≡◌, ℕ, ◌++◌, ◌∷◌, [], IfOk, IfSome, OnOk, cond, map, option_copied, option_map, option_to_list};
 ghost use Rattle.std.specs.Result.{is_ok};
-ghost use Rattle.spec_server.specs.Machine.{after_batch, or_as_before, pumping as spec_pumping};
+ghost use Rattle.spec_server.specs.Batches.{after_batch, or_as_before, pumping as spec_pumping};
 ghost use Rattle.spec_store.specs.Store.{Store};
 ghost use Rattle.spec_index.specs.World.{batch};
 ghost use Rattle.side_by_side.specs.Naming.{IsNamedAs};
@@ -21,7 +21,7 @@ use std::sync::ledger::Ledger;
 use std::thread::Threads;
 
 // The version after the next batch of an index, or nothing if there is nothing to take in.
-fn next_version<R: Threads, L: Ledger>(
+fn next_version<R: Threads + Sync, L: Ledger>(
     rt: &R,
     alloc: Global,
     store: &Store,
@@ -43,7 +43,7 @@ fn next_version<R: Threads, L: Ledger>(
 /// The version after the next batch of an index, of at most `max` rows, or nothing if the index has seen all that it reads.
 /// A document is mapped at most once. Entries are merged only for a definition with a reduce.
 #[tactic(auto, using(crate::proofs::Counting::counted))]
-pub fn read<R: Threads, L: Ledger>(
+pub fn read<R: Threads + Sync, L: Ledger>(
     rt: &R,
     alloc: Global,
     store: &Store,
@@ -87,7 +87,7 @@ fn brought_to(slot: &Slot, read: Option<Arc<IndexVersion>>) -> Result<(Slot, Pum
 
 // The slot after a batch, and how far that brought it.
 #[tactic(auto, using(crate::proofs::Counting::counted))]
-fn advanced<R: Threads, L: Ledger>(
+fn advanced<R: Threads + Sync, L: Ledger>(
     rt: &R,
     alloc: Global,
     store: &Store,
@@ -116,7 +116,7 @@ fn is_chosen(slot: &Slot, index: Option<&Name>) -> bool
 
 // The slot, after a batch if one is made of it, and how far that brought it.
 #[tactic(auto, using(crate::proofs::Counting::counted))]
-fn advanced_if<R: Threads, L: Ledger>(
+fn advanced_if<R: Threads + Sync, L: Ledger>(
     rt: &R,
     alloc: Global,
     store: &Store,
@@ -145,7 +145,7 @@ fn add(pumped: &mut Pumpings, pumping: Option<Pumping>) -> Result<(), NoMemory>
     Ok(())
 }
 
-fn all_advanced<R: Threads, L: Ledger>(
+fn all_advanced<R: Threads + Sync, L: Ledger>(
     rt: &R,
     alloc: Global,
     store: &Store,
@@ -171,7 +171,7 @@ fn all_advanced<R: Threads, L: Ledger>(
 /// Each index, or each that serves the name, after one batch of at most `max` rows, and how far it brought each of these, in order.
 /// A document that several of them map counts for each, and so does a row that several of them read.
 #[tactic(auto, using(crate::proofs::Counting::counted))]
-pub fn bring_on<R: Threads, L: Ledger>(
+pub fn bring_on<R: Threads + Sync, L: Ledger>(
     rt: &R,
     alloc: Global,
     store: &Store,

@@ -1,5 +1,5 @@
 use Rattle.std.proofs.Common.{◌≡◌, ◌++◌, drop, map}
-use Rattle.spec_server.specs.Machine.{listing}
+use Rattle.spec_server.specs.Answers.{listing}
 use Rattle.raven_snapshot.proofs.answer.listings.Given as goal
 
 abbrev pub invariant-loop-slot : goal.invariant-loop-slot

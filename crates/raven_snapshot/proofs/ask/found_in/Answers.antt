@@ -2,7 +2,7 @@ use Rattle.std.proofs.Common.{ap, sym, ◌∙◌}
 use Rattle.std.proofs.lemmas.Result.{IfOk-weaker}
 use Rattle.index_definition.specs.DefinitionView.{definition_view}
 use Rattle.index_definition.specs.declared.definition.Definition.{Definition}
-use Rattle.spec_server.specs.Machine.{has_reduce}
+use Rattle.spec_server.specs.Answers.{has_reduce}
 use Rattle.spec_server.specs.Shown.{shown}
 use Rattle.rql_eval.specs.FoundView.{found_view}
 use Rattle.raven_snapshot.proofs.Asking.{by_rows, no_reduce}

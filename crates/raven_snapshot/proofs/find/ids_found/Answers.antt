@@ -7,7 +7,7 @@ use Rattle.index_definition.specs.declared.definition.Definition.{Definition}
 use Rattle.index_version.specs.Entries.{all_entries}
 use Rattle.spec_index.specs.World.{Version}
 use Rattle.spec_query.specs.Condition.{Condition, Has, meets}
-use Rattle.spec_server.specs.Machine.{has_reduce}
+use Rattle.spec_server.specs.Answers.{has_reduce}
 use Rattle.raven_snapshot.proofs.Asking.{no_reduce, texts_found}
 use Rattle.raven_snapshot.proofs.find.ids_found.Goals as goal
 

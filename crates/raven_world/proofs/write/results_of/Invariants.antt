@@ -1,5 +1,5 @@
 use Rattle.std.proofs.Common.{◌≡◌, ◌++◌, length, map}
-use Rattle.spec_server.specs.Machine.{results_of}
+use Rattle.spec_server.specs.Writes.{results_of}
 use Rattle.doc_txn.specs.CommandView.{command_view}
 use Rattle.raven_reply.specs.ReplyView.{result_view}
 use Rattle.raven_world.proofs.write.results_of.Given as goal

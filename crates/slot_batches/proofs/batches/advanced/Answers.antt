@@ -1,6 +1,6 @@
 use Rattle.std.proofs.Common.{◌≡◌, ◌∷◌, [], IfOk, subst}
 use Rattle.std.specs.Result.{is_ok}
-use Rattle.spec_server.specs.Machine.{or_as_before}
+use Rattle.spec_server.specs.Batches.{or_as_before}
 use Rattle.slot_batches.proofs.Counting.{whether}
 use Rattle.slot_batches.proofs.batches.advanced.Goals as goal
 

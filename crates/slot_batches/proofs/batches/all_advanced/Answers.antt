@@ -1,7 +1,7 @@
 use Rattle.std.proofs.Common.{◌≡◌, ◌+◌, ◌∷◌, [], false, rules, take, true}
 use Rattle.std.specs.Prelude.{option_copied}
 use Rattle.std.specs.Result.{is_ok}
-use Rattle.spec_server.specs.Machine.{pumping}
+use Rattle.spec_server.specs.Batches.{pumping}
 use Rattle.slot_batches.specs.Batches.{after_batch_of, chosen}
 use Rattle.slot_batches.proofs.Counting.{and_more, chosen_more, mapped_more, stopped, told_more}
 use Rattle.slot_batches.proofs.batches.all_advanced.Goals as goal

@@ -1,6 +1,6 @@
 use Rattle.std.proofs.Common.{◌≡◌, map, take, true}
 use Rattle.std.specs.Prelude.{option_copied}
-use Rattle.spec_server.specs.Machine.{pumping}
+use Rattle.spec_server.specs.Batches.{pumping}
 use Rattle.slot_batches.specs.Batches.{CountFew, after_batch_of, chosen}
 use Rattle.slot_batches.proofs.batches.all_advanced.Given as goal
 

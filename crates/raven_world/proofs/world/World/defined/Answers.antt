@@ -1,6 +1,6 @@
 use Rattle.std.proofs.Common.{◌≡◌, IfSome, map, subst}
 use Rattle.spec_store.specs.Commit.{Server, commit}
-use Rattle.spec_server.specs.Machine.{rewrote}
+use Rattle.spec_server.specs.Indexing.{rewrote}
 use Rattle.doc_txn.specs.CommandView.{command_view}
 use Rattle.side_by_side.specs.Changes.{change_view}
 use Rattle.raven_world.specs.WorldView.{answer_view}

@@ -3,7 +3,7 @@ use Rattle.spec_store.specs.Commit.{Server, commit}
 use Rattle.spec_store.specs.Store.{last}
 use Rattle.spec_index.specs.World.{World}
 use Rattle.spec_index.specs.Optimiser.{retirement}
-use Rattle.spec_server.specs.Machine.{rewrote}
+use Rattle.spec_server.specs.Indexing.{rewrote}
 use Rattle.spec_server.specs.Replies.{Tidied}
 use Rattle.doc_txn.specs.CommandView.{command_view}
 use Rattle.doc_txn.specs.SettingView.{setting_of}

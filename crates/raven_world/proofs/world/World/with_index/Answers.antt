@@ -1,7 +1,7 @@
 use Rattle.std.proofs.Common.{◌≡◌, ℕ, List, Err, IfSome, Ok, Some, option_map, refl, subst, sym}
 use Rattle.spec_store.specs.Store.{last}
 use Rattle.spec_index.specs.World.{World}
-use Rattle.spec_server.specs.Machine.{slot_refused}
+use Rattle.spec_server.specs.Indexing.{slot_refused}
 use Rattle.doc_txn.specs.CommandView.{writer_view}
 use Rattle.doc_txn.specs.SettingView.{setting_of}
 use Rattle.index_definition.specs.DefinitionView.{definition_view}
