@@ -1,7 +1,8 @@
 -- Lists of jobs, what was begun of them, and their outcomes, as far as a loop has come.
 use Rattle.std.proofs.Common.{◌≡◌, List, [], ◌∷◌, ◌++◌, length, sym, refl, ap, ap₂, ◌∙◌, append_assoc, append-nil, arith}
 use Rattle.std.specs.List.{AllZip}
-use Rattle.std.specs.Prelude.{Result, Ok, Err}
+use Rattle.std.specs.Prelude.{Option, Some, None, Result, Ok, Err}
+use Rattle.std.specs.Result.{result_err}
 use Rattle.raven_crew.specs.Outcomes.{IsOutcome, outputs_in, returned_in}
 
 module _ {A B : Type 0} (R : A → B → Type 0) where
@@ -32,14 +33,10 @@ module _ {A B C : Type 0} (R : A → B → Type 0) (S : A → C → Type 0) wher
   zip_on (x ∷ xs) (y ∷ ys) [] a b = absurd b
   zip_on (x ∷ xs) (y ∷ ys) (z ∷ zs) a b = (b.0 x a.0, zip_on xs ys zs a.1 b.1)
 
-module _ {J X : Type 0} (done : J → X → Type 0) where
-  pub all_given : (jobs : List J) (rs : List (Result X J)) → AllZip (IsOutcome done) jobs rs → returned_in rs ≡ [] → AllZip done jobs (outputs_in rs)
-  all_given [] [] z e = tt
-  all_given [] (r ∷ rs) z e = absurd z
-  all_given (j ∷ jobs) [] z e = absurd z
-  all_given (j ∷ jobs) (Ok x ∷ rs) z e = (z.0, all_given jobs rs z.1 e)
-  all_given (j ∷ jobs) (Err b ∷ rs) z e = absurd (cc)
+some_is : {A : Type 0} (x y : A) → Some x ≡ Some y → x ≡ y
+some_is x y e = cc
 
+module _ {J X : Type 0} (done : J → X → Type 0) where
   pub all_back : (jobs : List J) (rs : List (Result X J)) → AllZip (IsOutcome done) jobs rs → outputs_in rs ≡ [] → returned_in rs ≡ jobs
   all_back [] [] z e = refl
   all_back [] (r ∷ rs) z e = absurd z
@@ -48,22 +45,14 @@ module _ {J X : Type 0} (done : J → X → Type 0) where
   all_back (j ∷ jobs) (Err b ∷ rs) z e = ap₂ (λ (a : J) (l : List J). a ∷ l) z.0 (all_back jobs rs z.1 e)
 
 module _ {J X : Type 0} where
-  pub given-push : (rs : List (Result X J)) (x : X) → outputs_in (rs ++ Ok x ∷ []) ≡ outputs_in rs ++ x ∷ []
-  given-push [] x = refl
-  given-push (Ok y ∷ rs) x = ap (λ l. y ∷ l) (given-push rs x)
-  given-push (Err j ∷ rs) x = given-push rs x
+  pub back-push : (rs : List (Result X J)) (r : Result X J) (j : J) → result_err r ≡ Some j → returned_in (rs ++ r ∷ []) ≡ returned_in rs ++ j ∷ []
+  back-push [] (Ok x) j e = absurd (cc)
+  back-push [] (Err i) j e = ap (λ (k : J). k ∷ []) (some_is i j e)
+  back-push (Ok y ∷ rs) r j e = back-push rs r j e
+  back-push (Err i ∷ rs) r j e = ap (λ l. i ∷ l) (back-push rs r j e)
 
-  pub given-skip : (rs : List (Result X J)) (j : J) → outputs_in (rs ++ Err j ∷ []) ≡ outputs_in rs
-  given-skip [] j = refl
-  given-skip (Ok y ∷ rs) j = ap (λ l. y ∷ l) (given-skip rs j)
-  given-skip (Err i ∷ rs) j = given-skip rs j
-
-  pub back-push : (rs : List (Result X J)) (j : J) → returned_in (rs ++ Err j ∷ []) ≡ returned_in rs ++ j ∷ []
-  back-push [] j = refl
-  back-push (Ok y ∷ rs) j = back-push rs j
-  back-push (Err i ∷ rs) j = ap (λ l. i ∷ l) (back-push rs j)
-
-  pub back-skip : (rs : List (Result X J)) (x : X) → returned_in (rs ++ Ok x ∷ []) ≡ returned_in rs
-  back-skip [] x = refl
-  back-skip (Ok y ∷ rs) x = back-skip rs x
-  back-skip (Err i ∷ rs) x = ap (λ l. i ∷ l) (back-skip rs x)
+  pub back-skip : (rs : List (Result X J)) (r : Result X J) → result_err r ≡ None → returned_in (rs ++ r ∷ []) ≡ returned_in rs
+  back-skip [] (Ok x) e = refl
+  back-skip [] (Err i) e = absurd (cc)
+  back-skip (Ok y ∷ rs) r e = back-skip rs r e
+  back-skip (Err i ∷ rs) r e = ap (λ l. i ∷ l) (back-skip rs r e)

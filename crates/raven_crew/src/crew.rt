@@ -1,5 +1,5 @@
 //! What runs jobs beside one another.
-ghost use Rattle.std.specs.Prelude.{◌≡◌, ◌≤◌, IfSome, MatchResult, None, true, option_map};
+ghost use Rattle.std.specs.Prelude.{◌≡◌, ◌≤◌, IfSome, MatchResult, None, false, true, option_map};
 ghost use Rattle.std.specs.List.{AllZip};
 ghost use Rattle.raven_ports.specs.Faults.{Rose};
 ghost use Rattle.raven_ports.specs.Plan.{is_failing, one_later};
@@ -34,11 +34,12 @@ pub trait Crew {
     /// Which of its calls fail, if it reports that, and how often it has failed.
     ghost state: { Self → CrewState };
 
-    /// How the jobs of the next call are run. It counts this call.
+    /// How the jobs of the next call are run. It counts this call, and a fault only if it refuses them.
     fn way(&mut self) -> Way
         ensures planned { IfSome (state self.old).plan (λ p. is_to_refuse result ≡ is_failing p) }
         ensures together { result ≡ Way.Together → (state self.old).plan ≡ None }
         ensures called { (state self.new).plan ≡ option_map one_later (state self.old).plan }
+        ensures same { is_to_refuse result ≡ false → (state self.new).faults ≡ (state self.old).faults }
         ensures later { (state self.old).faults ≤ (state self.new).faults }
         ensures cause { result ≡ Way.Refused → Rose (state self.old).faults (state self.new).faults };
 
@@ -48,7 +49,8 @@ pub trait Crew {
         ensures later { (state self.old).faults ≤ (state self.new).faults }
         ensures cause { (state self.old).plan ≡ None → Rose (state self.old).faults (state self.new).faults };
 
-    /// Runs all jobs, and returns their outputs in the order of the jobs; or hands all jobs back, and none was run.
+    /// Runs all jobs, and returns their outputs in the order of the jobs; or hands all jobs back, and none was run. Its count of faults
+    /// rises exactly if it hands them back, as far as the count can rise.
     final fn run_all<J: Job + Send + Drop, R: Threads + Wait + Sync>(
         &mut self,
         rt: &R,
@@ -60,6 +62,7 @@ pub trait Crew {
         ensures done { MatchResult result (λ outputs. AllZip J.done jobs.items outputs.items) (HandsBack jobs.items) }
         ensures planned { IfSome (state self.old).plan (λ p. is_refused result ≡ is_failing p) }
         ensures called { (state self.new).plan ≡ option_map one_later (state self.old).plan }
+        ensures same { is_refused result ≡ false → (state self.new).faults ≡ (state self.old).faults }
         ensures later { (state self.old).faults ≤ (state self.new).faults }
         ensures cause { is_refused result ≡ true → Rose (state self.old).faults (state self.new).faults }
     {

@@ -4,6 +4,7 @@ ghost use Rattle.std.specs.List.{AllZip};
 ghost use Rattle.raven_crew.specs.Beginnings.{IsBegun};
 
 use crate::job::Job;
+use crate::outcomes::{finish_all, outputs_of};
 use crate::start::{Begun, GO, start};
 use std::alloc::{AllocError, Global};
 use std::sync::Wait;
@@ -58,7 +59,8 @@ where
 {
     let begun = start_each(rt, alloc, scope, words, jobs)?;
     let begun = run_returned(rt, alloc, begun)?;
-    outputs_of(rt, alloc, begun)
+    let outcomes = finish_all(rt, alloc, begun)?;
+    outputs_of(rt, alloc, outcomes)
 }
 
 fn start_each<'s, E, J: Job + Send + Drop + 's, R: Threads + Wait + Sync>(
@@ -83,7 +85,7 @@ where
 }
 
 // Runs the job if it came back.
-fn rerun<J: Job, R: Threads + Wait>(rt: &R, begun: Begun<J>) -> Begun<J>
+fn rerun<J: Job, R: Threads + Wait + Sync>(rt: &R, begun: Begun<J>) -> Begun<J>
     ensures { (job : J) → IsBegun J.done job begun → IsBegun J.done job result }
 {
     match begun {
@@ -94,7 +96,7 @@ fn rerun<J: Job, R: Threads + Wait>(rt: &R, begun: Begun<J>) -> Begun<J>
 }
 
 // Runs the jobs that came back, while the threads run the others.
-fn run_returned<J: Job + Drop, R: Threads + Wait>(
+fn run_returned<J: Job + Drop, R: Threads + Wait + Sync>(
     rt: &R,
     alloc: Global,
     begun: Vec<Begun<J>>,
@@ -108,29 +110,4 @@ where
         all.push_reserved(rerun(rt, one));
     }
     Ok(all)
-}
-
-fn output_of<J: Job, R: Threads + Wait>(rt: &R, begun: Begun<J>) -> J::Out
-    ensures { (job : J) → IsBegun J.done job begun → J.done job result }
-{
-    match begun.finish(rt) {
-        Ok(output) => output,
-        Err(job) => job.run(rt),
-    }
-}
-
-fn outputs_of<J: Job + Drop, R: Threads + Wait>(
-    rt: &R,
-    alloc: Global,
-    begun: Vec<Begun<J>>,
-) -> Result<Vec<J::Out>, AllocError>
-where
-    J::Out: Drop,
-    ensures { (jobs : List J) → AllZip (IsBegun J.done) jobs begun.items → IfOk result (λ v. AllZip J.done jobs v.items) }
-{
-    let mut outputs = Vec::with_capacity(alloc, begun.len())?;
-    for one in begun {
-        outputs.push_reserved(output_of(rt, one));
-    }
-    Ok(outputs)
 }

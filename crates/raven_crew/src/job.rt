@@ -1,4 +1,6 @@
 //! A piece of work that one thread does.
+ghost use Rattle.std.specs.Thread.{IsSync};
+
 use std::sync::Wait;
 use std::thread::Threads;
 
@@ -10,6 +12,7 @@ pub trait Job {
     ghost done: { Self → Self.Out → Type 0 };
 
     /// Does the work. It may wait for other threads.
-    fn run<R: Threads + Wait>(self, rt: &R) -> Self::Out
+    fn run<R: Threads + Wait + Sync>(self, rt: &R) -> Self::Out
+        requires { IsSync R.row }
         ensures { done self result };
 }

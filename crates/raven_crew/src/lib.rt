@@ -5,6 +5,7 @@ mod crew;
 mod each;
 mod job;
 mod mem_crew;
+mod outcomes;
 mod start;
 mod together;
 

@@ -48,7 +48,7 @@ impl<J: Job> Begun<J> {
 }
 
 // Waits for the word, and then runs the job or hands it back.
-fn attempt<J: Job, R: Threads + Wait>(rt: &R, word: &AtomicU64, job: J) -> Result<J::Out, J>
+fn attempt<J: Job, R: Threads + Wait + Sync>(rt: &R, word: &AtomicU64, job: J) -> Result<J::Out, J>
     ensures { IsOutcome J.done job result }
 {
     for _ in rt.forever() {

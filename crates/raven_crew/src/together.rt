@@ -6,6 +6,7 @@ ghost use Rattle.raven_crew.specs.Beginnings.{IsBegun};
 ghost use Rattle.raven_crew.specs.Refusals.{HandsBack};
 
 use crate::job::Job;
+use crate::outcomes::{are_returned, finish_all, outputs_of, returned_of};
 use crate::start::{Begun, GO, WAIT, start};
 use std::alloc::{AllocError, Global};
 use std::sync::Wait;
@@ -42,25 +43,10 @@ where
     Ok(begun)
 }
 
-fn finish_all<J: Job + Drop, R: Threads>(
+// The outputs, or the jobs if all came back. All threads read one word, so all ran or all came back; if only some came back, they run
+// here, since jobs that ran can't be handed back.
+fn sorted<J: Job + Drop, R: Threads + Wait + Sync>(
     rt: &R,
-    alloc: Global,
-    begun: Vec<Begun<J>>,
-) -> Result<Vec<Result<J::Out, J>>, AllocError>
-where
-    J::Out: Drop,
-    ensures { (jobs : List J) → AllZip (IsBegun J.done) jobs begun.items → IfOk result (λ v. AllZip (IsOutcome J.done) jobs v.items) }
-{
-    let mut outcomes = Vec::with_capacity(alloc, begun.len())?;
-    for one in begun {
-        outcomes.push_reserved(one.finish(rt));
-    }
-    Ok(outcomes)
-}
-
-// The outputs if all ran, and the jobs if all came back. All threads read one word, so there is no third case; no clause says so,
-// and the answer to it is the one that needs no cause.
-fn sorted<J: Job + Drop>(
     alloc: Global,
     outcomes: Vec<Result<J::Out, J>>,
 ) -> Result<Vec<J::Out>, CrewFault<J>>
@@ -68,24 +54,16 @@ where
     J::Out: Drop,
     ensures { (jobs : List J) → AllZip (IsOutcome J.done) jobs outcomes.items → MatchResult result (λ v. AllZip J.done jobs v.items) (HandsBack jobs) }
 {
-    let Ok(mut outputs) = Vec::with_capacity(alloc, outcomes.len()) else {
-        return Err(CrewFault::NoMemory);
-    };
-    let Ok(mut returned) = Vec::with_capacity(alloc, outcomes.len()) else {
-        return Err(CrewFault::NoMemory);
-    };
-    for outcome in outcomes {
-        match outcome {
-            Ok(output) => outputs.push_reserved(output),
-            Err(job) => returned.push_reserved(job),
+    if are_returned(&outcomes) {
+        match returned_of(alloc, outcomes) {
+            Ok(jobs) => Err(CrewFault::Refused(jobs)),
+            Err(_) => Err(CrewFault::NoMemory),
         }
-    }
-    if returned.is_empty() {
-        Ok(outputs)
-    } else if outputs.is_empty() {
-        Err(CrewFault::Refused(returned))
     } else {
-        Err(CrewFault::NoMemory)
+        match outputs_of(rt, alloc, outcomes) {
+            Ok(outputs) => Ok(outputs),
+            Err(_) => Err(CrewFault::NoMemory),
+        }
     }
 }
 
@@ -109,7 +87,7 @@ where
         { in_scope(rt, alloc, scope, at, jobs) },
     );
     match outcomes {
-        Ok(outcomes) => sorted(alloc, outcomes),
+        Ok(outcomes) => sorted(rt, alloc, outcomes),
         Err(_) => Err(CrewFault::NoMemory),
     }
 }

@@ -3,7 +3,7 @@ use Rattle.std.specs.List.{AllZip}
 use Rattle.std.specs.Vec.Iter.{into_iter_items, into_iter_len}
 use Rattle.raven_crew.specs.Outcomes.{IsOutcome}
 use Rattle.raven_crew.specs.Beginnings.{IsBegun}
-use Rattle.raven_crew.proofs.together.finish_all.Given as goal
+use Rattle.raven_crew.proofs.outcomes.finish_all.Given as goal
 
 abbrev pub invariant-loop-one : goal.invariant-loop-one
 invariant-loop-one g l =

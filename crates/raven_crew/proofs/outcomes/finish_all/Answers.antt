@@ -3,7 +3,7 @@ use Rattle.std.specs.List.{AllZip}
 use Rattle.raven_crew.proofs.Zips.{zip_push, zip_on, took_one, took_all}
 use Rattle.raven_crew.specs.Outcomes.{IsOutcome}
 use Rattle.raven_crew.specs.Beginnings.{IsBegun}
-use Rattle.raven_crew.proofs.together.finish_all.Goals as goal
+use Rattle.raven_crew.proofs.outcomes.finish_all.Goals as goal
 
 pub loop-one-preserved : goal.loop-one-preserved
 loop-one-preserved g c = let was = c.loop-one.invariant in let step = c.in-Some.ensures.steps in let pushed = c.push_reserved.ensures in let done = g.J.Job.done in (

@@ -1,9 +1,0 @@
-use Rattle.std.proofs.Common.{◌≡◌, ◌+◌, ◌≤◌, ◌++◌, vec_len, vec_capacity}
-use Rattle.std.specs.Vec.Iter.{into_iter_items, into_iter_len}
-use Rattle.raven_crew.specs.Outcomes.{outputs_in, returned_in}
-use Rattle.raven_crew.proofs.together.sorted.Given as goal
-
-abbrev pub invariant-loop-outcome : goal.invariant-loop-outcome
-invariant-loop-outcome g l =
-    (l.outputs.items ≡ outputs_in l.yielded) × (l.returned.items ≡ returned_in l.yielded) × (l.fn.outcomes.items ≡ l.yielded ++ into_iter_items l.outcome-iterator)
-    × (vec_len l.outputs + into_iter_len l.outcome-iterator ≤ vec_capacity l.outputs) × (vec_len l.returned + into_iter_len l.outcome-iterator ≤ vec_capacity l.returned)
