@@ -1,9 +1,10 @@
 -- What requests ask.
 use Rattle.std.proofs.Common.{◌≡◌, ℕ, List, Some, None, Result, Ok, Err, sym, ap, subst}
-use Rattle.spec_server.specs.Machine as is
-use Rattle.spec_server.specs.Machine.{Do}
-use Rattle.spec_server.specs.Script as read
-use Rattle.spec_server.specs.Script.{LineRead, Querying, plain_asking, then_read}
+use Rattle.spec_server.specs.Requests as is
+use Rattle.spec_server.specs.Requests.{Do}
+use Rattle.spec_server.specs.Words as read
+use Rattle.spec_server.specs.Words.{LineRead, then_read}
+use Rattle.spec_server.specs.Texts.{Querying, plain_asking}
 use Rattle.spec_http.specs.Requests.{plain, query_by}
 use Rattle.raven_request.specs.RequestRead.{Asks}
 use Rattle.raven_request.specs.RequestView.{Reads, Refuses, request_view}

@@ -11,8 +11,10 @@ use Rattle.index_tree.specs.Definitions.{Definition, Texts}
 use Rattle.spec_index.specs.World.{is_automatic}
 use Rattle.spec_query.specs.Query.{Query}
 use Rattle.spec_query.specs.Refusals.{QueryRefusal}
-use Rattle.spec_server.specs.Machine.{Request, Put, Delete, Bulk, Get, Remove, Stale, Indexes, Stats, Do}
-use Rattle.spec_server.specs.Script.{Asked, Asking, BadMember, LineRead, ReadRefusal, asked_by_text, asked_to_define, asked_to_query, asking_in, asking_of, asking_of_body, beside_in, bulk_read, command_read, commands_of, commands_read, defined_by, delete_command, id_member, json_read, list_member, object_read, plain_asking, put_command, query_member, then_read, typed_command, vector_member}
+use Rattle.spec_server.specs.Requests.{Request, Put, Delete, Bulk, Get, Remove, Stale, Indexes, Stats, Do}
+use Rattle.spec_server.specs.Words.{BadMember, LineRead, ReadRefusal, json_read, object_read, then_read}
+use Rattle.spec_server.specs.Commands.{bulk_read, command_read, commands_of, commands_read, delete_command, id_member, list_member, put_command, typed_command, vector_member}
+use Rattle.spec_server.specs.Texts.{Asked, Asking, asked_by_text, asked_to_define, asked_to_query, asking_in, asking_of, asking_of_body, beside_in, defined_by, plain_asking, query_member}
 use Rattle.spec_server.specs.WellFormed.{IsWellFormed, is_body, put_bodies, puts_body}
 use Rattle.http_parts.specs.Parameters.{parameter, text_of, value_in}
 use Rattle.http_parts.specs.Routes.{route_at}

@@ -4,9 +4,11 @@ use Rattle.spec_data.specs.Data.{Data, null, flag, num, text, array, object, ite
 use Rattle.index_tree.specs.Definitions.{Texts}
 use Rattle.raven_value.specs.View.{data_of}
 use Rattle.raven_value.specs.declared.value.Value.{Value}
-use Rattle.spec_server.specs.Machine as is
-use Rattle.spec_server.specs.Script as read
-use Rattle.spec_server.specs.Script.{LineRead, asked_to_define, texts_of_body, then_read}
+use Rattle.spec_server.specs.Requests as is
+use Rattle.spec_server.specs.Words as read
+use Rattle.spec_server.specs.Texts as read_texts
+use Rattle.spec_server.specs.Words.{LineRead, then_read}
+use Rattle.spec_server.specs.Texts.{asked_to_define, texts_of_body}
 use Rattle.spec_http.specs.Requests.{only_definition, texts_of_indexes}
 use Rattle.raven_lines.specs.Lines.{Comes}
 use Rattle.raven_request.specs.RequestRead.{AsksBy, IsRefusedFor}
@@ -77,7 +79,7 @@ no_object (object ms ∷ e ∷ ds) h = refl
 pub asks-bad : (name : List ℕ) (given : Result (List ℕ × Texts) read.ReadRefusal) (why : ReadRefusal) → IsBadMember name why → given ≡ Err (read.BadMember name) → IsRefusedFor (asked_to_define given) why
 asks-bad name given why h e = asks-unread given why (bad_member name why given h e)
 
-pub asks-plainly-bad : (name : List ℕ) (why : ReadRefusal) → IsBadMember name why → IsRefusedFor (read.Plain (Err (read.BadMember name))) why
+pub asks-plainly-bad : (name : List ℕ) (why : ReadRefusal) → IsBadMember name why → IsRefusedFor (read_texts.Plain (Err (read.BadMember name))) why
 asks-plainly-bad name why h = plainly-refused (Err (read.BadMember name)) why (bad_member name why (Err (read.BadMember name)) h refl)
 
 -- of these items

@@ -1,6 +1,7 @@
 -- What is asked comes to one thing.
 use Rattle.std.proofs.Common.{◌≡◌, ◌∙◌, sym, ap}
-use Rattle.spec_server.specs.Script.{Asked, Defining, LineRead, Plain, Querying, asked_by_text, defined_by}
+use Rattle.spec_server.specs.Words.{LineRead}
+use Rattle.spec_server.specs.Texts.{Asked, Defining, Plain, Querying, asked_by_text, defined_by}
 use Rattle.raven_lines.specs.Lines.{Comes}
 use Rattle.raven_reading.proofs.Once.{query_once, says_once}
 

@@ -5,7 +5,7 @@ use Rattle.std.specs.Str.{bytes_eq}
 use Rattle.http_parts.specs.Routes.{route_at}
 use Rattle.http_parts.specs.declared.route.Route.{Route}
 use Rattle.http_read.specs.declared.request.HttpRequest.{HttpRequest}
-use Rattle.spec_server.specs.Machine.{Do}
+use Rattle.spec_server.specs.Requests.{Do}
 use Rattle.spec_server.specs.WellFormed.{IsWellFormed}
 use Rattle.spec_http.specs.Requests as is
 use Rattle.spec_http.specs.Requests.{asked_of_database, asked_on, asked_over_http}

@@ -1,7 +1,7 @@
 -- What is answered to a request that is refused before the database is asked.
 use Rattle.std.specs.Prelude.{◌≡◌, ℕ, List, Bool}
 use Rattle.spec_server.specs.Replies.{Reply}
-use Rattle.spec_server.specs.Script.{Asked}
+use Rattle.spec_server.specs.Texts.{Asked}
 use Rattle.spec_http.specs.Answers.{no_database, no_route, response_to}
 use Rattle.raven_request.specs.RequestRead.{IsRefusal, IsRefusedFor}
 use Rattle.http_front.specs.declared.refusal.HttpRefusal.{HttpRefusal}

@@ -1,7 +1,7 @@
 -- What is read of a request over HTTP.
 use Rattle.std.specs.Prelude.{Some, Result, Ok, Err}
-use Rattle.spec_server.specs.Machine.{Do}
-use Rattle.spec_server.specs.Script.{LineRead}
+use Rattle.spec_server.specs.Requests.{Do}
+use Rattle.spec_server.specs.Words.{LineRead}
 use Rattle.spec_server.specs.WellFormed.{IsWellFormed}
 use Rattle.spec_http.specs.Requests as is
 use Rattle.raven_request.specs.RequestRead.{Asks}

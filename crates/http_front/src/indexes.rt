@@ -1,7 +1,7 @@
 //! The definition of an index, in the body of a request.
 ghost use Rattle.std.specs.Prelude.{◌≡◌, map, option_map};
 ghost use Rattle.raven_value.specs.View.{data_of};
-ghost use Rattle.spec_server.specs.Script.{asked_to_define};
+ghost use Rattle.spec_server.specs.Texts.{asked_to_define};
 ghost use Rattle.spec_http.specs.Requests as spec;
 ghost use Rattle.raven_request.specs.RequestRead.{Asks, AsksBy};
 ghost use Rattle.raven_request.specs.RequestView.{define_view};
@@ -55,12 +55,7 @@ fn definition_in(alloc: Global, value: &Value) -> Result<TextDefinition, ReadRef
 pub fn define_index(alloc: Global, body: &[u8]) -> Result<Request, ReadRefusal>
     ensures { Asks (asked_to_define (spec.define_index body.now)) result }
 {
-    let value = match json_of(alloc, body) {
-        Ok(value) => value,
-        Err(refusal) => return Err(refusal),
-    };
-    match definition_in(alloc, &value) {
-        Ok(definition) => Ok(Request::Define { definition }),
-        Err(refusal) => Err(refusal),
-    }
+    let value = json_of(alloc, body)?;
+    let definition = definition_in(alloc, &value)?;
+    Ok(Request::Define { definition })
 }

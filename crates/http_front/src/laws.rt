@@ -1,6 +1,7 @@
 //! The laws of what requests ask, each the contract of a function without a body.
 ghost use Rattle.std.specs.Prelude.{◌≡◌, ℕ, List};
-ghost use Rattle.spec_server.specs.Script.{Asked, LineRead};
+ghost use Rattle.spec_server.specs.Words.{LineRead};
+ghost use Rattle.spec_server.specs.Texts.{Asked};
 ghost use Rattle.http_read.specs.declared.request.HttpRequest.{HttpRequest};
 ghost use Rattle.spec_http.specs.Requests.{Asks, asked_over_http};
 ghost use Rattle.raven_lines.specs.Lines.{Comes};

@@ -34,14 +34,8 @@ pub fn parameter_of<'q>(
 pub fn id_in(alloc: Global, query: &str) -> Result<Id, ReadRefusal>
     ensures { Reads (λ id. id) result (spec.id_in query.now) }
 {
-    let text = match parameter_of(alloc, "id", query) {
-        Ok(text) => text,
-        Err(refusal) => return Err(refusal),
-    };
-    match id_of(alloc, text.as_str()) {
-        Ok(id) => Ok(id),
-        Err(refusal) => Err(refusal),
-    }
+    let text = parameter_of(alloc, "id", query)?;
+    id_of(alloc, text.as_str())
 }
 
 /// The parameter `name`, which has to be a name.
@@ -49,14 +43,8 @@ pub fn id_in(alloc: Global, query: &str) -> Result<Id, ReadRefusal>
 pub fn name_in(alloc: Global, query: &str) -> Result<Name, ReadRefusal>
     ensures { Reads (λ name. name) result (spec.name_in query.now) }
 {
-    let text = match parameter_of(alloc, "name", query) {
-        Ok(text) => text,
-        Err(refusal) => return Err(refusal),
-    };
-    match name_of(alloc, text.as_str()) {
-        Ok(name) => Ok(name),
-        Err(refusal) => Err(refusal),
-    }
+    let text = parameter_of(alloc, "name", query)?;
+    name_of(alloc, text.as_str())
 }
 
 /// The vector that If-Match states. Without one any version of the document will do.

@@ -1,6 +1,6 @@
 //! What requests ask.
 ghost use Rattle.std.specs.Prelude.{IfOk, codes};
-ghost use Rattle.spec_server.specs.Machine.{Do};
+ghost use Rattle.spec_server.specs.Requests.{Do};
 ghost use Rattle.spec_server.specs.WellFormed.{IsWellFormed};
 ghost use Rattle.spec_http.specs.Requests as spec;
 ghost use Rattle.spec_http.specs.Requests.{asked_over_http};
@@ -11,7 +11,7 @@ ghost use Rattle.http_front.specs.Asked.{AsksOverHttp};
 use crate::indexes::define_index;
 use crate::parameters::{expected_by, id_in, name_in, parameter_of};
 use crate::refusal::HttpRefusal;
-use http_parts::{Route, route_at};
+use http_parts::{Route, Routes};
 use http_read::HttpRequest;
 use raven_request::{ReadRefusal, Request, bulk_of, json_of, object_of, query_of, query_of_json};
 use std::alloc::Global;
@@ -21,29 +21,18 @@ use std::alloc::Global;
 fn put_document(alloc: Global, request: &HttpRequest) -> Result<Request, ReadRefusal>
     ensures { Reads request_view result (spec.put_document request.now.query request.now.body request.now.if_match) }
 {
-    let value = match json_of(alloc, request.body.as_slice()) {
-        Ok(value) => value,
-        Err(refusal) => return Err(refusal),
-    };
-    let id = match id_in(alloc, request.query.as_str()) {
-        Ok(id) => id,
-        Err(refusal) => return Err(refusal),
-    };
+    let value = json_of(alloc, request.body.as_slice())?;
+    let id = id_in(alloc, request.query.as_str())?;
     let expected = expected_by(&request.if_match)?;
-    match object_of(alloc, "body", Some(value)) {
-        Ok(body) => Ok(Request::Put { id, expected, body }),
-        Err(refusal) => Err(refusal),
-    }
+    let body = object_of(alloc, "body", Some(value))?;
+    Ok(Request::Put { id, expected, body })
 }
 
 #[tactic(auto, using(raven_request::proofs::Readings::readings))]
 fn delete_document(alloc: Global, request: &HttpRequest) -> Result<Request, ReadRefusal>
     ensures { Reads request_view result (spec.delete_document request.now.query request.now.if_match) }
 {
-    let id = match id_in(alloc, request.query.as_str()) {
-        Ok(id) => id,
-        Err(refusal) => return Err(refusal),
-    };
+    let id = id_in(alloc, request.query.as_str())?;
     let expected = expected_by(&request.if_match)?;
     Ok(Request::Delete { id, expected })
 }
@@ -52,30 +41,24 @@ fn delete_document(alloc: Global, request: &HttpRequest) -> Result<Request, Read
 fn get_document(alloc: Global, query: &str) -> Result<Request, ReadRefusal>
     ensures { Reads request_view result (spec.get_document query.now) }
 {
-    match id_in(alloc, query) {
-        Ok(id) => Ok(Request::Get { id }),
-        Err(refusal) => Err(refusal),
-    }
+    let id = id_in(alloc, query)?;
+    Ok(Request::Get { id })
 }
 
 #[tactic(auto, using(raven_request::proofs::Readings::readings))]
 fn remove_index(alloc: Global, query: &str) -> Result<Request, ReadRefusal>
     ensures { Reads request_view result (spec.remove_index query.now) }
 {
-    match name_in(alloc, query) {
-        Ok(name) => Ok(Request::Remove { name }),
-        Err(refusal) => Err(refusal),
-    }
+    let name = name_in(alloc, query)?;
+    Ok(Request::Remove { name })
 }
 
 #[tactic(auto, using(raven_request::proofs::Readings::readings))]
 fn staleness(alloc: Global, query: &str) -> Result<Request, ReadRefusal>
     ensures { Reads request_view result (spec.staleness query.now) }
 {
-    match name_in(alloc, query) {
-        Ok(name) => Ok(Request::Stale { name, cutoff: None }),
-        Err(refusal) => Err(refusal),
-    }
+    let name = name_in(alloc, query)?;
+    Ok(Request::Stale { name, cutoff: None })
 }
 
 // The query is the parameter `query`.
@@ -83,10 +66,8 @@ fn staleness(alloc: Global, query: &str) -> Result<Request, ReadRefusal>
 fn query_by_text(alloc: Global, query: &str) -> Result<Request, ReadRefusal>
     ensures { Asks (spec.query_by (spec.parameter_read (codes "query") query.now)) result }
 {
-    match parameter_of(alloc, "query", query) {
-        Ok(text) => query_of(alloc, text.as_str()),
-        Err(refusal) => Err(refusal),
-    }
+    let text = parameter_of(alloc, "query", query)?;
+    query_of(alloc, text.as_str())
 }
 
 #[tactic(auto, using(crate::proofs::Asking::asked))]
@@ -112,11 +93,16 @@ fn asked_on(alloc: Global, route: Route, request: &HttpRequest) -> Result<Reques
 /// What a request asks of the database of this name. Its route is tested first, then the name, then what the route needs. A request that is
 /// given can be asked of a desk.
 #[tactic(auto, using(crate::proofs::Routed::routed))]
-pub fn asked(alloc: Global, database: &str, request: &HttpRequest) -> Result<Request, HttpRefusal>
+pub fn asked(
+    alloc: Global,
+    routes: &Routes,
+    database: &str,
+    request: &HttpRequest,
+) -> Result<Request, HttpRefusal>
     ensures asked { AsksOverHttp (asked_over_http database.now request.now) result }
     ensures formed { IfOk result (λ given. IsWellFormed (Do (request_view given))) }
 {
-    let Some((name, route)) = route_at(request.method.as_str(), request.path.as_str()) else {
+    let Some((name, route)) = routes.find(request.method.as_str(), request.path.as_str()) else {
         return Err(HttpRefusal::NoRoute);
     };
     if name != database {

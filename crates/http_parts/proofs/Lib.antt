@@ -1,0 +1,4 @@
+pub mod Adding
+pub mod Walk
+pub mod Pages
+pub mod Crossing

@@ -1,3 +1,4 @@
 pub mod Routes
+pub mod Pages
 pub mod Parameters
 pub mod Responses

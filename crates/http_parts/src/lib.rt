@@ -2,6 +2,7 @@
 //! bytes of a response.
 #![tactic(auto)]
 
+mod page;
 mod parameters;
 mod responses;
 mod route;
@@ -10,4 +11,4 @@ mod routes;
 pub use parameters::parameter;
 pub use responses::response;
 pub use route::Route;
-pub use routes::route_at;
+pub use routes::Routes;

@@ -2,7 +2,7 @@
 use Rattle.std.proofs.Common.{◌≡◌, ◌≤◌, ℕ, List, ◌∷◌, Option, Some, None, Result, Ok, IfSome, map, sym, subst, arith}
 use Rattle.spec_data.specs.Data.{Data, null, flag, num, text, array, object, Entries, depth, items_depth, items_of}
 use Rattle.spec_data.specs.Members.{member}
-use Rattle.spec_server.specs.Script.{object_read, ReadRefusal}
+use Rattle.spec_server.specs.Words.{object_read, ReadRefusal}
 use Rattle.raven_value.specs.View.{data_of}
 use Rattle.raven_value.specs.declared.value.Value.{Value}
 use Rattle.raven_json.proofs.PairLemmas.{member-depth}

@@ -3,8 +3,8 @@ use Rattle.std.proofs.Common.{◌≡◌, ℕ, List, [], ◌∷◌, length, map, 
 use Rattle.spec_data.specs.Data.{Data, null, flag, num, text, array, object, items_of}
 use Rattle.raven_value.specs.View.{data_of}
 use Rattle.raven_value.specs.declared.value.Value.{Value}
-use Rattle.spec_server.specs.Script.{map_member}
-use Rattle.spec_server.specs.Script as read
+use Rattle.spec_server.specs.Texts.{map_member}
+use Rattle.spec_server.specs.Words as read
 use Rattle.raven_request.specs.Lists.{lone_text}
 use Rattle.raven_request.specs.RequestView.{IsBadMember, Refuses}
 use Rattle.raven_request.specs.declared.request.ReadRefusal.{ReadRefusal}

@@ -7,7 +7,8 @@ use Rattle.spec_data.specs.Data.{entries_of}
 use Rattle.spec_data.specs.Members.{member}
 use Rattle.spec_data.specs.Rising.{Pairs, without}
 use Rattle.spec_data.proofs.MemberLemmas.{pairs_of-entries_of}
-use Rattle.spec_server.specs.Script.{asking_with, beside_in, parameters_member, then_read}
+use Rattle.spec_server.specs.Words.{then_read}
+use Rattle.spec_server.specs.Texts.{asking_with, beside_in, parameters_member}
 use Rattle.raven_request.specs.RequestView.{Reads, asking_view}
 use Rattle.raven_request.proofs.Readings.{bad_member, refused_on}
 use Rattle.raven_request.specs.declared.query.Asking as program

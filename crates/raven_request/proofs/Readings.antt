@@ -7,10 +7,11 @@ use Rattle.raven_value.specs.View.{data_of}
 use Rattle.raven_value.specs.declared.value.Value.{Value}
 use Rattle.doc_txn.specs.CommandView.{command_view}
 use Rattle.doc_txn.specs.declared.command.Command as program
-use Rattle.spec_server.specs.Script as read
+use Rattle.spec_server.specs.Words as read
 use Rattle.spec_data.specs.Data.{Data, array, items_of, list_of}
 use Rattle.spec_store.specs.Commit.{Command}
-use Rattle.spec_server.specs.Script.{then_read, command_read, commands_read, list_member}
+use Rattle.spec_server.specs.Words.{then_read}
+use Rattle.spec_server.specs.Commands.{command_read, commands_read, list_member}
 use Rattle.raven_request.specs.RequestView.{IsBadId, IsBadMember, IsBadName, Refuses}
 use Rattle.raven_request.specs.declared.request.ReadRefusal.{ReadRefusal}
 use Rattle.raven_request.specs.declared.request.ReadRefusal.TheVariants as refusal

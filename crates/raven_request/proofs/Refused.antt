@@ -2,7 +2,9 @@
 use Rattle.std.proofs.Common.{◌≡◌, Option, Some, None, Result, Ok, Err, IfOk, refl, subst}
 use Rattle.spec_data.specs.Faults.{Fault}
 use Rattle.spec_server.specs.Replies.{Reply}
-use Rattle.spec_server.specs.Script.{Asked, BadId, BadName, LineRead, ReadRefusal, fault_reply, refusal_reply}
+use Rattle.spec_server.specs.Words.{BadId, BadName, LineRead, ReadRefusal}
+use Rattle.spec_server.specs.Texts.{Asked}
+use Rattle.spec_server.specs.Script.{fault_reply, refusal_reply}
 use Rattle.raven_lines.specs.Lines.{Comes}
 use Rattle.raven_request.specs.RequestRead.{IsRefusal}
 use Rattle.raven_request.specs.RequestView.{IsBadId, IsBadName}

@@ -17,10 +17,11 @@ use Rattle.rql_parser.specs.Parse as rql
 use Rattle.rql_parser.specs.declared.refusal.RqlRefusal.TheVariants as rql_refusal
 use Rattle.spec_query.specs.Query as query
 use Rattle.spec_query.specs.Query.{Query}
-use Rattle.spec_server.specs.Machine as is
-use Rattle.spec_server.specs.Machine.{Ask, Define, Do}
-use Rattle.spec_server.specs.Script as read
-use Rattle.spec_server.specs.Script.{Asked, Asking, Defining, LineRead, Plain, Querying, asked_to_define, asked_to_query, asking_of_body, texts_of_body, then_read, whole_ask}
+use Rattle.spec_server.specs.Requests as is
+use Rattle.spec_server.specs.Requests.{Ask, Define, Do}
+use Rattle.spec_server.specs.Words as read
+use Rattle.spec_server.specs.Words.{LineRead, then_read}
+use Rattle.spec_server.specs.Texts.{Asked, Asking, Defining, Plain, Querying, asked_to_define, asked_to_query, asking_of_body, texts_of_body, whole_ask}
 use Rattle.raven_request.proofs.Readings.{refused_on}
 use Rattle.raven_request.specs.RequestRead.{AsksBy, ComesToRefusal, IsRefusedFor}
 use Rattle.raven_request.specs.RequestView.{IsBadId, IsBadName, Refuses, define_view}

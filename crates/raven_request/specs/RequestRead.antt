@@ -1,9 +1,11 @@
 -- What is read of a request that may have the texts of a definition or of a query.
 use Rattle.std.specs.Prelude.{◌≡◌, Some, Result, Ok, Err}
-use Rattle.spec_server.specs.Machine as is
+use Rattle.spec_server.specs.Requests as is
 use Rattle.spec_server.specs.Replies.{Reply}
-use Rattle.spec_server.specs.Script.{Asked, LineRead, refusal_reply}
-use Rattle.spec_server.specs.Script as script
+use Rattle.spec_server.specs.Words.{LineRead}
+use Rattle.spec_server.specs.Texts.{Asked}
+use Rattle.spec_server.specs.Script.{refusal_reply}
+use Rattle.spec_server.specs.Words as script
 use Rattle.raven_lines.specs.Lines.{Comes}
 use Rattle.raven_request.specs.RequestView.{Refuses, request_view}
 use Rattle.raven_request.specs.declared.request.Request.{Request}

@@ -4,8 +4,9 @@ use Rattle.spec_data.specs.Faults.{Fault}
 use Rattle.spec_data.specs.Json.{not_json, number_not_whole, too_deep}
 use Rattle.raven_value.specs.Refusal.{fault_in}
 use Rattle.raven_value.specs.View.{data_of}
-use Rattle.spec_server.specs.Machine as is
-use Rattle.spec_server.specs.Script as read
+use Rattle.spec_server.specs.Requests as is
+use Rattle.spec_server.specs.Words as read
+use Rattle.spec_server.specs.Texts as read_texts
 use Rattle.doc_txn.specs.CommandView.{command_view, expect_view}
 use Rattle.index_definition.specs.RefusalView.{refusal_view}
 use Rattle.index_lang.specs.ByTexts.{Named}
@@ -39,7 +40,7 @@ request_view r.Indexes = is.Indexes
 request_view r.Stats = is.Stats
 
 -- what is asked beside the text of a query
-abbrev pub asking_view : Asking → read.Asking
+abbrev pub asking_view : Asking → read_texts.Asking
 asking_view a = record { parameters = a.parameters; start = a.start; size = a.size; cutoff = a.cutoff; waits = a.wait; looks = a.looks }
 
 -- the text has this fault; out of memory is none

@@ -5,7 +5,8 @@ ghost use Rattle.spec_data.specs.Json.{reading};
 ghost use Rattle.spec_data.specs.Limits.{max_depth};
 ghost use Rattle.spec_data.specs.Members.{member};
 ghost use Rattle.spec_data.specs.Rising.{without};
-ghost use Rattle.spec_server.specs.Script.{delete_read, id_read, json_read, name_read, object_read, put_read};
+ghost use Rattle.spec_server.specs.Words.{id_read, json_read, name_read, object_read};
+ghost use Rattle.spec_server.specs.Commands.{delete_read, put_read};
 ghost use Rattle.doc_txn.specs.CommandView.{expect_view};
 ghost use Rattle.raven_value.specs.View.{data_of};
 ghost use Rattle.raven_request.specs.RequestView.{IsBadMember, Reads, request_view};
@@ -93,18 +94,10 @@ pub fn put_of(
 ) -> Result<Request, ReadRefusal>
     ensures { Reads request_view result (put_read id.now (expect_view expected) (reading body.now)) }
 {
-    let value = match json_of(alloc, body) {
-        Ok(value) => value,
-        Err(refusal) => return Err(refusal),
-    };
-    let id = match id_of(alloc, id) {
-        Ok(id) => id,
-        Err(refusal) => return Err(refusal),
-    };
-    match object_of(alloc, "body", Some(value)) {
-        Ok(body) => Ok(Request::Put { id, expected, body }),
-        Err(refusal) => Err(refusal),
-    }
+    let value = json_of(alloc, body)?;
+    let id = id_of(alloc, id)?;
+    let body = object_of(alloc, "body", Some(value))?;
+    Ok(Request::Put { id, expected, body })
 }
 
 /// A deletion of this id.
@@ -112,8 +105,6 @@ pub fn put_of(
 pub fn delete_of(alloc: Global, expected: Expect, id: &str) -> Result<Request, ReadRefusal>
     ensures { Reads request_view result (delete_read (expect_view expected) id.now) }
 {
-    match id_of(alloc, id) {
-        Ok(id) => Ok(Request::Delete { id, expected }),
-        Err(refusal) => Err(refusal),
-    }
+    let id = id_of(alloc, id)?;
+    Ok(Request::Delete { id, expected })
 }

@@ -4,7 +4,8 @@ ghost use Rattle.spec_data.specs.Data.{array, depth, entries_of, items_depth, it
 ghost use Rattle.spec_data.specs.Json.{reading};
 ghost use Rattle.spec_data.specs.Limits.{max_depth};
 ghost use Rattle.spec_data.specs.Members.{member};
-ghost use Rattle.spec_server.specs.Script.{bulk_read, command_read, commands_of as spec_commands_of, commands_read as spec_commands_read, delete_command as spec_delete_command, id_member as spec_id_member, list_member, object_read, put_command as spec_put_command, typed_command as spec_typed_command, vector_member as spec_vector_member};
+ghost use Rattle.spec_server.specs.Words.{object_read};
+ghost use Rattle.spec_server.specs.Commands.{bulk_read, command_read, commands_of as spec_commands_of, commands_read as spec_commands_read, delete_command as spec_delete_command, id_member as spec_id_member, list_member, put_command as spec_put_command, typed_command as spec_typed_command, vector_member as spec_vector_member};
 ghost use Rattle.raven_value.specs.View.{data_of};
 ghost use Rattle.doc_txn.specs.CommandView.{command_view, expect_view};
 ghost use Rattle.raven_request.specs.RequestView.{Reads, request_view};
@@ -41,10 +42,8 @@ fn document_member(alloc: Global, mut members: Members) -> Result<Shallow, ReadR
     requires { depth (object (entries_of members)) ≤ max_depth }
     ensures { Reads (λ document. document) result (object_read (codes "Document") (member (codes "Document") (entries_of members))) }
 {
-    match object_of(alloc, "Document", taken(alloc, &mut members, "Document")?) {
-        Ok(document) => Ok(Shallow::of(document)),
-        Err(refusal) => Err(refusal),
-    }
+    let document = object_of(alloc, "Document", taken(alloc, &mut members, "Document")?)?;
+    Ok(Shallow::of(document))
 }
 
 // A put, into which the document is moved.
@@ -53,32 +52,19 @@ fn put_command(alloc: Global, members: Members) -> Result<Command, ReadRefusal>
     requires { depth (object (entries_of members)) ≤ max_depth }
     ensures { Reads command_view result (spec_put_command (entries_of members)) }
 {
-    let id = match id_member(alloc, members.get("Id")) {
-        Ok(id) => id,
-        Err(refusal) => return Err(refusal),
-    };
-    let expected = match vector_member(alloc, members.get("ChangeVector")) {
-        Ok(expected) => expected,
-        Err(refusal) => return Err(refusal),
-    };
-    match document_member(alloc, members) {
-        Ok(body) => Ok(Command::Put { id, expected, body }),
-        Err(refusal) => Err(refusal),
-    }
+    let id = id_member(alloc, members.get("Id"))?;
+    let expected = vector_member(alloc, members.get("ChangeVector"))?;
+    let body = document_member(alloc, members)?;
+    Ok(Command::Put { id, expected, body })
 }
 
 #[tactic(auto, using(crate::proofs::Readings::readings))]
 fn delete_command(alloc: Global, members: &Members) -> Result<Command, ReadRefusal>
     ensures { Reads command_view result (spec_delete_command (entries_of members.now)) }
 {
-    let id = match id_member(alloc, members.get("Id")) {
-        Ok(id) => id,
-        Err(refusal) => return Err(refusal),
-    };
-    match vector_member(alloc, members.get("ChangeVector")) {
-        Ok(expected) => Ok(Command::Delete { id, expected }),
-        Err(refusal) => Err(refusal),
-    }
+    let id = id_member(alloc, members.get("Id"))?;
+    let expected = vector_member(alloc, members.get("ChangeVector"))?;
+    Ok(Command::Delete { id, expected })
 }
 
 #[tactic(auto, using(crate::proofs::Readings::members))]
@@ -118,10 +104,7 @@ fn commands_read(alloc: Global, values: Vec<Value>) -> Result<Vec<Command>, Read
 {
     let mut commands = Vec::new(alloc);
     for value in values {
-        let command = match command_of(alloc, value) {
-            Ok(command) => command,
-            Err(refusal) => return Err(refusal),
-        };
+        let command = command_of(alloc, value)?;
         if commands.push(command).is_err() {
             return Err(ReadRefusal::NoMemory);
         }
@@ -134,10 +117,8 @@ fn listed(alloc: Global, values: Values) -> Result<Commands, ReadRefusal>
     requires { depth (array (items_of values)) ≤ max_depth }
     ensures { Reads (λ commands. map command_view commands) result (list_member (Some (array (items_of values)))) }
 {
-    match commands_read(alloc, values.into_vec()) {
-        Ok(commands) => Ok(Commands::of(commands)),
-        Err(refusal) => Err(refusal),
-    }
+    let commands = commands_read(alloc, values.into_vec())?;
+    Ok(Commands::of(commands))
 }
 
 #[tactic(auto, using(crate::proofs::Readings::members))]
@@ -168,12 +149,7 @@ fn commands_of(alloc: Global, value: Value) -> Result<Commands, ReadRefusal>
 pub fn bulk_of(alloc: Global, json: &[u8]) -> Result<Request, ReadRefusal>
     ensures { Reads request_view result (bulk_read json.now) }
 {
-    let value = match json_of(alloc, json) {
-        Ok(value) => value,
-        Err(refusal) => return Err(refusal),
-    };
-    match commands_of(alloc, value) {
-        Ok(commands) => Ok(Request::Bulk { commands }),
-        Err(refusal) => Err(refusal),
-    }
+    let value = json_of(alloc, json)?;
+    let commands = commands_of(alloc, value)?;
+    Ok(Request::Bulk { commands })
 }

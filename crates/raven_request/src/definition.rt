@@ -6,7 +6,7 @@ ghost use Rattle.raven_request.specs.Lists.{lone_text as spec_lone_text};
 ghost use Rattle.raven_request.specs.RequestRead.{Asks, AsksBy};
 ghost use Rattle.raven_request.specs.RequestView.{Reads, define_view};
 ghost use Rattle.spec_data.specs.Data.{Data, entries_of};
-ghost use Rattle.spec_server.specs.Script.{Defining, asked_to_define, index_of, map_member as spec_map_member, name_member as spec_name_member, reduce_member as spec_reduce_member, texts_in as spec_texts_in, texts_of_body as spec_texts_of_body};
+ghost use Rattle.spec_server.specs.Texts.{Defining, asked_to_define, index_of, map_member as spec_map_member, name_member as spec_name_member, reduce_member as spec_reduce_member, texts_in as spec_texts_in, texts_of_body as spec_texts_of_body};
 
 use crate::body::{bad_member, json_of, name_of};
 use crate::request::{ReadRefusal, Request};
@@ -90,18 +90,10 @@ fn reduce_member(alloc: Global, reduce: Option<&Value>) -> Result<Option<&str>, 
 fn texts_in(alloc: Global, members: &Members) -> Result<(Name, Texts<'_>), ReadRefusal>
     ensures { Reads (λ asked. (asked.0, texts_behind asked.1)) result (spec_texts_in (entries_of members.now)) }
 {
-    let name = match name_member(alloc, members.get("Name")) {
-        Ok(name) => name,
-        Err(refusal) => return Err(refusal),
-    };
-    let map = match map_member(alloc, members.get("Maps"), members.get("Map")) {
-        Ok(map) => map,
-        Err(refusal) => return Err(refusal),
-    };
-    match reduce_member(alloc, members.get("Reduce")) {
-        Ok(reduce) => Ok((name, (map, reduce))),
-        Err(refusal) => Err(refusal),
-    }
+    let name = name_member(alloc, members.get("Name"))?;
+    let map = map_member(alloc, members.get("Maps"), members.get("Map"))?;
+    let reduce = reduce_member(alloc, members.get("Reduce"))?;
+    Ok((name, (map, reduce)))
 }
 
 #[tactic(auto, using(crate::proofs::Readings::members))]
@@ -134,10 +126,8 @@ fn define_by(alloc: Global, name: Name, texts: Texts<'_>) -> Result<TextDefiniti
 pub fn definition_of(alloc: Global, value: &Value) -> Result<TextDefinition, ReadRefusal>
     ensures { AsksBy define_view (asked_to_define (spec_texts_of_body (data_of value.now))) result }
 {
-    match texts_of_body(alloc, value) {
-        Ok((name, texts)) => define_by(alloc, name, texts),
-        Err(refusal) => Err(refusal),
-    }
+    let (name, texts) = texts_of_body(alloc, value)?;
+    define_by(alloc, name, texts)
 }
 
 /// The request to define the index of this JSON.
@@ -145,12 +135,7 @@ pub fn definition_of(alloc: Global, value: &Value) -> Result<TextDefinition, Rea
 pub fn define_of(alloc: Global, json: &[u8]) -> Result<Request, ReadRefusal>
     ensures { Asks (asked_to_define (index_of json.now)) result }
 {
-    let value = match json_of(alloc, json) {
-        Ok(value) => value,
-        Err(refusal) => return Err(refusal),
-    };
-    match definition_of(alloc, &value) {
-        Ok(definition) => Ok(Request::Define { definition }),
-        Err(refusal) => Err(refusal),
-    }
+    let value = json_of(alloc, json)?;
+    let definition = definition_of(alloc, &value)?;
+    Ok(Request::Define { definition })
 }

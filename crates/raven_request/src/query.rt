@@ -2,8 +2,8 @@
 ghost use Rattle.std.specs.Prelude.{◌≡◌, option_map};
 ghost use Rattle.spec_data.specs.Data.{entries_of};
 ghost use Rattle.raven_value.specs.View.{data_of};
-ghost use Rattle.spec_server.specs.Machine.{Ask};
-ghost use Rattle.spec_server.specs.Script.{Querying, asked_to_query, asking_in as spec_asking_in, asking_of, asking_of_body as spec_asking_of_body, asking_with as spec_asking_with, beside_in as spec_beside_in, cutoff_member as spec_cutoff_member, looks_member as spec_looks_member, parameters_member as spec_parameters_member, plain_asking, query_member as spec_query_member, size_member as spec_size_member, start_member as spec_start_member, wait_member as spec_wait_member, whole_ask};
+ghost use Rattle.spec_server.specs.Requests.{Ask};
+ghost use Rattle.spec_server.specs.Texts.{Querying, asked_to_query, asking_in as spec_asking_in, asking_of, asking_of_body as spec_asking_of_body, asking_with as spec_asking_with, beside_in as spec_beside_in, cutoff_member as spec_cutoff_member, looks_member as spec_looks_member, parameters_member as spec_parameters_member, plain_asking, query_member as spec_query_member, size_member as spec_size_member, start_member as spec_start_member, wait_member as spec_wait_member, whole_ask};
 ghost use Rattle.raven_request.specs.RequestRead.{Asks, AsksBy};
 ghost use Rattle.raven_request.specs.RequestView.{Reads, asking_view};
 
@@ -126,33 +126,19 @@ fn looks_member(alloc: Global, value: Option<&Value>) -> Result<u32, ReadRefusal
 fn asking_with(alloc: Global, parameters: Members, members: &Members) -> Result<Asking, ReadRefusal>
     ensures { Reads asking_view result (spec_asking_with parameters (entries_of members.now)) }
 {
-    let start = match start_member(alloc, members.get("Start")) {
-        Ok(start) => start,
-        Err(refusal) => return Err(refusal),
-    };
-    let size = match size_member(alloc, members.get("PageSize")) {
-        Ok(size) => size,
-        Err(refusal) => return Err(refusal),
-    };
-    let cutoff = match cutoff_member(alloc, members.get("CutoffEtag")) {
-        Ok(cutoff) => cutoff,
-        Err(refusal) => return Err(refusal),
-    };
-    let wait = match wait_member(alloc, members.get("WaitForNonStaleResults")) {
-        Ok(wait) => wait,
-        Err(refusal) => return Err(refusal),
-    };
-    match looks_member(alloc, members.get("Looks")) {
-        Ok(looks) => Ok(Asking {
-            parameters,
-            start,
-            size,
-            cutoff,
-            wait,
-            looks,
-        }),
-        Err(refusal) => Err(refusal),
-    }
+    let start = start_member(alloc, members.get("Start"))?;
+    let size = size_member(alloc, members.get("PageSize"))?;
+    let cutoff = cutoff_member(alloc, members.get("CutoffEtag"))?;
+    let wait = wait_member(alloc, members.get("WaitForNonStaleResults"))?;
+    let looks = looks_member(alloc, members.get("Looks"))?;
+    Ok(Asking {
+        parameters,
+        start,
+        size,
+        cutoff,
+        wait,
+        looks,
+    })
 }
 
 // What is asked beside the text. The parameters are moved out of the body.
@@ -161,24 +147,17 @@ fn beside_in(alloc: Global, mut members: Members) -> Result<Asking, ReadRefusal>
     ensures { Reads asking_view result (spec_beside_in (entries_of members)) }
 {
     let parameters = taken(alloc, &mut members, "QueryParameters")?;
-    match parameters_member(alloc, parameters) {
-        Ok(parameters) => asking_with(alloc, parameters, &members),
-        Err(refusal) => Err(refusal),
-    }
+    let parameters = parameters_member(alloc, parameters)?;
+    asking_with(alloc, parameters, &members)
 }
 
 #[tactic(auto, using(crate::proofs::Readings::readings))]
 fn asking_in(alloc: Global, members: Members) -> Result<(Text, Asking), ReadRefusal>
     ensures { Reads (λ asked. (asked.0, asking_view asked.1)) result (spec_asking_in (entries_of members)) }
 {
-    let text = match query_member(alloc, members.get("Query")) {
-        Ok(text) => text,
-        Err(refusal) => return Err(refusal),
-    };
-    match beside_in(alloc, members) {
-        Ok(asking) => Ok((text, asking)),
-        Err(refusal) => Err(refusal),
-    }
+    let text = query_member(alloc, members.get("Query"))?;
+    let asking = beside_in(alloc, members)?;
+    Ok((text, asking))
 }
 
 #[tactic(auto, using(crate::proofs::Readings::members))]
@@ -223,10 +202,8 @@ fn query_by(alloc: Global, text: &str, asking: Asking) -> Result<QueryAsk, ReadR
 pub fn ask_of(alloc: Global, value: Value) -> Result<QueryAsk, ReadRefusal>
     ensures { AsksBy Ask (asked_to_query (spec_asking_of_body (data_of value))) result }
 {
-    match asking_of_body(alloc, value) {
-        Ok((text, asking)) => query_by(alloc, text.as_str(), asking),
-        Err(refusal) => Err(refusal),
-    }
+    let (text, asking) = asking_of_body(alloc, value)?;
+    query_by(alloc, text.as_str(), asking)
 }
 
 /// The request to answer the query of this text alone.
@@ -234,10 +211,8 @@ pub fn ask_of(alloc: Global, value: Value) -> Result<QueryAsk, ReadRefusal>
 pub fn query_of(alloc: Global, text: &str) -> Result<Request, ReadRefusal>
     ensures { Asks (Querying text.now plain_asking) result }
 {
-    match query_by(alloc, text, plain(alloc)) {
-        Ok(ask) => Ok(Request::Ask { ask }),
-        Err(refusal) => Err(refusal),
-    }
+    let ask = query_by(alloc, text, plain(alloc))?;
+    Ok(Request::Ask { ask })
 }
 
 /// The request to answer the query of this JSON.
@@ -245,12 +220,7 @@ pub fn query_of(alloc: Global, text: &str) -> Result<Request, ReadRefusal>
 pub fn query_of_json(alloc: Global, json: &[u8]) -> Result<Request, ReadRefusal>
     ensures { Asks (asked_to_query (asking_of json.now)) result }
 {
-    let value = match json_of(alloc, json) {
-        Ok(value) => value,
-        Err(refusal) => return Err(refusal),
-    };
-    match ask_of(alloc, value) {
-        Ok(ask) => Ok(Request::Ask { ask }),
-        Err(refusal) => Err(refusal),
-    }
+    let value = json_of(alloc, json)?;
+    let ask = ask_of(alloc, value)?;
+    Ok(Request::Ask { ask })
 }

@@ -1,7 +1,8 @@
 //! The replies to what is refused before the database is asked.
 ghost use Rattle.std.specs.Prelude.{◌≡◌, IfOk, None, OnErr, Some};
 ghost use Rattle.spec_data.specs.Faults.{Fault};
-ghost use Rattle.spec_server.specs.Script.{Asked, fault_reply};
+ghost use Rattle.spec_server.specs.Texts.{Asked};
+ghost use Rattle.spec_server.specs.Script.{fault_reply};
 ghost use Rattle.raven_value.specs.Refusal.{fault_in};
 ghost use Rattle.raven_reply.specs.ReplyView.{reply_view};
 ghost use Rattle.raven_request.specs.RequestRead.{IsRefusal, IsRefusedFor};

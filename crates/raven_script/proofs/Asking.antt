@@ -5,9 +5,11 @@ use Rattle.std.specs.Str.{IsUtf8, bytes_eq, is_utf8}
 use Rattle.std.proofs.lemmas.Bool.{false_from_ne_true}
 use Rattle.std.proofs.lemmas.Slice.Eq.{bytes_eq-Decides}
 use Rattle.std.proofs.lemmas.Str.{IsUtf8-from_is_utf8, is_utf8-from_IsUtf8}
-use Rattle.spec_server.specs.Machine as is
-use Rattle.spec_server.specs.Script as read
-use Rattle.spec_server.specs.Script.{Plain, argument_and_rest, asked_by, asked_of, asked_with, by_command, do_read, line_of, publish_of, read_of, request_of, told_of}
+use Rattle.spec_server.specs.Requests as is
+use Rattle.spec_server.specs.Words as read
+use Rattle.spec_server.specs.Words.{argument_and_rest}
+use Rattle.spec_server.specs.Reading.{by_command, do_read, line_of, publish_of, read_of, request_of, told_of}
+use Rattle.spec_server.specs.Texts.{Plain, asked_by, asked_of, asked_with}
 use Rattle.raven_request.proofs.Readings.{refused_on}
 use Rattle.raven_request.proofs.Requesting.{plainly-refused}
 use Rattle.raven_request.specs.RequestRead.{Asks, ComesToRefusal}

@@ -1,6 +1,7 @@
 -- A pump of one index, and one of each.
 use Rattle.std.proofs.Common.{◌≡◌, ℕ, List, [], Some, None, Result, sym, subst}
-use Rattle.spec_server.specs.Script.{pump_of, pump_read, argument_and_rest}
+use Rattle.spec_server.specs.Words.{argument_and_rest}
+use Rattle.spec_server.specs.Reading.{pump_of, pump_read}
 use Rattle.raven_request.specs.RequestView.{Reads, request_view}
 use Rattle.raven_request.specs.declared.request.Request.{Request}
 use Rattle.raven_request.specs.declared.request.ReadRefusal.{ReadRefusal}

@@ -2,7 +2,7 @@
 use Rattle.std.proofs.Common.{◌≡◌, ◌<◌, ◌+◌, ℕ, List, [], ◌∷◌, length, Option, Some, None, take, drop, Bool, cond, not, arith, true, false, refl, ap, suc, ◌∙◌}
 use Rattle.std.specs.Prelude.{◌==◌, if◌then◌else◌}
 use Rattle.std.specs.List.{position_or_len, before_first, after_first}
-use Rattle.spec_server.specs.Script.{before_space, after_space, both_parts, argument_and_rest}
+use Rattle.spec_server.specs.Words.{before_space, after_space, both_parts, argument_and_rest}
 
 abbrev first_space : List ℕ → ℕ
 first_space s = position_or_len (λ b. b == 32) s

@@ -1,9 +1,11 @@
 -- What a line of a script asks, and what is read of it.
 use Rattle.std.specs.Prelude.{ℕ, List, Option, Some, option_map, Result, Ok, Err, codes, if◌then◌else◌}
 use Rattle.std.specs.Str.{bytes_eq}
-use Rattle.spec_server.specs.Machine as is
-use Rattle.spec_server.specs.Script as read
-use Rattle.spec_server.specs.Script.{Asked, LineRead, Plain, Querying, asked_to_define, asked_to_query, asking_of, by_command, do_read, index_of, plain_asking, publish_of, read_of, then_read}
+use Rattle.spec_server.specs.Requests as is
+use Rattle.spec_server.specs.Words as read
+use Rattle.spec_server.specs.Words.{LineRead, then_read}
+use Rattle.spec_server.specs.Reading.{by_command, do_read, publish_of, read_of}
+use Rattle.spec_server.specs.Texts.{Asked, Plain, Querying, asked_to_define, asked_to_query, asking_of, index_of, plain_asking}
 use Rattle.raven_lines.specs.Lines.{Comes}
 use Rattle.raven_request.specs.RequestRead.{IsRefusedFor}
 use Rattle.raven_request.specs.RequestView.{request_view}

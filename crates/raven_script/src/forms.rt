@@ -1,7 +1,10 @@
 //! What a line asks.
 ghost use Rattle.std.specs.Prelude.{◌≡◌, ◌==◌, None, Some, [], false, length};
 ghost use Rattle.std.specs.Str.{IsUtf8};
-ghost use Rattle.spec_server.specs.Script.{Asked, argument_and_rest, asked_of, auto_of as spec_auto_of, by_command, delete_if_of as spec_delete_if_of, drop_of as spec_drop_of, find_of as spec_find_of, get_of as spec_get_of, pump_of as spec_pump_of, pump_read, put_if_of as spec_put_if_of, put_of as spec_put_of, request_of as spec_request_of, stale_of as spec_stale_of, switch_of as spec_switch_of};
+ghost use Rattle.spec_server.specs.Words.{argument_and_rest};
+ghost use Rattle.spec_server.specs.Commands.{delete_if_of as spec_delete_if_of, put_if_of as spec_put_if_of, put_of as spec_put_of};
+ghost use Rattle.spec_server.specs.Reading.{auto_of as spec_auto_of, by_command, drop_of as spec_drop_of, find_of as spec_find_of, get_of as spec_get_of, pump_of as spec_pump_of, pump_read, request_of as spec_request_of, stale_of as spec_stale_of, switch_of as spec_switch_of};
+ghost use Rattle.spec_server.specs.Texts.{Asked, asked_of};
 ghost use Rattle.raven_request.specs.RequestRead.{Asks};
 ghost use Rattle.raven_request.specs.RequestView.{Reads, request_view};
 ghost use Rattle.raven_script.specs.LineView.{Answers, AsksLine, word_asked};
@@ -31,10 +34,7 @@ fn put(alloc: Global, more: &str) -> Result<Request, ReadRefusal>
 fn put_if(alloc: Global, more: &str) -> Result<Request, ReadRefusal>
     ensures { Reads request_view result (spec_put_if_of more.now) }
 {
-    let (id, rest) = match parts(more) {
-        Ok(parts) => parts,
-        Err(refusal) => return Err(refusal),
-    };
+    let (id, rest) = parts(more)?;
     match parts(rest) {
         Ok((vector, body)) => {
             let expected = Expect::Vector(Text::of(alloc, vector)?);
@@ -71,10 +71,7 @@ fn get(alloc: Global, more: &str) -> Result<Request, ReadRefusal>
 fn auto(alloc: Global, more: &str) -> Result<Request, ReadRefusal>
     ensures { Reads request_view result (spec_auto_of more.now) }
 {
-    let (collection, field) = match parts(more) {
-        Ok(parts) => parts,
-        Err(refusal) => return Err(refusal),
-    };
+    let (collection, field) = parts(more)?;
     if !is_collection(collection) || !is_field(field.as_bytes()) {
         return Err(ReadRefusal::UnknownLine);
     }
@@ -100,10 +97,7 @@ fn pump_all(more: &str) -> Result<Request, ReadRefusal>
 fn pump_one(alloc: Global, max: &str, index: &str) -> Result<Request, ReadRefusal>
     ensures { Reads request_view result (pump_read [] (Some (max.now, index.now))) }
 {
-    let max = match max_of(max) {
-        Ok(max) => max,
-        Err(refusal) => return Err(refusal),
-    };
+    let max = max_of(max)?;
     match name_of(alloc, index) {
         Ok(name) => Ok(Request::Pump {
             max,
@@ -127,14 +121,8 @@ fn pump(alloc: Global, more: &str) -> Result<Request, ReadRefusal>
 fn find(alloc: Global, more: &str) -> Result<Request, ReadRefusal>
     ensures { Reads request_view result (spec_find_of more.now) }
 {
-    let (index, rest) = match parts(more) {
-        Ok(parts) => parts,
-        Err(refusal) => return Err(refusal),
-    };
-    let (field, words) = match parts(rest) {
-        Ok(parts) => parts,
-        Err(refusal) => return Err(refusal),
-    };
+    let (index, rest) = parts(more)?;
+    let (field, words) = parts(rest)?;
     match name_of(alloc, index) {
         Ok(index) => Ok(Request::Find {
             index,

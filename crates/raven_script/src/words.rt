@@ -1,6 +1,6 @@
 //! The words of a line.
 ghost use Rattle.std.specs.Prelude.{◌≡◌, None, Some, MatchOption};
-ghost use Rattle.spec_server.specs.Script.{before_space, after_space, is_collection as spec_is_collection, is_field as spec_is_field, max_read, number_of as spec_number_of, parts_read, worker_read, argument_and_rest as spec_word_and_rest};
+ghost use Rattle.spec_server.specs.Words.{before_space, after_space, is_collection as spec_is_collection, is_field as spec_is_field, max_read, number_of as spec_number_of, parts_read, worker_read, argument_and_rest as spec_word_and_rest};
 ghost use Rattle.raven_request.specs.RequestView.{Reads};
 
 use raven_request::ReadRefusal;

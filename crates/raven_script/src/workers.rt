@@ -1,5 +1,5 @@
 //! The lines of workers.
-ghost use Rattle.spec_server.specs.Script.{publish_of, read_of};
+ghost use Rattle.spec_server.specs.Reading.{publish_of, read_of};
 ghost use Rattle.raven_request.specs.RequestView.{Reads};
 ghost use Rattle.raven_script.specs.LineView.{line_view};
 
@@ -13,22 +13,10 @@ use std::alloc::Global;
 pub fn read(alloc: Global, more: &str) -> Result<Line, ReadRefusal>
     ensures { Reads line_view result (read_of more.now) }
 {
-    let (worker, rest) = match parts(more) {
-        Ok(parts) => parts,
-        Err(refusal) => return Err(refusal),
-    };
-    let (max, index) = match parts(rest) {
-        Ok(parts) => parts,
-        Err(refusal) => return Err(refusal),
-    };
-    let worker = match worker_of(worker) {
-        Ok(worker) => worker,
-        Err(refusal) => return Err(refusal),
-    };
-    let max = match max_of(max) {
-        Ok(max) => max,
-        Err(refusal) => return Err(refusal),
-    };
+    let (worker, rest) = parts(more)?;
+    let (max, index) = parts(rest)?;
+    let worker = worker_of(worker)?;
+    let max = max_of(max)?;
     match name_of(alloc, index) {
         Ok(index) => Ok(Line::Read { worker, max, index }),
         Err(refusal) => Err(refusal),

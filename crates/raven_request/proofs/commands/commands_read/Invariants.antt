@@ -1,7 +1,8 @@
 use Rattle.std.proofs.Common.{◌≡◌, ◌≤◌, ◌++◌, Ok, length, map}
 use Rattle.std.specs.Vec.Iter.{into_iter_items, into_iter_len}
 use Rattle.spec_data.specs.Data.{items_depth, items_of}
-use Rattle.spec_server.specs.Script.{commands_read, then_read}
+use Rattle.spec_server.specs.Words.{then_read}
+use Rattle.spec_server.specs.Commands.{commands_read}
 use Rattle.raven_value.specs.View.{data_of}
 use Rattle.doc_txn.specs.CommandView.{command_view}
 use Rattle.raven_request.proofs.commands.commands_read.Given as goal

@@ -1,5 +1,6 @@
 use Rattle.std.proofs.Common.{codes}
-use Rattle.spec_server.specs.Script.{Plain, Querying, asked_to_define, asked_to_query, asking_of, by_command, do_read, index_of, plain_asking}
+use Rattle.spec_server.specs.Reading.{by_command, do_read}
+use Rattle.spec_server.specs.Texts.{Plain, Querying, asked_to_define, asked_to_query, asking_of, index_of, plain_asking}
 use Rattle.raven_script.specs.LineView.{line_told}
 use Rattle.raven_script.proofs.Asking.{asks-request, other-word, same-word}
 use Rattle.raven_script.proofs.forms.by_word.Goals as goal

@@ -1,5 +1,6 @@
 use Rattle.std.proofs.Common.{sym, subst}
-use Rattle.spec_server.specs.Script.{Plain, do_read, request_of}
+use Rattle.spec_server.specs.Reading.{do_read, request_of}
+use Rattle.spec_server.specs.Texts.{Plain}
 use Rattle.raven_script.specs.LineView.{AsksLine, line_told}
 use Rattle.raven_script.proofs.Asking.{asks-request, by-request, by-word}
 use Rattle.raven_script.proofs.forms.text_line.Goals as goal
