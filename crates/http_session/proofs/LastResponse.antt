@@ -8,10 +8,10 @@ use Rattle.http_read.specs.declared.end.HttpEnd.{HttpEnd}
 use Rattle.http_read.specs.declared.end.HttpEnd.TheVariants.{Ended, BadHead, HeadTooLarge, BodyTooLarge, Encoded, BadChunk, Truncated, ReadFault, NoMemory}
 use Rattle.spec_http.specs.Answers.{response_to_end}
 use Rattle.http_session.specs.declared.why.Why.TheVariants as why
-use Rattle.http_session.specs.Given.{GivesPrefix}
+use Rattle.raven_ports.specs.Given.{GivesPrefix}
 use Rattle.http_session.specs.Sessions.{end_bytes, or_nothing}
 use Rattle.http_session.specs.Steps.{NamesEnd, Refuses, Tells, why_after, why_silent}
-use Rattle.http_session.proofs.Pieces.{appended-nil}
+use Rattle.raven_ports.proofs.Pieces.{appended-nil}
 
 -- an end with a response is one of the bytes, and not the end of the source
 record Loud (end : HttpEnd) : Type 0 where

@@ -1,4 +1,3 @@
-pub mod Pieces
 pub mod Responses
 pub mod LastResponse
 pub mod Runs

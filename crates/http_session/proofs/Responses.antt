@@ -5,7 +5,7 @@ use Rattle.raven_ports.specs.Reported.{appended}
 use Rattle.raven_ports.specs.declared.ports.SinkFault.{SinkFault}
 use Rattle.raven_ports.specs.declared.ports.SinkFault.TheVariants as sink_fault
 use Rattle.http_read.specs.declared.request.HttpRequest.{HttpRequest}
-use Rattle.http_session.specs.Given.{GivesPrefix}
+use Rattle.raven_ports.specs.Given.{GivesPrefix}
 use Rattle.http_session.specs.Steps.{Gave}
 
 module _ {D : Type 0} (A : D → HttpRequest → Bool → List ℕ → D → Type 0) (K : D → D → Type 0) (answerer after : D) (request : HttpRequest) (last : Bool) (old : Option (List ℕ)) where

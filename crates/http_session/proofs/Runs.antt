@@ -11,10 +11,10 @@ use Rattle.http_read.specs.Requests.{End, IsNext}
 use Rattle.http_read.specs.Reading.{unread, IsEnd, RequestCame}
 use Rattle.http_session.specs.declared.why.Why.{Why}
 use Rattle.http_session.specs.declared.why.Why.TheVariants as why
-use Rattle.http_session.specs.Given.{GivesPrefix}
+use Rattle.raven_ports.specs.Given.{GivesPrefix}
 use Rattle.http_session.specs.Sessions.{SoFar, start, next, is_last, Answered, Refused, StoppedAtEnd, Unread, Finishes, end_bytes}
 use Rattle.http_session.specs.Steps.{Gave, Refuses, Tells}
-use Rattle.http_session.proofs.Pieces.{appended-appended, appended-nil}
+use Rattle.raven_ports.proofs.Pieces.{appended-appended, appended-nil}
 
 if_some_at : (o : Option (List ℕ)) (P : List ℕ → Type 0) (x : List ℕ) → o ≡ Some x → IfSome o P → P x
 if_some_at o P x is h = subst (λ u. IfSome u P) is h

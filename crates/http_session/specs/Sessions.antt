@@ -8,7 +8,7 @@ use Rattle.http_read.specs.Requests.{Request, End, IsNext}
 use Rattle.spec_http.specs.Answers.{response_to_end}
 use Rattle.http_session.specs.declared.why.Why.{Why}
 use Rattle.http_session.specs.declared.why.Why.TheVariants as why
-use Rattle.http_session.specs.Given.{GivesPrefix}
+use Rattle.raven_ports.specs.Given.{GivesPrefix}
 
 -- whether a session ends with a request, after so many others: the request asks for it, or is the 1,000th
 abbrev pub is_last : ℕ → Bool → Bool

@@ -8,7 +8,7 @@ use Rattle.http_read.specs.declared.end.HttpEnd.TheVariants.{Ended, ReadFault, N
 use Rattle.http_read.specs.declared.request.HttpRequest.{HttpRequest}
 use Rattle.http_session.specs.declared.why.Why.{Why}
 use Rattle.http_session.specs.declared.why.Why.TheVariants as why
-use Rattle.http_session.specs.Given.{GivesPrefix}
+use Rattle.raven_ports.specs.Given.{GivesPrefix}
 use Rattle.http_session.specs.Sessions.{end_bytes}
 
 -- a request was asked, and its response given, all or a prefix of it; or memory ran out before there was one

@@ -8,6 +8,9 @@ use std::alloc::Global;
 
 /// What answers requests, as a database of one caller, or one thread of a server.
 pub trait Answering {
+    /// What its calls need of its type: if they start threads, that these may share its runtime.
+    ghost callable: { Type 0 };
+
     /// Whether it answers a request with this whole response and is then this. The flag is whether the connection is closed after the response.
     ghost answers: { Self → asked.HttpRequest → Bool → List ℕ → Self → Type 0 };
 
@@ -16,6 +19,7 @@ pub trait Answering {
 
     /// Answers a request with the bytes of a whole response.
     fn ask(&mut self, alloc: Global, request: &HttpRequest, close: bool) -> Result<Bytes, NoMemory>
+        requires { callable }
         ensures answered { IfOk result (λ bytes. answers self.old request.now close bytes self.new) }
         ensures kept { keeps self.old self.new };
 

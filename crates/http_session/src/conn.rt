@@ -37,6 +37,7 @@ fn answer_on<A: Answering, N: Connection>(
     last: bool,
     conn: &mut N,
 ) -> Result<(), SinkFault>
+    requires { A.callable }
     ensures given { Gave A.answers A.keeps answerer.old request.now last (N.Sink.state conn.old).held result answerer.new (N.Sink.state conn.new).held }
     ensures kept { A.keeps answerer.old answerer.new }
     ensures left { (N.Source.state conn.new).left ≡ (N.Source.state conn.old).left }
@@ -60,6 +61,7 @@ fn refuse_on<N: Connection>(alloc: Global, end: HttpEnd, conn: &mut N) -> Why
 
 /// Answers the requests of a connection one after another, up to one that ends the session. Each response is one piece of bytes.
 pub fn serve_conn<A: Answering, N: Connection>(alloc: Global, answerer: &mut A, conn: &mut N) -> Why
+    requires { A.callable }
     ensures served { IfSome (N.Source.state conn.old).left (λ bytes. Finishes A.answers A.keeps answerer.old bytes (N.Sink.state conn.old).held result answerer.new (N.Sink.state conn.new).held) }
     ensures kept { A.keeps answerer.old answerer.new }
     ensures names { NamesEnd result }

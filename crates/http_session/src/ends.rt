@@ -4,13 +4,12 @@ ghost use Rattle.raven_ports.specs.Faults.{Rose};
 ghost use Rattle.spec_http.specs.Answers.{response_to_end};
 ghost use Rattle.http_session.specs.Steps as steps;
 
-use crate::give::give_all;
 use crate::why::Why;
 use http::StatusCode;
 use http_parts::response;
 use http_read::HttpEnd;
 use raven_base::{Bytes, NoMemory};
-use raven_ports::{Sink, SinkFault};
+use raven_ports::{Sink, SinkFault, give_all};
 use std::alloc::Global;
 
 /// The response to bytes that are no request, after which the connection is closed, if they have one. An end without one needs no memory.

@@ -4,7 +4,6 @@
 mod answering;
 mod conn;
 mod ends;
-mod give;
 mod session;
 mod why;
 

@@ -6,10 +6,9 @@ ghost use Rattle.http_session.specs.Steps.{Gave, NamesEnd};
 
 use crate::answering::Answering;
 use crate::ends::refuse;
-use crate::give::give_all;
 use crate::why::Why;
 use http_read::{HttpReader, HttpRequest};
-use raven_ports::{Sink, SinkFault, Source};
+use raven_ports::{Sink, SinkFault, Source, give_all};
 use std::alloc::Global;
 
 /// The most requests of a session, without the last.
@@ -24,6 +23,7 @@ pub(crate) fn give_answer<A: Answering, O: Sink>(
     last: bool,
     sink: &mut O,
 ) -> Result<(), SinkFault>
+    requires { A.callable }
     ensures given { Gave A.answers A.keeps answerer.old request.now last (O.state sink.old).held result answerer.new (O.state sink.new).held }
     ensures kept { A.keeps answerer.old answerer.new }
     ensures later { (O.state sink.old).faults ≤ (O.state sink.new).faults }
@@ -50,6 +50,7 @@ pub fn serve<A: Answering, S: Source, O: Sink>(
     source: &mut S,
     sink: &mut O,
 ) -> Why
+    requires { A.callable }
     ensures served { IfSome (S.state source.old).left (λ bytes. sessions.Finishes A.answers A.keeps answerer.old bytes (O.state sink.old).held result answerer.new (O.state sink.new).held) }
     ensures kept { A.keeps answerer.old answerer.new }
     ensures names { NamesEnd result }

@@ -2,7 +2,9 @@
 use Rattle.std.proofs.Common.{◌≡◌, ℕ, List, [], ◌∷◌, true, Result, Ok, Err, IfOk, OnErr, IfNone, IfSome, Option, None, Some, length, refl, sym, ap, ◌∙◌, subst, arith}
 use Rattle.spec_data.specs.Kept.{EtagsRise, all_kept, last_kept}
 use Rattle.spec_index.specs.World.{World}
-use Rattle.spec_server.specs.Machine.{Change, Course, Do, Request, course_of, machine_of}
+use Rattle.spec_server.specs.Requests.{Do, Request}
+use Rattle.spec_server.specs.Courses.{Change, Course}
+use Rattle.spec_server.specs.Machine.{course_of, machine_of}
 use Rattle.spec_server.specs.Replies.{Reply}
 use Rattle.spec_server.specs.Sound.{Sound}
 use Rattle.spec_server.specs.WellFormed.{IsWellFormed}

@@ -1,5 +1,5 @@
 -- What a CLEAN does.
-use Rattle.std.proofs.Common.{◌≡◌, ℕ, ◌≤◌, List, not, length, refl, sym, ap, ◌∙◌, subst, arith}
+use Rattle.std.proofs.Common.{◌≡◌, ℕ, ◌≤◌, List, not, length, refl, sym, subst, arith}
 use Rattle.std.proofs.lemmas.List.Filters.{length-filter_both}
 use Rattle.spec_data.specs.Rows.{Row}
 use Rattle.spec_store.specs.Cleaning.{is_old_tombstone, old_tombstones}

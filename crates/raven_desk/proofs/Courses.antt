@@ -4,7 +4,8 @@ use Rattle.std.proofs.lemmas.List.{append-nil, drop_more}
 use Rattle.std.specs.List.{slice_get}
 use Rattle.spec_data.specs.Rows.{Row}
 use Rattle.spec_index.specs.World.{World, switch}
-use Rattle.spec_server.specs.Machine.{Change, Course, one_change, only_reply, retire, storing, then_course, tidy, try_switch}
+use Rattle.spec_server.specs.Courses.{Change, Course, one_change, only_reply, storing, then_course}
+use Rattle.spec_server.specs.Indexing.{retire, tidy, try_switch}
 use Rattle.spec_server.specs.Replies.{Reply}
 use Rattle.spec_desk.specs.Stepped.{world_after}
 use Rattle.raven_reply.specs.ReplyView.{reply_view}

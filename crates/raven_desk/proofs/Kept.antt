@@ -4,7 +4,7 @@ use Rattle.spec_data.specs.Kept.{EtagsRise, KeptRow, all_kept, keep_all, last_ke
 use Rattle.spec_data.specs.Rows.{Row}
 use Rattle.spec_index.specs.World.{World}
 use Rattle.spec_store.specs.Cleaning.{cleared, kept_by}
-use Rattle.spec_server.specs.Machine.{Change}
+use Rattle.spec_server.specs.Courses.{Change}
 use Rattle.raven_ports.specs.Asking.{AskedOnce}
 use Rattle.raven_ports.specs.States.{KeeperState}
 use Rattle.spec_desk.specs.Keepers.{IsKept}

@@ -2,7 +2,6 @@ pub mod Standings
 pub mod Changes
 pub mod Kept
 pub mod Opened
-pub mod Pieces
 pub mod Courses
 pub mod Publications
 pub mod Picked

@@ -4,7 +4,7 @@ use Rattle.spec_data.specs.Kept.{KeptRow, all_kept}
 use Rattle.spec_data.specs.Rows.{Row}
 use Rattle.spec_store.specs.Commit.{Setting}
 use Rattle.spec_store.specs.Kept.{rows_in}
-use Rattle.spec_server.specs.Machine.{Machine}
+use Rattle.spec_server.specs.Courses.{Machine}
 use Rattle.index_lang.specs.Openings.{EndsAt, IsOpened, IsOpenedBy, OpensAs}
 use Rattle.spec_server.specs.Options.{setting_with}
 use Rattle.spec_store.specs.Limits.{base_id, program}

@@ -4,7 +4,8 @@ use Rattle.spec_index.specs.Optimiser.{Choice, Make, Shape, Use}
 use Rattle.spec_index.specs.World.{World}
 use Rattle.spec_server.specs.Asking.{Answered, MustMake, Ready}
 use Rattle.spec_query.specs.Query as query
-use Rattle.spec_server.specs.Machine.{Course, ask_course, only_reply, use_or_make}
+use Rattle.spec_server.specs.Courses.{Course, only_reply}
+use Rattle.spec_server.specs.Indexing.{ask_course, use_or_make}
 use Rattle.spec_server.specs.Replies.{Index, Reply}
 use Rattle.raven_snapshot.specs.AnsweredView.{name_of_choice}
 use Rattle.raven_world.specs.WorldView.{answer_view}

@@ -1,7 +1,9 @@
 -- Publishing a batch on a live value.
 use Rattle.std.proofs.Common.{◌≡◌, ℕ, [], ◌∷◌, Option, Some, None, Result, Ok, Err, IfOk, sym, ap, ◌∙◌, subst}
 use Rattle.spec_index.specs.World.{Slot, Version, World, numbered}
-use Rattle.spec_server.specs.Machine.{Change, Course, PublishRefusal, machine_of, only_reply, publish_refused, published, published_in, published_reply, storing}
+use Rattle.spec_server.specs.Courses.{Change, Course, only_reply, storing}
+use Rattle.spec_server.specs.Workers.{PublishRefusal, publish_refused, published, published_in, published_reply}
+use Rattle.spec_server.specs.Machine.{machine_of}
 use Rattle.spec_server.specs.Replies as replies
 use Rattle.spec_server.specs.Replies.{Reply}
 use Rattle.spec_server.specs.Sound.{IsHeld, Sound}

@@ -1,7 +1,7 @@
 -- What a request does to a world.
 use Rattle.std.specs.Prelude.{ℕ, List, [], ◌∷◌, ◌++◌, Option, Some, None}
 use Rattle.raven_reply.specs.ReplyView.{reply_view}
-use Rattle.spec_server.specs.Machine as is
+use Rattle.spec_server.specs.Courses as is
 use Rattle.raven_world.specs.declared.switch.Taken.{Taken}
 use Rattle.raven_desk.specs.declared.course.Course.{Course}
 

@@ -4,4 +4,3 @@ pub mod SettledView
 pub mod ReceiptView
 pub mod Desks
 pub mod Openings
-pub mod Giving

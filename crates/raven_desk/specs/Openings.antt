@@ -3,7 +3,7 @@ use Rattle.std.specs.Prelude.{◌≡◌, ℕ, ◌≤◌, List, Option, IfSome, O
 use Rattle.spec_data.specs.Kept.{KeptRow}
 use Rattle.raven_ports.specs.States.{KeeperState}
 use Rattle.spec_store.specs.Commit.{Setting}
-use Rattle.spec_server.specs.Machine.{Machine}
+use Rattle.spec_server.specs.Courses.{Machine}
 use Rattle.index_lang.specs.Openings.{IsOpened}
 use Rattle.doc_keeper.specs.Loading.{AreCalls}
 use Rattle.doc_keeper.specs.declared.loading.LoadFault.{LoadFault}

@@ -3,7 +3,10 @@ ghost use Rattle.std.specs.Prelude.{◌≡◌, ◌≤◌, IfOk, Some, length, tr
 ghost use Rattle.raven_value.specs.View.{data_of};
 ghost use Rattle.spec_store.specs.Commit.{Put as PutOf};
 ghost use Rattle.doc_txn.specs.CommandView.{command_view, expect_view};
-ghost use Rattle.spec_server.specs.Machine.{Ask, Auto, Do, Find, clean_course, cleaning, course_of as spec_course_of, only_reply, pump_for, storing};
+ghost use Rattle.spec_server.specs.Requests.{Ask, Auto, Do, Find};
+ghost use Rattle.spec_server.specs.Courses.{cleaning, only_reply, storing};
+ghost use Rattle.spec_server.specs.Batches.{clean_course, pump_for};
+ghost use Rattle.spec_server.specs.Machine.{course_of as spec_course_of};
 ghost use Rattle.spec_server.specs.WellFormed.{IsWellFormed, is_body};
 ghost use Rattle.raven_request.specs.RequestView.{request_view};
 ghost use Rattle.raven_world.specs.WorldView.{answer_view, change_view};
@@ -54,7 +57,7 @@ impl Drop for Pending {
 }
 
 impl Model for Pending {
-    ghost use Rattle.spec_server.specs.Machine as is;
+    ghost use Rattle.spec_server.specs.Courses as is;
     ghost use Rattle.spec_desk.specs.Codes.{change_code};
     ghost use Rattle.raven_desk.specs.AsksView.{IsAskedFor, cleans_in};
 
@@ -196,7 +199,7 @@ fn picked(
 }
 
 // A batch for each index, or for the one that is named. Nobody reads the counter.
-fn pumped<R: Threads, L: Ledger>(
+fn pumped<R: Threads + Sync, L: Ledger>(
     rt: &R,
     alloc: Global,
     world: &World,
@@ -283,7 +286,7 @@ fn putting(id: Id, expected: Expect, body: Value) -> Command
 }
 
 /// What the request does to the world at this moment. Its documents are moved into the new world.
-pub fn course_of<R: Threads>(
+pub fn course_of<R: Threads + Sync>(
     rt: &R,
     alloc: Global,
     world: &World,

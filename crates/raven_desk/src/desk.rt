@@ -1,9 +1,11 @@
 //! Desks.
-ghost use Rattle.std.specs.Prelude.{◌≡◌, ◌<◌, ◌≤◌, MatchBool, IsTrue, ◌∷◌, [], ℕ, List, Option, IfErr, IfOk};
-ghost use Rattle.spec_server.specs.Machine.{Ask, Do};
+ghost use Rattle.std.specs.Prelude.{◌≡◌, ◌<◌, ◌≤◌, MatchBool, IsTrue, ◌∷◌, [], ℕ, List, Option, IfErr, IfOk, OnErr};
+ghost use Rattle.std.specs.Thread.{IsSync};
+ghost use Rattle.spec_server.specs.Requests.{Ask, Do};
 ghost use Rattle.spec_server.specs.WellFormed.{IsWellFormed};
 ghost use Rattle.raven_reply.specs.ReplyView.{reply_view};
 ghost use Rattle.raven_request.specs.RequestView.{request_view};
+ghost use Rattle.spec_desk.specs.Lacking.{IsUnanswered, LacksOnce, StopsCatchingUp};
 ghost use Rattle.spec_desk.specs.Lived.{Follows, Lived};
 ghost use Rattle.spec_desk.specs.Receipts.{GoesOn, HasCaughtUp, IsAsked, LooksOnce, Standing, looks_in, looks_of, says_stale as spec_says_stale};
 ghost use Rattle.raven_desk.specs.ReceiptView.{receipt_view};
@@ -50,8 +52,8 @@ fn query_in(request: Request) -> Result<QueryAsk, Request>
     }
 }
 
-/// What answers requests, and knows the values that it has seen. `R` is the runtime that its calls are given: one of threads, and for a desk that waits for
-/// others one that may wait.
+/// What answers requests, and knows the values that it has seen. `R` is the runtime that its calls are given: one of threads that they may share, and for a
+/// desk that waits for others one that may wait.
 pub trait Desk<R> {
     // What a look may find, where that value was seen last.
     ghost link: { Lived → Lived → Type 0 };
@@ -68,8 +70,10 @@ pub trait Desk<R> {
         alloc: Global,
         request: Request,
     ) -> Result<(Shot, Reply), NoMemory>
-        requires { IsWellFormed (Do (request_view request)) }
+        requires shared { IsSync R.row }
+        requires formed { IsWellFormed (Do (request_view request)) }
         ensures looked { IfOk result (λ o. LooksOnce link (standing self.old) (request_view request) o.0 (reply_view o.1) (standing self.new)) }
+        ensures lacked { OnErr result (LacksOnce link (standing self.old) (request_view request) (standing self.new)) }
         ensures goes_on { GoesOn (standing self.old) (standing self.new) }
         ensures same { same self.old self.new };
 
@@ -82,6 +86,7 @@ pub trait Desk<R> {
     ) -> Result<(Shot, Reply), NoMemory>
         requires { IsWellFormed (Do (Ask ask.now)) }
         ensures looked { IfOk result (λ o. LooksOnce link (standing self.old) (Ask ask.now) o.0 (reply_view o.1) (standing self.new)) }
+        ensures lacked { OnErr result (LacksOnce link (standing self.old) (Ask ask.now) (standing self.new)) }
         ensures goes_on { GoesOn (standing self.old) (standing self.new) }
         ensures same { same self.old self.new };
 
@@ -90,7 +95,9 @@ pub trait Desk<R> {
 
     /// Lets the indexes catch up after a request.
     fn catch_up(&mut self, rt: &R, alloc: Global) -> Result<(), NoMemory>
+        requires { IsSync R.row }
         ensures went { IfOk result (λ _. (x : Lived) → (standing self.old).seen ≡ x ∷ [] → HasCaughtUp x (standing self.old) (standing self.new)) }
+        ensures lacked { OnErr result ((x : Lived) → (standing self.old).seen ≡ x ∷ [] → StopsCatchingUp x (standing self.old) (standing self.new)) }
         ensures goes_on { GoesOn (standing self.old) (standing self.new) }
         ensures same { same self.old self.new };
 
@@ -109,9 +116,11 @@ pub trait Desk<R> {
         alloc: Global,
         request: Request,
     ) -> Result<Receipt, NoMemory>
+        requires shared { IsSync R.row }
         requires formed { IsWellFormed (Do (request_view request)) }
         requires once { looks_of (request_view request) ≡ 1 }
         ensures asked { IfOk result (λ r. IsAsked link (standing self.old) (request_view request) (receipt_view r) (standing self.new)) }
+        ensures lacked { OnErr result (IsUnanswered link (standing self.old) (request_view request) (standing self.new)) }
         ensures goes_on { GoesOn (standing self.old) (standing self.new) }
         ensures same { same self.old self.new }
     {
@@ -133,9 +142,11 @@ pub trait Desk<R> {
         alloc: Global,
         ask: &QueryAsk,
     ) -> Result<Receipt, NoMemory>
+        requires shared { IsSync R.row }
         requires formed { IsWellFormed (Do (Ask ask.now)) }
         requires some { 1 ≤ looks_in ask.now }
         ensures asked { IfOk result (λ r. IsAsked link (standing self.old) (Ask ask.now) (receipt_view r) (standing self.new)) }
+        ensures lacked { OnErr result (IsUnanswered link (standing self.old) (Ask ask.now) (standing self.new)) }
         ensures goes_on { GoesOn (standing self.old) (standing self.new) }
         ensures same { same self.old self.new }
     {
@@ -160,9 +171,11 @@ pub trait Desk<R> {
 
     /// Answers a request. A query that waits for its index looks again, up to the number of its looks.
     final fn ask(&mut self, rt: &R, alloc: Global, request: Request) -> Result<Receipt, NoMemory>
+        requires shared { IsSync R.row }
         requires formed { IsWellFormed (Do (request_view request)) }
         requires some { 1 ≤ looks_of (request_view request) }
         ensures asked { IfOk result (λ r. IsAsked link (standing self.old) (request_view request) (receipt_view r) (standing self.new)) }
+        ensures lacked { OnErr result (IsUnanswered link (standing self.old) (request_view request) (standing self.new)) }
         ensures goes_on { GoesOn (standing self.old) (standing self.new) }
         ensures same { same self.old self.new }
     {

@@ -3,7 +3,6 @@
 
 mod course;
 mod desk;
-mod give;
 mod keeping;
 mod live;
 mod one_desk;
@@ -17,7 +16,6 @@ mod tidying;
 
 pub use course::{Course, Pending, course_of};
 pub use desk::Desk;
-pub use give::give_all;
 pub use live::Live;
 pub use one_desk::OneDesk;
 pub use opening::Unopened;

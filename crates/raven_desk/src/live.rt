@@ -18,7 +18,7 @@ use std::marker::Model;
 pub struct Live<K: Keeper> {
     pub(crate) world: Shared<World>,
     pub(crate) keeper: K,
-    pub(crate) fronts: u32,
+    pub(crate) fronts: u64,
 }
 
 // Opaque drop: see raven_base.
@@ -65,7 +65,8 @@ impl<K: Keeper> Live<K> {
 
     /// What a look takes away of it: the world is shared and not copied.
     pub fn shot(&self) -> Result<Shot, NoMemory>
-        ensures { IfOk result (λ shot. shot ≡ seen_of self.now) }
+        ensures shows { IfOk result (λ shot. shot ≡ seen_of self.now) }
+        ensures sound { Sound self.now.world }
     {
         Ok(Shot {
             world: self.world.clone()?,
@@ -75,7 +76,7 @@ impl<K: Keeper> Live<K> {
     }
 
     /// The same value, with so many fronts that are not at their end.
-    pub fn with_fronts(self, fronts: u32) -> Live<K>
+    pub fn with_fronts(self, fronts: u64) -> Live<K>
         ensures { result ≡ lived self.world self.keeper fronts }
     {
         let Live {

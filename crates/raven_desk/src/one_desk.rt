@@ -68,7 +68,7 @@ impl<K: Keeper, C: Clock + Drop> OneDesk<K, C> {
     }
 }
 
-impl<K: Keeper, C: Clock, R: Threads> Desk<R> for OneDesk<K, C> {
+impl<K: Keeper, C: Clock, R: Threads + Sync> Desk<R> for OneDesk<K, C> {
     ghost use Rattle.std.specs.Prelude.{◌≡◌, refl};
     ghost use Rattle.spec_desk.proofs.Later.{same-follows};
     ghost use Rattle.raven_desk.specs.Desks.{stands_alone};

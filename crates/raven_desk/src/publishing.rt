@@ -1,6 +1,6 @@
 //! Publishing a batch.
 ghost use Rattle.std.specs.Prelude.{◌≡◌, IfOk, Some};
-ghost use Rattle.spec_server.specs.Machine.{published_reply};
+ghost use Rattle.spec_server.specs.Workers.{published_reply};
 ghost use Rattle.spec_server.specs.Sound.{IsHeld};
 ghost use Rattle.raven_reply.specs.ReplyView.{reply_view};
 ghost use Rattle.spec_desk.specs.Publishing.{publication as spec_publication};

@@ -55,6 +55,7 @@ impl<K: Keeper> Live<K> {
         ensures later { Follows self.old self.new }
         ensures halted { IfOk result (λ s. IsStopped (settled_view s) → IsMadeInPart changes.items self.old self.new) }
         ensures lacks { OnErr result (IsMadeInPart changes.items self.old self.new) }
+        ensures fronts { self.new.fronts ≡ self.old.fronts }
     {
         let before = self.faults();
         for change in changes {

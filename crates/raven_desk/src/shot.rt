@@ -9,7 +9,7 @@ use std::marker::Model;
 /// What a look takes away: the world, the fronts that are not at their end, and the keeper's count of faults.
 pub struct Shot {
     pub(crate) world: Shared<World>,
-    pub(crate) fronts: u32,
+    pub(crate) fronts: u64,
     pub(crate) faults: u64,
 }
 
@@ -48,7 +48,7 @@ impl Shot {
     }
 
     /// How many fronts were not at their end.
-    pub fn fronts(&self) -> u32
+    pub fn fronts(&self) -> u64
         ensures { result ≡ self.now.fronts }
     {
         self.fronts

@@ -1,6 +1,7 @@
 //! One request, answered on one value.
 ghost use Rattle.std.specs.Prelude.{◌≡◌, ◌≢◌, ◌⊎◌, IfOk, OnErr};
-ghost use Rattle.spec_server.specs.Machine.{Ask, Do, Tidy, course_of as spec_course_of};
+ghost use Rattle.spec_server.specs.Requests.{Ask, Do, Tidy};
+ghost use Rattle.spec_server.specs.Machine.{course_of as spec_course_of};
 ghost use Rattle.spec_server.specs.WellFormed.{IsWellFormed};
 ghost use Rattle.raven_reply.specs.ReplyView.{reply_view};
 ghost use Rattle.raven_request.specs.RequestView.{request_view};
@@ -33,7 +34,7 @@ fn reply_after(settled: Settled, due: Reply) -> Reply
 impl<K: Keeper> Live<K> {
     /// What the request does at this moment, in microseconds since 1970, before the keeper is asked: all its changes and their stored rows are
     /// made here. Its documents are moved into the new world.
-    pub fn course<R: Threads>(
+    pub fn course<R: Threads + Sync>(
         &self,
         rt: &R,
         alloc: Global,
@@ -54,6 +55,7 @@ impl<K: Keeper> Live<K> {
             Makes self.old.keeper.count (course_view course).changes (course_view course).reply self.old (reply_view reply) self.new) }
         ensures later { Follows self.old self.new }
         ensures lacks { OnErr result (IsMadeInPart (course_view course).changes self.old self.new) }
+        ensures fronts { self.new.fronts ≡ self.old.fronts }
     {
         let Course { reply, changes } = course;
         let settled = self.settle(changes)?;
@@ -62,7 +64,7 @@ impl<K: Keeper> Live<K> {
 
     /// The step of the machine: `course`, and then `settle`. If the keeper fails or memory runs out, nothing changes. Of a TIDY, which makes
     /// several changes, those before stand: `lacks` says so, and what the reply for a failed keeper leaves is in `IsStep`.
-    pub fn step<R: Threads>(
+    pub fn step<R: Threads + Sync>(
         &mut self,
         rt: &R,
         alloc: Global,
@@ -75,6 +77,7 @@ impl<K: Keeper> Live<K> {
         ensures lacks { OnErr result
             (Stays self.old self.new ⊎ IsMadeInPart (spec_course_of self.old.world now (request_view request)).changes self.old self.new) }
         ensures alone { OnErr result (request_view request ≢ Tidy → Stays self.old self.new) }
+        ensures fronts { self.new.fronts ≡ self.old.fronts }
     {
         let course = self.course(rt, alloc, now, request)?;
         self.finish(course)
@@ -95,6 +98,7 @@ impl<K: Keeper> Live<K> {
         ensures stepped { IfOk result (λ reply. IsStep now (Ask ask.now) self.old (reply_view reply) self.new) }
         ensures later { Follows self.old self.new }
         ensures err { OnErr result (Stays self.old self.new) }
+        ensures fronts { self.new.fronts ≡ self.old.fronts }
     {
         let course = self.query_course(alloc, now, ask)?;
         self.finish(course)

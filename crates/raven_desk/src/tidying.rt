@@ -1,6 +1,8 @@
 //! What a TIDY does: one change for each replacement that takes its name, and one for the automatic indexes that go.
 ghost use Rattle.std.specs.Prelude.{◌≡◌, [], IfOk, OnOk};
-ghost use Rattle.spec_server.specs.Machine.{Tidy, course_of as spec_course_of, retire, tidy as spec_tidy};
+ghost use Rattle.spec_server.specs.Requests.{Tidy};
+ghost use Rattle.spec_server.specs.Indexing.{retire, tidy as spec_tidy};
+ghost use Rattle.spec_server.specs.Machine.{course_of as spec_course_of};
 ghost use Rattle.spec_desk.specs.Stepped.{world_after as spec_world_after};
 ghost use Rattle.raven_desk.specs.CourseView.{after_changes, changes_with, course_view, names_with};
 

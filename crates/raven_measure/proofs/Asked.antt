@@ -2,7 +2,7 @@
 use Rattle.std.proofs.Common.{◌≡◌, refl, subst, sym}
 use Rattle.spec_measure.specs.Requests.{rows_ask}
 use Rattle.spec_query.specs.Query as query
-use Rattle.spec_server.specs.Machine.{Ask}
+use Rattle.spec_server.specs.Requests.{Ask}
 use Rattle.raven_measure.specs.Defining.{MakesNothing}
 
 whole : MakesNothing (Ask rows_ask)

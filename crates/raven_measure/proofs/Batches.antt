@@ -5,7 +5,9 @@ use Rattle.std.specs.Prelude.{replicate}
 use Rattle.spec_index.specs.World.{World}
 use Rattle.spec_measure.specs.Requests.{Options, index_name, pumping}
 use Rattle.spec_measure.specs.Summary.{Timed, after_all, event_of, is_moving, moving, one_if}
-use Rattle.spec_server.specs.Machine.{Do, Machine, Request, after, course_of, machine_of, takes_all}
+use Rattle.spec_server.specs.Requests.{Do, Request, takes_all}
+use Rattle.spec_server.specs.Courses.{Machine}
+use Rattle.spec_server.specs.Machine.{after, course_of, machine_of}
 use Rattle.spec_server.specs.Sound.{IsMachine, Sound}
 use Rattle.raven_laws.proofs.MachineLemmas.{step-Steps}
 use Rattle.spec_desk.specs.Lived.{machine_in}

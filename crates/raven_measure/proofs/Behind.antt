@@ -7,7 +7,10 @@ use Rattle.spec_data.specs.Limits.{max_etag}
 use Rattle.spec_store.specs.Store.{Store, last}
 use Rattle.spec_index.specs.World.{Slot, Version, World, batch, is_named, serving}
 use Rattle.spec_measure.specs.Summary.{event_of, is_moving}
-use Rattle.spec_server.specs.Machine.{Machine, Pump, after, after_batch, after_batch_if_named, course_of, pump_at, settled, takes_all}
+use Rattle.spec_server.specs.Requests.{Pump, takes_all}
+use Rattle.spec_server.specs.Courses.{Machine, settled}
+use Rattle.spec_server.specs.Batches.{after_batch, after_batch_if_named, pump_at}
+use Rattle.spec_server.specs.Machine.{after, course_of}
 use Rattle.spec_server.specs.Sound.{Has, Sound}
 use Rattle.raven_laws.proofs.SlotLemmas.{batch-Brought, find-Has}
 

@@ -14,7 +14,7 @@ use Rattle.raven_request.specs.RequestView.{request_view}
 use Rattle.raven_request.specs.declared.request.Request as program
 use Rattle.spec_index.specs.World.{is_automatic}
 use Rattle.spec_measure.specs.Requests.{definitions, index_name, index_texts}
-use Rattle.spec_server.specs.Machine.{Define}
+use Rattle.spec_server.specs.Requests.{Define}
 use Rattle.raven_measure.specs.Defining.{IsDefining, MayBeMade, requests_view}
 
 pub asks-definition : (name : List ℕ) (d : Named) (request : Option program.Request) → name ≡ index_name → Gives name index_texts (Ok d)

@@ -1,7 +1,9 @@
 -- Requests that are made one after another.
 use Rattle.std.proofs.Common.{◌≡◌, ℕ, ◌+◌, ◌≤◌, List, [], ◌∷◌, ◌++◌, Bool, true, false, Option, length, map, append_assoc, refl, sym, ap, ◌∙◌, subst, arith}
 use Rattle.spec_measure.specs.Summary.{Timed, after_all, event_of, is_moving, moving, one_if}
-use Rattle.spec_server.specs.Machine.{Machine, Request, after, course_of}
+use Rattle.spec_server.specs.Requests.{Request}
+use Rattle.spec_server.specs.Courses.{Machine}
+use Rattle.spec_server.specs.Machine.{after, course_of}
 use Rattle.spec_desk.specs.Lived.{Lived, machine_in}
 use Rattle.spec_desk.proofs.Later.{Follows-itself, Follows-then}
 use Rattle.raven_measure.specs.Doing.{AreMade, AreMoments, Does, IsNotTaken, State, Stops}

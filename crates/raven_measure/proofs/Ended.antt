@@ -3,7 +3,9 @@ use Rattle.std.proofs.Common.{◌≡◌, ◌<◌, ◌⊎◌, inl, inr, ℕ, List
 use Rattle.spec_data.specs.Kept.{KeptRow}
 use Rattle.spec_measure.specs.Summary.{printed_summary, summary_of}
 use Rattle.spec_index.specs.World.{World}
-use Rattle.spec_server.specs.Machine.{Machine, Request, machine_of}
+use Rattle.spec_server.specs.Requests.{Request}
+use Rattle.spec_server.specs.Courses.{Machine}
+use Rattle.spec_server.specs.Machine.{machine_of}
 use Rattle.spec_server.specs.Options.{setting_with}
 use Rattle.spec_store.specs.Limits.{base_id}
 use Rattle.spec_store.specs.Store.{last}
@@ -14,9 +16,9 @@ use Rattle.raven_ports.specs.States.{KeeperState, SinkState}
 use Rattle.raven_reading.proofs.Once.{held_once}
 use Rattle.spec_desk.specs.Keepers.{Holds, Keeps}
 use Rattle.spec_desk.specs.Lived.{machine_in}
-use Rattle.raven_desk.specs.Giving.{GivesPrefix}
+use Rattle.raven_ports.specs.Given.{GivesPrefix}
 use Rattle.raven_desk.specs.Openings.{IsBad, Loads, Opens}
-use Rattle.raven_desk.proofs.Pieces.{appended-nil}
+use Rattle.raven_ports.proofs.Pieces.{appended-nil}
 use Rattle.raven_request.specs.declared.request.Request as program
 use Rattle.raven_measure.specs.Defining.{IsDefining, requests_view}
 use Rattle.raven_measure.specs.Doing.{Measures, State, StopsMeasuring, with_batches}

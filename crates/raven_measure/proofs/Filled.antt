@@ -5,7 +5,7 @@ use Rattle.std.specs.Prelude.{if◌then◌else◌, ◌%◌, ◌==◌, ◌<◌, �
 use Rattle.spec_measure.specs.Draws.{draw, next}
 use Rattle.spec_measure.specs.Orders.{order, order_id}
 use Rattle.spec_measure.specs.Requests.{Options, batches, deletions, pumping, requests, requests_with}
-use Rattle.spec_server.specs.Machine.{Put, Request}
+use Rattle.spec_server.specs.Requests.{Put, Request}
 use Rattle.spec_store.specs.Commit.{AnyVector}
 use Rattle.raven_request.specs.declared.request.Request as program
 use Rattle.raven_measure.specs.Defining.{requests_view}

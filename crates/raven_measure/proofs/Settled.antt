@@ -3,7 +3,9 @@ use Rattle.std.proofs.Common.{◌≡◌, ◌≢◌, ℕ, ◌+◌, ◌≤◌, Lis
 use Rattle.std.specs.Int.{from_bool}
 use Rattle.spec_data.specs.Rows.{Row}
 use Rattle.spec_measure.specs.Summary.{is_moving, one_if}
-use Rattle.spec_server.specs.Machine.{Change, Course, Keeping, Machine, Replied, Request, Tidy, course_of, made, takes_all, with_world}
+use Rattle.spec_server.specs.Requests.{Keeping, Request, Tidy, takes_all}
+use Rattle.spec_server.specs.Courses.{Change, Course, Machine, Replied, made, with_world}
+use Rattle.spec_server.specs.Machine.{course_of}
 use Rattle.spec_server.specs.Replies.{KeeperFault, Reply, UnknownLine}
 use Rattle.raven_ports.specs.Asking.{Asked, Task}
 use Rattle.raven_ports.specs.Faults.{Rose}

@@ -7,7 +7,8 @@ use Rattle.raven_request.specs.RequestView.{request_view}
 use Rattle.raven_request.specs.declared.request.Request.{Request}
 use Rattle.spec_index.specs.World.{World}
 use Rattle.spec_measure.specs.Requests.{definitions, index_texts}
-use Rattle.spec_server.specs.Machine as is
+use Rattle.spec_server.specs.Requests as is
+use Rattle.spec_server.specs.Machine as is_machine
 use Rattle.spec_server.specs.WellFormed.{IsWellFormed}
 
 -- one request makes one change at most: any but a TIDY
@@ -18,7 +19,7 @@ MakesOneChange other = Unit {0}
 -- a well-formed request that changes nothing, whenever and wherever it is made
 pub record MakesNothing (q : is.Request) : Type 0 where
   pub formed : IsWellFormed (is.Do q)
-  pub unchanged : (W : World) (now : ℕ) → (is.course_of W now q).changes ≡ []
+  pub unchanged : (W : World) (now : ℕ) → (is_machine.course_of W now q).changes ≡ []
 
 -- a request that a measurement may make
 abbrev pub MayBeMade : is.Request → Type 0

@@ -3,7 +3,8 @@ use Rattle.std.specs.Prelude.{◌≡◌, ℕ, ◌+◌, List, [], ◌∷◌, ◌+
 use Rattle.std.specs.Coded.{Coded, coded_ℕ, coded×, code_by}
 use Rattle.spec_measure.specs.Requests.{Options, pumping, requests}
 use Rattle.spec_measure.specs.Summary.{Timed, after_all, moving}
-use Rattle.spec_server.specs.Machine.{Request, course_of}
+use Rattle.spec_server.specs.Requests.{Request}
+use Rattle.spec_server.specs.Machine.{course_of}
 use Rattle.spec_desk.specs.Codes.{lived_code}
 use Rattle.spec_desk.specs.Keepers.{MayGive}
 use Rattle.spec_desk.specs.Lived.{Follows, Lived, machine_in}

@@ -10,13 +10,14 @@ use Rattle.raven_ports.specs.States.{KeeperState, SinkState}
 use Rattle.spec_data.specs.Kept.{KeptRow}
 use Rattle.spec_measure.specs.Requests.{Options, definitions, index_texts}
 use Rattle.spec_measure.specs.Summary.{printed_summary, summary_of}
-use Rattle.spec_server.specs.Machine.{Machine, Request}
+use Rattle.spec_server.specs.Requests.{Request}
+use Rattle.spec_server.specs.Courses.{Machine}
 use Rattle.spec_server.specs.Options.{setting_with}
 use Rattle.spec_store.specs.Limits.{base_id}
 use Rattle.spec_store.specs.Store.{last}
 use Rattle.spec_desk.specs.Keepers.{Holds}
 use Rattle.spec_desk.specs.Lived.{Lived, machine_in}
-use Rattle.raven_desk.specs.Giving.{GivesPrefix}
+use Rattle.raven_ports.specs.Given.{GivesPrefix}
 use Rattle.raven_desk.specs.Openings.{Loads, Opens}
 use Rattle.raven_measure.specs.Doing.{Does, IsNotTaken, Measures, State, with_batches}
 

@@ -12,7 +12,7 @@ use std::thread::Threads;
 
 impl<K: Keeper> Measured<K> {
     /// Makes batches until one moves nothing.
-    pub fn catch_up<R: Threads, C: Clock>(
+    pub fn catch_up<R: Threads + Sync, C: Clock>(
         &mut self,
         rt: &R,
         alloc: Global,

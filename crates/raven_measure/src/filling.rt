@@ -4,7 +4,7 @@ ghost use Rattle.spec_store.specs.Commit.{AnyVector};
 ghost use Rattle.spec_measure.specs.Draws.{draw, next};
 ghost use Rattle.spec_measure.specs.Orders.{order as spec_order, order_id as spec_order_id};
 ghost use Rattle.spec_measure.specs.Requests.{batches as spec_batches, deletions, pumping as spec_pumping, requests, requests_with};
-ghost use Rattle.spec_server.specs.Machine.{Delete, Put};
+ghost use Rattle.spec_server.specs.Requests.{Delete, Put};
 ghost use Rattle.raven_request.specs.RequestView.{request_view};
 ghost use Rattle.raven_measure.specs.Defining.{MayBeMade, requests_view};
 ghost use Rattle.raven_measure.specs.Doing.{Does, Stops};
@@ -57,7 +57,7 @@ fn deleting(alloc: Global, number: u64) -> Result<Request, NoMemory>
 impl<K: Keeper> Measured<K> {
     // After each tenth order, deletes the one that is five before it.
     #[tactic(auto, using(crate::proofs::Doing::nothing))]
-    fn delete_after<R: Threads, C: Clock>(
+    fn delete_after<R: Threads + Sync, C: Clock>(
         &mut self,
         rt: &R,
         alloc: Global,
@@ -77,7 +77,7 @@ impl<K: Keeper> Measured<K> {
 
     // After each hundredth order, makes a batch.
     #[tactic(auto, using(crate::proofs::Doing::nothing))]
-    fn pump_after<R: Threads, C: Clock>(
+    fn pump_after<R: Threads + Sync, C: Clock>(
         &mut self,
         rt: &R,
         alloc: Global,
@@ -96,7 +96,7 @@ impl<K: Keeper> Measured<K> {
     }
 
     // What is asked with the order that follows this many others.
-    fn with_order<R: Threads, C: Clock>(
+    fn with_order<R: Threads + Sync, C: Clock>(
         &mut self,
         rt: &R,
         alloc: Global,
@@ -120,7 +120,7 @@ impl<K: Keeper> Measured<K> {
 
     // Defines the index, if there is a request for it.
     #[tactic(auto, using(crate::proofs::Doing::nothing))]
-    fn define<R: Threads, C: Clock>(
+    fn define<R: Threads + Sync, C: Clock>(
         &mut self,
         rt: &R,
         alloc: Global,
@@ -139,7 +139,7 @@ impl<K: Keeper> Measured<K> {
     }
 
     /// Defines the index, if there is a request for it, and writes all orders.
-    pub fn fill<R: Threads, C: Clock>(
+    pub fn fill<R: Threads + Sync, C: Clock>(
         &mut self,
         rt: &R,
         alloc: Global,

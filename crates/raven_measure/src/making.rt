@@ -119,7 +119,7 @@ impl<K: Keeper> Measured<K> {
     }
 
     /// Makes a request at the moment that the clock gives.
-    pub fn make<R: Threads, C: Clock>(
+    pub fn make<R: Threads + Sync, C: Clock>(
         &mut self,
         rt: &R,
         alloc: Global,

@@ -16,8 +16,8 @@ use crate::options::Options;
 use crate::summary::summary_line;
 use doc_keeper::LoadFault;
 use doc_txn::BaseId;
-use raven_desk::{Live, Unopened, give_all};
-use raven_ports::{Clock, Keeper, Sink, SinkFault};
+use raven_desk::{Live, Unopened};
+use raven_ports::{Clock, Keeper, Sink, SinkFault, give_all};
 use raven_request::Request;
 use std::alloc::Global;
 use std::thread::Threads;
@@ -58,7 +58,7 @@ pub struct Measurement<K> {
 
 impl<K: Keeper> Measured<K> {
     // Makes all requests.
-    fn make_all<R: Threads, C: Clock>(
+    fn make_all<R: Threads + Sync, C: Clock>(
         &mut self,
         rt: &R,
         alloc: Global,
@@ -133,7 +133,7 @@ fn empty_from<K: Keeper>(alloc: Global, keeper: K) -> Result<Measured<K>, Measur
 /// until there is nothing to do, and writes the summary. The keeper is returned in each case.
 ///
 /// What each end says is in `MeasuresRightly`, one named fact after another.
-pub fn measure<R: Threads, O: Sink, K: Keeper, C: Clock>(
+pub fn measure<R: Threads + Sync, O: Sink, K: Keeper, C: Clock>(
     rt: &R,
     alloc: Global,
     options: &Options,

@@ -5,7 +5,8 @@ ghost use Rattle.spec_measure.specs.Requests.{rows_ask as spec_rows_ask};
 ghost use Rattle.raven_measure.specs.Defining.{MakesNothing};
 ghost use Rattle.spec_measure.specs.Summary.{printed_summary, summary_by as spec_summary_by, summary_of as spec_summary_of, total_at as spec_total_at, total_of as spec_total_of};
 ghost use Rattle.spec_data.specs.Members.{member_of};
-ghost use Rattle.spec_server.specs.Machine.{Ask, count_documents};
+ghost use Rattle.spec_server.specs.Requests.{Ask};
+ghost use Rattle.spec_server.specs.Answers.{count_documents};
 ghost use Rattle.spec_desk.specs.Lived.{machine_in};
 ghost use Rattle.raven_value.specs.View.{data_of};
 ghost use Rattle.raven_reply.specs.ReplyView.{reply_view};
@@ -118,7 +119,7 @@ fn summary_by(alloc: Global, batches: u64, docs: u64, answer: &Reply) -> Result<
     }
 }
 
-fn summary_of<R: Threads, K: Keeper>(
+fn summary_of<R: Threads + Sync, K: Keeper>(
     rt: &R,
     alloc: Global,
     measured: &Measured<K>,
@@ -149,7 +150,7 @@ fn printed(alloc: Global, summary: &Summary) -> Result<String, NoMemory>
 }
 
 /// The summary of a measurement, as one line.
-pub fn summary_line<R: Threads, K: Keeper>(
+pub fn summary_line<R: Threads + Sync, K: Keeper>(
     rt: &R,
     alloc: Global,
     measured: &Measured<K>,

@@ -3,13 +3,14 @@ use Rattle.std.proofs.Common.{◌≡◌, ◌≤◌, ℕ, [], ◌∷◌, true, fa
 use Rattle.std.proofs.lemmas.Bool.{ltb-true}
 use Rattle.spec_store.proofs.StoreLemmas.{both_true}
 use Rattle.spec_index.specs.World.{Slot, Version, World, numbered, with_version}
-use Rattle.spec_server.specs.Machine.{Change, Course, Keeping, PublishRefusal, Replied, machine_of, made, one_change, only_reply, published, published_in, put_in, storing, was_cleaned, with_slots}
-use Rattle.spec_server.specs.Machine as is
+use Rattle.spec_server.specs.Courses.{Course, Replied, made, one_change, only_reply, storing, with_slots}
+use Rattle.spec_server.specs.Workers.{PublishRefusal, published, published_in, put_in, was_cleaned}
+use Rattle.spec_server.specs.Workers as is
 use Rattle.spec_server.specs.Replies as replies
 use Rattle.spec_server.specs.Replies.{Reply}
 use Rattle.spec_desk.specs.Lived.{Lived, etags, lived, machine_in}
 use Rattle.spec_desk.specs.Publishing.{publication, publishes}
-use Rattle.spec_desk.specs.Stepped.{IsMadeInPart, Settled, Settles}
+use Rattle.spec_desk.specs.Stepped.{IsMadeInPart, Settled, Settles, Stays}
 use Rattle.spec_desk.proofs.Parts.{alone}
 use Rattle.raven_pump.specs.Turning.{IsOvertaken, Publishes, told_by}
 use Rattle.raven_pump.specs.declared.turned.Turned.{Turned}
@@ -144,8 +145,10 @@ few W n v = by (comes W n v)
     by (passed now p d) = at (only_reply (replies.Passed now)) d (omega arith)
     by (cleaned upto o p d) = at (only_reply (replies.Cleaned upto)) d (omega arith)
 
--- if memory runs out, no row is written
-pub lacks : (n : ℕ) (v : Version) (x y : Lived) (c : Course) → c ≡ publication x.world n v → IsMadeInPart c.changes x y → etags y ≡ etags x
-lacks n v x y c same part =
-    let stays = alone (publication x.world n v).changes x y (few x.world n v) (subst (λ (k : Course). IsMadeInPart k.changes x y) same part) in
-    ap (λ (W : World). etags (lived W x.keeper x.fronts)) stays.0
+-- if memory runs out, nothing is changed
+pub lacks : (n : ℕ) (v : Version) (x y : Lived) (c : Course) → c ≡ publication x.world n v → IsMadeInPart c.changes x y → Stays x y
+lacks n v x y c same part = alone (publication x.world n v).changes x y (few x.world n v) (subst (λ (k : Course). IsMadeInPart k.changes x y) same part)
+
+-- nor a row written
+pub no_etags : (x y : Lived) → Stays x y → etags y ≡ etags x
+no_etags x y stays = ap (λ (W : World). etags (lived W x.keeper x.fronts)) stays.0

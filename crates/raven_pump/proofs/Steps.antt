@@ -9,7 +9,7 @@ use Rattle.spec_store.specs.Store.{Store}
 use Rattle.spec_store.proofs.StoreLemmas.{either_false}
 use Rattle.spec_index.specs.Index.{etag_of_batch}
 use Rattle.spec_index.specs.World.{Slot, Version, World, advanced, batch, is_stale, numbered, reads}
-use Rattle.spec_server.specs.Machine.{or_as_before}
+use Rattle.spec_server.specs.Batches.{or_as_before}
 use Rattle.spec_server.specs.Sound.{Sound}
 use Rattle.spec_desk.specs.Lived.{Follows, Lived}
 use Rattle.spec_desk.specs.Receipts.{AllLink}
@@ -85,10 +85,10 @@ pub unlooked : (seen : List Lived) (n max : ℕ) (x : Lived) (c : Counts) → Al
 unlooked seen n max x c a = (x, a, counts_nothing x.world.store max (option_to_list (numbered x.world.slots n)) false c, tt)
 
 -- no index has the number
-pub gone_at : (seen seen' : List Lived) (n max : ℕ) (x : Lived) (W : World) (c : Counts) → AllLink Follows seen x → W ≡ x.world → numbered W.slots n ≡ None → seen' ≡ x ∷ []
-    → TurnsAt seen n max true c c (λ x. Turns n max x Gone seen')
-gone_at seen seen' n max x W c a at none s =
-    (x, a, counts_nothing x.world.store max (option_to_list (numbered x.world.slots n)) true c, absent (ap (λ (V : World). numbered V.slots n) (sym at) ∙ none) refl s)
+pub gone_at : (seen seen' : List Lived) (n max : ℕ) (x : Lived) (W : World) (c : Counts) → AllLink Follows seen x → W ≡ x.world → Sound W → numbered W.slots n ≡ None → seen' ≡ x ∷ []
+    → TurnsAt seen n max true c c (λ x. Sound x.world × Turns n max x Gone seen')
+gone_at seen seen' n max x W c a at o none s =
+    (x, a, counts_nothing x.world.store max (option_to_list (numbered x.world.slots n)) true c, (subst Sound at o, absent (ap (λ (V : World). numbered V.slots n) (sym at) ∙ none) refl s))
 
 -- a batch of this index was asked for
 pub record Reads (seen : List Lived) (n max : ℕ) (x : Lived) (s : Slot) (made : Bool) (old new : Counts) : Type 0 where
@@ -122,11 +122,11 @@ pub some_named : {A : Type 0} (P : A → Type 0) (next : Option A) (a : A) → I
 some_named P next a h is = subst (λ o. IfSome o P) is h
 
 pub idle_at : (seen seen' : List Lived) (n max : ℕ) (x : Lived) (s : Slot) (old new : Counts) → Reads seen n max x s true old new → 1 ≤ max → batch s.version x.world.store max ≡ None → seen' ≡ x ∷ []
-    → TurnsAt seen n max true old new (λ x. Turns n max x Idle seen')
+    → TurnsAt seen n max true old new (λ x. Sound x.world × Turns n max x Idle seen')
 idle_at seen seen' n max x s old new r some none s' =
-    (x, r.after, counts_of seen n max x s true true old new r (λ e. e), idle s r.slot (is_fresh x.world n max s r.sound r.slot some none) refl s')
+    (x, r.after, counts_of seen n max x s true true old new r (λ e. e), (r.sound, idle s r.slot (is_fresh x.world n max s r.sound r.slot some none) refl s'))
 
 pub taken_at : (seen seen' : List Lived) (n max : ℕ) (x : Lived) (s : Slot) (old new : Counts) (v : Version) (y z : Lived) (t : Turned) → Reads seen n max x s true old new
-    → batch s.version x.world.store max ≡ Some v → Follows x y → Publishes n v y t z → Follows y z → seen' ≡ z ∷ [] → TurnsAt seen n max true old new (λ x. Turns n max x t seen')
+    → batch s.version x.world.store max ≡ Some v → Follows x y → Publishes n v y t z → Follows y z → seen' ≡ z ∷ [] → TurnsAt seen n max true old new (λ x. Sound x.world × Turns n max x t seen')
 taken_at seen seen' n max x s old new v y z t r is f p g s' =
-    (x, r.after, counts_of seen n max x s true true old new r (λ e. e), taken s v y z r.slot (is_behind x.world.store s max v is) is f p g s')
+    (x, r.after, counts_of seen n max x s true true old new r (λ e. e), (r.sound, taken s v y z r.slot (is_behind x.world.store s max v is) is f p g s'))

@@ -3,8 +3,9 @@ use Rattle.std.specs.Prelude.{◌≡◌, ◌<◌, ℕ, List, [], ◌∷◌, true
 use Rattle.index_version.specs.Named.{NamedVersion}
 use Rattle.side_by_side.specs.Naming.{IsNamedAs}
 use Rattle.spec_index.specs.World.{Slot, Version, World, batch, is_stale, numbered}
-use Rattle.spec_server.specs.Machine as is
-use Rattle.spec_server.specs.Machine.{Held, published}
+use Rattle.spec_server.specs.Workers as is
+use Rattle.spec_server.specs.Courses.{Held}
+use Rattle.spec_server.specs.Workers.{published}
 use Rattle.spec_server.specs.Replies as replies
 use Rattle.spec_server.specs.Replies.{Reply}
 use Rattle.spec_server.specs.Sound.{Has, IsHeld}

@@ -1,9 +1,11 @@
 //! A turn of an index.
-ghost use Rattle.std.specs.Prelude.{◌≡◌, ◌≤◌, IfOk, option_to_list};
+ghost use Rattle.std.specs.Prelude.{◌≡◌, ◌≤◌, IfOk, OnErr, option_to_list};
 ghost use Rattle.std.specs.Result.{is_ok};
+ghost use Rattle.spec_desk.specs.Lacking.{StaysOnce};
 ghost use Rattle.spec_desk.specs.Lived.{Follows, Lived};
 ghost use Rattle.spec_desk.specs.Receipts.{AllLink, Onward};
 ghost use Rattle.spec_index.specs.World.{numbered};
+ghost use Rattle.spec_server.specs.Sound.{Sound};
 ghost use Rattle.slot_batches.specs.Batches.{CountFew};
 ghost use Rattle.raven_pump.specs.Turning.{Turns};
 
@@ -24,7 +26,7 @@ use std::thread::Threads;
 /// then. The gate is told once the batch was read, and before it is published.
 ///
 /// A batch counts the maps, merges and reads of `CountFew` for the index that the look found; if that found none, nothing is counted.
-pub fn turn_index<K: Keeper, G: Gate, R: Threads + Wait, L: Ledger>(
+pub fn turn_index<K: Keeper, G: Gate, R: Threads + Wait + Sync, L: Ledger>(
     rt: &R,
     alloc: Global,
     turn: &Turn<Live<K>>,
@@ -38,7 +40,8 @@ pub fn turn_index<K: Keeper, G: Gate, R: Threads + Wait, L: Ledger>(
     requires some { 1 ≤ max }
     ensures turned { (x : Lived) × AllLink Follows pass.old.seen x
         × CountFew x.world.store max (option_to_list (numbered x.world.slots number)) (is_ok result) steps.old steps.new
-        × IfOk result (λ t. Turns number max x t pass.new.seen) }
+        × IfOk result (λ t. Sound x.world × Turns number max x t pass.new.seen) }
+    ensures lacked { OnErr result (StaysOnce pass.old.seen pass.new.seen) }
     ensures onward { Onward pass.old.seen pass.new.seen }
     ensures same { (pass.new.turn ≡ pass.old.turn) × (pass.new.shares ≡ pass.old.shares) × (pass.new.made ≡ pass.old.made) }
 {

@@ -38,8 +38,9 @@ pub(crate) struct Publish {
 }
 
 impl<K: Keeper> Act<Live<K>> for Publish {
-    ghost use Rattle.std.specs.Prelude.{◌≡◌, IfOk};
+    ghost use Rattle.std.specs.Prelude.{◌≡◌, IfOk, OnErr};
     ghost use Rattle.spec_desk.specs.Lived.{etags};
+    ghost use Rattle.spec_desk.specs.Stepped.{Stays};
     ghost use Rattle.spec_desk.proofs.Later.{Follows-then};
     ghost use Rattle.raven_pump.specs.Turning.{Publishes, WaitsSince};
 
@@ -47,7 +48,7 @@ impl<K: Keeper> Act<Live<K>> for Publish {
 
     ghost needs = { λ act x. WaitsSince act.number act.version.value x };
 
-    ghost does = { λ act x out y. IfOk out (λ o. Publishes act.number act.version.value.version x o.1 y) × (etags y ≡ etags x) };
+    ghost does = { λ act x out y. IfOk out (λ o. Publishes act.number act.version.value.version x o.1 y) × (etags y ≡ etags x) × OnErr out (Stays x y) };
 
     fn act<R: Wait>(self, _rt: &R, value: &mut Live<K>) -> Result<(Shot, Turned), NoMemory> {
         let Publish {

@@ -2,9 +2,12 @@
 use Rattle.std.proofs.Common.{◌≡◌, ℕ, List, [], Option, Some, None, Ok, Err, inl, inr, refl, ap, ◌∙◌, subst}
 use Rattle.std.specs.Prelude.{option_map}
 use Rattle.spec_data.specs.Kept.{KeptRow}
-use Rattle.spec_server.specs.Machine.{Do, Line as LineIs, Machine, Tidy}
+use Rattle.spec_server.specs.Requests.{Do, Line as LineIs, Tidy}
+use Rattle.spec_server.specs.Courses.{Machine}
 use Rattle.spec_server.specs.Replies.{Reply, printed}
-use Rattle.spec_server.specs.Script.{LineRead, asked_of, left_by, written_for}
+use Rattle.spec_server.specs.Words.{LineRead}
+use Rattle.spec_server.specs.Texts.{asked_of}
+use Rattle.spec_server.specs.Script.{left_by, written_for}
 use Rattle.spec_server.specs.WellFormed.{IsWellFormed}
 use Rattle.raven_lines.specs.Lines.{IsLine}
 use Rattle.raven_ports.specs.Asking.{Asked}

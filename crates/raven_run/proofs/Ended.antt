@@ -3,6 +3,7 @@ use Rattle.std.specs.Prelude.{IsErrOf, OnOk}
 use Rattle.std.proofs.Common.{◌≡◌, ◌≤◌, ◌⊎◌, inl, inr, ℕ, List, Option, Some, None, IfSome, [], length, Result, Ok, Err, refl, sym, subst}
 use Rattle.raven_ports.specs.Faults.{Rose}
 use Rattle.raven_ports.specs.States.{KeeperState}
+use Rattle.raven_ports.specs.Taken.{TakesMore, TakesWithin}
 use Rattle.raven_ports.specs.declared.ports.SinkFault.{SinkFault}
 use Rattle.raven_ports.specs.declared.ports.SinkFault.TheVariants as sink
 use Rattle.spec_server.specs.Lines.{max_input}
@@ -17,7 +18,7 @@ use Rattle.raven_run.specs.declared.run_end.RunEnd.TheVariants as is
 use Rattle.raven_run.specs.Answers.{Answers, ServerState, StopsBefore, StopsIn, StopsShort, state_in, state_of}
 use Rattle.raven_run.specs.Ends.{ComesAfterReading, IsUnread, RunsRightly, end_answered, end_unopened}
 use Rattle.raven_run.specs.Holding.{NamedBatch, all_held}
-use Rattle.raven_run.specs.Input.{IsRead, TakesMore, TakesWithin}
+use Rattle.raven_run.specs.Input.{IsRead}
 use Rattle.raven_run.specs.Runs.{FailsToLoad, Finished, HasNoFault, HoldsSame, IsKeptBad, IsValid, LinesRan, Run, Stopped, StoppedEarly}
 use Rattle.raven_run.proofs.Completes.{not_bad, not_more}
 use Rattle.raven_run.proofs.Truth.{runs-truly}
@@ -32,11 +33,11 @@ Short run = StoppedEarly run ⊎ Stopped run
 
 abbrev Cause : Run → RunEnd → Type 0
 Cause run is.Done = Read run × Finished run
-Cause run is.ReadFault = Rose run.before.input.faults run.after.input.faults × TakesWithin run.before.input.left run.after.input.left
+Cause run is.ReadFault = Rose run.before.input.faults run.after.input.faults × TakesWithin max_input run.before.input.left run.after.input.left
 Cause run is.WriteFault = Rose run.before.output.faults run.after.output.faults × Read run × Stopped run
 Cause run is.KeptFault = FailsToLoad run.before.keeper run.after.keeper × Read run
 Cause run (is.KeptBad etag) = IsKeptBad run etag × Read run
-Cause run is.InputTooLarge = TakesMore run.before.input.left run.after.input.left
+Cause run is.InputTooLarge = TakesMore max_input run.before.input.left run.after.input.left
 Cause run is.NoMemory = HoldsSame run ⊎ Short run
 
 done_of : (run : Run) (e : RunEnd) → Cause run e → e ≡ is.Done → Finished run
@@ -76,11 +77,11 @@ memory_of : (run : Run) (e : RunEnd) → Cause run e → e ≡ is.NoMemory → H
 memory_of run is.NoMemory c h = c
 memory_of run other c h = absurd cc
 
-too_large_of : (run : Run) (e : RunEnd) → Cause run e → e ≡ is.InputTooLarge → TakesMore run.before.input.left run.after.input.left
+too_large_of : (run : Run) (e : RunEnd) → Cause run e → e ≡ is.InputTooLarge → TakesMore max_input run.before.input.left run.after.input.left
 too_large_of run is.InputTooLarge c h = c
 too_large_of run other c h = absurd cc
 
-within_of : (run : Run) (e : RunEnd) → Cause run e → e ≡ is.ReadFault → TakesWithin run.before.input.left run.after.input.left
+within_of : (run : Run) (e : RunEnd) → Cause run e → e ≡ is.ReadFault → TakesWithin max_input run.before.input.left run.after.input.left
 within_of run is.ReadFault c h = c.1
 within_of run other c h = absurd cc
 
@@ -114,8 +115,8 @@ ends_as run e c = record {
 ends_early : (run : Run) → run.after.output.held ≡ run.before.output.held → run.after.keeper.held ≡ run.before.keeper.held → RunsRightly is.NoMemory run
 ends_early run o k = ends_as run is.NoMemory (inl (o, k))
 
-pub ends_unread : (run : Run) (e : RunEnd) → IsUnread e → (e ≡ is.InputTooLarge → TakesMore run.before.input.left run.after.input.left)
-    → (e ≡ is.ReadFault → TakesWithin run.before.input.left run.after.input.left) → (e ≡ is.ReadFault → Rose run.before.input.faults run.after.input.faults)
+pub ends_unread : (run : Run) (e : RunEnd) → IsUnread e → (e ≡ is.InputTooLarge → TakesMore max_input run.before.input.left run.after.input.left)
+    → (e ≡ is.ReadFault → TakesWithin max_input run.before.input.left run.after.input.left) → (e ≡ is.ReadFault → Rose run.before.input.faults run.after.input.faults)
     → run.after.output.held ≡ run.before.output.held → run.after.keeper.held ≡ run.before.keeper.held → RunsRightly e run
 ends_unread run is.ReadFault u more within rose o k = ends_as run is.ReadFault (rose refl, within refl)
 ends_unread run is.InputTooLarge u more within rose o k = ends_as run is.InputTooLarge (more refl)

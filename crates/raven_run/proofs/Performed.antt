@@ -1,7 +1,9 @@
 -- What a request leaves once its changes were settled.
 use Rattle.std.proofs.Common.{◌≡◌, ℕ, ◌⊎◌, inl, inr, List, Result, Ok, Err, IfOk, OnErr, OnOk, refl, sym, ap, ◌∙◌, subst}
 use Rattle.spec_index.specs.World.{World}
-use Rattle.spec_server.specs.Machine.{Course, Do, Held, Machine, Replied, Request, Tidy, course_of, step}
+use Rattle.spec_server.specs.Requests.{Do, Request, Tidy}
+use Rattle.spec_server.specs.Courses.{Course, Held, Machine, Replied}
+use Rattle.spec_server.specs.Machine.{course_of, step}
 use Rattle.spec_server.specs.Replies.{printed}
 use Rattle.spec_desk.specs.Keepers.{keeping}
 use Rattle.spec_desk.specs.Lived.{Lived, machine_in, machine_with}

@@ -6,14 +6,14 @@ use Rattle.raven_ports.specs.Asking.{Asked}
 use Rattle.raven_ports.specs.Reported.{appended}
 use Rattle.raven_ports.specs.States.{KeeperState, SinkState}
 use Rattle.spec_server.specs.Lines.{lines}
-use Rattle.spec_server.specs.Machine.{Machine}
+use Rattle.spec_server.specs.Courses.{Machine}
 use Rattle.spec_server.specs.Script.{Given, reply_to, replies_to, after_line, after_lines}
 use Rattle.raven_run.specs.Answering.{IsAnswered, IsCutAt}
 use Rattle.spec_desk.specs.Keepers.{MayGive}
 use Rattle.raven_run.specs.Devices.{AreGiven, IsGiven, given, tasks_in}
-use Rattle.raven_desk.specs.Giving.{GivesPrefix}
+use Rattle.raven_ports.specs.Given.{GivesPrefix}
 use Rattle.raven_run.specs.Answers.{Answers, ServerState, StopsBefore, StopsIn, texts_of}
-use Rattle.raven_desk.proofs.Pieces.{appended-appended, appended-nil}
+use Rattle.raven_ports.proofs.Pieces.{appended-appended, appended-nil}
 
 replies_to-after : (done : List Given) (line : Given) (M : Machine) → replies_to (done ++ line ∷ []) M ≡ replies_to done M ++ reply_to line (after_lines done M)
 replies_to-after [] line M = append-nil (reply_to line M)

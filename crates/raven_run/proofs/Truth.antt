@@ -4,7 +4,9 @@ use Rattle.std.proofs.lemmas.List.{append-nil}
 use Rattle.spec_data.specs.Kept.{KeptRow}
 use Rattle.spec_data.specs.Moments.{moments_end}
 use Rattle.spec_store.specs.Commit.{Setting}
-use Rattle.spec_server.specs.Machine.{AreFromClients, Do, Held, Machine, Replied, Tidy, course_of}
+use Rattle.spec_server.specs.Requests.{AreFromClients, Do, Tidy}
+use Rattle.spec_server.specs.Courses.{Held, Machine, Replied}
+use Rattle.spec_server.specs.Machine.{course_of}
 use Rattle.spec_server.specs.Options.{setting_with}
 use Rattle.spec_server.specs.Script.{Given, after_line, after_lines, events_of}
 use Rattle.spec_server.specs.Sound.{IsMachine, LaterW}

@@ -7,7 +7,10 @@ use Rattle.raven_ports.specs.States.{KeeperState}
 use Rattle.raven_world.specs.Publishing.{IsReadAt}
 use Rattle.raven_world.specs.declared.publish.Batch.{Batch}
 use Rattle.spec_index.specs.World.{Slot, World, batch, numbered, serving}
-use Rattle.spec_server.specs.Machine.{Change, Course, Held, Keeping, Machine, Publish, PublishRefusal, Read, Replied, held_by, machine_of, made, publish_by, published, published_reply, read_at, read_batch, step, storing}
+use Rattle.spec_server.specs.Requests.{Keeping, Publish, Read}
+use Rattle.spec_server.specs.Courses.{Change, Course, Held, Machine, Replied, made, storing}
+use Rattle.spec_server.specs.Workers.{PublishRefusal, held_by, publish_by, published, published_reply, read_at, read_batch}
+use Rattle.spec_server.specs.Machine.{machine_of, step}
 use Rattle.spec_server.specs.Replies as replies
 use Rattle.spec_server.specs.Replies.{Reply, printed}
 use Rattle.spec_desk.specs.Keepers.{keeping, tasks_of}

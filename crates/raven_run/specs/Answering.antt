@@ -3,9 +3,12 @@ use Rattle.std.specs.Prelude.{◌≡◌, ℕ, List, Bool, Option, Some, Ok, ◌�
 use Rattle.spec_data.specs.Kept.{KeptRow}
 use Rattle.raven_ports.specs.Asking.{Asked}
 use Rattle.raven_ports.specs.States.{KeeperState}
-use Rattle.spec_server.specs.Machine.{Course, Do, Line, Machine, Request, Tidy, course_of, step}
+use Rattle.spec_server.specs.Requests.{Do, Line, Request, Tidy}
+use Rattle.spec_server.specs.Courses.{Course, Machine}
+use Rattle.spec_server.specs.Machine.{course_of, step}
 use Rattle.spec_server.specs.Replies.{Reply, printed}
-use Rattle.spec_server.specs.Script.{LineRead, after_line, reply_to}
+use Rattle.spec_server.specs.Words.{LineRead}
+use Rattle.spec_server.specs.Script.{after_line, reply_to}
 use Rattle.raven_lines.specs.Lines.{IsLine}
 use Rattle.spec_desk.specs.Keepers.{keeping, tasks_on}
 use Rattle.spec_desk.specs.Lived.{Lived}

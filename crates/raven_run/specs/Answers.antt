@@ -3,7 +3,7 @@ use Rattle.std.specs.Prelude.{◌≡◌, ℕ, List, [], ◌∷◌, ◌++◌, map
 use Rattle.raven_ports.specs.Reported.{appended}
 use Rattle.raven_ports.specs.States.{KeeperState, SinkState}
 use Rattle.spec_server.specs.Lines.{lines}
-use Rattle.spec_server.specs.Machine.{Machine}
+use Rattle.spec_server.specs.Courses.{Machine}
 use Rattle.spec_server.specs.Script.{Given, reply_to, replies_to, after_lines}
 use Rattle.spec_desk.specs.Keepers.{MayGive}
 use Rattle.spec_desk.specs.Lived.{Lived, machine_with}

@@ -2,8 +2,9 @@
 use Rattle.std.specs.Prelude.{◌≡◌, ℕ, List, [], ◌∷◌, Bool, Option, Some, None, Ok, Err}
 use Rattle.raven_ports.specs.Asking.{Asked, Task}
 use Rattle.raven_ports.specs.States.{KeeperState}
-use Rattle.spec_server.specs.Machine.{Machine}
-use Rattle.spec_server.specs.Script.{Circumstance, Given, LineRead, after_line}
+use Rattle.spec_server.specs.Courses.{Machine}
+use Rattle.spec_server.specs.Words.{LineRead}
+use Rattle.spec_server.specs.Script.{Circumstance, Given, after_line}
 use Rattle.raven_lines.specs.Lines.{IsLine}
 use Rattle.spec_desk.specs.Keepers.{MayGive, keeping, tasks_on}
 

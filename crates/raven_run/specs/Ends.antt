@@ -1,13 +1,15 @@
 -- What the end of a run says of it.
 use Rattle.std.specs.Prelude.{◌≡◌, ℕ, ◌⊎◌, Result, Ok, Err}
 use Rattle.raven_ports.specs.Faults.{Rose}
+use Rattle.raven_ports.specs.Taken.{TakesMore, TakesWithin}
 use Rattle.raven_ports.specs.declared.ports.SinkFault.{SinkFault}
 use Rattle.raven_ports.specs.declared.ports.SinkFault.TheVariants as sink
 use Rattle.doc_keeper.specs.declared.loading.LoadFault.{LoadFault}
 use Rattle.doc_keeper.specs.declared.loading.LoadFault.TheVariants as load
+use Rattle.spec_server.specs.Lines.{max_input}
 use Rattle.raven_run.specs.declared.run_end.RunEnd.{RunEnd}
 use Rattle.raven_run.specs.declared.run_end.RunEnd.TheVariants.{Done, InputTooLarge, KeptBad, KeptFault, NoMemory, ReadFault, WriteFault}
-use Rattle.raven_run.specs.Input.{IsRead, TakesMore, TakesWithin}
+use Rattle.raven_run.specs.Input.{IsRead}
 use Rattle.raven_run.specs.Runs.{FailsToLoad, Finished, HasNoFault, HoldsSame, IsKeptBad, IsValid, Run, Stopped, StoppedEarly}
 use Rattle.raven_run.specs.Truth.{RunsTruly}
 
@@ -37,9 +39,9 @@ pub record RunsRightly (end : RunEnd) (run : Run) : Type 0 where
   -- nothing was written and stored, or it stopped before the reply to one of the lines, or at it
   pub memory : end ≡ NoMemory → HoldsSame run ⊎ (StoppedEarly run ⊎ Stopped run)
   -- one byte more than may be read was taken of the input
-  pub too_large : end ≡ InputTooLarge → TakesMore run.before.input.left run.after.input.left
+  pub too_large : end ≡ InputTooLarge → TakesMore max_input run.before.input.left run.after.input.left
   -- no more than may be read was taken of the input
-  pub within : end ≡ ReadFault → TakesWithin run.before.input.left run.after.input.left
+  pub within : end ≡ ReadFault → TakesWithin max_input run.before.input.left run.after.input.left
   -- a valid input is answered to its end, if no device fails and there is memory
   pub complete : IsValid run → HasNoFault run → (end ≡ Done) ⊎ (end ≡ NoMemory)
   -- whatever lines were answered, all states between them are sound, each is later than those before, and the answers in each are true

@@ -3,7 +3,7 @@ use Rattle.std.specs.Prelude.{◌≡◌, ℕ, List, [], ◌∷◌, ◌++◌, ◌
 use Rattle.std.specs.Coded.{Coded, coded_ℕ, coded×, code_by}
 use Rattle.index_version.specs.Named.{NamedVersion, named_version_code}
 use Rattle.spec_index.specs.World.{Slot, World}
-use Rattle.spec_server.specs.Machine.{Held}
+use Rattle.spec_server.specs.Courses.{Held}
 use Rattle.spec_server.specs.Sound.{Has, IsHeld}
 use Rattle.side_by_side.specs.Naming.{IsNamedAs}
 

@@ -4,7 +4,7 @@ use Rattle.spec_data.specs.Kept.{KeptRow}
 use Rattle.raven_ports.specs.Faults.{Rose}
 use Rattle.raven_ports.specs.States.{KeeperState, SinkState, SourceState}
 use Rattle.spec_server.specs.Lines.{max_input}
-use Rattle.spec_server.specs.Machine.{Machine}
+use Rattle.spec_server.specs.Courses.{Machine}
 use Rattle.spec_server.specs.Options.{setting_with}
 use Rattle.index_lang.specs.Openings.{IsOpened}
 use Rattle.spec_desk.specs.Keepers.{Holds}

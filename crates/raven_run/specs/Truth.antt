@@ -1,7 +1,9 @@
 -- What is true of all that a run answered: the laws of runs hold of each state that its lines reached.
 use Rattle.std.specs.Prelude.{◌≡◌, ℕ, ◌≤◌, List, [], ◌∷◌, ◌++◌, length}
 use Rattle.spec_store.specs.Commit.{Setting}
-use Rattle.spec_server.specs.Machine.{Keeping, Line, Machine, Publish, Read, step}
+use Rattle.spec_server.specs.Requests.{Keeping, Line, Publish, Read}
+use Rattle.spec_server.specs.Courses.{Machine}
+use Rattle.spec_server.specs.Machine.{step}
 use Rattle.spec_server.specs.Options.{setting_with}
 use Rattle.spec_server.specs.Script.{Given, after_lines}
 use Rattle.spec_server.specs.Sound.{IsMachine, LaterW}

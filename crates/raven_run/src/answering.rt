@@ -1,7 +1,8 @@
 //! What is answered to the lines of a script.
 ghost use Rattle.std.specs.Prelude.{◌≡◌, ◌<◌, ◌≤◌, ◌⊎◌, IfOk, OnErr, OnOk, IsErrOf};
 ghost use Rattle.spec_data.specs.Moments.{moments_end};
-ghost use Rattle.spec_server.specs.Machine.{Do, Tidy, course_of};
+ghost use Rattle.spec_server.specs.Requests.{Do, Tidy};
+ghost use Rattle.spec_server.specs.Machine.{course_of};
 ghost use Rattle.spec_server.specs.WellFormed.{IsWellFormed};
 ghost use Rattle.raven_ports.specs.Faults.{Rose};
 ghost use Rattle.raven_request.specs.RequestView.{request_view};
@@ -17,15 +18,15 @@ use crate::printing::{printed, settled};
 use crate::workers::Workers;
 use crate::working::{publish, read};
 use raven_base::NoMemory;
-use raven_desk::{Live, give_all};
-use raven_ports::{Clock, Keeper, Sink, SinkFault};
+use raven_desk::Live;
+use raven_ports::{Clock, Keeper, Sink, SinkFault, give_all};
 use raven_request::{Request, reply_to_refusal};
 use raven_script::{Line, line};
 use std::alloc::Global;
 use std::thread::Threads;
 
 // The step of a request.
-fn perform<R: Threads, K: Keeper>(
+fn perform<R: Threads + Sync, K: Keeper>(
     rt: &R,
     alloc: Global,
     live: &mut Live<K>,
@@ -42,7 +43,7 @@ fn perform<R: Threads, K: Keeper>(
 }
 
 // The step of what a line asks. If memory runs out, nothing changes, but the first changes of a TIDY may stand.
-fn handle<R: Threads, K: Keeper>(
+fn handle<R: Threads + Sync, K: Keeper>(
     rt: &R,
     alloc: Global,
     live: &mut Live<K>,
@@ -70,7 +71,7 @@ fn handle<R: Threads, K: Keeper>(
 // What is written for a line at this moment, in microseconds since 1970: the reply with its line end, or nothing for a line without bytes.
 // If the keeper fails or memory runs out, nothing changes, but the first changes of a TIDY may stand.
 #[tactic(auto, using(crate::proofs::Answered::answers))]
-fn answer<R: Threads, K: Keeper>(
+fn answer<R: Threads + Sync, K: Keeper>(
     rt: &R,
     alloc: Global,
     live: &mut Live<K>,
@@ -99,7 +100,7 @@ fn answer<R: Threads, K: Keeper>(
 /// Answers each line of a script on this database, and writes the replies. After `Failed` the database is that after the line whose reply
 /// failed: no later line was executed.
 #[tactic(auto, using(crate::proofs::Runs::steps))]
-pub(crate) fn answer_lines<R: Threads, K: Keeper, C: Clock, O: Sink>(
+pub(crate) fn answer_lines<R: Threads + Sync, K: Keeper, C: Clock, O: Sink>(
     rt: &R,
     alloc: Global,
     live: &mut Live<K>,

@@ -4,7 +4,7 @@ ghost use Rattle.raven_run.specs.Ends.{IsUnopened, RunsRightly, end_answered as 
 ghost use Rattle.raven_run.specs.Runs.{devices_of};
 
 use crate::answering::answer_lines;
-use crate::read::read_all;
+use crate::read::read_input;
 use crate::run_end::RunEnd;
 use crate::workers::Workers;
 use doc_keeper::LoadFault;
@@ -45,7 +45,7 @@ fn end_answered(answered: Result<(), SinkFault>) -> RunEnd
 ///
 /// What each end says of the run is in `RunsRightly`, one named fact after another: `done`, `read_fault`, `write_fault`, `kept_fault`,
 /// `kept_bad`, `read`, `stopped`, `memory`, `too_large`, `within`, `complete` and `truth`.
-pub fn run<R: Threads, S: Source, O: Sink, K: Keeper, C: Clock>(
+pub fn run<R: Threads + Sync, S: Source, O: Sink, K: Keeper, C: Clock>(
     rt: &R,
     alloc: Global,
     base: BaseId,
@@ -64,7 +64,7 @@ pub fn run<R: Threads, S: Source, O: Sink, K: Keeper, C: Clock>(
         → (output.new ≡ output.old) × (result.keeper ≡ keeper) }
     ensures unopened { IsUnopened result.end → (output.new ≡ output.old) × ((K.state result.keeper).held ≡ (K.state keeper).held) }
 {
-    let script = match read_all(alloc, input) {
+    let script = match read_input(alloc, input) {
         Ok(script) => script,
         Err(end) => return Ran { end, keeper },
     };

@@ -3,7 +3,7 @@ ghost use Rattle.std.specs.Prelude.{◌≡◌, ◌≤◌, ℕ, IfOk, OnErr, OnOk
 ghost use Rattle.raven_ports.specs.States.{KeeperState};
 ghost use Rattle.raven_world.specs.Publishing.{IsRead};
 ghost use Rattle.spec_desk.specs.Lived.{machine_with};
-ghost use Rattle.spec_server.specs.Machine.{Publish, Read};
+ghost use Rattle.spec_server.specs.Requests.{Publish, Read};
 ghost use Rattle.spec_server.specs.Replies.{Held as HeldIs, printed as spec_printed};
 ghost use Rattle.spec_server.specs.Sound.{Sound};
 ghost use Rattle.raven_run.specs.Answering.{IsHandled};
@@ -23,7 +23,7 @@ use std::sync::ledger::{Blank, Ledger};
 use std::thread::Threads;
 
 // The next batch of the index that serves the name. Nobody reads the counter.
-fn batch_of<R: Threads, L: Ledger>(
+fn batch_of<R: Threads + Sync, L: Ledger>(
     rt: &R,
     alloc: Global,
     world: &World,
@@ -61,7 +61,7 @@ fn hold(alloc: Global, workers: &mut Workers, worker: u8, batch: Batch) -> Resul
 }
 
 /// READ: the worker reads a batch of the index and holds it. If memory runs out, it holds what it held.
-pub(crate) fn read<R: Threads>(
+pub(crate) fn read<R: Threads + Sync>(
     rt: &R,
     alloc: Global,
     world: &World,

@@ -1,11 +1,15 @@
 -- A desk that is being asked.
-use Rattle.std.proofs.Common.{◌≡◌, ℕ, ◌+◌, ◌-◌, ◌≤◌, ◌++◌, List, [], ◌∷◌, length, refl, subst, arith}
+use Rattle.std.proofs.Common.{◌≡◌, ◌≢◌, ℕ, ◌+◌, ◌-◌, ◌≤◌, ◌++◌, List, [], ◌∷◌, length, length-append, refl, subst, arith}
 use Rattle.std.specs.Prelude.{IsTrue, Option}
-use Rattle.spec_server.specs.Machine.{Request}
+use Rattle.spec_server.specs.Requests.{Request}
 use Rattle.spec_server.specs.Replies.{Reply}
+use Rattle.spec_desk.specs.Lacking.{IsUnanswered, LacksAt, LacksOnce, StopsBatches, StopsCatchingUp}
+use Rattle.spec_desk.specs.Lacking.IsUnanswered.{behind, in_look}
 use Rattle.spec_desk.specs.Lived.{Lived, Seen, etags}
 use Rattle.spec_desk.specs.Receipts.{AllLink, CatchesUp, IsAsked, Look, LooksOnce, HasCaughtUp, Receipt, Standing, Waits, looks_of, says_stale}
 use Rattle.spec_desk.specs.Stepped.{IsStepAt}
+use Rattle.spec_desk.proofs.Lacking.{lacks_itself}
+use Rattle.spec_desk.proofs.Later.{Follows-itself}
 use Rattle.spec_desk.proofs.Onwards.{head}
 
 module _ (Link : Lived → Lived → Type 0) (q : Request) where
@@ -31,7 +35,7 @@ module _ (Link : Lived → Lived → Type 0) (q : Request) where
     took = 0;
     after = l.after;
     waits = (refl, refl);
-    look = record { link = same l.found; shown = l.shown; step = l.step; later = l.later };
+    look = record { link = same l.found; sound = l.sound; shown = l.shown; step = l.step; later = l.later };
     now_seen = l.now_seen;
     now_made = let m = l.now_made in omega arith;
   }
@@ -55,6 +59,7 @@ module _ (Link : Lived → Lived → Type 0) (q : Request) where
     waits = waits_more x.clock a.first earlier a.before a.found a.left shot reply a.took a.waits a.look t;
     look = record {
       link = head Link a.left l.found (subst (λ s. AllLink Link s l.found) a.now_seen l.after);
+      sound = l.sound;
       shown = l.shown;
       step = subst (λ (c : Option ℕ). IsStepAt c q l.found answer l.left) clock l.step;
       later = l.later;
@@ -77,3 +82,82 @@ module _ (Link : Lived → Lived → Type 0) (q : Request) where
     now_seen = m.now_seen;
     now_made = let n = m.now_made in let k = a.now_made in omega arith;
   }
+
+  -- WHERE MEMORY RAN OUT
+
+  -- in the first look
+  pub stops_first : ((z : Lived) → Link z z) → (x y : Standing) → 1 ≤ looks_of q → LacksOnce Link x q y → IsUnanswered Link x q y
+  stops_first same x y some l = in_look (record {
+    first = l.found;
+    earlier = [];
+    before = l.found;
+    took = 0;
+    after = l.after;
+    waits = (refl, refl);
+    most = some;
+    found = l.found;
+    left = l.left;
+    link = same l.found;
+    lacks = l.lacks;
+    later = l.later;
+    now_seen = l.now_seen;
+    now_made = let m = l.now_made in omega arith;
+  })
+
+  -- before a look that follows others
+  pub stops_between : ((z : Lived) → Link z z) → (x : Standing) (earlier : List Seen) (shot : Seen) (reply : Reply) (y : Standing) → Asking x earlier shot reply y → IsTrue (says_stale reply)
+      → length earlier + 2 ≤ looks_of q → IsUnanswered Link x q y
+  stops_between same x earlier shot reply y a t most = in_look (record {
+    first = a.first;
+    earlier = earlier ++ shot ∷ [];
+    before = a.left;
+    took = a.took + (etags a.left - etags a.found);
+    after = a.after;
+    waits = waits_more x.clock a.first earlier a.before a.found a.left shot reply a.took a.waits a.look t;
+    most = rw length-append (omega arith);
+    found = a.left;
+    left = a.left;
+    link = same a.left;
+    lacks = lacks_itself x.clock q a.left;
+    later = Follows-itself a.left;
+    now_seen = a.now_seen;
+    now_made = let m = a.now_made in omega arith;
+  })
+
+  -- in such a look
+  pub stops_again : (x : Standing) (earlier : List Seen) (shot : Seen) (reply : Reply) (mid y : Standing) → Asking x earlier shot reply mid → mid.clock ≡ x.clock → IsTrue (says_stale reply)
+      → length earlier + 2 ≤ looks_of q → LacksOnce Link mid q y → IsUnanswered Link x q y
+  stops_again x earlier shot reply mid y a clock t most l = in_look (record {
+    first = a.first;
+    earlier = earlier ++ shot ∷ [];
+    before = a.left;
+    took = a.took + (etags a.left - etags a.found);
+    after = a.after;
+    waits = waits_more x.clock a.first earlier a.before a.found a.left shot reply a.took a.waits a.look t;
+    most = rw length-append (omega arith);
+    found = l.found;
+    left = l.left;
+    link = head Link a.left l.found (subst (λ s. AllLink Link s l.found) a.now_seen l.after);
+    lacks = subst (λ (c : Option ℕ). LacksAt c q l.found l.left) clock l.lacks;
+    later = l.later;
+    now_seen = l.now_seen;
+    now_made = let m = l.now_made in let n = a.now_made in omega arith;
+  })
+
+  -- behind the request
+  pub stops_behind : (x : Standing) (r : Receipt) (mid y : Standing) → Asking x r.earlier r.shot r.reply mid → mid.clock ≡ x.clock → mid.pump ≡ x.pump → length r.earlier + 1 ≤ looks_of q
+      → (IsTrue (says_stale r.reply) → length r.earlier + 1 ≡ looks_of q) → ((z : Lived) → mid.seen ≡ z ∷ [] → StopsCatchingUp z mid y) → IsUnanswered Link x q y
+  stops_behind x r mid y a clock pump most waited stopped = let m = stopped a.left a.now_seen in behind (record {
+    first = a.first;
+    lost = r;
+    left = a.left;
+    end = m.end;
+    took = a.took + (etags a.left - etags a.found);
+    after = a.after;
+    receipt = record { before = a.before; found = a.found; took = a.took; waits = a.waits; last = a.look; number = refl; most = most; waited = waited };
+    some = subst (λ (n : ℕ). n ≢ 0) pump m.some;
+    stops = subst (λ (c : Option ℕ). StopsBatches c x.pump a.left m.end) clock (subst (λ (n : ℕ). StopsBatches mid.clock n a.left m.end) pump m.stops);
+    later = m.later;
+    now_seen = m.now_seen;
+    now_made = let n = m.now_made in let k = a.now_made in omega arith;
+  })

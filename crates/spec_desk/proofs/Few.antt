@@ -6,7 +6,12 @@ use Rattle.spec_query.specs.Query as query
 use Rattle.spec_index.specs.Optimiser.{Choice, Make, Use, pick}
 use Rattle.spec_index.specs.World.{Slot, SlotChange, SlotRefusal, World, define_named, remove, serving, switch}
 use Rattle.spec_server.specs.Asking.{Answered, MustMake, Ready, answer_ask}
-use Rattle.spec_server.specs.Machine.{Ask, Auto, Bulk, Course, Define, Delete, Find, Get, Indexes, Pump, Put, Remove, Request, Stale, Stats, Switch, Tidy, Clean, answer_made, answer_making, ask_course, change_of_slots, course_of, made_name, make, one_field, pump_at, pump_for, rewrote, single_reply, use_or_make, wrote}
+use Rattle.spec_server.specs.Requests.{Ask, Auto, Bulk, Define, Delete, Find, Get, Indexes, Pump, Put, Remove, Request, Stale, Stats, Switch, Tidy, Clean}
+use Rattle.spec_server.specs.Courses.{Course}
+use Rattle.spec_server.specs.Writes.{single_reply, wrote}
+use Rattle.spec_server.specs.Indexing.{answer_made, answer_making, ask_course, change_of_slots, made_name, make, one_field, rewrote, use_or_make}
+use Rattle.spec_server.specs.Batches.{pump_at, pump_for}
+use Rattle.spec_server.specs.Machine.{course_of}
 use Rattle.spec_server.specs.Replies as replies
 use Rattle.spec_server.specs.Replies.{Reply}
 

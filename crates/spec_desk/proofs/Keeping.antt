@@ -8,7 +8,8 @@ use Rattle.spec_store.specs.Cleaning.{clean, cleared, is_old_tombstone, kept_by,
 use Rattle.spec_store.specs.Commit.{AreNext}
 use Rattle.spec_store.specs.Store.{Store, last, with_rows}
 use Rattle.spec_store.proofs.KeepLemmas.{kept-clean, kept-with_rows, next-alone, next-behind}
-use Rattle.spec_server.specs.Machine.{Change, is_taken, machine_of}
+use Rattle.spec_server.specs.Courses.{Change, is_taken}
+use Rattle.spec_server.specs.Machine.{machine_of}
 use Rattle.spec_server.specs.Sound.{IsMachine, Sound}
 use Rattle.raven_ports.specs.Asking.{Asked}
 use Rattle.raven_ports.specs.States.{KeeperState}

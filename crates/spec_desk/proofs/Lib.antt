@@ -4,4 +4,5 @@ pub mod Parts
 pub mod Making
 pub mod Few
 pub mod Onwards
+pub mod Lacking
 pub mod Asking

@@ -1,8 +1,10 @@
 -- Changes that are made one after another.
-use Rattle.std.proofs.Common.{◌≡◌, ◌≢◌, ℕ, ◌≤◌, List, [], ◌∷◌, Bool, true, false, map, refl, sym, ap, ◌∙◌, subst, arith, inl, inr}
+use Rattle.std.proofs.Common.{◌≡◌, ◌≢◌, ℕ, ◌≤◌, List, [], ◌∷◌, Bool, true, false, refl, sym, ap, ◌∙◌, subst, arith, inl, inr}
 use Rattle.spec_data.specs.Rows.{Row}
 use Rattle.spec_index.specs.World.{World}
-use Rattle.spec_server.specs.Machine.{Auto, Ask, Bulk, Change, Define, Delete, Do, Find, Get, Indexes, IsFromClient, Pump, Put, Remove, Replied, Request, Stale, Stats, Switch, Tidy, Clean, course_of, is_taken, machine_of, made}
+use Rattle.spec_server.specs.Requests.{Auto, Ask, Bulk, Define, Delete, Do, Find, Get, Indexes, IsFromClient, Pump, Put, Remove, Request, Stale, Stats, Switch, Tidy, Clean}
+use Rattle.spec_server.specs.Courses.{Change, Replied, is_taken, made}
+use Rattle.spec_server.specs.Machine.{course_of, machine_of}
 use Rattle.spec_server.specs.Replies.{KeeperFault, Reply}
 use Rattle.spec_server.specs.Sound.{Has, LaterW, Sound}
 use Rattle.spec_server.specs.WellFormed.{IsWellFormed}
@@ -110,6 +112,7 @@ pub record Going (x : Lived) (all left : List Change) (here : Lived) : Type 0 wh
   pub sound : (c : Change) → Has left c → Sound c.world
   pub later : (c : Change) → Has left c → LaterW x.world c.world
   pub follows : Follows x here
+  pub fronts : here.fronts ≡ x.fronts
 
 pub begins : (x : Lived) (all : List Change) → MayMake x all → Going x all all x
 begins x all may = record {
@@ -119,6 +122,7 @@ begins x all may = record {
   sound = may.sound;
   later = may.later;
   follows = Follows-itself x;
+  fronts = refl;
 }
 
 pub goes_on : (x : Lived) (all : List Change) (c : Change) (more : List Change) (here z : Lived) → Going x all (c ∷ more) here → MakesOne here c true z
@@ -134,6 +138,7 @@ goes_on x all c more here z g m n = record {
     fronts = let a = g.follows.fronts in let b = m.fronts in omega arith;
     faults = let a = g.follows.faults in omega arith;
   };
+  fronts = m.fronts ∙ g.fronts;
 }
 
 pub ends : (x : Lived) (all : List Change) (here : Lived) → Going x all [] here → Settles all x All here

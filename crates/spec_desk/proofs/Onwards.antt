@@ -2,7 +2,7 @@
 use Rattle.std.proofs.Common.{◌≡◌, ℕ, ◌==◌, List, [], ◌∷◌, Bool, true, false, refl, ◌∙◌, subst, arith}
 use Rattle.std.specs.Prelude.{MatchBool, None}
 use Rattle.std.proofs.lemmas.List.Elements.{All-cons, All-nil, All-head, All-tail}
-use Rattle.spec_server.specs.Machine.{Pump, Tidy}
+use Rattle.spec_server.specs.Requests.{Pump, Tidy}
 use Rattle.spec_server.specs.Replies.{Reply}
 use Rattle.spec_desk.specs.Keepers.{MayGive}
 use Rattle.spec_desk.specs.Lived.{Follows, Lived, etags}

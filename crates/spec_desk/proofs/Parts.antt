@@ -3,7 +3,10 @@ use Rattle.std.proofs.Common.{◌≡◌, ◌≢◌, ℕ, ◌≤◌, List, [], �
 use Rattle.spec_data.specs.Kept.{KeptRow}
 use Rattle.spec_data.specs.Rows.{Row}
 use Rattle.spec_index.specs.World.{Slot, Version, World, numbered, with_version}
-use Rattle.spec_server.specs.Machine.{Change, Do, Held, Keeping, Machine, Publish, Passed, Cleaned, PublishRefusal, put_in, was_cleaned, Replied, Request, course_of, held_by, is_taken, let_go, machine_of, made, publish_by, publish_to, published, published_in, published_reply, settled, step, with_slots, with_world}
+use Rattle.spec_server.specs.Requests.{Do, Keeping, Publish, Request}
+use Rattle.spec_server.specs.Courses.{Change, Held, Machine, Replied, is_taken, made, settled, with_slots, with_world}
+use Rattle.spec_server.specs.Workers.{Passed, Cleaned, PublishRefusal, put_in, was_cleaned, held_by, let_go, publish_by, publish_to, published, published_in, published_reply}
+use Rattle.spec_server.specs.Machine.{course_of, machine_of, step}
 use Rattle.spec_server.specs.Replies.{KeeperFault, Reply}
 use Rattle.spec_server.specs.Sound.{IsHeld, LaterW, Sound}
 use Rattle.raven_laws.proofs.MachineLemmas.{published-Moves}

@@ -8,7 +8,7 @@ use Rattle.spec_data.specs.Kept.{KeptRow, kept_code}
 use Rattle.spec_data.specs.Rows.{Row}
 use Rattle.spec_index.specs.Codes.{world_code}
 use Rattle.spec_index.specs.World.{World}
-use Rattle.spec_server.specs.Machine.{Change}
+use Rattle.spec_server.specs.Courses.{Change}
 use Rattle.spec_desk.specs.Lived.{Lived, Seen}
 
 abbrev pub change_code : Coded Change

@@ -5,7 +5,9 @@ use Rattle.spec_data.specs.Moments.{moments_end}
 use Rattle.spec_data.specs.Rows.{Row}
 use Rattle.raven_ports.specs.Asking.{Asked, Task}
 use Rattle.raven_ports.specs.States.{KeeperState}
-use Rattle.spec_server.specs.Machine.{Change, Keeping, Line, Machine, changes_of, is_taken}
+use Rattle.spec_server.specs.Requests.{Keeping, Line}
+use Rattle.spec_server.specs.Courses.{Change, Machine, is_taken}
+use Rattle.spec_server.specs.Machine.{changes_of}
 use Rattle.spec_server.specs.Sound.{IsMachine}
 
 abbrev pub task : List Row → Option ℕ → Task

@@ -4,3 +4,4 @@ pub mod Codes
 pub mod Stepped
 pub mod Publishing
 pub mod Receipts
+pub mod Lacking

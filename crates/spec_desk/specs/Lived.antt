@@ -2,7 +2,8 @@
 use Rattle.std.specs.Prelude.{ℕ, ◌≤◌, List}
 use Rattle.raven_ports.specs.States.{KeeperState}
 use Rattle.spec_index.specs.World.{World}
-use Rattle.spec_server.specs.Machine.{Held, Machine, machine_of}
+use Rattle.spec_server.specs.Courses.{Held, Machine}
+use Rattle.spec_server.specs.Machine.{machine_of}
 use Rattle.spec_server.specs.Sound.{LaterW}
 use Rattle.spec_store.specs.Store.{last}
 

@@ -1,7 +1,8 @@
 -- What it does to publish a batch.
 use Rattle.std.specs.Prelude.{ℕ, [], Result, Ok, Err}
 use Rattle.spec_index.specs.World.{Version, World, numbered}
-use Rattle.spec_server.specs.Machine.{Course, PublishRefusal, one_change, only_reply, publish_refused, published, published_reply}
+use Rattle.spec_server.specs.Courses.{Course, one_change, only_reply}
+use Rattle.spec_server.specs.Workers.{PublishRefusal, publish_refused, published, published_reply}
 use Rattle.spec_server.specs.Replies.{Reply}
 
 abbrev pub publishes : Reply → Result World PublishRefusal → Course

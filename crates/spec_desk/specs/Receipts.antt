@@ -1,8 +1,9 @@
 -- What a desk gives for a request, and what it has then seen.
 use Rattle.std.specs.Prelude.{◌≡◌, ℕ, ◌+◌, ◌-◌, ◌≤◌, ◌==◌, List, [], ◌∷◌, length, All, Bool, false, if◌then◌else◌, IsTrue, Option, None, MatchBool}
 use Rattle.spec_query.specs.Query.{Ask as QueryAsk}
-use Rattle.spec_server.specs.Machine.{Request, Ask, Pump, Tidy}
+use Rattle.spec_server.specs.Requests.{Request, Ask, Pump, Tidy}
 use Rattle.spec_server.specs.Replies.{Answer, Reply}
+use Rattle.spec_server.specs.Sound.{Sound}
 use Rattle.spec_desk.specs.Lived.{Follows, Lived, Seen, etags, seen_of}
 use Rattle.spec_desk.specs.Stepped.{IsStepAt}
 
@@ -28,9 +29,10 @@ pub record Receipt : Type 0 where
 
 -- LOOKS. `Link x y` says that a desk which saw x last may find y.
 
--- One look, where x was seen last: it found a value that is linked to x, took this away, and the step there gave the reply and left y.
+-- One look, where x was seen last: it found a value that is linked to x and whose world is sound, took this away, and the step there gave the reply and left y.
 pub record Look (Link : Lived → Lived → Type 0) (clock : Option ℕ) (q : Request) (x found : Lived) (shot : Seen) (reply : Reply) (y : Lived) : Type 0 where
   pub link : Link x found
+  pub sound : Sound found.world
   pub shown : shot ≡ seen_of found
   pub step : IsStepAt clock q found reply y
   pub later : Follows found y
@@ -106,11 +108,12 @@ pub record IsAsked (Link : Lived → Lived → Type 0) (x : Standing) (q : Reque
   pub now_seen : y.seen ≡ end ∷ []
   pub now_made : y.made ≡ x.made + took + (etags end - etags left)
 
--- one look of a desk that stood so
+-- one look of a desk that stood so, in a sound world
 pub record LooksOnce (Link : Lived → Lived → Type 0) (x : Standing) (q : Request) (shot : Seen) (reply : Reply) (y : Standing) : Type 0 where
   pub found : Lived
   pub left : Lived
   pub after : AllLink Link x.seen found
+  pub sound : Sound found.world
   pub shown : shot ≡ seen_of found
   pub step : IsStepAt x.clock q found reply left
   pub later : Follows found left

@@ -4,7 +4,9 @@ use Rattle.spec_data.specs.Kept.{KeptRow}
 use Rattle.raven_ports.specs.Asking.{Asked}
 use Rattle.raven_ports.specs.States.{KeeperState}
 use Rattle.spec_index.specs.World.{World}
-use Rattle.spec_server.specs.Machine.{Change, Do, Request, is_taken, made, step, takes_after}
+use Rattle.spec_server.specs.Requests.{Do, Request}
+use Rattle.spec_server.specs.Courses.{Change, is_taken, made, takes_after}
+use Rattle.spec_server.specs.Machine.{step}
 use Rattle.spec_server.specs.Replies.{KeeperFault, Reply}
 use Rattle.spec_server.specs.Sound.{Has, LaterW, Sound}
 use Rattle.raven_laws.specs.Keeping.{AreTheirRows}

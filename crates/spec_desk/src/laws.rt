@@ -3,7 +3,10 @@ ghost use Rattle.std.specs.Prelude.{◌≡◌, ◌≢◌, ◌≤◌, ℕ, Bool, 
 ghost use Rattle.spec_data.specs.Kept.{KeptRow};
 ghost use Rattle.raven_ports.specs.States.{KeeperState};
 ghost use Rattle.spec_index.specs.World.{World};
-ghost use Rattle.spec_server.specs.Machine.{Change, Do, Held, Keeping, Machine, Publish, Request, Tidy, course_of, held_by, let_go, settled, step, with_world};
+ghost use Rattle.spec_server.specs.Requests.{Do, Keeping, Publish, Request, Tidy};
+ghost use Rattle.spec_server.specs.Courses.{Change, Held, Machine, settled, with_world};
+ghost use Rattle.spec_server.specs.Workers.{held_by, let_go};
+ghost use Rattle.spec_server.specs.Machine.{course_of, step};
 ghost use Rattle.spec_server.specs.Replies.{Reply};
 ghost use Rattle.spec_server.specs.Sound.{IsHeld, Sound};
 ghost use Rattle.spec_server.specs.WellFormed.{IsWellFormed};

@@ -1,18 +1,22 @@
 -- Looks of a desk over a turn.
-use Rattle.std.proofs.Common.{◌≡◌, ℕ, ◌+◌, ◌-◌, List, [], ◌∷◌, true, Option, Result, Ok, Err, IfOk, refl, sym, ◌∙◌, ap, subst, arith}
+use Rattle.std.proofs.Common.{◌≡◌, ℕ, ◌+◌, ◌-◌, [], ◌∷◌, true, Option, Result, Ok, Err, IfOk, OnErr, refl, sym, ◌∙◌, ap, subst, arith}
 use Rattle.spec_query.specs.Query as query
 use Rattle.spec_index.specs.World.{World}
 use Rattle.spec_server.specs.Asking.{Ready, answer_ask}
-use Rattle.spec_server.specs.Machine.{Ask, Auto, Bulk, Clean, Course, Define, Delete, Find, Get, Indexes, Pump, Put, Remove, Request, Stale, Stats, Switch, Tidy, ask_course, course_of, only_reply}
+use Rattle.spec_server.specs.Requests.{Ask, Auto, Bulk, Clean, Define, Delete, Find, Get, Indexes, Pump, Put, Remove, Request, Stale, Stats, Switch, Tidy}
+use Rattle.spec_server.specs.Courses.{Course, only_reply}
+use Rattle.spec_server.specs.Indexing.{ask_course}
+use Rattle.spec_server.specs.Machine.{course_of}
 use Rattle.spec_server.specs.Replies.{Reply}
+use Rattle.spec_server.specs.Sound.{Sound}
 use Rattle.spec_desk.specs.Keepers.{MayGive}
+use Rattle.spec_desk.specs.Lacking.{LacksAt, LacksOnce}
 use Rattle.spec_desk.specs.Lived.{Follows, Lived, Seen, etags, seen_of}
 use Rattle.spec_desk.specs.Stepped.{IsStep, IsStepAt, Makes}
 use Rattle.spec_desk.specs.Receipts.{AllLink, LooksOnce, Onward, Standing}
-use Rattle.spec_desk.specs.Receipts.Onward.{same, on}
+use Rattle.spec_desk.proofs.Lacking.{onward_all}
 use Rattle.spec_desk.proofs.Later.{Follows-itself}
 use Rattle.spec_desk.proofs.Making.{stepped}
-use Rattle.spec_desk.proofs.Onwards.{all_on, head}
 use Rattle.turn_desk.specs.Holding.{HasStepped}
 use Rattle.turn_desk.specs.Reading.{changes_nothing}
 
@@ -46,11 +50,12 @@ stays now q x o is none =
 
 -- a request that was answered on a look
 pub answered : (now : ℕ) (q : Request) (x : Lived) (W : World) (shot : Seen) (o : Course) (before after : Standing) → MayGive before.clock now → AllLink Follows before.seen x → shot ≡ seen_of x → W ≡ shot.world
-    → o ≡ course_of W now q → o.changes ≡ [] → after.seen ≡ x ∷ [] → after.made ≡ before.made → LooksOnce Follows before q shot o.reply after
-answered now q x W shot o before after may linked shown at is none now_seen now_made = record {
+    → Sound shot.world → o ≡ course_of W now q → o.changes ≡ [] → after.seen ≡ x ∷ [] → after.made ≡ before.made → LooksOnce Follows before q shot o.reply after
+answered now q x W shot o before after may linked shown at sound is none now_seen now_made = record {
   found = x;
   left = x;
   after = linked;
+  sound = subst (λ (s : Seen). Sound s.world) shown sound;
   shown = shown;
   step = (now, may, stays now q x o (is ∙ ap (λ (V : World). course_of V now q) (at ∙ ap (λ (s : Seen). s.world) shown)) none);
   later = Follows-itself x;
@@ -60,9 +65,9 @@ answered now q x W shot o before after may linked shown at is none now_seen now_
 
 -- a query that was
 pub answered_query : (now : ℕ) (ask : query.Ask) (x : Lived) (W : World) (shot : Seen) (reply : Reply) (before after : Standing) → MayGive before.clock now → AllLink Follows before.seen x → shot ≡ seen_of x
-    → W ≡ shot.world → answer_ask W ask ≡ Ready reply → after.seen ≡ x ∷ [] → after.made ≡ before.made → LooksOnce Follows before (Ask ask) shot reply after
-answered_query now ask x W shot reply before after may linked shown at is now_seen now_made =
-    answered now (Ask ask) x W shot (only_reply reply) before after may linked shown at (sym (ap (ask_course W now ask) is)) refl now_seen now_made
+    → W ≡ shot.world → Sound shot.world → answer_ask W ask ≡ Ready reply → after.seen ≡ x ∷ [] → after.made ≡ before.made → LooksOnce Follows before (Ask ask) shot reply after
+answered_query now ask x W shot reply before after may linked shown at sound is now_seen now_made =
+    answered now (Ask ask) x W shot (only_reply reply) before after may linked shown at sound (sym (ap (ask_course W now ask) is)) refl now_seen now_made
 
 -- HOLDS
 
@@ -74,6 +79,7 @@ held_looks view (Ok o) q x y before after linked later did now_seen now_made = r
   found = x;
   left = y;
   after = linked;
+  sound = did.sound;
   shown = did.shown;
   step = did.step;
   later = later;
@@ -81,10 +87,12 @@ held_looks view (Ok o) q x y before after linked later did now_seen now_made = r
   now_made = now_made;
 }
 
--- what follows all that was seen later follows all that was seen before
-onward_all : (a b : List Lived) (x : Lived) → Onward a b → AllLink Follows b x → AllLink Follows a x
-onward_all a b x (same e) h = subst (λ l. AllLink Follows l x) e h
-onward_all a b x (on y k e) h = all_on a y x k (head Follows y x (subst (λ l. AllLink Follows l x) e h))
+-- one hold in which memory ran out
+pub held_lacks : {T E : Type 0} (r : Result T E) (q : Request) (x y : Lived) (before after : Standing) → AllLink Follows before.seen x → Follows x y → OnErr r (LacksAt before.clock q x y)
+    → after.seen ≡ y ∷ [] → after.made ≡ before.made + (etags y - etags x) → OnErr r (LacksOnce Follows before q after)
+held_lacks (Ok o) q x y before after linked later lacks now_seen now_made = tt
+held_lacks (Err e) q x y before after linked later lacks now_seen now_made =
+    record { found = x; left = y; after = linked; lacks = lacks; later = later; now_seen = now_seen; now_made = now_made }
 
 -- a hold after a look, which changed nothing
 pub looks_after : {T E : Type 0} (view : T → Reply) (r : Result (Seen × T) E) (q : Request) (before mid after : Standing) → Onward before.seen mid.seen → mid.clock ≡ before.clock → mid.made ≡ before.made
@@ -94,6 +102,7 @@ looks_after view (Ok o) q before mid after onward clock kept l = record {
   found = l.found;
   left = l.left;
   after = onward_all before.seen mid.seen l.found onward l.after;
+  sound = l.sound;
   shown = l.shown;
   step = subst (λ (c : Option ℕ). IsStepAt c q l.found (view o.1) l.left) clock l.step;
   later = l.later;

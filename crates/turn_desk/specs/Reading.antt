@@ -1,6 +1,6 @@
 -- Requests that change no world.
 use Rattle.std.specs.Prelude.{Bool, true, false}
-use Rattle.spec_server.specs.Machine.{Request, Find, Get, Indexes, Stale, Stats}
+use Rattle.spec_server.specs.Requests.{Request, Find, Get, Indexes, Stale, Stats}
 
 -- A query is not among them: it may make an index.
 abbrev pub changes_nothing : Request → Bool

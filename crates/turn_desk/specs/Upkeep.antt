@@ -1,5 +1,5 @@
 -- What a pump asks over a turn beside its batches.
-use Rattle.spec_server.specs.Machine.{Clean, Tidy}
+use Rattle.spec_server.specs.Requests.{Clean, Tidy}
 use Rattle.spec_server.specs.Replies.{Reply}
 use Rattle.spec_desk.specs.Lived.{Follows, Seen}
 use Rattle.spec_desk.specs.Receipts.{LooksOnce, Standing}

@@ -20,19 +20,22 @@ pub(crate) struct DoOnce<'a, T, C> {
     pub(crate) request: Request,
 }
 
-impl<'a, T: Threads, C: Clock, K: Keeper> Act<Live<K>> for DoOnce<'a, T, C> {
-    ghost use Rattle.std.specs.Prelude.{◌≡◌, IfOk};
-    ghost use Rattle.spec_server.specs.Machine.{Do};
+impl<'a, T: Threads + Sync, C: Clock, K: Keeper> Act<Live<K>> for DoOnce<'a, T, C> {
+    ghost use Rattle.std.specs.Prelude.{◌≡◌, IfOk, OnErr};
+    ghost use Rattle.std.specs.Thread.{IsSync};
+    ghost use Rattle.spec_server.specs.Requests.{Do};
     ghost use Rattle.spec_server.specs.WellFormed.{IsWellFormed};
     ghost use Rattle.raven_request.specs.RequestView.{request_view};
     ghost use Rattle.raven_reply.specs.ReplyView.{reply_view};
+    ghost use Rattle.spec_desk.specs.Lacking.{LacksAt};
     ghost use Rattle.turn_desk.specs.Holding.{HasStepped};
 
     type Out = Result<(Shot, Reply), NoMemory>;
 
-    ghost needs = { λ act x. IsWellFormed (Do (request_view act.request)) };
+    ghost needs = { λ act x. IsSync T.row × IsWellFormed (Do (request_view act.request)) };
 
-    ghost does = { λ act x out y. IfOk out (λ o. HasStepped (C.moment act.clock.now) (request_view act.request) x o.0 (reply_view o.1) y) };
+    ghost does = { λ act x out y. IfOk out (λ o. HasStepped (C.moment act.clock.now) (request_view act.request) x o.0 (reply_view o.1) y)
+        × OnErr out (LacksAt (C.moment act.clock.now) (request_view act.request) x y) };
 
     fn act<R: Wait>(self, _rt: &R, value: &mut Live<K>) -> Result<(Shot, Reply), NoMemory> {
         let DoOnce {
@@ -58,17 +61,19 @@ pub(crate) struct AskOnce<'a, C> {
 }
 
 impl<'a, C: Clock, K: Keeper> Act<Live<K>> for AskOnce<'a, C> {
-    ghost use Rattle.std.specs.Prelude.{◌≡◌, IfOk};
-    ghost use Rattle.spec_server.specs.Machine.{Ask, Do};
+    ghost use Rattle.std.specs.Prelude.{◌≡◌, IfOk, OnErr};
+    ghost use Rattle.spec_server.specs.Requests.{Ask, Do};
     ghost use Rattle.spec_server.specs.WellFormed.{IsWellFormed};
     ghost use Rattle.raven_reply.specs.ReplyView.{reply_view};
+    ghost use Rattle.spec_desk.specs.Lacking.{LacksAt};
     ghost use Rattle.turn_desk.specs.Holding.{HasStepped};
 
     type Out = Result<(Shot, Reply), NoMemory>;
 
     ghost needs = { λ act x. IsWellFormed (Do (Ask act.ask.now)) };
 
-    ghost does = { λ act x out y. IfOk out (λ o. HasStepped (C.moment act.clock.now) (Ask act.ask.now) x o.0 (reply_view o.1) y) };
+    ghost does = { λ act x out y. IfOk out (λ o. HasStepped (C.moment act.clock.now) (Ask act.ask.now) x o.0 (reply_view o.1) y)
+        × OnErr out (LacksAt (C.moment act.clock.now) (Ask act.ask.now) x y) };
 
     fn act<R: Wait>(self, _rt: &R, value: &mut Live<K>) -> Result<(Shot, Reply), NoMemory> {
         let AskOnce { alloc, clock, ask } = self;

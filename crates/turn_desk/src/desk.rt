@@ -86,7 +86,7 @@ impl<'a, K: Keeper, C: Clock + Drop, G: Gate + Drop> TurnDesk<'a, K, C, G> {
     }
 }
 
-impl<'a, K: Keeper, C: Clock, G: Gate, R: Threads + Wait> Desk<R> for TurnDesk<'a, K, C, G> {
+impl<'a, K: Keeper, C: Clock, G: Gate, R: Threads + Wait + Sync> Desk<R> for TurnDesk<'a, K, C, G> {
     ghost use Rattle.std.specs.Prelude.{◌≡◌, refl};
     ghost use Rattle.std.proofs.Common.{◌∙◌};
     ghost use Rattle.spec_desk.specs.Lived.{Follows};

@@ -1,10 +1,11 @@
 //! Requests that are answered on a look, after its hold.
-ghost use Rattle.std.specs.Prelude.{◌≡◌, ◌≤◌, true, IfOk, IfSome};
+ghost use Rattle.std.specs.Prelude.{◌≡◌, ◌≤◌, true, IfOk, IfSome, OnErr};
 ghost use Rattle.spec_server.specs.Asking.{Ready, answer_ask};
-ghost use Rattle.spec_server.specs.Machine.{Ask, Do};
+ghost use Rattle.spec_server.specs.Requests.{Ask, Do};
 ghost use Rattle.spec_server.specs.WellFormed.{IsWellFormed};
 ghost use Rattle.raven_reply.specs.ReplyView.{reply_view};
 ghost use Rattle.raven_request.specs.RequestView.{request_view};
+ghost use Rattle.spec_desk.specs.Lacking.{LacksOnce};
 ghost use Rattle.spec_desk.specs.Lived.{Follows};
 ghost use Rattle.spec_desk.specs.Receipts.{LooksOnce, Onward};
 ghost use Rattle.turn_desk.specs.Reading.{changes_nothing as spec_changes_nothing};
@@ -39,7 +40,7 @@ pub(crate) fn changes_nothing(request: &Request) -> bool
 }
 
 /// A look, on whose world the request is answered.
-pub(crate) fn read<K: Keeper, C: Clock, R: Threads + Wait>(
+pub(crate) fn read<K: Keeper, C: Clock, R: Threads + Wait + Sync>(
     rt: &R,
     alloc: Global,
     turn: &Turn<Live<K>>,
@@ -51,6 +52,7 @@ pub(crate) fn read<K: Keeper, C: Clock, R: Threads + Wait>(
     requires formed { IsWellFormed (Do (request_view request)) }
     requires reads { spec_changes_nothing (request_view request) ≡ true }
     ensures looked { let at = stands_at (C.moment clock.now) in IfOk result (λ o. LooksOnce Follows (at pass.old) (request_view request) o.0 (reply_view o.1) (at pass.new)) }
+    ensures lacked { let at = stands_at (C.moment clock.now) in OnErr result (LacksOnce Follows (at pass.old) (request_view request) (at pass.new)) }
     ensures onward { Onward pass.old.seen pass.new.seen }
     ensures same { (pass.new.turn ≡ pass.old.turn) × (pass.new.shares ≡ pass.old.shares) }
 {
@@ -99,6 +101,7 @@ pub(crate) fn read_query<K: Keeper, C: Clock, R: Wait>(
     requires own { pass.old.turn ≡ turn.now.turn }
     requires formed { IsWellFormed (Do (Ask ask.now)) }
     ensures looked { let at = stands_at (C.moment clock.now) in IfOk result (λ o. LooksOnce Follows (at pass.old) (Ask ask.now) o.0 (reply_view o.1) (at pass.new)) }
+    ensures lacked { let at = stands_at (C.moment clock.now) in OnErr result (LacksOnce Follows (at pass.old) (Ask ask.now) (at pass.new)) }
     ensures onward { Onward pass.old.seen pass.new.seen }
     ensures same { (pass.new.turn ≡ pass.old.turn) × (pass.new.shares ≡ pass.old.shares) }
 {

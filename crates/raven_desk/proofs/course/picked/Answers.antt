@@ -2,7 +2,7 @@ use Rattle.std.proofs.Common.{ap, ◌∙◌, sym}
 use Rattle.index_definition.specs.ShapeView.{shape_view}
 use Rattle.spec_index.specs.Optimiser.{pick}
 use Rattle.spec_index.specs.World.{World}
-use Rattle.spec_server.specs.Machine.{one_field}
+use Rattle.spec_server.specs.Indexing.{one_field}
 use Rattle.raven_snapshot.specs.AnsweredView.{answered_view, name_of_choice}
 use Rattle.raven_desk.specs.CourseView.{course_view}
 use Rattle.raven_desk.proofs.Picked.{made_as}

@@ -1,6 +1,6 @@
 use Rattle.std.proofs.Common.{◌+◌, drop, sym, ap, ◌∙◌}
 use Rattle.raven_reply.specs.ReplyView.{reply_view}
-use Rattle.spec_server.specs.Machine.{tidy}
+use Rattle.spec_server.specs.Indexing.{tidy}
 use Rattle.spec_desk.specs.Stepped.{world_after}
 use Rattle.raven_desk.proofs.Courses.{left_as, next_name, not_taken, refused, tried_on}
 use Rattle.raven_desk.proofs.tidying.tidy.Goals as goal

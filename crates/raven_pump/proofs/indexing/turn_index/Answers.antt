@@ -3,6 +3,8 @@ use Rattle.spec_index.specs.World.{World, numbered}
 use Rattle.spec_server.specs.Sound.{Sound}
 use Rattle.spec_desk.specs.Lived.{Follows, Lived, Seen}
 use Rattle.spec_desk.specs.Receipts.{AllLink}
+use Rattle.raven_desk.proofs.Changes.{on_err}
+use Rattle.spec_desk.proofs.Lacking.{stays_after, stays_once}
 use Rattle.spec_desk.proofs.Later.{Follows-itself}
 use Rattle.spec_desk.proofs.Onwards.{head, on_hold, onward_on}
 use Rattle.raven_pump.proofs.Steps.{counts_of, idle_at, none_next, reads_at, some_named, some_next, taken_at}
@@ -91,3 +93,23 @@ returns-clause-onward g c =
     let w = c.with.ensures in
     onward_on c.args.pass.now.seen c.look.new.pass.seen c.with.new.pass.seen (on_hold c.args.pass.now.seen c.look.new.pass.seen l.0 l.0 l.1 (Follows-itself l.0) l.3.2)
     (on_hold c.look.new.pass.seen c.with.new.pass.seen w.0 w.1 w.2 w.3 w.5.2)
+
+-- WHERE MEMORY RAN OUT
+
+pub returns-in_err-shot-clause-lacked : goal.returns-in_err-shot-clause-lacked
+returns-in_err-shot-clause-lacked g c =
+    let l = c.look.ensures in
+    on_err c.from_residual.result _ (stays_once c.args.pass.now.seen c.look.new.pass.seen l.0 l.0 l.1 (refl, refl) (Follows-itself l.0) l.3.2)
+
+pub returns-in_err-next-clause-lacked : goal.returns-in_err-next-clause-lacked
+returns-in_err-next-clause-lacked g c =
+    let l = c.look.ensures in
+    on_err c.from_residual-in_err-next.result _ (stays_once c.args.pass.now.seen c.look.new.pass.seen l.0 l.0 l.1 (refl, refl) (Follows-itself l.0) l.3.2)
+
+pub returns-in_err-_found-clause-lacked : goal.returns-in_err-_found-clause-lacked
+returns-in_err-_found-clause-lacked g c =
+    let l = c.look.ensures in
+    let w = c.in_err-_found.ensures in
+    on_err c.from_residual-in_err-_found.result _
+    (stays_after c.args.pass.now.seen c.look.new.pass.seen c.with.new.pass.seen (on_hold c.args.pass.now.seen c.look.new.pass.seen l.0 l.0 l.1 (Follows-itself l.0) l.3.2)
+    (stays_once c.look.new.pass.seen c.with.new.pass.seen w.0 w.1 w.2 w.4.2 w.3 w.5.2))

@@ -1,12 +1,12 @@
 use Rattle.std.proofs.Common.{refl}
 use Rattle.raven_reply.specs.ReplyView.{reply_view}
-use Rattle.spec_server.specs.Script.{asked_of}
+use Rattle.spec_server.specs.Texts.{asked_of}
 use Rattle.raven_run.proofs.Answered.{answers-as, answers-refused, cut-as, formed_as}
 use Rattle.raven_run.proofs.Performed.{if_err, if_ok}
 use Rattle.raven_run.proofs.answering.answer.Goals as goal
 
 pub handle-requires-clause-formed : goal.handle-requires-clause-formed
-handle-requires-clause-formed g c = formed_as c.args.bytes.now c.in-Ok-Some.field-0 c.in-Ok-Some.asks c.in-Ok-Some.field-0-is c.in-Ok-Some.ensures
+handle-requires-clause-formed g c = λ _ _. formed_as c.args.bytes.now c.in-Ok-Some.field-0 c.in-Ok-Some.asks c.in-Ok-Some.field-0-is c.in-Ok-Some.ensures
 
 pub returns-in-Ok-Some-clause-answered : goal.returns-in-Ok-Some-clause-answered
 returns-in-Ok-Some-clause-answered g c =

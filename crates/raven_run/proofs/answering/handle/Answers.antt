@@ -2,7 +2,7 @@ use Rattle.std.proofs.Common.{refl, sym, subst}
 use Rattle.std.specs.Prelude.{IfOk}
 use Rattle.raven_request.specs.RequestView.{request_view}
 use Rattle.spec_index.specs.World.{World}
-use Rattle.spec_server.specs.Machine.{Read}
+use Rattle.spec_server.specs.Requests.{Read}
 use Rattle.spec_server.specs.Sound.{Sound}
 use Rattle.raven_run.specs.Answering.{IsHandled}
 use Rattle.raven_run.specs.Holding.{MayAllWait, all_held}
@@ -32,10 +32,10 @@ returns-in-Do-clause-waits g c = wait-later c.args.live.now.world c.perform.new.
 -- READ
 
 pub read-requires-clause-sound : goal.read-requires-clause-sound
-read-requires-clause-sound g c = subst Sound (sym c.world.ensures.world) c.world.ensures.sound
+read-requires-clause-sound g c = λ _ _. subst Sound (sym c.world.ensures.world) c.world.ensures.sound
 
 pub read-requires-clause-waits : goal.read-requires-clause-waits
-read-requires-clause-waits g c = subst (λ (V : World). MayAllWait V c.args.workers.now) (sym c.world.ensures.world) c.requires.waits
+read-requires-clause-waits g c = λ _ _. subst (λ (V : World). MayAllWait V c.args.workers.now) (sym c.world.ensures.world) c.requires.waits
 
 pub returns-in-Read-clause-handled : goal.returns-in-Read-clause-handled
 returns-in-Read-clause-handled g c =

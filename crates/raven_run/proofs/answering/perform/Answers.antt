@@ -1,7 +1,7 @@
 use Rattle.raven_request.specs.RequestView.{request_view}
 use Rattle.raven_desk.specs.CourseView.{course_view}
 use Rattle.spec_desk.proofs.Later.{Follows-itself}
-use Rattle.spec_server.specs.Machine.{Course}
+use Rattle.spec_server.specs.Courses.{Course}
 use Rattle.spec_desk.specs.Stepped.{IsMadeInPart, Stays}
 use Rattle.std.proofs.Common.{◌⊎◌, subst}
 use Rattle.raven_run.proofs.Performed.{if_err, if_ok, performed}

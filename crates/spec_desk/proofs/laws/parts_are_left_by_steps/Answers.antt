@@ -1,5 +1,6 @@
 use Rattle.std.proofs.Common.{ap}
-use Rattle.spec_server.specs.Machine.{Replied, course_of}
+use Rattle.spec_server.specs.Courses.{Replied}
+use Rattle.spec_server.specs.Machine.{course_of}
 use Rattle.spec_desk.proofs.Parts.{cut_step, cut_takes}
 use Rattle.spec_desk.proofs.laws.parts_are_left_by_steps.Goals as goal
 

@@ -1,5 +1,5 @@
 use Rattle.std.proofs.Common.{◌≡◌, ◌+◌, length}
-use Rattle.spec_server.specs.Machine.{Ask}
+use Rattle.spec_server.specs.Requests.{Ask}
 use Rattle.raven_reply.specs.ReplyView.{reply_view}
 use Rattle.spec_desk.specs.Receipts.{GoesOn, looks_in}
 use Rattle.spec_desk.proofs.Asking.{Asking}

@@ -1,7 +1,7 @@
 use Rattle.spec_desk.proofs.Few.{few}
 use Rattle.spec_desk.proofs.Parts.{alone}
 use Rattle.spec_desk.proofs.Later.{Follows-itself}
-use Rattle.spec_server.specs.Machine.{Ask}
+use Rattle.spec_server.specs.Requests.{Ask}
 use Rattle.raven_desk.specs.CourseView.{course_view}
 use Rattle.raven_desk.proofs.Changes.{if_err, steps_as}
 use Rattle.raven_reply.specs.ReplyView.{reply_view}

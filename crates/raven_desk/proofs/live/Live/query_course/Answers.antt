@@ -1,5 +1,5 @@
 use Rattle.std.proofs.Common.{ap, ◌∙◌}
-use Rattle.spec_server.specs.Machine.{Ask}
+use Rattle.spec_server.specs.Requests.{Ask}
 use Rattle.spec_desk.specs.Lived.{Lived}
 use Rattle.raven_desk.specs.CourseView.{course_view}
 use Rattle.raven_desk.proofs.Changes.{course_at, may_make_in}

@@ -1,13 +1,13 @@
 use Rattle.std.proofs.Common.{◌∷◌, List, length, refl, sym, ap, ◌∙◌, subst, arith}
 use Rattle.std.proofs.Common.{inl}
 use Rattle.std.specs.Vec.Iter.{into_iter_items}
-use Rattle.spec_server.specs.Machine.{Change}
+use Rattle.spec_server.specs.Courses.{Change}
 use Rattle.spec_desk.specs.Stepped.{MakesOne}
 use Rattle.spec_desk.proofs.Making.{Going, begins, goes_on, lacks_part, stops, stops_part}
 use Rattle.raven_desk.proofs.Changes.{on_err, stopped_as}
 use Rattle.raven_desk.proofs.live.Live.settle.Given.{Over}
 use Rattle.raven_desk.proofs.live.Live.settle.Goals as goal
-use Rattle.raven_desk.proofs.live.Live.settle.Goals.{In-None, In-Some}
+use Rattle.raven_desk.proofs.live.Live.settle.Goals.{In-Some}
 
 pub loop-change-init : goal.loop-change-init
 loop-change-init g c =
@@ -66,3 +66,13 @@ returns-in_err-make-clause-lacks g c =
     on_err c.from_residual.result _
     (lacks_part x c.args.changes.items c.in-Some.change (into_iter_items c.next.new.self) here z (going g (goal.at.returns-in_err-make-clause-lacks g c).In-Some)
     c.in_err-make.ensures.asks c.in_err-make.ensures.err)
+
+-- no front comes to its end
+pub returns-clause-fronts : goal.returns-clause-fronts
+returns-clause-fronts g c = c.loop-change.invariant.going.fronts
+
+pub returns-then-not-branch-clause-fronts : goal.returns-then-not-branch-clause-fronts
+returns-then-not-branch-clause-fronts g c = c.make.ensures.fronts ∙ c.loop-change.invariant.going.fronts
+
+pub returns-in_err-make-clause-fronts : goal.returns-in_err-make-clause-fronts
+returns-in_err-make-clause-fronts g c = c.make.ensures.fronts ∙ c.loop-change.invariant.going.fronts

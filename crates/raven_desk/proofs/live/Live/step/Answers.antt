@@ -1,5 +1,5 @@
 use Rattle.std.proofs.Common.{inl, inr, refl, subst}
-use Rattle.spec_server.specs.Machine.{Course}
+use Rattle.spec_server.specs.Courses.{Course}
 use Rattle.spec_desk.specs.Stepped.{IsMadeInPart}
 use Rattle.spec_desk.proofs.Parts.{alone}
 use Rattle.spec_desk.proofs.Few.{few}

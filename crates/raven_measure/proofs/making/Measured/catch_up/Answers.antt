@@ -1,7 +1,7 @@
 use Rattle.std.proofs.Common.{◌≡◌, [], ◌∷◌, arith, subst, sym, ◌∙◌}
 use Rattle.std.proofs.lemmas.Result.{err_from_is_err_and}
 use Rattle.spec_measure.specs.Requests.{index_name, pumping}
-use Rattle.spec_server.specs.Machine.{Request}
+use Rattle.spec_server.specs.Requests.{Request}
 use Rattle.spec_server.specs.Sound.{Sound}
 use Rattle.spec_desk.specs.Lived.{Lived}
 use Rattle.raven_measure.specs.Doing.{Does, Stops}

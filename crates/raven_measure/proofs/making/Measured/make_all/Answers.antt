@@ -10,11 +10,11 @@ returns-in_err-fill-clause-stopped g c =
     let p = err_from_is_err_and c.from_residual.result c.from_residual.ensures.1 in
     rw (p.1, p.2) (stops_filling (g.C.Clock.moment c.args.clock.now) (options_view c.args.options) (requests_view c.args.definition) c.args.self.now c.fill.new.self _ c.in_err-fill.ensures.stopped)
 
-pub catch_up-requires : goal.catch_up-requires
-catch_up-requires g c =
+pub catch_up-requires-clause-few : goal.catch_up-requires-clause-few
+catch_up-requires-clause-few g c =
     let few = filled_few (g.C.Clock.moment c.args.clock.now) (options_view c.args.options) c.args.options.docs c.args.definition c.args.self.now c.fill.new.self c.in_ok-fill.ensures.done in
     let none = c.requires.none in
-    record { few = omega arith }
+    λ _. omega arith
 
 pub returns-clause-stopped : goal.returns-clause-stopped
 returns-clause-stopped g c =

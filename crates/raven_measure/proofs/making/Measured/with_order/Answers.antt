@@ -34,13 +34,13 @@ returns-in_err-delete_after-clause-stopped g c =
     rw (p.1, p.2) (stops_at_deletion (g.C.Clock.moment c.args.clock.now) c.args.self.now c.make.new.self c.delete_after.new.self (options_view c.args.options) c.args.earlier c.args.draws.now _ _
     c.in_ok-putting.ensures.put c.requires.drawn c.in_ok-make.ensures.done c.in_err-delete_after.ensures.stopped)
 
-pub pump_after-requires : goal.pump_after-requires
-pump_after-requires g c =
-    let put = put_few g (goal.at.pump_after-requires g c).In_ok-make in
+pub pump_after-requires-clause-room : goal.pump_after-requires-clause-room
+pump_after-requires-clause-room g c =
+    let put = put_few g (goal.at.pump_after-requires-clause-room g c).In_ok-make in
     let deleted = moved_few (g.C.Clock.moment c.args.clock.now) c.make.new.self c.delete_after.new.self _ c.in_ok-delete_after.ensures.done in
     let one = few_deletions (c.args.earlier + 1) in
     let room = c.requires.room in
-    record { room = omega arith }
+    λ _. omega arith
 
 pub returns-clause-done : goal.returns-clause-done
 returns-clause-done g c =
