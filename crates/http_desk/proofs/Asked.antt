@@ -1,6 +1,6 @@
 -- What a desk answers to a request over HTTP.
 use Rattle.std.proofs.Common.{◌≡◌, ℕ, ◌≤◌, List, Bool, Some, Result, Ok, Err, IfOk, refl, subst}
-use Rattle.spec_server.specs.Machine.{Do}
+use Rattle.spec_server.specs.Requests.{Do}
 use Rattle.http_read.specs.declared.request.HttpRequest.{HttpRequest}
 use Rattle.spec_http.specs.Requests as is
 use Rattle.spec_http.specs.Requests.{asked_over_http}

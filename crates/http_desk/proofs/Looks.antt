@@ -9,8 +9,10 @@ use Rattle.index_tree.specs.Language.{LangRefusal}
 use Rattle.index_tree.specs.Definitions.{Definition, Texts}
 use Rattle.spec_query.specs.Query.{Query}
 use Rattle.spec_query.specs.Refusals.{QueryRefusal}
-use Rattle.spec_server.specs.Machine.{Do, Request}
-use Rattle.spec_server.specs.Script.{Asked, Asking, BadMember, LineRead, ReadRefusal, asked_by_text, asked_to_define, asked_to_query, asking_in, asking_of, asking_of_body, asking_with, beside_in, bulk_read, commands_of, cutoff_member, defined_by, json_read, looks_member, object_read, parameters_member, plain_asking, query_member, size_member, start_member, then_read, wait_member}
+use Rattle.spec_server.specs.Requests.{Do, Request}
+use Rattle.spec_server.specs.Words.{BadMember, LineRead, ReadRefusal, json_read, object_read, then_read}
+use Rattle.spec_server.specs.Commands.{bulk_read, commands_of}
+use Rattle.spec_server.specs.Texts.{Asked, Asking, asked_by_text, asked_to_define, asked_to_query, asking_in, asking_of, asking_of_body, asking_with, beside_in, cutoff_member, defined_by, looks_member, parameters_member, plain_asking, query_member, size_member, start_member, wait_member}
 use Rattle.http_parts.specs.Routes.{route_at}
 use Rattle.http_parts.specs.declared.route.Route.{Route}
 use Rattle.http_parts.specs.declared.route.Route.TheVariants as route

@@ -1,7 +1,9 @@
 -- What is answered over HTTP from a desk.
 use Rattle.std.specs.Prelude.{◌≡◌, ℕ, List, Bool, Some, Ok, Err}
-use Rattle.spec_server.specs.Machine.{Request, Do}
-use Rattle.spec_server.specs.Script.{Asked, LineRead, refusal_reply}
+use Rattle.spec_server.specs.Requests.{Request, Do}
+use Rattle.spec_server.specs.Words.{LineRead}
+use Rattle.spec_server.specs.Texts.{Asked}
+use Rattle.spec_server.specs.Script.{refusal_reply}
 use Rattle.http_read.specs.declared.request.HttpRequest.{HttpRequest}
 use Rattle.spec_http.specs.Requests.{HttpAsked, NoRoute, NoDatabase, Asks, asked_over_http}
 use Rattle.spec_http.specs.Answers.{no_database, no_route, response_to}

@@ -4,7 +4,7 @@ use Rattle.raven_ports.specs.States.{SinkState, SourceState}
 use Rattle.http_read.specs.declared.request.HttpRequest.{HttpRequest}
 use Rattle.http_session.specs.Sessions.{Finishes}
 use Rattle.http_session.specs.declared.why.Why.{Why}
-use Rattle.spec_server.specs.Machine.{Request}
+use Rattle.spec_server.specs.Requests.{Request}
 use Rattle.spec_desk.specs.Lived.{Follows, Lived, etags}
 use Rattle.spec_desk.specs.Receipts.{CatchesUp, IsTrueReceipt, Receipt}
 use Rattle.raven_desk.specs.Desks.{Alone, stands_alone}

@@ -7,7 +7,7 @@ use Rattle.http_read.specs.declared.request.HttpRequest.{HttpRequest}
 use Rattle.http_read.specs.Requests.{End, IsNext, Request}
 use Rattle.http_session.specs.Sessions.{is_last}
 use Rattle.index_lang.specs.Openings.{IsOpened}
-use Rattle.spec_server.specs.Machine.{Machine}
+use Rattle.spec_server.specs.Courses.{Machine}
 use Rattle.spec_server.specs.Options.{setting_with}
 use Rattle.http_desk.specs.ProgramSessions.{Session}
 use Rattle.http_desk.specs.declared.serving.ServeEnd.{ServeEnd}

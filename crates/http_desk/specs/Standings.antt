@@ -1,5 +1,5 @@
 -- What a desk gives for a request.
-use Rattle.spec_server.specs.Machine.{Request}
+use Rattle.spec_server.specs.Requests.{Request}
 use Rattle.spec_desk.specs.Lived.{Lived}
 use Rattle.spec_desk.specs.Receipts.{GoesOn, IsAsked, Receipt, Standing}
 

@@ -2,6 +2,7 @@
 ghost use Rattle.std.specs.Prelude.{◌≡◌};
 
 use crate::asking::ask_desk;
+use http_parts::Routes;
 use http_read::HttpRequest;
 use http_session::Answering;
 use raven_base::{Bytes, NoMemory};
@@ -10,9 +11,10 @@ use raven_value::Text;
 use std::alloc::Global;
 use std::marker::Model;
 
-/// A desk, which answers the requests over HTTP to the database of one name. Contracts see the desk and the name.
+/// A desk, which answers the requests over HTTP to the database of one name, by routes that were made before. Contracts see the desk and the name.
 pub struct DeskAnswers<'a, R, D> {
     rt: &'a R,
+    routes: &'a Routes,
     desk: D,
     database: Text,
 }
@@ -22,6 +24,7 @@ impl<'a, R, D: Drop> Drop for DeskAnswers<'a, R, D> {
     fn drop(self) {
         let DeskAnswers {
             rt: _rt,
+            routes: _routes,
             desk: _desk,
             database: _database,
         } = self;
@@ -38,10 +41,15 @@ impl<'a, R, D> Model for DeskAnswers<'a, R, D> {
 
 impl<'a, R, D> DeskAnswers<'a, R, D> {
     /// What answers from this desk to requests to the database of this name.
-    pub fn new(rt: &'a R, desk: D, database: Text) -> DeskAnswers<'a, R, D>
+    pub fn new(rt: &'a R, routes: &'a Routes, desk: D, database: Text) -> DeskAnswers<'a, R, D>
         ensures { result ≡ (desk, database) }
     {
-        DeskAnswers { rt, desk, database }
+        DeskAnswers {
+            rt,
+            routes,
+            desk,
+            database,
+        }
     }
 
     /// Its desk.
@@ -50,6 +58,7 @@ impl<'a, R, D> DeskAnswers<'a, R, D> {
     {
         let DeskAnswers {
             rt: _rt,
+            routes: _routes,
             desk,
             database: _database,
         } = self;
@@ -58,8 +67,11 @@ impl<'a, R, D> DeskAnswers<'a, R, D> {
 }
 
 impl<'a, R, D: Desk<R>> Answering for DeskAnswers<'a, R, D> {
+    ghost use Rattle.std.specs.Thread.{IsSync};
     ghost use Rattle.http_desk.specs.Answers.{AnswersWith, Keeps};
     ghost use Rattle.http_desk.specs.Keeping.{keeps-more, keeps-none};
+
+    ghost callable = { IsSync R.row };
 
     ghost answers = { AnswersWith D.link D.standing };
 
@@ -72,7 +84,15 @@ impl<'a, R, D: Desk<R>> Answering for DeskAnswers<'a, R, D> {
         close: bool,
     ) -> Result<Bytes, NoMemory> {
         let database = self.database.as_str();
-        ask_desk(self.rt, alloc, &mut self.desk, database, request, close)
+        ask_desk(
+            self.rt,
+            alloc,
+            self.routes,
+            &mut self.desk,
+            database,
+            request,
+            close,
+        )
     }
 
     ghost keeps_none = { keeps-none D.same D.standing D.same_here };

@@ -5,6 +5,7 @@ ghost use Rattle.http_desk.specs.ProgramSessions.{EndsSo, IsUnopened, devices_of
 use crate::session::serve_alone;
 use doc_keeper::LoadFault;
 use doc_txn::BaseId;
+use http_parts::Routes;
 use http_read::HttpEnd;
 use http_session::Why;
 use raven_desk::{Live, OneDesk, Unopened};
@@ -86,7 +87,7 @@ fn end_of(why: Why) -> ServeEnd
 
 /// Opens the database of the rows that the keeper holds, and then serves one session over the input and the output, at the moments that the clock
 /// gives. The keeper is returned in each case.
-pub fn serve_input<R: Threads, S: Source, O: Sink, K: Keeper, C: Clock + Drop>(
+pub fn serve_input<R: Threads + Sync, S: Source, O: Sink, K: Keeper, C: Clock + Drop>(
     rt: &R,
     alloc: Global,
     serving: Serving,
@@ -107,6 +108,10 @@ pub fn serve_input<R: Threads, S: Source, O: Sink, K: Keeper, C: Clock + Drop>(
     ensures unopened { IsUnopened result.end → (input.new ≡ input.old) × ((output.new ≡ output.old) × ((K.state result.keeper).held ≡ (K.state keeper).held)) }
 {
     let Serving { base, name, pump } = serving;
+    let Ok(routes) = Routes::new(alloc) else {
+        let end = ServeEnd::NoMemory;
+        return Served { end, keeper };
+    };
     let live = match Live::open(alloc, keeper, base) {
         Ok(live) => live,
         Err(Unopened { keeper, fault }) => {
@@ -115,7 +120,7 @@ pub fn serve_input<R: Threads, S: Source, O: Sink, K: Keeper, C: Clock + Drop>(
         }
     };
     let desk = OneDesk::new(live, clock, pump);
-    let (why, desk) = serve_alone(rt, alloc, desk, name, input, output);
+    let (why, desk) = serve_alone(rt, alloc, &routes, desk, name, input, output);
     let end = end_of(why);
     let keeper = desk.finish().into_keeper();
     Served { end, keeper }

@@ -5,6 +5,7 @@ ghost use Rattle.http_session.specs.Steps.{NamesEnd};
 ghost use Rattle.http_desk.specs.Chains.{FinishesAlone, KeepsAlone};
 
 use crate::desk_answers::DeskAnswers;
+use http_parts::Routes;
 use http_session::{Why, serve};
 use raven_desk::OneDesk;
 use raven_ports::{Clock, Keeper, Sink, Source};
@@ -13,9 +14,10 @@ use std::alloc::Global;
 use std::thread::Threads;
 
 /// Serves one session from the desk of one caller, which answers to requests to the database of this name, and gives the desk back.
-pub fn serve_alone<R: Threads, K: Keeper, C: Clock, S: Source, O: Sink>(
+pub fn serve_alone<R: Threads + Sync, K: Keeper, C: Clock, S: Source, O: Sink>(
     rt: &R,
     alloc: Global,
+    routes: &Routes,
     desk: OneDesk<K, C>,
     database: Text,
     source: &mut S,
@@ -29,7 +31,7 @@ pub fn serve_alone<R: Threads, K: Keeper, C: Clock, S: Source, O: Sink>(
     ensures read_fault { result.0 ≡ Why.ReadFault → Rose (S.state source.old).faults (S.state source.new).faults }
     ensures write_fault { result.0 ≡ Why.WriteFault → Rose (O.state sink.old).faults (O.state sink.new).faults }
 {
-    let mut answers = DeskAnswers::new(rt, desk, database);
+    let mut answers = DeskAnswers::new(rt, routes, desk, database);
     let why = serve(alloc, &mut answers, source, sink);
     (why, answers.finish())
 }

@@ -20,6 +20,7 @@ use Rattle.raven_serve.specs.Options as serve
 use Rattle.raven_serve.specs.declared.ends.ServeEnd as serve_end
 use Rattle.raven_console.specs.Invocations.{Http, Invocation, Measure, Run, Serve, invoked_in}
 use Rattle.raven_console.specs.Statuses.{status_of_measurement, status_of_run, status_of_server, status_of_session}
+use Rattle.raven_console.specs.Truth.{ServerIsTrue, SessionIsTrue}
 use Rattle.raven_console.specs.declared.status.Status.{Status}
 use Rattle.raven_console.specs.declared.status.Status.TheVariants.{KeptBad, KeptFault, NoMemory, NotEmpty, Usage}
 
@@ -62,11 +63,12 @@ abbrev pub session_of : http.Options → Call → Session
 session_of options call =
     record { base = options.base; name = options.name; pump = options.pump; clock = call.clock; before = devices_in call.before; after = devices_in call.after }
 
--- the command `http` ended so
+-- the command `http` ended so, and what it answered is true
 pub record ServedSo (options : http.Options) (status : Status) (call : Call) : Type 0 where
   pub end : ServeEnd
   pub status_is : status ≡ status_of_session end
   pub ends : EndsSo end (session_of options call)
+  pub truth : SessionIsTrue (session_of options call)
 
 -- what was done, by what the arguments ask for; what a server did is another clause
 abbrev pub DoesAsked : Option Invocation → Status → Call → Type 0
@@ -88,11 +90,12 @@ pub record Outlets : Type 0 where
   pub keeper_left : Option KeeperState
   pub doors_left : List Doorway
 
--- the command `serve` ended so
+-- the command `serve` ended so, and what it answered is true
 pub record ServesSo (options : serve.Options) (status : Status) (o : Outlets) : Type 0 where
   pub end : serve_end.ServeEnd
   pub status_is : status ≡ status_of_server end
   pub ends : serving.EndsSo end (server options.base options.name o.clock o.keeper o.doors) o.keeper_left o.doors_left
+  pub truth : ServerIsTrue (server options.base options.name o.clock o.keeper o.doors)
 
 -- the keeper and the doors are as they were
 pub record AreAsBefore (o : Outlets) : Type 0 where

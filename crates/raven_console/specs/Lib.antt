@@ -1,4 +1,5 @@
 pub mod Invocations
 pub mod ArgumentsView
 pub mod Statuses
+pub mod Truth
 pub mod Ends

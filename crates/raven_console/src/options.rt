@@ -5,7 +5,7 @@ ghost use Rattle.spec_http.specs.Options.{is_name as spec_is_name, is_of_name as
 ghost use Rattle.spec_measure.specs.Options.{number_in as spec_number_in, options_in as spec_measure_options};
 ghost use Rattle.raven_serve.specs.Options.{Range, counts_in, limit_in, number_or as spec_number_or, number_within as spec_number_within, options_in as spec_serve_options};
 ghost use Rattle.spec_server.specs.Options.{base_in, run_options as spec_run_options};
-ghost use Rattle.spec_server.specs.Script.{number_of as spec_number_of};
+ghost use Rattle.spec_server.specs.Words.{number_of as spec_number_of};
 ghost use Rattle.raven_measure.specs.OptionsView.{options_view as measure_view};
 ghost use Rattle.raven_console.specs.ArgumentsView.{FitsPump, counts_view, http_view, invocation_view, pair_view, run_view, serve_view, text_view};
 ghost use Rattle.raven_console.specs.Invocations.{invoked_in};

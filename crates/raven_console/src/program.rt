@@ -99,6 +99,7 @@ fn finished<K, D>(status: Status, keeper: K, doors: Vec<D>) -> Finish<K, D>
 }
 
 // The command `serve`.
+#[tactic(auto, using(crate::proofs::Truth::truths))]
 fn served<
     R: AllocGlobal + Threads + Wait + Sync,
     K: Keeper + Send + Drop,
@@ -125,6 +126,7 @@ where
       doors_left = map D.state result.doors.items;
     }) }
     ensures refused { result.status ≡ Status.NoThread → Rose (W.state crew.old).faults (W.state crew.new).faults }
+    ensures begun { result.status ≡ Status.Done → (W.state crew.new).faults ≡ (W.state crew.old).faults }
 {
     let ServeOptions {
         file: _file,
@@ -157,6 +159,7 @@ where
 ///
 /// What the status says is in `EndsAsAsked` and, of `serve`, in `ServesAsAsked`: of malformed arguments that nothing was done, and else that the command
 /// ended so, as `run`, `serve_input`, `serve` and `measure` say.
+#[tactic(auto, using(crate::proofs::Truth::truths))]
 pub fn raven<
     R: AllocGlobal + Threads + Wait + Sync,
     S: Source,
@@ -203,6 +206,7 @@ where
         → input.new ≡ input.old }
     ensures silent { AsksToServe (invoked_in (map string_bytes arguments.now)) → (input.new ≡ input.old) × (output.new ≡ output.old) }
     ensures refused { result.status ≡ Status.NoThread → Rose (W.state crew.old).faults (W.state crew.new).faults }
+    ensures begun { result.status ≡ Status.Done → (W.state crew.new).faults ≡ (W.state crew.old).faults }
     ensures back { result.keeper ≡ None → MayLose (invoked_in (map string_bytes arguments.now)) result.status }
 {
     let alloc = rt.alloc();

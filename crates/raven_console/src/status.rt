@@ -30,7 +30,7 @@ pub enum Status {
     /// A call of a door failed. The connections of the other doors were served.
     DoorFault,
 
-    /// A thread could not be started. No connection was accepted.
+    /// A thread could not be started. No connection was accepted, and nothing was stored.
     NoThread,
 
     /// The input has more than 16,777,216 bytes. Nothing was written.

@@ -16,13 +16,13 @@ not_bad s etag v b =
     let bad = subst (λ (h : Option (List KeptRow)). IsBad (setting_with s.base) h etag) v.kept b in
     absurd (let once = held_once (setting_with s.base) v.rows (Ok v.machine) (Err etag) v.opens bad in cc)
 
-pub completes : (s : Server) (end : ServeEnd) (keeper : Option KeeperState) (doors : List Doorway) → EndsSo end s keeper doors → IsValid s → HasNoFault s keeper doors → end ≢ NoThread → IsFinished end
+pub completes : (s : Server) (end : ServeEnd) (keeper : Option KeeperState) (doors : List Doorway) → EndsSo end s keeper doors → IsValid s → HasNoFault end s keeper doors → end ≢ NoThread → IsFinished end
 completes s Done keeper doors h v n w = tt
 completes s NoMemory keeper doors h v n w = tt
 completes s NoThread keeper doors h v n w = absurd (w refl)
 completes s DoorFault None doors h v n w = absurd h
 completes s DoorFault (Some k) doors h v n w = absurd (n.doors_none h.4.rose)
 completes s KeptFault None doors h v n w = absurd h
-completes s KeptFault (Some k) doors h v n w = absurd (n.keeper_none k refl h.1)
+completes s KeptFault (Some k) doors h v n w = absurd (n.keeper_none tt k refl h.1)
 completes s (KeptBad etag) None doors h v n w = absurd h
 completes s (KeptBad etag) (Some k) doors h v n w = absurd (not_bad s etag v h.1)

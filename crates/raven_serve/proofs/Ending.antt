@@ -1,5 +1,7 @@
 -- How the jobs end.
 use Rattle.std.proofs.Common.{◌≡◌, ℕ, zero, suc, ◌+◌, ◌≤◌, ◌++◌, List, [], ◌∷◌, length, Bool, true, false, refl, sym, ◌∙◌, ap, subst, arith, inl, inr}
+use mathlib.Core.Option.{some, some-injective, some-ne-none}
+use lib.ListN.{get_elem?}
 use Rattle.std.specs.Prelude.{Option, Some, None, All, map, ◌||◌, ◌⊎◌, MatchBool}
 use Rattle.std.specs.List.{AllZip}
 use Rattle.std.proofs.lemmas.List.Elements.{All-cons, All-nil, All-head, All-tail}
@@ -7,7 +9,7 @@ use Rattle.atomic_table.specs.Seated.{TableId}
 use Rattle.raven_ports.specs.Faults.{Rose}
 use Rattle.raven_ports.specs.States.{KeeperState}
 use Rattle.http_read.specs.declared.request.HttpRequest.{HttpRequest}
-use Rattle.raven_turn.specs.Passes.{Knowledge}
+use Rattle.raven_turn.specs.Passes.{IsOneOf, Knowledge}
 use Rattle.spec_desk.specs.Keepers.{Keeps}
 use Rattle.doc_keeper.specs.declared.loading.LoadFault.{LoadFault}
 use Rattle.doc_keeper.specs.declared.loading.LoadFault.TheVariants as load
@@ -21,7 +23,7 @@ use Rattle.raven_serve.specs.Chains.{Chain}
 use Rattle.raven_serve.specs.Fronts.{AnswersSeated, IsFront, KeepsSeated, SamePass}
 use Rattle.raven_serve.specs.Works.{Belongs, Does, IsDoorDone, Post, Report, any_failed, both, doorless, doors_in, join_all, places, post, posts, share_of, undone, with_door}
 use Rattle.raven_serve.specs.Finishing.{Came, EndsSo, HasServed, HaveFailed, IsClosed, IsClosing, IsKeeperOf, IsOpening, IsServed, IsStopped, OneRose, Server, end_of, end_unopened, server}
-use Rattle.raven_serve.specs.declared.ends.ServeEnd.TheVariants.{NoThread}
+use Rattle.raven_serve.specs.declared.ends.ServeEnd.TheVariants.{Done, NoThread}
 
 -- what follows all of two lists follows all of each
 left_of : (xs ys : List Lived) (y : Lived) → AllLink Follows (xs ++ ys) y → AllLink Follows xs y
@@ -131,6 +133,30 @@ module _ (base : Knowledge Lived) (clock : Option ℕ) (name : List ℕ) where
   came_many doors n outs true jobs e c = ap length (c ∙ ap (map undone) e) ∙ as_many_undone (places doors n) ∙ places_many doors n
   came_many doors n outs false jobs e c = as_many (places doors n) outs (subst (λ (j : List Post). AllZip Does j outs) e c) ∙ places_many doors n
 
+-- JOBS THAT WERE NOT BEGUN
+
+one_of_two : (xs ys : List Lived) (z : Lived) (n : ℕ) → get_elem? (xs ++ ys) n ≡ some z → IsOneOf z xs ⊎ IsOneOf z ys
+one_of_two [] ys z n e = inr (n, e)
+one_of_two (x ∷ xs) ys z zero e = inl (zero, e)
+one_of_two (x ∷ xs) ys z (suc n) e = elim (one_of_two xs ys z n e) [
+  | inl k ↦ inl (suc k.0, k.1)
+  | inr k ↦ inr k
+]
+
+one_single : (x z : Lived) (n : ℕ) → get_elem? (x ∷ []) n ≡ some z → z ≡ x
+one_single x z zero e = sym (some-injective x z e)
+one_single x z (suc n) e = absurd (some-ne-none z (sym e))
+
+-- if a pass has seen x alone, so has it joined with those of jobs that were not begun, whose pass had seen x
+one_undone : (base : Knowledge Lived) (clock : Option ℕ) (name : List ℕ) (x : Lived) → base.seen ≡ x ∷ [] → (slots : List (Option Doorway)) (p : Knowledge Lived)
+    → ((z : Lived) → IsOneOf z p.seen → z ≡ x) → (y : Lived) → IsOneOf y (join_all p (map undone (posts base clock name slots))).seen → y ≡ x
+one_undone base clock name x seen [] p alone y m = alone y m
+one_undone base clock name x seen (d ∷ slots) p alone y m =
+    one_undone base clock name x seen slots (both p (share_of base)) (λ z k. elim (one_of_two p.seen base.seen z k.0 k.1) [
+      | inl a ↦ alone z a
+      | inr b ↦ one_single x z b.0 (subst (λ (l : List Lived). get_elem? l b.0 ≡ some z) seen b.1)
+    ]) y m
+
 -- a server whose first pass had seen exactly x, and of which all passes together have seen what y follows
 module _ (s : Server) (base : Knowledge Lived) (x y : Lived) (seen : base.seen ≡ x ∷ []) where
   -- what the front of a door leaves
@@ -192,31 +218,38 @@ module _ (s : Server) (first : Knowledge Lived) (x : Lived) (n : ℕ) (outs : Li
   follows_all : (y : Lived) → AllLink Follows (join_all rest outs).seen y → Follows x y
   follows_all y a = head Follows x y (subst (λ (l : List Lived). AllLink Follows l y) (rest_seen ∙ seen) (first_of rest outs y a))
 
-  has_served : (keeper : Option KeeperState) (P : Lived → Lived → Type 0) → IsClosing (join_all rest outs).seen keeper → ((y : Lived) → AllLink Follows (join_all rest outs).seen y → P x y) → HasServed s keeper P
+  has_served : (keeper : Option KeeperState) (P : Lived → Lived → Type 0) → IsClosing (join_all rest outs).seen keeper
+      → ((y : Lived) → AllLink Follows (join_all rest outs).seen y → IsOneOf y (join_all rest outs).seen → P x y) → HasServed s keeper P
   has_served None P h f = absurd h
-  has_served (Some k) P h f = (x, h.0, opening, record { follows = follows_all h.0 h.1; keeper_is = h.2; keeps = h.3 }, f h.0 h.1)
+  has_served (Some k) P h f = (x, h.0, opening, record { follows = follows_all h.0 h.1; keeper_is = h.3; keeps = h.4 }, f h.0 h.1 h.2)
+
+  -- if no job was begun, what is left is what was opened
+  unchanged : (jobs : List Post) (y : Lived) → jobs ≡ posts first s.clock s.name (places s.doors n) → Came true jobs outs → IsOneOf y (join_all rest outs).seen → y ≡ x
+  unchanged jobs y e c m =
+      one_undone first s.clock s.name x seen (places s.doors n) rest (λ z k. one_single x z k.0 (subst (λ (l : List Lived). get_elem? l k.0 ≡ some z) (rest_seen ∙ seen) k.1)) y
+      (subst (λ (l : List Report). IsOneOf y (join_all rest l).seen) (c ∙ ap (map undone) e) m)
 
   pub finishes : (refused : Bool) (jobs : List Post) (failed : Bool) (keeper : Option KeeperState) (left : List Doorway) → jobs ≡ posts first s.clock s.name (places s.doors n) → Came refused jobs outs → any_failed outs ≡ failed
       → IsClosing (join_all rest outs).seen keeper → left ≡ doors_in outs → EndsSo (end_of refused failed) s keeper left
   finishes true jobs failed keeper left e c j h l =
-      has_served keeper (λ a b. left ≡ s.doors) h (λ y a. l ∙ ap doors_in (c ∙ ap (map undone) e) ∙ doors_undone first s.clock s.name s.doors n)
+      has_served keeper (λ a b. (b ≡ a) × (left ≡ s.doors)) h (λ y a m. (unchanged jobs y e c m, l ∙ ap doors_in (c ∙ ap (map undone) e) ∙ doors_undone first s.clock s.name s.doors n))
   finishes false jobs true keeper left e c j h l =
       let z : AllZip Does (posts first s.clock s.name (places s.doors n)) outs = subst (λ (i : List Post). AllZip Does i outs) e c in
-      has_served keeper (λ a b. HaveFailed s a b left) h (λ y a. record {
-        stopped = subst (λ (m : List Doorway). AllZip (IsStopped s x y) s.doors m) (sym l) (all_stopped s first x y seen s.doors n outs rest z a);
-        rose = subst (λ (m : List Doorway). OneRose s.doors m) (sym l) (one_rose s first x y seen s.doors n outs rest z a j);
+      has_served keeper (λ a b. HaveFailed s a b left) h (λ y a m. record {
+        stopped = subst (λ (k : List Doorway). AllZip (IsStopped s x y) s.doors k) (sym l) (all_stopped s first x y seen s.doors n outs rest z a);
+        rose = subst (λ (k : List Doorway). OneRose s.doors k) (sym l) (one_rose s first x y seen s.doors n outs rest z a j);
       })
   finishes false jobs false keeper left e c j h l =
       let z : AllZip Does (posts first s.clock s.name (places s.doors n)) outs = subst (λ (i : List Post). AllZip Does i outs) e c in
-      has_served keeper (λ a b. AllZip (IsClosed s a b) s.doors left) h (λ y a.
-      subst (λ (m : List Doorway). AllZip (IsClosed s x y) s.doors m) (sym l) (all_closed s first x y seen s.doors n outs rest z a j))
+      has_served keeper (λ a b. AllZip (IsClosed s a b) s.doors left) h (λ y a m.
+      subst (λ (k : List Doorway). AllZip (IsClosed s x y) s.doors k) (sym l) (all_closed s first x y seen s.doors n outs rest z a j))
 
 -- a database that was not opened
 pub unopened : (s : Server) (fault : LoadFault) (keeper : KeeperState) → NamesBadRow (setting_with s.base) s.keeper.held fault → (fault ≡ load.Failed → Rose s.keeper.count keeper.count) → Loads s.keeper keeper
     → EndsSo (end_unopened fault) s (Some keeper) s.doors
 unopened s load.Failed keeper bad rose loads = (loads, rose refl, refl)
 unopened s (load.KeptBad etag) keeper bad rose loads = (loads, bad, refl)
-unopened s load.NoMemory keeper bad rose loads = tt
+unopened s load.NoMemory keeper bad rose loads = (loads, refl)
 
 pub was_opened : (fault : LoadFault) → end_unopened fault ≡ NoThread → ⊥
 was_opened load.Failed e = cc
@@ -227,6 +260,10 @@ pub was_refused : (refused failed : Bool) → end_of refused failed ≡ NoThread
 was_refused true failed e = refl
 was_refused false true e = absurd (let z : ⊥ = cc in z)
 was_refused false false e = absurd (let z : ⊥ = cc in z)
+
+pub was_begun : (refused failed : Bool) → end_of refused failed ≡ Done → refused ≡ false
+was_begun false failed e = refl
+was_begun true failed e = absurd (let z : ⊥ = cc in z)
 
 -- the value with a front for each door
 pub opens : (base name : List ℕ) (clock : Option ℕ) (before : KeeperState) (doors : List Doorway) (live x : Lived) (fronts : ℕ) → x ≡ lived live.world live.keeper fronts → fronts ≡ length doors

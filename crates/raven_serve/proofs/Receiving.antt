@@ -1,7 +1,7 @@
 -- The receipts of sessions over a desk of a turn.
 use Rattle.std.proofs.Common.{◌≡◌, ◌≢◌, ℕ, ◌+◌, ◌-◌, List, [], ◌∷◌, ◌++◌, Bool, true, false, Option, Some, None, Ok, Err, refl, sym, ap, ◌∙◌, subst, arith, inl, inr, ◌⊎◌}
-use Rattle.spec_server.specs.Machine.{Request, Do, Read, Publish}
-use Rattle.spec_server.specs.Script.{LineRead}
+use Rattle.spec_server.specs.Requests.{Request, Do, Read, Publish}
+use Rattle.spec_server.specs.Words.{LineRead}
 use Rattle.spec_http.specs.Requests as is
 use Rattle.spec_http.specs.Requests.{asked_over_http}
 use Rattle.http_read.specs.declared.end.HttpEnd.{HttpEnd}

@@ -4,7 +4,7 @@ use Rattle.std.specs.Prelude.{All}
 use Rattle.std.proofs.lemmas.List.Elements.{All-cons, All-nil}
 use Rattle.spec_data.specs.Rows.{Row}
 use Rattle.spec_store.specs.Store.{row_at}
-use Rattle.spec_server.specs.Machine.{Request}
+use Rattle.spec_server.specs.Requests.{Request}
 use Rattle.spec_server.specs.Replies.{Reply}
 use Rattle.spec_server.specs.Sound.{Sound}
 use Rattle.raven_laws.specs.Cleaning.{Stands}

@@ -12,7 +12,7 @@ use Rattle.spec_desk.specs.Receipts.{AllLink}
 use Rattle.raven_desk.specs.Openings.{IsBad, Loads, Opens}
 use Rattle.turn_desk.specs.Seated.{Seated, seated}
 use Rattle.serve_ports.specs.Doors.{Doorway}
-use Rattle.raven_turn.specs.Passes.{Knowledge}
+use Rattle.raven_turn.specs.Passes.{IsOneOf, Knowledge}
 use Rattle.raven_serve.specs.Fronts.{IsFront}
 use Rattle.raven_serve.specs.Works.{Does, Post, Report, undone}
 use Rattle.raven_serve.specs.declared.ends.ServeEnd.{ServeEnd}
@@ -80,14 +80,19 @@ abbrev pub IsUnopened : Server → Option KeeperState → List Doorway → (Keep
 IsUnopened s None doors P = ⊥
 IsUnopened s (Some keeper) doors P = Loads s.keeper keeper × P keeper × (doors ≡ s.doors)
 
--- what each end says of the keeper and of the doors that are handed back
+-- Memory ran out. If there were no jobs yet, the keeper was only asked for its rows, and the doors are as they were; else both are lost.
+abbrev pub LacksMemory : Server → Option KeeperState → List Doorway → Type 0
+LacksMemory s None doors = doors ≡ []
+LacksMemory s (Some keeper) doors = Loads s.keeper keeper × (doors ≡ s.doors)
+
+-- What each end says of the keeper and of the doors that are handed back. If no thread could be started, what is left is what was opened.
 abbrev pub EndsSo : ServeEnd → Server → Option KeeperState → List Doorway → Type 0
 EndsSo Done s keeper doors = HasServed s keeper (λ x y. AllZip (IsClosed s x y) s.doors doors)
 EndsSo DoorFault s keeper doors = HasServed s keeper (λ x y. HaveFailed s x y doors)
-EndsSo NoThread s keeper doors = HasServed s keeper (λ x y. doors ≡ s.doors)
+EndsSo NoThread s keeper doors = HasServed s keeper (λ x y. (y ≡ x) × (doors ≡ s.doors))
 EndsSo KeptFault s keeper doors = IsUnopened s keeper doors (λ k. Rose s.keeper.count k.count)
 EndsSo (KeptBad etag) s keeper doors = IsUnopened s keeper doors (λ k. IsBad (setting_with s.base) s.keeper.held etag)
-EndsSo NoMemory s keeper doors = Unit {0}
+EndsSo NoMemory s keeper doors = LacksMemory s keeper doors
 
 -- what came of the jobs: they were handed back, or each was done
 abbrev pub Came : Bool → List Post → List Report → Type 0
@@ -105,7 +110,7 @@ end_of true failed = NoThread
 end_of false true = DoorFault
 end_of false false = Done
 
--- the keeper of a value that follows all of these, which holds the rows of its store if it reports them
+-- the keeper of a value that follows all of these and is one of them, which holds the rows of its store if it reports them
 abbrev pub IsClosing : List Lived → Option KeeperState → Type 0
 IsClosing seen None = ⊥
-IsClosing seen (Some keeper) = (y : Lived) × AllLink Follows seen y × (keeper ≡ y.keeper) × Keeps keeper.held (machine_in y)
+IsClosing seen (Some keeper) = (y : Lived) × AllLink Follows seen y × IsOneOf y seen × (keeper ≡ y.keeper) × Keeps keeper.held (machine_in y)

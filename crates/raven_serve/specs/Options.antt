@@ -4,7 +4,7 @@ use Rattle.std.specs.Option.{option_and_then, option_map}
 use Rattle.std.specs.Str.{bytes_eq}
 use Rattle.spec_http.specs.Options.{name_in}
 use Rattle.spec_server.specs.Options.{Pairs, are_known, are_once, base_in, pairs_in, value_named}
-use Rattle.spec_server.specs.Script.{number_of}
+use Rattle.spec_server.specs.Words.{number_of}
 
 abbrev pub option_names : List (List ℕ)
 option_names = codes "--data" ∷ codes "--id" ∷ codes "--db" ∷ codes "--port" ∷ codes "--workers" ∷ codes "--pumps" ∷ codes "--connections" ∷ []

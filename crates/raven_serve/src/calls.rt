@@ -14,6 +14,7 @@ pub(crate) fn calls<R: Wait, A: Answering, D: Door>(
     answerer: &mut A,
     door: &mut D,
 ) -> bool
+    requires { A.callable }
     ensures runs { Runs A.answers A.keeps answerer.old (D.state door.old) result answerer.new (D.state door.new) }
     ensures kept { A.keeps answerer.old answerer.new }
 {

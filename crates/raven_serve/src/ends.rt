@@ -9,13 +9,13 @@ use raven_value::Text;
 /// How a server ended.
 #[derive(Clone, Copy)]
 pub enum ServeEnd {
-    /// Each door is closed.
+    /// Each door is closed, and neither a door nor the crew has failed.
     Done,
 
     /// A door failed. The others were served until they were closed, or failed too.
     DoorFault,
 
-    /// The crew failed, and no job was started. The doors are as they were.
+    /// The crew failed, and no job was started. The keeper holds what it held, and the doors are as they were.
     NoThread,
 
     /// A call of the keeper failed while the database was opened. The doors are as they were.
@@ -27,7 +27,7 @@ pub enum ServeEnd {
         etag: u64,
     },
 
-    /// Memory ran out.
+    /// Memory ran out. If the keeper is returned, it holds what it held, and the doors are as they were.
     NoMemory,
 }
 

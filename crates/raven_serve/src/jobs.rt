@@ -24,7 +24,7 @@ impl<'a, K: Keeper + Drop, C: Clock + Drop, G: Gate + Drop, D: Door + Drop> Job
 
     ghost done = { Does };
 
-    fn run<R: Threads + Wait>(self, rt: &R) -> Outcome<K, D> {
+    fn run<R: Threads + Wait + Sync>(self, rt: &R) -> Outcome<K, D> {
         let Work {
             turn,
             pass,
@@ -67,16 +67,16 @@ impl<K: Keeper> Act<Live<K>> for EndFront {
 }
 
 // Serves the connections of a door until it is closed or fails, and then ends the front.
-fn front<R: Threads + Wait, K: Keeper + Drop, C: Clock + Drop, G: Gate + Drop, D: Door>(
+fn front<R: Threads + Wait + Sync, K: Keeper + Drop, C: Clock + Drop, G: Gate + Drop, D: Door>(
     rt: &R,
     turn: &Turn<Live<K>>,
     pass: Pass<Live<K>>,
-    site: Site<C, G>,
+    site: Site<'_, C, G>,
     door: D,
 ) -> Outcome<K, D>
     requires own { pass.turn ≡ turn.now.turn }
     ensures pass { SamePass pass result.pass }
-    ensures front { IsDoorDone (record { pass = pass; clock = C.moment site.clock.value; name = site.name; door = Some (D.state door) })
+    ensures front { IsDoorDone (record { pass = pass; clock = C.moment site.entry.clock.value; name = site.entry.name; door = Some (D.state door) })
         (Some (D.state door)) result.pass result.failed result.door }
 {
     let Site {
@@ -84,10 +84,11 @@ fn front<R: Threads + Wait, K: Keeper + Drop, C: Clock + Drop, G: Gate + Drop, D
         clock,
         gate,
         name,
+        routes,
     } = site;
     let mut door = door;
     let desk = TurnDesk::new(turn, pass, clock, gate);
-    let mut answers = DeskAnswers::new(rt, desk, name);
+    let mut answers = DeskAnswers::new(rt, routes, desk, name);
     let failed = calls(rt, alloc, &mut answers, &mut door);
     let desk = answers.finish();
     let mut pass = desk.finish();

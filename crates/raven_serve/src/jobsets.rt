@@ -21,7 +21,7 @@ pub(crate) struct Gathered<K: Keeper, D> {
 fn work<'a, K: Keeper, C: Clock + Drop, G: Gate + Drop, D: Door + Drop>(
     turn: &'a Turn<Live<K>>,
     rest: &mut Pass<Live<K>>,
-    site: &Site<C, G>,
+    site: &Site<'a, C, G>,
     door: Option<D>,
     begin: u32,
 ) -> Result<Work<'a, K, C, G, D>, NoMemory>
@@ -47,7 +47,7 @@ pub(crate) fn works<'a, K: Keeper + Drop, C: Clock + Drop, G: Gate + Drop, D: Do
     alloc: Global,
     turn: &'a Turn<Live<K>>,
     rest: &mut Pass<Live<K>>,
-    site: &Site<C, G>,
+    site: &Site<'a, C, G>,
     doors: Vec<D>,
     pumps: u32,
 ) -> Result<Vec<Work<'a, K, C, G, D>>, NoMemory>

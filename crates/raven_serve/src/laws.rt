@@ -56,8 +56,9 @@ pub fn writes_stand_unless_cleaned()
         → Sound x.world → IsKeeperOf x y keeper → row_at q x.world.store.rows ≡ Some r → Stands y.world.store q r }
 {}
 
-/// A server whose stored rows open is served until each door is closed, if no device fails and there is memory.
+/// A server whose stored rows open is served until each door is closed, if its keeper does not fail while it opens them, no door and no crew fails, and there is
+/// memory. What its keeper does later ends no server.
 pub fn servers_come_to_their_end()
     ensures { (s : Server) (end : ServeEnd) (keeper : Option KeeperState) (doors : List Doorway)
-        → EndsSo end s keeper doors → IsValid s → HasNoFault s keeper doors → end ≢ NoThread → IsFinished end }
+        → EndsSo end s keeper doors → IsValid s → HasNoFault end s keeper doors → end ≢ NoThread → IsFinished end }
 {}

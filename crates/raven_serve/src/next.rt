@@ -21,6 +21,7 @@ pub enum Next {
 /// Accepts the next connection of a door, serves a session over it, and hands it back. A fault of the connection ends its session
 /// alone.
 pub fn serve_next<A: Answering, D: Door>(alloc: Global, answerer: &mut A, door: &mut D) -> Next
+    requires { A.callable }
     ensures next { ServesNext A.answers A.keeps result answerer.old (D.state door.old) answerer.new (D.state door.new) }
     ensures kept { A.keeps answerer.old answerer.new }
 {

@@ -44,7 +44,7 @@ fn with_batch(round: Round, turned: Result<Turned, NoMemory>) -> Round {
 }
 
 // Makes one batch for each index of the world of a look, beginning with the one at this place, counted round.
-fn batches<R: Threads + Wait, K: Keeper, G: Gate, L: Ledger>(
+fn batches<R: Threads + Wait + Sync, K: Keeper, G: Gate, L: Ledger>(
     rt: &R,
     alloc: Global,
     turn: &Turn<Live<K>>,
@@ -84,7 +84,7 @@ fn may_clean(shot: &Shot) -> bool {
 }
 
 // Makes a Tidy, and a CLEAN if the look of the round is for one.
-fn keep_up<R: Threads + Wait, K: Keeper, C: Clock>(
+fn keep_up<R: Threads + Wait + Sync, K: Keeper, C: Clock>(
     rt: &R,
     alloc: Global,
     turn: &Turn<Live<K>>,
@@ -103,7 +103,7 @@ fn keep_up<R: Threads + Wait, K: Keeper, C: Clock>(
 }
 
 // Makes a look, one batch for each index there, a Tidy, and perhaps a CLEAN.
-fn make_round<R: Threads + Wait, K: Keeper + Drop, C: Clock, G: Gate>(
+fn make_round<R: Threads + Wait + Sync, K: Keeper + Drop, C: Clock, G: Gate>(
     rt: &R,
     alloc: Global,
     turn: &Turn<Live<K>>,
@@ -130,7 +130,7 @@ fn make_round<R: Threads + Wait, K: Keeper + Drop, C: Clock, G: Gate>(
 
 /// Makes one batch for each index, then a Tidy, and a CLEAN if there is something to clean and no index waits for its first batch, round after round, until
 /// no front is left. Each round begins with the index at this place, counted round. It naps after a round that published no batch or ran out of memory.
-pub(crate) fn pump<R: Threads + Wait, K: Keeper + Drop, C: Clock, G: Gate>(
+pub(crate) fn pump<R: Threads + Wait + Sync, K: Keeper + Drop, C: Clock, G: Gate>(
     rt: &R,
     alloc: Global,
     turn: &Turn<Live<K>>,

@@ -1,16 +1,17 @@
 //! The server.
-ghost use Rattle.std.specs.Prelude.{◌≡◌, ◌≤◌, ◌+◌, [], IfOk, List, ℕ, map, option_map, true, vec_capacity, vec_len};
+ghost use Rattle.std.specs.Prelude.{◌≡◌, ◌≤◌, ◌+◌, [], IfOk, List, ℕ, false, map, option_map, true, vec_capacity, vec_len};
 ghost use Rattle.raven_ports.specs.Faults.{Rose};
 ghost use Rattle.raven_ports.specs.States.{KeeperState};
 ghost use Rattle.spec_server.specs.Options.{setting_with};
 ghost use Rattle.spec_desk.specs.Lived.{machine_in};
 ghost use Rattle.raven_desk.specs.Openings.{Loads, Opens};
 ghost use Rattle.raven_turn.specs.Passes.{IsFirst};
-ghost use Rattle.raven_serve.specs.Finishing.{Came, EndsSo, IsClosing, IsOpening, end_of as spec_end_of, server};
+ghost use Rattle.raven_serve.specs.Finishing.{Came, EndsSo, IsClosing, IsOpening, Server, end_of as spec_end_of, server};
 
 use crate::ends::{ServeEnd, Served, Serving, end_of, end_unopened};
 use crate::jobsets::{Gathered, gather, handed_back, works};
 use crate::work::{Outcome, Site, Work};
+use http_parts::Routes;
 use raven_base::NoMemory;
 use raven_crew::{Crew, CrewFault};
 use raven_desk::Live;
@@ -20,9 +21,6 @@ use serve_ports::{Door, Gate};
 use std::alloc::Global;
 use std::sync::{Arc, Wait};
 use std::thread::Threads;
-
-/// The most doors, so that their number fits that of the fronts in a live value. With more there is no memory for them.
-const MOST_DOORS: usize = 4_294_967_295;
 
 // Runs the jobs, or gets them back as they are. Returns whether they were refused.
 fn run<
@@ -42,6 +40,7 @@ fn run<
 where
     D::Conn: Send,
     ensures came { IfOk result (λ r. Came r.1 jobs.entry.items r.0.items) }
+    ensures same { IfOk result (λ r. r.1 ≡ false → (W.state crew.new).faults ≡ (W.state crew.old).faults) }
     ensures cause { IfOk result (λ r. r.1 ≡ true → Rose (W.state crew.old).faults (W.state crew.new).faults) }
 {
     match crew.run_all(rt, alloc, jobs) {
@@ -55,8 +54,10 @@ where
 }
 
 // Out of memory, before there were jobs.
-fn unserved<K: Keeper, D>(live: Live<K>, doors: Vec<D>) -> Served<K, D>
-    ensures { result.end ≡ ServeEnd.NoMemory }
+fn unserved<K: Keeper, D: Door>(live: Live<K>, doors: Vec<D>) -> Served<K, D>
+    ensures end { result.end ≡ ServeEnd.NoMemory }
+    ensures ends { (s : Server) → Loads s.keeper live.keeper → map D.state doors.items ≡ s.doors
+        → EndsSo result.end s (option_map K.state result.keeper) (map D.state result.doors.items) }
 {
     Served {
         end: ServeEnd::NoMemory,
@@ -66,8 +67,9 @@ fn unserved<K: Keeper, D>(live: Live<K>, doors: Vec<D>) -> Served<K, D>
 }
 
 // Out of memory, with the jobs.
-fn lost<K, D>(alloc: Global) -> Served<K, D>
-    ensures { result.end ≡ ServeEnd.NoMemory }
+fn lost<K: Keeper, D: Door>(alloc: Global) -> Served<K, D>
+    ensures end { result.end ≡ ServeEnd.NoMemory }
+    ensures ends { (s : Server) → EndsSo result.end s (option_map K.state result.keeper) (map D.state result.doors.items) }
 {
     Served {
         end: ServeEnd::NoMemory,
@@ -115,7 +117,7 @@ fn serve_turn<
     rt: &R,
     turn: Turn<Live<K>>,
     first: Pass<Live<K>>,
-    site: Site<C, G>,
+    site: Site<'_, C, G>,
     pumps: u32,
     doors: Vec<D>,
     room: Vec<D>,
@@ -128,10 +130,11 @@ where
     requires empty { room.items ≡ [] }
     requires room { vec_len doors + pumps ≤ vec_capacity room }
     ensures ends { (base : List ℕ) (before : KeeperState)
-        → IsOpening (server base site.name (C.moment site.clock.value) before (map D.state doors.items)) turn.opening
-        → EndsSo result.end (server base site.name (C.moment site.clock.value) before (map D.state doors.items))
+        → IsOpening (server base site.entry.name (C.moment site.entry.clock.value) before (map D.state doors.items)) turn.opening
+        → EndsSo result.end (server base site.entry.name (C.moment site.entry.clock.value) before (map D.state doors.items))
         (option_map K.state result.keeper) (map D.state result.doors.items) }
     ensures refused { result.end ≡ ServeEnd.NoThread → Rose (W.state crew.old).faults (W.state crew.new).faults }
+    ensures begun { result.end ≡ ServeEnd.Done → (W.state crew.new).faults ≡ (W.state crew.old).faults }
 {
     let alloc = site.alloc;
     let mut rest = first;
@@ -153,23 +156,28 @@ fn serve_live<
     G: Gate + Send + Sync + Drop,
     D: Door + Send + Drop,
     W: Crew,
->(rt: &R, live: Live<K>, site: Site<C, G>, pumps: u32, doors: Vec<D>, crew: &mut W) -> Served<K, D>
+>(
+    rt: &R,
+    live: Live<K>,
+    site: Site<'_, C, G>,
+    pumps: u32,
+    doors: Vec<D>,
+    crew: &mut W,
+) -> Served<K, D>
 where
     D::Conn: Send,
     ensures ends { (base : List ℕ) (before : KeeperState) → Opens (setting_with base) before.held (machine_in live) → Loads before live.keeper
-        → EndsSo result.end (server base site.name (C.moment site.clock.value) before (map D.state doors.items))
+        → EndsSo result.end (server base site.entry.name (C.moment site.entry.clock.value) before (map D.state doors.items))
         (option_map K.state result.keeper) (map D.state result.doors.items) }
     ensures refused { result.end ≡ ServeEnd.NoThread → Rose (W.state crew.old).faults (W.state crew.new).faults }
+    ensures begun { result.end ≡ ServeEnd.Done → (W.state crew.new).faults ≡ (W.state crew.old).faults }
 {
     let count = doors.len();
-    if count > MOST_DOORS {
-        return unserved(live, doors);
-    }
     let Ok(room) = Vec::with_capacity(site.alloc, count + pumps as usize) else {
         return unserved(live, doors);
     };
     let shares = count as u64 + u64::from(pumps) + 1;
-    let live = live.with_fronts(count as u32);
+    let live = live.with_fronts(count as u64);
     match Turn::new(site.alloc, live, shares) {
         Ok((turn, first)) => serve_turn(rt, turn, first, site, pumps, doors, room, crew),
         Err(live) => unserved(live, doors),
@@ -202,8 +210,16 @@ where
     ensures ends { EndsSo result.end (server serving.base serving.name (C.moment clock.value) (K.state keeper) (map D.state doors.items))
         (option_map K.state result.keeper) (map D.state result.doors.items) }
     ensures refused { result.end ≡ ServeEnd.NoThread → Rose (W.state crew.old).faults (W.state crew.new).faults }
+    ensures begun { result.end ≡ ServeEnd.Done → (W.state crew.new).faults ≡ (W.state crew.old).faults }
 {
     let Serving { base, name, pumps } = serving;
+    let Ok(routes) = Routes::new(alloc) else {
+        return Served {
+            end: ServeEnd::NoMemory,
+            keeper: Some(keeper),
+            doors,
+        };
+    };
     let live = match Live::open(alloc, keeper, base) {
         Ok(live) => live,
         Err(unopened) => {
@@ -220,6 +236,7 @@ where
         clock,
         gate,
         name,
+        routes: &routes,
     };
     serve_live(rt, live, site, pumps, doors, crew)
 }

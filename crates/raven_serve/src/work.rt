@@ -1,6 +1,7 @@
 //! Jobs: fronts, which serve doors, and pumps, which make batches.
 ghost use Rattle.std.specs.Prelude.{◌≡◌, IfOk};
 
+use http_parts::Routes;
 use raven_base::NoMemory;
 use raven_desk::Live;
 use raven_ports::{Clock, Keeper};
@@ -13,16 +14,18 @@ use std::sync::Arc;
 
 /// What all jobs of a server have.
 #[derive(Drop)]
-pub(crate) struct Site<C, G> {
+pub(crate) struct Site<'a, C, G> {
     pub(crate) alloc: Global,
     pub(crate) clock: Arc<C>,
     pub(crate) gate: Arc<G>,
     pub(crate) name: Text,
+    /// Made once for all jobs.
+    pub(crate) routes: &'a Routes,
 }
 
-impl<C: Drop, G: Drop> Site<C, G> {
+impl<'a, C: Drop, G: Drop> Site<'a, C, G> {
     /// The same for one more job.
-    pub(crate) fn share(&self) -> Result<Site<C, G>, NoMemory>
+    pub(crate) fn share(&self) -> Result<Site<'a, C, G>, NoMemory>
         ensures clock { IfOk result (λ site. site.clock.value ≡ self.now.clock.value) }
         ensures name { IfOk result (λ site. site.name ≡ self.now.name) }
     {
@@ -31,6 +34,7 @@ impl<C: Drop, G: Drop> Site<C, G> {
             clock: self.clock.clone()?,
             gate: self.gate.clone()?,
             name: self.name.clone()?,
+            routes: self.routes,
         })
     }
 }
@@ -40,7 +44,7 @@ impl<C: Drop, G: Drop> Site<C, G> {
 pub(crate) struct Work<'a, K: Keeper, C: Clock, G: Gate, D: Door> {
     pub(crate) turn: &'a Turn<Live<K>>,
     pub(crate) pass: Pass<Live<K>>,
-    pub(crate) site: Site<C, G>,
+    pub(crate) site: Site<'a, C, G>,
     pub(crate) door: Option<D>,
     /// With which index a pump begins each round, so that pumps are not all at the same one.
     pub(crate) begin: u32,

@@ -3,11 +3,12 @@ use Rattle.std.proofs.Crossing.{crosses}
 use Rattle.raven_value.proofs.text.Text.TheSendSync as text
 use Rattle.raven_turn.proofs.turn.Pass.TheSendSync as pass
 use Rattle.raven_turn.proofs.turn.Turn.TheSendSync as turn
+use Rattle.http_parts.proofs.Crossing.{routes_sync}
 use Rattle.raven_serve.proofs.Crossing.{live_send}
 use Rattle.raven_serve.proofs.server.run.Lts.{arg-0-1, arg-0-3}
 use Rattle.raven_serve.proofs.server.run.Goals as goal
 
-ruleset jobs = (sendable, crosses, text.the_send, pass.the_send, turn.the_send, turn.the_sync, live_send)
+ruleset jobs = (sendable, crosses, text.the_send, pass.the_send, turn.the_send, turn.the_sync, live_send, routes_sync)
 
 -- a bound of the function is bound by a `let` and not listed: a search that lists one fits no other lemma
 pub run_all-requires-send-J : goal.run_all-requires-send-J

@@ -7,7 +7,7 @@ use Rattle.spec_desk.specs.Lived.{Lived}
 use Rattle.raven_serve.specs.Works.{Belongs}
 use Rattle.raven_serve.specs.Finishing.{EndsSo, IsClosing, server}
 use Rattle.raven_serve.specs.declared.ends.ServeEnd.{ServeEnd}
-use Rattle.raven_serve.proofs.Ending.{all_shares, came_belong, came_many, finishes, same_turn, was_refused}
+use Rattle.raven_serve.proofs.Ending.{all_shares, came_belong, came_many, finishes, same_turn, was_begun, was_refused}
 use Rattle.raven_serve.proofs.server.serve_turn.Goals as goal
 
 pub gather-all-requires-clause-outs : goal.gather-all-requires-clause-outs
@@ -54,3 +54,6 @@ returns-clause-ends g c = λ base before opening.
 
 pub returns-clause-refused : goal.returns-clause-refused
 returns-clause-refused g c = λ e. c.in-Ok-run.ensures.cause (was_refused c.in-Ok-run.refused c.gather-all.result.failed (sym c.end.ensures.end ∙ e))
+
+pub returns-clause-begun : goal.returns-clause-begun
+returns-clause-begun g c = λ e. c.in-Ok-run.ensures.same (was_begun c.in-Ok-run.refused c.gather-all.result.failed (sym c.end.ensures.end ∙ e))
