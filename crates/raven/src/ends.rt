@@ -1,6 +1,7 @@
 //! How the program ends, and what standard error says of that.
 
-use crate::texts::help_text;
+use crate::texts::{help_of, overview};
+use crate::usage::{Mistake, Verb};
 use raven_console::Status;
 use raven_ports::KeeperFault;
 use sql_keeper::OpenFault;
@@ -37,7 +38,7 @@ impl End {
     }
 }
 
-// What is said of a status that has nothing else to name. Of Usage the help says it.
+// What is said of a status that has nothing else to name. Of Usage it is the mistake in the arguments.
 fn sentence_of(status: Status) -> Option<&'static str> {
     match status {
         Status::ReadFault => Some("standard input cannot be read"),
@@ -90,16 +91,32 @@ fn explain<R: Eprint>(rt: &R, end: &End, file: &str) -> io::Result<()> {
     }
 }
 
-/// Reports the end: the name of its status, and if there is a cause to name, a second line with it, or the help. The file is the one
-/// of the arguments. If standard error cannot be written, the exit status alone reports the end. Without memory there is no help.
-pub fn ended<R: AllocGlobal + Eprint>(rt: &R, end: &End, file: Option<&str>) -> ExitCode {
+/// Reports the end: the name of its status, and if there is a cause to name, a second line with it. The file is the one of the
+/// arguments. If standard error cannot be written, the exit status alone reports the end.
+pub fn ended<R: Eprint>(rt: &R, end: &End, file: Option<&str>) -> ExitCode {
     let status = end.status();
     let _ = eprintln!(rt; "raven: {}", status.name());
-    if let Status::Usage = status {
-        if let Ok(text) = help_text(rt.alloc()) {
-            let _ = eprint!(rt; "{text}");
-        }
-    }
     let _ = explain(rt, end, file.unwrap_or(""));
     ExitCode::from(status.number())
+}
+
+/// Reports that the arguments are malformed: the help of the command that they name, or which commands there are, and in the last line
+/// what is wrong. Without memory there is no help.
+pub fn refused<R: AllocGlobal + Eprint>(
+    rt: &R,
+    verb: Option<Verb>,
+    mistake: Option<Mistake<'_>>,
+) -> ExitCode {
+    let _ = eprintln!(rt; "raven: {}", Status::Usage.name());
+    let help = match verb {
+        Some(verb) => help_of(rt.alloc(), verb),
+        None => overview(rt.alloc()),
+    };
+    if let Ok(text) = help {
+        let _ = eprint!(rt; "{text}");
+    }
+    if let Some(mistake) = mistake {
+        let _ = eprintln!(rt; "raven: {mistake}");
+    }
+    ExitCode::from(Status::Usage.number())
 }

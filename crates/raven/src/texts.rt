@@ -1,21 +1,33 @@
-//! The texts of `--help` and `--version`, which malformed arguments are answered with too. The arguments themselves are read elsewhere.
+//! The texts of `--help` and `--version`, and the help that malformed arguments are answered with. The arguments themselves are read elsewhere.
 
+use crate::usage::Verb;
 use clap::{Arg, Command};
 use raven_base::NoMemory;
 use std::alloc::Global;
 
 /// What the arguments ask for, if it is a text about the program.
 pub enum Wish {
+    /// The help of all.
     Help,
+
+    /// The help of one command.
+    HelpOf(Verb),
+
     Version,
 }
 
 /// `--help` or `-h` alone or after a command, or `--version` or `-V` alone.
 pub fn wish_in(arguments: &[String]) -> Option<Wish> {
-    let last = arguments.last()?;
-    match (arguments.len(), last.as_str()) {
-        (1, "--version") | (1, "-V") => Some(Wish::Version),
-        (1, "--help") | (1, "-h") | (2, "--help") | (2, "-h") => Some(Wish::Help),
+    match arguments {
+        [word] => match word.as_str() {
+            "--version" | "-V" => Some(Wish::Version),
+            "--help" | "-h" => Some(Wish::Help),
+            _ => None,
+        },
+        [word, help] => match help.as_str() {
+            "--help" | "-h" => Verb::of(word.as_str()).map(Wish::HelpOf),
+            _ => None,
+        },
         _ => None,
     }
 }
@@ -118,21 +130,37 @@ fn program(alloc: Global) -> Result<Command<'static>, NoMemory> {
 
 const RELEASE: &str = "0.1.0";
 
-// The help of one command, under the name by which it is called.
-fn add(text: &mut String, command: Command<'static>, name: &str) -> Result<(), NoMemory> {
-    let mut command = command.bin_name(name)?.disable_help_flag(true);
-    text.push_str("\n")?;
-    text.push_str(command.render_help()?.as_str())?;
-    Ok(())
+fn command_of(alloc: Global, verb: Verb) -> Result<Command<'static>, NoMemory> {
+    match verb {
+        Verb::Run => run(alloc),
+        Verb::Serve => serve(alloc),
+        Verb::Http => http(alloc),
+        Verb::Measure => measure(alloc),
+    }
 }
 
-/// The help of the program and of each of its commands.
+/// The help of one command.
+pub fn help_of(alloc: Global, verb: Verb) -> Result<String, NoMemory> {
+    let name = verb.name();
+    let name = format!(in alloc; "raven {name}")?;
+    let mut command = command_of(alloc, verb)?
+        .bin_name(name.as_str())?
+        .disable_help_flag(true);
+    Ok(command.render_help()?)
+}
+
+/// The commands of the program, and what each of them does.
+pub fn overview(alloc: Global) -> Result<String, NoMemory> {
+    Ok(program(alloc)?.render_help()?)
+}
+
+/// The overview, and the help of each command.
 pub fn help_text(alloc: Global) -> Result<String, NoMemory> {
-    let mut text = program(alloc)?.render_help()?;
-    add(&mut text, run(alloc)?, "raven run")?;
-    add(&mut text, serve(alloc)?, "raven serve")?;
-    add(&mut text, http(alloc)?, "raven http")?;
-    add(&mut text, measure(alloc)?, "raven measure")?;
+    let mut text = overview(alloc)?;
+    for verb in [Verb::Run, Verb::Serve, Verb::Http, Verb::Measure] {
+        text.push_str("\n")?;
+        text.push_str(help_of(alloc, verb)?.as_str())?;
+    }
     Ok(text)
 }
 

@@ -68,10 +68,7 @@ fn make<D: Disk + Drop>(
     requires log { IsTrue (D.Disk.is_usable files.log) }
     requires db { IsTrue (D.Disk.is_usable files.db) }
 {
-    let fresh = match blank(alloc, files, size, seed) {
-        Ok(fresh) => fresh,
-        Err(fault) => return Err(fault),
-    };
+    let fresh = blank(alloc, files, size, seed)?;
     match fresh.create() {
         Ok(store) => match Connection::over(alloc, store) {
             Ok(conn) => Ok(conn),

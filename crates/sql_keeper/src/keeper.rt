@@ -14,7 +14,7 @@ use sqlite::{
     Alter, Connection, Error, ErrorCode, File, FileStore, MemStore, Row, Rows, Statement,
     Transaction, params,
 };
-use std::alloc::Global;
+use std::alloc::{AllocError, Global};
 
 /// The one table: a row for each id, under the id with its ASCII letters in lower case. The etag is the number of the row, so
 /// that there is one index beside the table.
@@ -306,7 +306,7 @@ impl SqlKeeper<MemStore> {
     pub fn in_memory(alloc: Global) -> Result<SqlKeeper<MemStore>, KeeperFault> {
         match Connection::open_in_memory(alloc) {
             Ok(conn) => SqlKeeper::over(alloc, conn).map_err(OpenFault::as_keeper),
-            Err(_) => Err(KeeperFault::NoMemory),
+            Err(AllocError) => Err(KeeperFault::NoMemory),
         }
     }
 }

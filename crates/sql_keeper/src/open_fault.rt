@@ -49,7 +49,7 @@ pub enum OpenFault {
     Foreign,
 
     /// The path is `:memory:` or begins with `file:`, which to SQLite are no paths.
-    #[error("a path is not :memory:, and does not begin with file:")]
+    #[error("to SQLite this is no path: write ./ before it")]
     NotAPath,
 
     /// A read or a write of the opened file failed, or the disk is full. The library does not report which.
