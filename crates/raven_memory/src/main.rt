@@ -11,7 +11,7 @@ use std::process::ExitCode;
 use std::thread::Threads;
 use std::time::Clock;
 
-fn end_of<R: AllocGlobal + Input + Print + Clock + Threads>(rt: &R) -> RunEnd {
+fn end_of<R: AllocGlobal + Input + Print + Clock + Threads + Sync>(rt: &R) -> RunEnd {
     let alloc = rt.alloc();
     let Ok(base) = BaseId::program(alloc) else {
         return RunEnd::NoMemory;

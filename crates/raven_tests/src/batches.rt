@@ -69,7 +69,7 @@ fn fresh(alloc: Global) -> Result<IndexVersion, Fail> {
     Ok(IndexVersion::fresh(alloc, definition)?)
 }
 
-fn brought<R: Threads, L: Ledger>(
+fn brought<R: Threads + Sync, L: Ledger>(
     rt: &R,
     alloc: Global,
     version: &IndexVersion,
@@ -91,7 +91,7 @@ fn brought<R: Threads, L: Ledger>(
 }
 
 // The version after a batch, if there is something to take. How often the map was called is added to `told`.
-fn told_batch<R: Threads>(
+fn told_batch<R: Threads + Sync>(
     rt: &R,
     alloc: Global,
     version: &IndexVersion,
@@ -108,7 +108,12 @@ fn told_batch<R: Threads>(
 }
 
 // How often each batch calls the map, until there is nothing to take.
-fn calls_of<R: Threads>(rt: &R, alloc: Global, store: &Store, max: u32) -> Result<Vec<u64>, Fail> {
+fn calls_of<R: Threads + Sync>(
+    rt: &R,
+    alloc: Global,
+    store: &Store,
+    max: u32,
+) -> Result<Vec<u64>, Fail> {
     let mut told = Vec::new(alloc);
     let mut version = fresh(alloc)?;
     for _batch in 0..9 {

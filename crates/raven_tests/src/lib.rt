@@ -6,8 +6,6 @@ mod batches;
 #[cfg(test)]
 mod crew;
 #[cfg(test)]
-mod documents;
-#[cfg(test)]
 mod job;
 #[cfg(test)]
 mod keepers;
@@ -19,8 +17,6 @@ mod pages;
 mod replies;
 #[cfg(test)]
 mod rising;
-#[cfg(test)]
-mod shapes;
 #[cfg(test)]
 mod sharing;
 #[cfg(test)]
@@ -35,7 +31,3 @@ mod tally;
 mod trees;
 #[cfg(test)]
 mod turns;
-#[cfg(test)]
-mod values;
-#[cfg(test)]
-mod versions;

@@ -3,6 +3,7 @@ ghost use Rattle.std.specs.Prelude.{◌≡◌, Some};
 
 use doc_txn::BaseId;
 use http_front::asked;
+use http_parts::Routes;
 use http_read::{HttpReader, HttpRequest};
 use raven_base::{Bytes, Numbers, Sequence};
 use raven_desk::{Desk, Live, Receipt};
@@ -75,13 +76,14 @@ fn a_query_that_waits_keeps_its_looks(rt: HostRuntime) -> Result<(), Fail> {
     Ok(())
 }
 
-fn receipt_of<R, D: Desk<R>>(
+fn receipt_of<R: Sync, D: Desk<R>>(
     rt: &R,
     alloc: Global,
     desk: &mut D,
     request: &HttpRequest,
 ) -> Result<Receipt, Fail> {
-    match asked(alloc, "db", request) {
+    let routes = Routes::new(alloc)?;
+    match asked(alloc, &routes, "db", request) {
         Ok(asks) => Ok(desk.ask(rt, alloc, asks)?),
         Err(_) => Err(Fail::new("nothing is asked")),
     }
