@@ -15,7 +15,7 @@ import sys
 
 sys.dont_write_bytecode = True
 sys.path.insert(0, str(pathlib.Path(__file__).resolve().parent))
-from raven_tools.crates_file import Row, cited, floors_of, rows_of, subject_faults, subjects_of
+from raven_tools.crates_file import Row, cited, floors_of, longest_chain, rows_of, subject_faults, subjects_of
 from raven_tools.places import CRATES, TOP
 
 
@@ -36,20 +36,10 @@ def faults_of(rows: list[Row], floors: dict[str, int]) -> collections.abc.Iterat
             yield f"line {high.line}: {high.name} stands on a lower floor than the line above it"
 
 
-def chain_to(name: str, rows: list[Row], floors: dict[str, int]) -> list[str]:
-    """One longest chain of crates that ends at this one, lowest first."""
-    deps = {row.name: row.deps for row in rows}
-    chain = [name]
-    while floors[chain[0]] > 1:
-        chain.insert(0, next(d for d in deps[chain[0]] if floors.get(d) == floors[chain[0]] - 1))
-    return chain
-
-
 def main() -> int:
     rows, _ = rows_of(TOP / "crates.txt")
     floors, faults = floors_of(rows)
-    highest = max(rows, key=lambda row: floors[row.name])
-    chain = chain_to(highest.name, rows, floors)
+    chain = longest_chain(rows, floors)
     print(f"{len(rows)} crates list {sum(len(row.deps) for row in rows)}; the longest chain has {len(chain)}: " + ", ".join(chain))
     faults += [*faults_of(rows, floors), *subject_faults(rows, subjects_of(TOP / "crates.txt"))]
     for fault in faults:

@@ -5,8 +5,8 @@
 
 It prints each that leads nowhere; the status is then 1. What is made by a build, in a folder `out`, is passed over. A name of the code
 is one with `_` or `::` in it. Each word of it has to stand somewhere in crates/, tools/ or bench/, so a law or a clause that was given another name
-is found. A call of a type, as `Live::open`, has to be among the public calls of docs/calls.md. Parts of pages that are made are passed over
-too: tools/pages.py checks them.
+is found. A call of a type, as `Live::open`, has to be a public call of a crate. Parts of pages that are made are passed over too:
+tools/pages.py checks them.
 """
 
 import collections.abc
@@ -14,11 +14,13 @@ import pathlib
 import re
 import sys
 
-TOP = pathlib.Path(__file__).resolve().parents[1]
+sys.dont_write_bytecode = True
+from raven_tools.pages.sources import offer_of
+from raven_tools.places import CRATES, TOP
+
 MADE = re.compile(r"<!-- (\w+): made.*?<!-- \1: end -->", re.DOTALL)
 NAME = re.compile(r"`(\w+(?:::\w+)+|[A-Za-z]\w*_\w+)`")
 CALL = re.compile(r"`([A-Z]\w*::\w+)(?:\(|`)")
-LISTED = re.compile(r"^- `([\w:]+)`", re.MULTILINE)
 CODE = {".rt", ".antt", ".py", ".sql", ".txt", ".edit", ""}
 BLOCK = re.compile(r"^```.*?^```$", re.MULTILINE | re.DOTALL)
 LINK = re.compile(r"\]\(([^)\s]+)\)")
@@ -70,9 +72,15 @@ def lost_names(text: str, words: set[str]) -> collections.abc.Iterator[str]:
             yield name
 
 
-def lost_calls(text: str, listed: set[str]) -> list[str]:
-    """The calls of types that are not among those listed."""
-    return sorted(set(CALL.findall(MADE.sub("", text))) - listed)
+def calls_of_types() -> set[str]:
+    """The public calls of the types of all crates."""
+    crates = [folder.name for folder in CRATES.iterdir() if folder.is_dir()]
+    return {f"{item.owner}::{item.name}" for crate in crates for item in offer_of(crate) if item.kind == "fn" and item.owner}
+
+
+def lost_calls(text: str, calls: set[str]) -> list[str]:
+    """The calls of types that are none."""
+    return sorted(set(CALL.findall(MADE.sub("", text))) - calls)
 
 
 def is_there(target: pathlib.Path) -> bool:
@@ -83,7 +91,7 @@ def is_there(target: pathlib.Path) -> bool:
 
 def main() -> int:
     count, lost, words = 0, 0, words_of_code()
-    listed = set(LISTED.findall((TOP / "docs/calls.md").read_text()))
+    calls = calls_of_types()
     for page in [TOP / "README.md", TOP / "bench/README.md", *sorted((TOP / "docs").glob("*.md"))]:
         text = BLOCK.sub("", page.read_text())
         for name, target in links_of(page, text) + paths_of(text):
@@ -97,7 +105,7 @@ def main() -> int:
         for name in lost_names(text, words):
             lost += 1
             print(f"{page.relative_to(TOP)}: {name} stands nowhere in the code")
-        for name in lost_calls(text, listed):
+        for name in lost_calls(text, calls):
             lost += 1
             print(f"{page.relative_to(TOP)}: {name} is no public call")
     print(f"{lost} of {count} links and paths lead nowhere")

@@ -7,14 +7,14 @@
     tools/model.py serve [--port N] [--workers N] [--pumps N] [--connections N] [--db NAME] [--id BASE]
 
 It takes the arguments of the program but `--data`, and without a command it is `run`. What it writes to standard output and to
-standard error, and the status with which it ends, are those of the program.
+standard error, and the status with which it ends, are those of the program; but the help is this text.
 """
 
 import sys
 
 sys.dont_write_bytecode = True
 from raven_tools import model, programs
-from raven_tools.model import http_session, keeping, messages, running, serving
+from raven_tools.model import http_session, keeping, messages, running, serving, usage
 
 
 def session(arguments: tuple[str, ...]) -> str:
@@ -42,11 +42,16 @@ def answered(arguments: tuple[str, ...]) -> str:
 def main() -> int:
     sys.setrecursionlimit(10_000)
     given = sys.argv[1:]
+    if "--help" in given or "-h" in given:
+        print(__doc__)
+        return 0
     arguments = tuple(given if given and not given[0].startswith("-") else ["run", *given])
     if "--data" in arguments[1::2]:
         sys.exit("the model stores nothing, so it has no --data")
     status = {"http": session, "serve": served}.get(arguments[0], answered)(arguments)
     sys.stderr.write(messages.message_of(status))
+    if status == "Usage":
+        print(f"{__doc__}\nraven: {usage.mistake(arguments)}", file=sys.stderr)
     return programs.NUMBERS[status.split(" ")[0]]
 
 

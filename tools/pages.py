@@ -5,9 +5,9 @@
     tools/pages.py --write                      writes the pages that differ
     tools/pages.py --gate COST.. [--log LOG]    puts a run of the gate into docs/gate.md
 
-It makes docs/calls.md and docs/believed.md, the lists of docs/map.md, the order and the sums of the table of docs/gate.md, and the lines and aims
-of the table of docs/performance.md, whose figures bench/run.py measures. COST is what tools/gate_cost.py writes with `-o`; of several files the
-later one counts. LOG is the output of `rt ci`. Without arguments it checks. The status is 1 if a page differs.
+It makes docs/laws.md, docs/believed.md and docs/house.svg, the lists of docs/map.md, the order and the sums of the table of docs/gate.md, and the
+lines and aims of the table of docs/performance.md, whose figures bench/run.py measures. COST is what tools/gate_cost.py writes with `-o`; of
+several files the later one counts. LOG is the output of `rt ci`. Without arguments it checks. The status is 1 if a page differs.
 """
 
 import argparse

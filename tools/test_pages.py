@@ -9,11 +9,12 @@ It ends with 0 if every test holds, and otherwise at the first assertion that do
 import pathlib
 import sys
 import tempfile
+import xml.etree.ElementTree
 
 sys.dont_write_bytecode = True
 import gate_cost
 from raven_tools import crates_file
-from raven_tools.pages import calls, gate, marks, sources
+from raven_tools.pages import gate, house, laws, marks, sources
 
 SOURCE = """//! A store. It is small.
 
@@ -83,9 +84,7 @@ def test_sources() -> None:
         items = list(sources.items_of(file_with(folder, "store.rt", SOURCE)))
     assert [(item.owner, item.name) for item in items] == [(None, "Store"), ("Store", "rows"), ("Store", "pause"), (None, "rows_rise"), (None, "most")]
     assert [item.clauses for item in items] == [(), ("all", "-"), (), ("-",), ("-",)]
-    assert calls.laws_of(items) == ["- `rows_rise`: Rows rise. They never fall."]
-    rows, pause = "- `Store::rows`: Its rows. [`all`]", "- `Store::pause`: Waits. *Safe.*"
-    assert calls.calls_of(items) == [rows, pause, "- `most`: The most that fit.", "- Types: `Store`."]
+    assert laws.laws_of(items) == ["- `rows_rise`: Rows rise. They never fall."]
 
 
 def test_crates() -> None:
@@ -97,6 +96,19 @@ def test_crates() -> None:
     assert titles == {1: "what all use", 2: "the rest"} and crates_file.floors_of(rows) == ({"base": 1, "top": 2, "alone": 1}, [])
     faults = list(crates_file.subject_faults(rows, subjects))
     assert faults == ["alone has no subject", "lost has a subject, and is no crate", "top has 2 subjects"], faults
+
+
+def test_house() -> None:
+    """Each crate has a box with its name in it, higher ones stand above, and the chain goes from the lowest to the highest."""
+    with tempfile.TemporaryDirectory() as folder:
+        file = file_with(folder, "crates.txt", CRATES.replace("top top lost", "top alone"))
+        drawn = house.House(crates_file.rows_of(file)[0], crates_file.subjects_of(file))
+    assert drawn.chain == ["base", "top"] and drawn.cells == {(1, 0): ["base"], (1, 1): ["alone"], (2, 1): ["top"]}, drawn.cells
+    (x, low), (right, high), (beside, same) = (drawn.corners[name] for name in ("base", "top", "alone"))
+    assert x < right == beside and high < low == same
+    parts = list(xml.etree.ElementTree.fromstring(drawn.drawn()))
+    assert sorted(part.text or "" for part in parts if part.get("class") == "name") == ["alone", "base", "top"]
+    assert [part.get("class") for part in parts].count("chain") == 1
 
 
 def cost(crate: str, kind: str, seconds: float) -> gate_cost.Cost:
@@ -122,7 +134,7 @@ def test_gate() -> None:
     assert gate.page(page.replace("| 0.8 |", "| 0.9 |")) == page, "a sum that is changed by hand is put right"
 
 
-TESTS = (test_sources, test_crates, test_gate)
+TESTS = (test_sources, test_crates, test_house, test_gate)
 
 
 def main() -> None:

@@ -8,6 +8,7 @@ It needs no program. It ends with 0 if every test holds, and otherwise at the fi
 
 import itertools
 import json
+import random
 import re
 import subprocess
 import sys
@@ -15,7 +16,7 @@ import sys
 sys.dont_write_bytecode = True
 from raven_tools import case_file
 from raven_tools.checks import memory
-from raven_tools.model import keeping, measuring, messages, running
+from raven_tools.model import http_session, keeping, measuring, messages, running, serving, usage
 from raven_tools.places import TOP
 
 KEEPER = """\
@@ -289,6 +290,33 @@ def test_messages():
     assert messages.quoted('a "b"\\\t\x7fé') == '"a \\"b\\"\\\\\\t\\u{7f}é"'
 
 
+MALFORMED = [
+    (),
+    ("help",),
+    ("serve", "--bogus", "1"),
+    ("serve", "--port=1"),
+    ("serve", "--port"),
+    ("run", "--data", ""),
+    ("serve", "--workers", "65"),
+    ("run", "--id", "short"),
+    ("http", "--db", "a/b"),
+    ("run", "--data", "x", "--data", "x"),
+    ("run", b"\xff"),
+]
+
+
+def test_usage():
+    """What is wrong is said of just those arguments that are not valid, whatever they are made of."""
+    words = ["run", "serve", "http", "measure", "--data", "--id", "--db", "--port", "--workers", "--pump", "--pumps", "--docs"]
+    words += ["--connections", "--seed", "--batch", "0", "1", "65", "65536", "x", "", "-x", "A" * 22, "a b", "--port=1", "12345678901"]
+    valid = {"run": running.options, "http": http_session.options_of, "serve": serving.options_of, "measure": lambda words: measuring.options(words[1:])}
+    chance = random.Random(5)
+    for _ in range(20_000):
+        arguments = tuple(chance.choice(words[:4] if not at else words[4:]) for at in range(chance.choice((1, 2, 3, 3, 3, 4, 5, 5, 7))))
+        assert (usage.mistake(arguments) is None) == (valid[arguments[0]](arguments) is not None), (arguments, usage.mistake(arguments))
+    assert usage.mistake(("run", "a b")) == '"a b": run has no such option'
+
+
 def test_page():
     """What docs/messages.md shows is what is said, and each sentence stands there."""
     page = (TOP / "docs/messages.md").read_text()
@@ -301,6 +329,9 @@ def test_page():
     for line in {*ends, *lines, f"{port}: ", first} - {f"{port}: {in_use}"}:
         assert line in shown, line
     rows = set(re.findall(r"^\| `([^`]*)`", page, re.MULTILINE))
+    mistakes = {f"raven: {usage.mistake(arguments)}" for arguments in MALFORMED}
+    assert {row for row in rows if row.startswith("raven: ")} == mistakes, mistakes
+    rows -= mistakes
     assert {*messages.CAUSES.values(), in_use} <= rows, {*messages.CAUSES.values(), in_use} - rows
     assert rows <= {*messages.CAUSES.values(), in_use, "--data FILE", "no permission"}, rows
 

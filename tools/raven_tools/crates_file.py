@@ -60,6 +60,15 @@ def floors_of(rows: list[Row]) -> tuple[dict[str, int], list[str]]:
     return floors, faults
 
 
+def longest_chain(rows: list[Row], floors: dict[str, int]) -> list[str]:
+    """One longest chain of crates of which each lists the one before, lowest first."""
+    deps = {row.name: row.deps for row in rows}
+    chain = [max(rows, key=lambda row: floors[row.name]).name]
+    while floors[chain[0]] > 1:
+        chain.insert(0, next(dep for dep in deps[chain[0]] if floors.get(dep) == floors[chain[0]] - 1))
+    return chain
+
+
 def subject_faults(rows: list[Row], subjects: dict[str, list[str]]) -> collections.abc.Iterator[str]:
     """Which crates belong to no subject or to several, and which names are no crate."""
     named = [name for names in subjects.values() for name in names]

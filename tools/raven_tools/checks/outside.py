@@ -11,7 +11,7 @@ from raven_tools.checks.files import files
 from raven_tools.checks.sessions import sessions
 from raven_tools.checks.unopened import unopened
 from raven_tools.making import MAKERS
-from raven_tools.model import messages
+from raven_tools.model import messages, usage
 from raven_tools.programs import STATUSES, first_difference, run
 
 
@@ -27,20 +27,35 @@ HELP = {
 """What the help says of each command: its options and their defaults."""
 
 
-def lacks_help(text: str) -> list[str]:
-    """What the help does not say."""
+OVERVIEW = "Usage: raven <COMMAND>"
+
+
+def parts_of(text: str) -> dict[str, str]:
+    """The help of each command that a text has."""
     found = {name: text.partition(f"Usage: raven {name} ")[2].partition("Usage:")[0] for name in HELP}
-    return [f"{name} {part}" for name, parts in HELP.items() for part in parts if part not in found[name]]
+    return {name: part for name, part in found.items() if part}
+
+
+def is_help(text: str, command: str | None = None) -> bool:
+    """Whether a text is the help of a command and of nothing else; or, without one, of the program and of each command."""
+    found = parts_of(text)
+    is_whole = all(part in said for name, said in found.items() for part in HELP[name])
+    return is_whole and list(found) == ([command] if command else list(HELP)) and (OVERVIEW in text) == (command is None)
+
+
+def is_overview(text: str) -> bool:
+    """Whether a text names the commands, and has the help of none."""
+    return OVERVIEW in text and not parts_of(text) and all(f"\n  {name} " in text for name in HELP)
 
 
 def helps(program: str) -> int:
     """How many of the calls for a text about the program are wrong."""
     wrong = 0
-    for arguments in (["--help"], ["-h"], ["run", "--help"], ["http", "-h"], ["serve", "--help"]):
+    for arguments in (["--help"], ["-h"], ["run", "--help"], ["http", "-h"], ["serve", "--help"], ["measure", "-h"]):
         ended = subprocess.run([program, *arguments], capture_output=True, timeout=60)
-        if ended.returncode or ended.stderr or lacks_help(ended.stdout.decode()):
+        if ended.returncode or ended.stderr or not is_help(ended.stdout.decode(), *arguments[:-1]):
             wrong += 1
-            print(f"arguments {arguments}: status {ended.returncode}, {lacks_help(ended.stdout.decode())}, {ended.stderr!r}")
+            print(f"arguments {arguments}: status {ended.returncode}, {ended.stdout.decode()}, {ended.stderr!r}")
     for arguments in (["--version"], ["-V"]):
         ended = subprocess.run([program, *arguments], capture_output=True, timeout=60)
         if ended.returncode or ended.stderr or not ended.stdout.startswith(b"raven "):
@@ -68,6 +83,13 @@ def depths(program: str) -> int:
     return wrong
 
 
+def tells_usage(text: str, arguments: list) -> bool:
+    """Whether a text is the help for who wrote these malformed arguments, and in its last line what is wrong with them."""
+    command = usage.command_of(arguments)
+    helps_with, _, last = text.removesuffix("\n").rpartition("\n")
+    return (is_help(helps_with, command) if command else is_overview(helps_with)) and last == f"raven: {usage.mistake(arguments)}"
+
+
 def has_status(program: str, arguments: list, wanted: int, name: str, given=None, taken=None) -> bool:
     """Whether the program, called with these arguments, input and output, writes nothing and reports this status. Without an input
     it is given a line of a script, of which HTTP is refused."""
@@ -75,8 +97,7 @@ def has_status(program: str, arguments: list, wanted: int, name: str, given=None
     ended = subprocess.run([program, *arguments], stdout=taken or subprocess.PIPE, stderr=subprocess.PIPE, timeout=60, **ways)
     message = f"raven: {STATUSES[wanted]}".encode()
     first, _, rest = ended.stderr.partition(b"\n")
-    # After malformed arguments stands the help.
-    is_whole = not lacks_help(rest.decode()) if wanted == 2 else ended.stderr.decode() == messages.message_of(STATUSES[wanted])
+    is_whole = tells_usage(rest.decode(), arguments) if wanted == 2 else ended.stderr.decode() == messages.message_of(STATUSES[wanted])
     if ended.returncode == wanted and not ended.stdout and first == message and is_whole:
         return True
     print(f"{name}: status {ended.returncode} in place of {wanted}, {ended.stderr!r} in place of {message!r}, output {ended.stdout!r}")
@@ -85,7 +106,7 @@ def has_status(program: str, arguments: list, wanted: int, name: str, given=None
 
 def statuses(program: str) -> int:
     """How many of the statuses that no script can have are wrong."""
-    calls = [[], ["RUN"], ["run", "run"], ["run", ""], [""], [b"run\xff"], ["--data", "x"], ["run", "--db", "x"]]
+    calls = [[], ["RUN"], ["help"], ["help", "run"], ["--help", "run"], ["start", "--help"], ["run", "run"], ["run", ""], [""], [b"run\xff"], ["--data", "x"], ["run", "--db", "x"]]
     calls += [["run", "--data"], ["run", "--data", ""], ["run", "--data", "-x"], ["run", "--data=x"], ["run", "--data", "x", "y"]]
     calls += [["run", "--id", text] for text in ("short", "A" * 21, "A" * 23, "A" * 21 + "-", "A" * 21 + "\u00e9")]
     calls += [["run", "--data", "x", "--data", "x"], ["run", "--id", "A" * 22, "--id", "A" * 22]]
@@ -93,6 +114,8 @@ def statuses(program: str) -> int:
     calls += [["http", "--db", name] for name in ("", "-db", "a b", "a/b", "a.b", "\u00e9", "x" * 65)]
     calls += [["http", "--pump", number] for number in ("", "-1", "+1", "1.0", "x", "65537", "00000000001", "\u0663")]
     calls += [["SERVE"], ["serve", "x"], ["serve", "--port"], ["serve", "--pump", "1"], ["serve", "--host", "x"], ["serve", "--port=0"]]
+    calls += [["serve", "--port=1", "--workers", "65"], ["serve", "--bogus", "1"], ["serve", "--port="], ["measure", "--docs", "0"], ["measure", "x"]]
+    calls += [["run", "--data", "a\nb", "c d\x1b"], ["run", "a b"], ["measure", "--seed", "9", "--batch"], ["\u00e9"]]
     calls += [["serve", "--port", "0", "--port", "0"], ["serve", "--db", "a b"], ["serve", "--id", "short"], ["serve", "--data", ""]]
     calls += [["serve", "--port", number] for number in ("65536", "-1", "", "x", "00000000000", "\u0660")]
     calls += [["serve", "--workers", number] for number in ("0", "65", "4294967297", "1.0")]

@@ -1,6 +1,6 @@
 """What the program writes to standard error: a line when a server listens, and at the end the name of the status and its cause."""
 
-# What is said of a status, with the file, and with the etag, the end or the port that the status names. Usage has the help in its place.
+# What is said of a status, with the file, and with the etag, the end or the port that the status names. Of Usage see usage.py.
 SENTENCES = {
     "ReadFault": "standard input cannot be read",
     "WriteFault": "standard output cannot be written",
@@ -25,7 +25,7 @@ CAUSES = {
     "NotADatabase": "it is no database of SQLite",
     "Unreadable": "it is a database of SQLite that is damaged or of a kind that is not read",
     "Foreign": "it is a database of another program",
-    "NotAPath": "a path is not :memory:, and does not begin with file:",
+    "NotAPath": "to SQLite this is no path: write ./ before it",
     "Disk": "a read or a write failed, or the disk is full",
 }
 ESCAPES = {'"': '\\"', "\\": "\\\\", "\t": "\\t", "\n": "\\n", "\r": "\\r", "\0": "\\0"}

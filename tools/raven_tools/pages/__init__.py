@@ -3,7 +3,7 @@
 import collections.abc
 import pathlib
 
-from raven_tools.pages import believed, calls, crate_map, figures, gate
+from raven_tools.pages import believed, crate_map, figures, gate, house, laws
 from raven_tools.places import TOP
 
 # Each page with what makes its text anew from its text as it stands.
@@ -11,8 +11,9 @@ PAGES: dict[pathlib.Path, collections.abc.Callable[[str], str]] = {
     TOP / "docs" / name: made
     for name, made in {
         "believed.md": believed.page,
-        "calls.md": calls.page,
         "gate.md": gate.page,
+        "house.svg": house.page,
+        "laws.md": laws.page,
         "map.md": crate_map.page,
         "performance.md": figures.page,
     }.items()

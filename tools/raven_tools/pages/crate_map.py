@@ -10,6 +10,12 @@ from raven_tools.pages.sources import first_sentence, purpose_of
 from raven_tools.places import TOP
 
 CRATES_FILE = TOP / "crates.txt"
+# The pages in the order in which to read them, by why they are read.
+READING = {
+    "To use it": "serving http queries index-language replacing operating studio messages script reliability measure",
+    "To judge it": "glossary guarantees definitions values json query-language index-text keeping laws believed performance DECISIONS",
+    "To change it": "map adding desk turn indexes paged-map exact-parsing cases gate",
+}
 
 
 def subjects() -> str:
@@ -31,10 +37,19 @@ def floors() -> str:
     )
 
 
+def title_of(page: pathlib.Path) -> str:
+    head = re.search(r"^# (.*)$", page.read_text(), re.MULTILINE)
+    return head[1] if head else ""
+
+
 def pages() -> str:
-    files = sorted((TOP / "docs").glob("*.md"))
-    heads = {file.name: re.search(r"^# (.*)$", file.read_text(), re.MULTILINE) for file in files}
-    return "\n".join(f"- [{name}]({name}): {head[1] if head else ''}" for name, head in heads.items())
+    """Each page with its title. Those without a place in the order come last."""
+    titles = {file.stem: title_of(file) for file in sorted((TOP / "docs").glob("*.md"))}
+    ordered = {why: [name for name in names.split() if name in titles] for why, names in READING.items()}
+    placed = {name for names in ordered.values() for name in names}
+    ordered["Without a place in this order"] = [name for name in titles if name not in placed]
+    parts = {why: "\n".join(f"- [{name}.md]({name}.md): {titles[name]}" for name in names) for why, names in ordered.items() if names}
+    return "\n\n".join(f"**{why}**\n\n{lines}" for why, lines in parts.items())
 
 
 def said_of(file: pathlib.Path) -> str:
