@@ -11,3 +11,4 @@ pub mod OpeningLemmas
 pub mod PageLemmas
 pub mod SortLemmas
 pub mod TombstoneLemmas
+pub mod Crossing

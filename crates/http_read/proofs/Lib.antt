@@ -1,5 +1,4 @@
 pub mod Windows
-pub mod Numbers
 pub mod Named
 pub mod Unread
 pub mod Lines

@@ -2,6 +2,7 @@
 use Rattle.std.specs.Prelude.{ℕ, ◌+◌, ◌-◌, ◌*◌, ◌⊎◌, Bool, true, false, ◌&&◌, ◌||◌, not, ◌==◌, nat_lt, nat_le, List, [], ◌∷◌, length, map, filter, codes, bytes_eq, if◌then◌else◌, Option, Some, None, IsTrue, slice_index, slice_range}
 use Rattle.std.specs.List.{list_all, list_any, before_first, after_first}
 use Rattle.std.specs.Str.{is_utf8, str_to_ascii_lowercase}
+use Rattle.spec_data.specs.Digits.{number_up_to}
 use Rattle.http_read.specs.declared.fields.Framing.{Framing}
 use Rattle.http_read.specs.declared.fields.Framing.TheVariants.{Sized, Chunked}
 use Rattle.httparse.specs.Grammar.{RequestHead, NeverHasRequest}
@@ -54,16 +55,9 @@ values name fields = map (λ field. field.1) (filter (is_named name) fields)
 abbrev pub fields_of : RequestHead → List (List ℕ × List ℕ)
 fields_of head = map name_and_value head.fields
 
-abbrev pub is_digit : ℕ → Bool
-is_digit b = nat_le 48 b && nat_le b 57
-
-abbrev pub number_from : ℕ → List ℕ → ℕ
-number_from n [] = n
-number_from n (b ∷ bytes) = number_from (n * 10 + (b - 48)) bytes
-
 -- the number that 1 to 10 digits spell
 abbrev pub number_of : List ℕ → Option ℕ
-number_of text = if nat_lt 0 (length text) && nat_le (length text) 10 && list_all is_digit text then Some (number_from 0 text) else None
+number_of = number_up_to 10
 
 abbrev pub of_length : Option ℕ → Option Framing
 of_length None = None

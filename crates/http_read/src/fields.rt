@@ -7,11 +7,13 @@ ghost use Rattle.http_read.specs.Heads.{values};
 ghost use Rattle.http_read.specs.Reading.{IsOnly, IsMatchOf, pairs_in};
 
 use crate::end::HttpEnd;
-use crate::number::number_of;
 use httparse::spans::HeaderSpan;
-use raven_value::Text;
+use raven_value::{Text, number_of};
 use std::alloc::Global;
 use std::str;
+
+/// The most digits of a length.
+const MAX_LENGTH_DIGITS: usize = 10;
 
 /// How long the body is.
 #[derive(Clone, Copy)]
@@ -96,7 +98,7 @@ fn only_value<'b>(bytes: &'b [u8], headers: &[HeaderSpan], name: &[u8]) -> Only<
 fn of_length(text: &[u8]) -> Option<Framing>
     ensures { result ≡ spec.of_length (spec.number_of text.now) }
 {
-    match number_of(text) {
+    match number_of(text, MAX_LENGTH_DIGITS) {
         Some(count) => Some(Framing::Sized(count)),
         None => None,
     }

@@ -7,7 +7,6 @@ mod fields;
 mod head;
 mod laws;
 mod line;
-mod number;
 mod reader;
 mod request;
 mod target;

@@ -12,7 +12,7 @@ mod Zips
 pub mod GroupChanges
 pub mod Reducing
 mod Answering
-mod Crossing
 mod Terming
 mod FieldNames
 mod EntryLemmas
+pub mod Crossing

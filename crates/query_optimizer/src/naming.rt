@@ -1,10 +1,9 @@
 //! What an automatic index is called.
-ghost use Rattle.std.specs.Prelude.{◌≡◌, ◌++◌, ◌<◌, ◌≤◌, ◌^◌, IfOk, None, OnOk, codes, decimal, insert, length, map, string_bytes};
+ghost use Rattle.std.specs.Prelude.{◌≡◌, ◌++◌, ◌<◌, ◌≤◌, ◌^◌, IfOk, OnOk, codes, decimal, insert, length, map, string_bytes};
 ghost use Rattle.std.specs.Ordering.{is_gt};
 ghost use Rattle.spec_data.specs.Folding.{key_cmp};
 ghost use Rattle.index_definition.specs.ShapeView.{shape_view};
 ghost use Rattle.index_tree.specs.Mapper.{joined};
-ghost use Rattle.raven_value.specs.Refusal.{fault_in};
 ghost use Rattle.spec_index.specs.Optimiser.{and_between, first_free as spec_first_free, name_of, plain_name as spec_plain_name, reduced_by, value_names as spec_value_names, with_name};
 
 use crate::free_name::first_free;
@@ -116,16 +115,6 @@ fn auto_number(alloc: Global, number: u64) -> Result<String, NoMemory>
     Ok(text)
 }
 
-// What is left of a refusal of a text that has no fault.
-fn memory_alone(refusal: IdRefusal) -> NoMemory
-    requires { fault_in refusal ≡ None }
-{
-    match refusal {
-        IdRefusal::NoMemory => NoMemory,
-        IdRefusal::Empty | IdRefusal::TooLong { .. } | IdRefusal::Control { .. } => unreachable!(),
-    }
-}
-
 fn numbered_name(alloc: Global, slots: &[Slot], number: u64) -> Result<Name, NoMemory>
     requires { length slots.now < 2 ^ 32 }
     ensures { IfOk result (λ name. name ≡ spec_first_free (codes "Auto/" ++ decimal number) slots.now) }
@@ -133,7 +122,7 @@ fn numbered_name(alloc: Global, slots: &[Slot], number: u64) -> Result<Name, NoM
     let free = first_free(alloc, slots, auto_number(alloc, number)?)?;
     match Name::new(alloc, free.as_str()) {
         Ok(name) => Ok(name),
-        Err(refusal) => Err(memory_alone(refusal)),
+        Err(refusal) => Err(refusal.memory_alone()),
     }
 }
 

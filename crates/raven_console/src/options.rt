@@ -5,7 +5,6 @@ ghost use Rattle.spec_http.specs.Options.{is_name as spec_is_name, is_of_name as
 ghost use Rattle.spec_measure.specs.Options.{number_in as spec_number_in, options_in as spec_measure_options};
 ghost use Rattle.raven_serve.specs.Options.{Range, counts_in, limit_in, number_or as spec_number_or, number_within as spec_number_within, options_in as spec_serve_options};
 ghost use Rattle.spec_server.specs.Options.{base_in, run_options as spec_run_options};
-ghost use Rattle.spec_server.specs.Words.{number_of as spec_number_of};
 ghost use Rattle.raven_measure.specs.OptionsView.{options_view as measure_view};
 ghost use Rattle.raven_console.specs.ArgumentsView.{FitsPump, counts_view, http_view, invocation_view, pair_view, run_view, serve_view, text_view};
 ghost use Rattle.raven_console.specs.Invocations.{invoked_in};
@@ -14,7 +13,7 @@ use crate::pairs::{are_valid, pairs_in, value_named};
 use doc_txn::BaseId;
 use raven_base::NoMemory;
 use raven_measure::Options;
-use raven_value::Text;
+use raven_value::{Text, number_of};
 use std::alloc::Global;
 
 /// The options of `run`.
@@ -108,34 +107,12 @@ const MAX_NAME: usize = 64;
 // The most rows of a batch.
 const MAX_PUMP: u64 = 65_536;
 
-// The number that up to ten digits write.
-#[tactic(auto, using(crate::proofs::NumberLemmas::numbers))]
-fn number_of(text: &[u8]) -> Option<u64>
-    requires { length text.now ≤ 10 }
-    ensures { result ≡ spec_number_of text.now }
-{
-    if text.is_empty() {
-        return None;
-    }
-    let mut number = 0;
-    for byte in text {
-        if !byte.is_ascii_digit() {
-            return None;
-        }
-        number = number * 10 + u64::from(*byte - b'0');
-    }
-    Some(number)
-}
-
 // A number from the least to the most, which fits 32 bits.
 fn number_within(text: &str, least: u32, most: u32) -> Option<u32>
     ensures number { result ≡ spec_number_within (record { least = least; most = most }) text.now }
     ensures fits { IfSome result (λ n. n ≤ most) }
 {
-    if text.len() > MAX_DIGITS {
-        return None;
-    }
-    let number = number_of(text.as_bytes())?;
+    let number = number_of(text.as_bytes(), MAX_DIGITS)?;
     if u64::from(least) <= number && number <= u64::from(most) {
         Some(number as u32)
     } else {
@@ -233,10 +210,7 @@ fn pump_of(text: Option<&str>) -> Option<u32>
     let Some(text) = text else {
         return Some(1_024);
     };
-    if text.len() > MAX_DIGITS {
-        return None;
-    }
-    let number = number_of(text.as_bytes())?;
+    let number = number_of(text.as_bytes(), MAX_DIGITS)?;
     if number <= MAX_PUMP {
         Some(number as u32)
     } else {

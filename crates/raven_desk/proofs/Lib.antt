@@ -7,3 +7,4 @@ pub mod Publications
 pub mod Picked
 pub mod Bodies
 pub mod Cleanings
+pub mod Crossing

@@ -1,7 +1,6 @@
 //! Orders.
-ghost use Rattle.std.specs.Prelude.{◌≡◌, ◌++◌, [], ◌∷◌, IfOk, None, OnOk, codes, string_bytes};
+ghost use Rattle.std.specs.Prelude.{◌≡◌, ◌++◌, [], ◌∷◌, IfOk, OnOk, codes, string_bytes};
 ghost use Rattle.std.specs.Fmt.{decimal};
-ghost use Rattle.raven_value.specs.Refusal.{fault_in};
 ghost use Rattle.raven_value.specs.View.{data_of};
 ghost use Rattle.spec_data.specs.Data.{text as spec_text};
 ghost use Rattle.spec_measure.specs.Draws.{next};
@@ -10,7 +9,7 @@ ghost use Rattle.spec_server.specs.Replies.{members};
 
 use crate::draws::Draws;
 use raven_base::NoMemory;
-use raven_value::{Id, IdRefusal, Members, Text, Value};
+use raven_value::{Id, Members, Text, Value};
 use std::alloc::Global;
 
 // A text with a number behind it.
@@ -22,16 +21,6 @@ fn numbered(alloc: Global, front: &str, number: u64) -> Result<String, NoMemory>
     Ok(text)
 }
 
-// What is left of the refusal of a text that has no fault.
-fn memory_alone(refusal: IdRefusal) -> NoMemory
-    requires { fault_in refusal ≡ None }
-{
-    match refusal {
-        IdRefusal::NoMemory => NoMemory,
-        IdRefusal::Empty | IdRefusal::TooLong { .. } | IdRefusal::Control { .. } => unreachable!(),
-    }
-}
-
 /// The id of the order of this number.
 pub fn order_id(alloc: Global, number: u64) -> Result<Id, NoMemory>
     ensures { IfOk result (λ id. id ≡ spec_order_id number) }
@@ -39,7 +28,7 @@ pub fn order_id(alloc: Global, number: u64) -> Result<Id, NoMemory>
     let text = numbered(alloc, "orders/", number)?;
     match Id::new(alloc, text.as_str()) {
         Ok(id) => Ok(id),
-        Err(refusal) => Err(memory_alone(refusal)),
+        Err(refusal) => Err(refusal.memory_alone()),
     }
 }
 

@@ -1,10 +1,7 @@
 //! A keeper in memory, whose calls fail by a list.
-ghost use Rattle.std.specs.Prelude.{◌≡◌, ◌≤◌, ◌↔◌, Some, None, length, true, option_map, IfOk, IfSome, OnErr, OnOk, IsErrOf};
-ghost use Rattle.spec_data.specs.Kept.{EtagsRise, keep_all, kept_after, last_kept};
-ghost use Rattle.spec_store.specs.Cleaning.{cleared};
-ghost use Rattle.raven_ports.specs.Faults.{Rose};
+ghost use Rattle.std.specs.Prelude.{◌≡◌, None, IfOk};
+ghost use Rattle.spec_data.specs.Kept.{EtagsRise};
 ghost use Rattle.raven_ports.specs.KeptMemory.{keeper_state};
-ghost use Rattle.raven_ports.specs.Plan.{is_failing, one_later};
 
 use crate::calls::Calls;
 use crate::keeper::{Keeper, KeeperFault, KeptRows};

@@ -1,9 +1,10 @@
 //! The words of a line.
 ghost use Rattle.std.specs.Prelude.{◌≡◌, None, Some, MatchOption};
-ghost use Rattle.spec_server.specs.Words.{before_space, after_space, is_collection as spec_is_collection, is_field as spec_is_field, max_read, number_of as spec_number_of, parts_read, worker_read, argument_and_rest as spec_word_and_rest};
+ghost use Rattle.spec_server.specs.Words.{before_space, after_space, is_collection as spec_is_collection, is_field as spec_is_field, max_read, parts_read, worker_read, argument_and_rest as spec_word_and_rest};
 ghost use Rattle.raven_request.specs.RequestView.{Reads};
 
 use raven_request::ReadRefusal;
+use raven_value::number_of;
 
 /// The most digits of a number.
 const MAX_DIGITS: usize = 16;
@@ -45,29 +46,11 @@ pub fn parts(text: &str) -> Result<(&str, &str), ReadRefusal>
     }
 }
 
-/// The number that 1 to 16 digits write.
-#[tactic(auto, using(crate::proofs::NumberLemmas::numbers))]
-pub fn number_of(text: &[u8]) -> Option<u64>
-    ensures { result ≡ spec_number_of text.now }
-{
-    if text.is_empty() || text.len() > MAX_DIGITS {
-        return None;
-    }
-    let mut number = 0;
-    for byte in text {
-        if !byte.is_ascii_digit() {
-            return None;
-        }
-        number = number * 10 + u64::from(*byte - b'0');
-    }
-    Some(number)
-}
-
 /// How many rows a batch may take.
 pub fn max_of(text: &str) -> Result<u32, ReadRefusal>
     ensures { Reads (λ max. max) result (max_read text.now) }
 {
-    match number_of(text.as_bytes()) {
+    match number_of(text.as_bytes(), MAX_DIGITS) {
         Some(max) if max >= 1 && max <= MAX_BATCH => Ok(max as u32),
         _ => Err(ReadRefusal::UnknownLine),
     }
@@ -77,7 +60,7 @@ pub fn max_of(text: &str) -> Result<u32, ReadRefusal>
 pub fn worker_of(text: &str) -> Result<u8, ReadRefusal>
     ensures { Reads (λ worker. worker) result (worker_read text.now) }
 {
-    match number_of(text.as_bytes()) {
+    match number_of(text.as_bytes(), MAX_DIGITS) {
         Some(worker) if worker <= LAST_WORKER => Ok(worker as u8),
         _ => Err(ReadRefusal::UnknownLine),
     }

@@ -7,4 +7,3 @@ pub mod Goings
 pub mod Receiving
 pub mod Standings
 pub mod Completing
-pub mod Crossing

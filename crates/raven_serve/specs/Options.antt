@@ -1,10 +1,10 @@
 -- The arguments of `serve`: pairs of a name and a value.
-use Rattle.std.specs.Prelude.{ℕ, List, [], ◌∷◌, ◌&&◌, nat_le, if◌then◌else◌, Option, Some, None, codes, length}
+use Rattle.std.specs.Prelude.{ℕ, List, [], ◌∷◌, ◌&&◌, nat_le, if◌then◌else◌, Option, Some, None, codes}
 use Rattle.std.specs.Option.{option_and_then, option_map}
 use Rattle.std.specs.Str.{bytes_eq}
 use Rattle.spec_http.specs.Options.{name_in}
 use Rattle.spec_server.specs.Options.{Pairs, are_known, are_once, base_in, pairs_in, value_named}
-use Rattle.spec_server.specs.Words.{number_of}
+use Rattle.spec_data.specs.Digits.{number_up_to}
 
 abbrev pub option_names : List (List ℕ)
 option_names = codes "--data" ∷ codes "--id" ∷ codes "--db" ∷ codes "--port" ∷ codes "--workers" ∷ codes "--pumps" ∷ codes "--connections" ∷ []
@@ -32,7 +32,7 @@ if_within range n = if nat_le range.least n && nat_le n range.most then Some n e
 
 -- the number of 1 to 10 digits
 abbrev pub number_within : Range → List ℕ → Option ℕ
-number_within range text = if nat_le (length text) 10 then option_and_then (if_within range) (number_of text) else None
+number_within range text = option_and_then (if_within range) (number_up_to 10 text)
 
 abbrev pub number_or : ℕ → Range → Option (List ℕ) → Option ℕ
 number_or default range None = Some default

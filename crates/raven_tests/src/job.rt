@@ -1,5 +1,5 @@
 //! Jobs, and how all of them are run at once.
-ghost use Rattle.std.specs.Prelude.{ℕ, ◌≡◌, ◌<◌, IfOk, length, slice_index_or, vec_len};
+ghost use Rattle.std.specs.Prelude.{ℕ, ◌≡◌, ◌<◌, IfOk, slice_index_or, vec_len};
 ghost use Rattle.std.specs.List.{AllZip};
 
 use raven_base::NoMemory;

@@ -1,5 +1,5 @@
 //! A list that only grows.
-ghost use Rattle.std.specs.Prelude.{◌≡◌, ◌≤◌, ◌+◌, ◌++◌, ◌∷◌, [], IfOk, if◌then◌else◌, length};
+ghost use Rattle.std.specs.Prelude.{◌≡◌, [], length};
 
 use crate::rising::Rising;
 use raven_base::{NoMemory, Sequence};

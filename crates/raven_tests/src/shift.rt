@@ -1,5 +1,5 @@
 //! What one thread does at a turn.
-ghost use Rattle.std.specs.Prelude.{◌≡◌, ◌≤◌, ◌+◌, if◌then◌else◌};
+ghost use Rattle.std.specs.Prelude.{◌≡◌, ◌≤◌, ◌+◌};
 
 use crate::job::Job;
 use crate::rising::{Raise, Rising};

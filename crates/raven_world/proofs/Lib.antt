@@ -4,3 +4,4 @@ pub mod Names
 pub mod Steps
 pub mod Openings
 pub mod Cleanings
+pub mod Crossing

@@ -3,7 +3,6 @@ ghost use Rattle.std.specs.Prelude.{◌≡◌, ◌&&◌, IfOk, IfSome, None, Som
 ghost use Rattle.spec_server.specs.Opening.{may_be_named};
 ghost use Rattle.index_definition.specs.DefinitionView.{definition_view};
 ghost use Rattle.raven_world.specs.Kinds.{HasOwnName, begins_as, own_part as spec_own_part};
-ghost use Rattle.raven_value.specs.Refusal.{fault_in};
 ghost use Rattle.spec_data.specs.Faults.{fault_of, is_fit};
 ghost use Rattle.spec_data.specs.Limits.{max_index_name, max_name};
 ghost use Rattle.spec_index.specs.World.{replaced_name};
@@ -76,7 +75,7 @@ fn whole_name(alloc: Global, text: &str) -> Result<Name, NoMemory>
 {
     match Name::new(alloc, text) {
         Ok(name) => Ok(name),
-        Err(refusal) => Err(memory_alone(refusal)),
+        Err(refusal) => Err(refusal.memory_alone()),
     }
 }
 
@@ -91,14 +90,4 @@ pub fn read_name(alloc: Global, body: &DefBody, text: &str) -> Result<Option<Ind
     };
     let name = whole_name(alloc, text)?;
     Ok(Some(IndexName { name, own }))
-}
-
-// What is left of a refusal of a text that has no fault.
-fn memory_alone(refusal: IdRefusal) -> NoMemory
-    requires { fault_in refusal ≡ None }
-{
-    match refusal {
-        IdRefusal::NoMemory => NoMemory,
-        IdRefusal::Empty | IdRefusal::TooLong { .. } | IdRefusal::Control { .. } => unreachable!(),
-    }
 }

@@ -1,3 +1,4 @@
 pub mod TreeLemmas
 pub mod Grouping
 pub mod RowLemmas
+pub mod Crossing

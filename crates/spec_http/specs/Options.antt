@@ -5,7 +5,7 @@ use Rattle.std.specs.List.{list_all}
 use Rattle.std.specs.Option.{option_and_then}
 use Rattle.std.specs.Str.{bytes_eq}
 use Rattle.spec_server.specs.Options.{Pairs, are_known, are_once, base_in, pairs_in, value_named}
-use Rattle.spec_server.specs.Words.{number_of}
+use Rattle.spec_data.specs.Digits.{number_up_to}
 
 abbrev pub option_names : List (List ℕ)
 option_names = codes "--data" ∷ codes "--id" ∷ codes "--db" ∷ codes "--pump" ∷ []
@@ -42,7 +42,7 @@ if_within n = if nat_le n most then Some n else None
 -- the number of 1 to 10 digits
 abbrev pub pump_in : Option (List ℕ) → Option ℕ
 pump_in None = Some 1024
-pump_in (Some text) = if nat_le (length text) 10 then option_and_then if_within (number_of text) else None
+pump_in (Some text) = option_and_then if_within (number_up_to 10 text)
 
 -- THE COMMAND
 

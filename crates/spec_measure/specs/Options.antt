@@ -1,9 +1,9 @@
 -- The arguments of `measure`: pairs of a name and a value, whose values are numbers.
-use Rattle.std.specs.Prelude.{ℕ, List, [], ◌∷◌, ◌&&◌, nat_le, if◌then◌else◌, Option, Some, None, codes, length}
+use Rattle.std.specs.Prelude.{ℕ, List, [], ◌∷◌, ◌&&◌, nat_le, if◌then◌else◌, Option, Some, None, codes}
 use Rattle.std.specs.Option.{option_and_then}
 use Rattle.std.specs.Str.{bytes_eq}
 use Rattle.spec_server.specs.Options.{Pairs, are_known, are_once, pairs_in, value_named}
-use Rattle.spec_server.specs.Words.{number_of}
+use Rattle.spec_data.specs.Digits.{number_up_to}
 use Rattle.spec_measure.specs.Requests.{Options}
 
 abbrev pub option_names : List (List ℕ)
@@ -18,12 +18,12 @@ abbrev pub if_within : ℕ → ℕ → Option ℕ
 if_within most n = if nat_le 1 n && nat_le n most then Some n else None
 
 -- the number of 1 to 10 digits, from 1 on
-abbrev pub number_up_to : ℕ → List ℕ → Option ℕ
-number_up_to most text = if nat_le (length text) 10 then option_and_then (if_within most) (number_of text) else None
+abbrev pub number_within : ℕ → List ℕ → Option ℕ
+number_within most text = option_and_then (if_within most) (number_up_to 10 text)
 
 abbrev pub number_in : Range → Option (List ℕ) → Option ℕ
 number_in range None = Some range.default
-number_in range (Some text) = number_up_to range.most text
+number_in range (Some text) = number_within range.most text
 
 abbrev pub seeds : Range
 seeds = record { default = 1; most = 2147483646 }

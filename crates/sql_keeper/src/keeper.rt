@@ -1,5 +1,5 @@
 //! A keeper in a database of SQLite, in a file or in memory.
-ghost use Rattle.std.specs.Prelude.{◌≡◌, ◌≤◌, IfErr, IfOk, IsErrAnd, IsErrOf, None, codes, length};
+ghost use Rattle.std.specs.Prelude.{◌≡◌, ◌≤◌, IfOk, IsErrAnd, None, codes, length};
 ghost use Rattle.spec_data.specs.Kept.{EtagsRise, is_past as spec_is_past};
 ghost use Rattle.raven_ports.specs.Faults.{Rose};
 

@@ -15,3 +15,4 @@ pub mod Cuts
 pub mod Changing
 pub mod Counted
 pub mod Single
+pub mod Crossing

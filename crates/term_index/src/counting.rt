@@ -1,5 +1,5 @@
 //! How many ids have values that meet a condition, by the runs of terms between which no test of it changes its answer.
-ghost use Rattle.std.specs.Prelude.{◌≡◌, ◌≤◌, ◌-◌, Bool, IfOk, IfSome, drop, filter, length, map, take};
+ghost use Rattle.std.specs.Prelude.{◌≡◌, ◌≤◌, ◌-◌, Bool, IfOk, IfSome, drop, length, map, take};
 ghost use Rattle.std.specs.List.Sorted.{IsNonDecreasing};
 ghost use Rattle.spec_data.specs.Scalars as is;
 ghost use Rattle.raven_value.specs.ScalarView.{scalar_view, test_view};

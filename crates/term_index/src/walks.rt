@@ -1,11 +1,11 @@
 //! Walks over the terms of a field, from one edge to another.
-ghost use Rattle.std.specs.Prelude.{◌≡◌, IfOk, IfSome, length};
-ghost use Rattle.spec_data.specs.Scalars.{Is, Not};
+ghost use Rattle.std.specs.Prelude.{◌≡◌, IfOk};
+ghost use Rattle.spec_data.specs.Scalars.{Is};
 ghost use Rattle.raven_value.specs.ScalarView.{scalar_view, test_view};
 ghost use Rattle.paged_map.specs.Range.{between};
 ghost use Rattle.reference_track.specs.Sets.{AreInOrder};
 ghost use Rattle.term_index.specs.Edges as edge;
-ghost use Rattle.term_index.specs.Held.{AreTerms, passing};
+ghost use Rattle.term_index.specs.Held.{passing};
 ghost use Rattle.term_index.specs.KeyView.{by_mark, mark_of};
 
 use crate::edges::{high_edge, is_span, low_edge};

@@ -4,7 +4,7 @@ use Rattle.raven_value.proofs.text.Text.TheSendSync as text
 use Rattle.raven_turn.proofs.turn.Pass.TheSendSync as pass
 use Rattle.raven_turn.proofs.turn.Turn.TheSendSync as turn
 use Rattle.http_parts.proofs.Crossing.{routes_sync}
-use Rattle.raven_serve.proofs.Crossing.{live_send}
+use Rattle.raven_desk.proofs.Crossing.{live_send}
 use Rattle.raven_serve.proofs.server.run.Lts.{arg-0-1, arg-0-3}
 use Rattle.raven_serve.proofs.server.run.Goals as goal
 

@@ -1,6 +1,6 @@
 use denote.Param.Send.{sendable, param_sync}
 use Rattle.std.proofs.Crossing.{crosses}
-use Rattle.raven_tests.proofs.Crossing.{definition_sync}
+use Rattle.index_definition.proofs.Crossing.{definition_sync}
 use Rattle.raven_tests.proofs.batches.brought.Lts.{arg-3-1}
 use Rattle.raven_tests.proofs.batches.brought.Goals as goal
 

@@ -7,7 +7,7 @@ use Rattle.index_definition.specs.declared.definition.Definition.{Definition}
 use Rattle.index_version.specs.Meaning.{Means, found_meaning}
 use Rattle.index_version.specs.Named.{NamedVersion}
 use Rattle.index_version.proofs.Meanings.{definition_means}
-use Rattle.slot_batches.proofs.Crossing.{definition_sync}
+use Rattle.index_definition.proofs.Crossing.{definition_sync}
 use Rattle.slot_batches.proofs.Counting.{next_counts}
 use Rattle.slot_batches.proofs.batches.next_version.Lts.{arg-3-1}
 use Rattle.slot_batches.proofs.batches.next_version.Goals as goal

@@ -1,7 +1,7 @@
 use Rattle.std.proofs.Common.{◌≡◌, ◌<◌, ◌^◌, drop}
 use Rattle.std.specs.List.{list_all}
-use Rattle.spec_server.specs.Words.{is_digit, number_from}
-use Rattle.raven_console.proofs.options.number_of.Given as goal
+use Rattle.spec_data.specs.Digits.{is_digit, number_from}
+use Rattle.raven_value.proofs.number.number_of.Given as goal
 
 abbrev pub invariant-loop-byte : goal.invariant-loop-byte
 invariant-loop-byte l = record {
