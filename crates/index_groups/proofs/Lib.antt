@@ -1,7 +1,8 @@
 pub mod Keys
-pub mod Folds
+pub mod Plans
 pub mod FieldLemmas
 pub mod Gathering
 pub mod Changing
 pub mod Rows
 pub mod Sizes
+pub mod Crossing

@@ -1,18 +1,20 @@
 -- The rows of groups are those that the reduce gives for the entries.
-use Rattle.std.proofs.Common.{◌≡◌, ◌<◌, ◌≤◌, ◌^◌, ℕ, zero, suc, pos, negsuc, unsigned_abs, Bool, true, false, cond, Option, Some, List, [], ◌∷◌, length, map, option_map, slice_get, refl, sym, ap, subst, ◌∙◌, arith}
+use Rattle.std.proofs.Common.{◌≡◌, ◌<◌, ◌≤◌, ◌^◌, ◌/◌, ℕ, zero, suc, ℤ, pos, negsuc, neg_ℤ, int_div, div-le_self, unsigned_abs, Bool, true, false, cond, if◌then◌else◌, Option, Some, List, [], ◌∷◌, length, map, option_map, slice_get, refl, sym, ap, subst, ◌∙◌, arith}
+use Rattle.std.proofs.lemmas.Bool.{lt-ltb}
 use Rattle.std.specs.declared.cmp.Ordering.{Ordering}
 use Rattle.std.specs.declared.cmp.Ordering.TheVariants.{Less, Equal, Greater}
-use Rattle.std.specs.Ordering.{is_eq}
+use Rattle.std.specs.Ordering.{int_eq, is_eq}
 use Rattle.std.specs.Cmp.{IsTotalOrder}
 use Rattle.std.specs.FinMap.{FinMap, IsAntisymmetric, empty, entries, entries-insert, from_entries, len-empty, len-entries, values}
 use Rattle.std.specs.FinMap.Entries.{by_order, put as put_entry}
-use Rattle.std.specs.List.{cons_option}
+use Rattle.std.specs.List.{zip}
 use Rattle.std.specs.Map.{values_of}
 use Rattle.std.specs.Option.{unwrap_or}
 use Rattle.std.specs.Str.{bytes_eq}
 use Rattle.spec_data.specs.Rising.{put}
 use Rattle.spec_data.specs.Scalars.{Scalar, nothing, truth, number, words}
 use Rattle.index_tree.specs.Meaning.{Fields, field_named}
+use Rattle.index_tree.specs.declared.reduce_query.FoldKind.TheVariants as kind
 use Rattle.index_tree.specs.declared.reduce_query.FoldMember.{FoldMember}
 use Rattle.index_tree.specs.declared.reduce_query.FoldValue.{FoldValue}
 use Rattle.index_tree.specs.declared.reduce_query.FoldValue.TheVariants as value
@@ -22,7 +24,7 @@ use Rattle.paged_map.specs.Pairs.{IsRising}
 use Rattle.reduce_tree.specs.Folding.{fold_of}
 use Rattle.reduce_tree.specs.Tree.{Tree}
 use Rattle.reduce_groups.specs.Groups.{AreSound}
-use Rattle.reduce_groups.specs.Grouping.{AreGrouped, folded_at, of_group}
+use Rattle.reduce_groups.specs.Grouping.{folded_at, of_group}
 use Rattle.reduce_groups.specs.Grouping as tree
 use Rattle.reduce_groups.proofs.RowLemmas.{few_at, rows_are_of, rows_long}
 use Rattle.reduce_folds.specs.declared.field_fold.FieldFold.{FieldFold}
@@ -30,16 +32,17 @@ use Rattle.reduce_folds.specs.declared.row_fold.RowFold.{RowFold}
 use Rattle.reduce_folds.specs.Cells.{Cell, cell_of, merged_cell, merged_row, no_cell, no_row}
 use Rattle.reduce_folds.specs.Cells as cells
 use Rattle.reduce_folds.specs.Exact.{AreWords}
-use Rattle.reduce_folds.proofs.Sums.{exact_fold, row_is}
-use Rattle.spec_index.specs.Folds.{addend, as_one}
+use Rattle.reduce_folds.proofs.Sums.{exact_fold, row_is, sum_size}
+use Rattle.spec_index.specs.Folds.{addend, as_one, quotient_of, sum_of}
 use Rattle.spec_index.specs.Rows.{Key, column, group, key_of, key_order, member_value, reduced, row_of, row_with, value_at}
-use Rattle.index_groups.specs.Cells.{cells_after, fold_in, folds_of, row_from, value_from}
+use Rattle.index_groups.specs.Cells.{cell_at, divided, field_of, fold_by, fold_place, folds_of, is_same, is_within, part_at, place_of, plan_of, row_from, source_of, value_from}
 use Rattle.index_groups.specs.Groups.{HaveWords, fields_of}
 use Rattle.index_groups.specs.KeyLaws.{keys_tie, keys_total}
 use Rattle.index_groups.specs.Trees.{AreIndexed, entries_in, key_in}
 use Rattle.index_groups.proofs.FieldLemmas.{fields_rising, fields_values}
 use Rattle.reference_track.proofs.FoldedMaps.{values-by_folded}
 use Rattle.index_groups.proofs.Gathering.{gathered}
+use Rattle.index_groups.proofs.Plans.{HasAllNeeded, HasNeeded, has, needed_folded, same_is}
 
 map_map : {A B C : Type 0} (g : B → C) (f : A → B) (xs : List A) → map g (map f xs) ≡ map (λ x. g (f x)) xs
 map_map g f [] = refl
@@ -113,16 +116,66 @@ cells_exact : (folds : List FieldFold) (es : List Fields) → ((name : List ℕ)
 cells_exact folds es w l = row_is folds es
     ∙ map_same (λ (fold : FieldFold). fold_of (cell_of fold) (no_cell fold) merged_cell es) (λ (fold : FieldFold). (fold.kind, as_one fold.kind (column fold.field es))) folds (λ fold. exact_fold fold es (w fold.field) l)
 
--- the row of exact cells is that of the definition
-row_exact : (names : List (List ℕ)) (q : Key) (es : List Fields) (row : Fields) (ms : List FoldMember) → row_from names q row ms (exact_cells (folds_of ms) es) ≡ row_with names q es row ms
-row_exact names q es row [] = refl
-row_exact names q es row (m ∷ ms) = by m.value (λ next. row_exact names q es next ms)
+-- the cell of a fold that is there
+cell_exact : (fold : FieldFold) (folds : List FieldFold) (es : List Fields) → has fold folds ≡ true → cell_at (exact_cells folds es) (place_of (is_same fold) folds) ≡ as_one fold.kind (column fold.field es)
+cell_exact fold [] es h = absurd (cc h)
+cell_exact fold (f ∷ fs) es h = by (is_same fold f) refl (cell_exact fold fs es)
   where
-    by : (v : FoldValue) → ((next : Fields) → row_from names q next ms (exact_cells (folds_of ms) es) ≡ row_with names q es next ms) →
-        row_from names q (put m.name (value_from names q (exact_cells (cons_option (fold_in v) (folds_of ms)) es) v) row) ms (cells_after (exact_cells (cons_option (fold_in v) (folds_of ms)) es) v)
-        ≡ row_with names q es (put m.name (member_value names q es v) row) ms
-    by (value.Key name) h = h (put m.name (member_value names q es (value.Key name)) row)
-    by (value.Fold kind var field) h = h (put m.name (member_value names q es (value.Fold kind var field)) row)
+    by : (b : Bool) → is_same fold f ≡ b → (has fold fs ≡ true → cell_at (exact_cells fs es) (place_of (is_same fold) fs) ≡ as_one fold.kind (column fold.field es)) → cell_at (exact_cells (f ∷ fs) es) (cond b 0 (suc (place_of (is_same fold) fs))) ≡ as_one fold.kind (column fold.field es)
+    by true e k = sym (ap (λ (x : FieldFold). as_one x.kind (column x.field es)) (same_is fold f e))
+    by false e k = k (sym (ap (λ b. cond b true (has fold fs)) e) ∙ h)
+
+-- the part of a key that has a name
+part_exact : (name : List ℕ) (names : List (List ℕ)) (q : Key) → length q ≡ length names → part_at q (place_of (bytes_eq name) names) ≡ value_at name (zip names q)
+part_exact name [] [] l = refl
+part_exact name [] (p ∷ q) l = absurd (omega (arith, l))
+part_exact name (n ∷ names) [] l = absurd (omega (arith, l))
+part_exact name (n ∷ names) (p ∷ q) l = by (bytes_eq name n) (part_exact name names q (omega (arith, l)))
+  where
+    by : (b : Bool) → part_at q (place_of (bytes_eq name) names) ≡ value_at name (zip names q) →
+        part_at (p ∷ q) (cond b 0 (suc (place_of (bytes_eq name) names))) ≡ unwrap_or (cond b (Some p) (field_named name (zip names q))) nothing
+    by true h = refl
+    by false h = h
+
+-- QUOTIENTS FIT
+
+negative_within : (n : ℕ) → n < 2 ^ 127 → is_within (neg_ℤ (pos n)) ≡ true
+negative_within zero l = refl
+negative_within (suc n) l = lt-ltb n (2 ^ 127) (omega (arith, l))
+
+quotient_within : (m n : ℤ) → unsigned_abs m < 2 ^ 127 → is_within (int_div m n) ≡ true
+quotient_within (pos m) (pos n) l = lt-ltb (m / n) (2 ^ 127) (omega (arith, div-le_self m n, l))
+quotient_within (pos m) (negsuc n) l = negative_within (m / suc n) (omega (arith, div-le_self m (suc n), l))
+quotient_within (negsuc m) (pos n) l = negative_within (suc m / n) (omega (arith, div-le_self (suc m) n, l))
+quotient_within (negsuc m) (negsuc n) l = lt-ltb (suc m / suc n) (2 ^ 127) (omega (arith, div-le_self (suc m) (suc n), l))
+
+quotient_exact : (m n : ℤ) → unsigned_abs m < 2 ^ 127 → divided m n ≡ quotient_of m n
+quotient_exact m n l = ap (λ b. if int_eq n (pos 0) then nothing else if b then number (int_div m n) else nothing) (quotient_within m n l)
+
+-- each sum of these entries is below 2^127 in size
+abbrev HaveSmallSums : List Fields → Type 0
+HaveSmallSums es = (name : List ℕ) → unsigned_abs (sum_of (column name es)) < 2 ^ 127
+
+few_small : (es : List Fields) → ((name : List ℕ) → AreWords (column name es)) → length es < 2 ^ 64 → HaveSmallSums es
+few_small es w l = λ name. omega (arith, sum_size (column name es) (w name), length_map (value_at name) es, l)
+
+-- THE ROW
+
+-- the row of exact cells is that of the definition
+module _ (names : List (List ℕ)) (q : Key) (es : List Fields) (folds : List FieldFold) (long : length q ≡ length names) (small : HaveSmallSums es) where
+  value_exact : (v : FoldValue) → HasNeeded folds v → value_from q (exact_cells folds es) (source_of names folds v) ≡ member_value names q es v
+  value_exact (value.Key name) h = part_exact name names q long
+  value_exact (value.Fold kind var field) h = cell_exact (fold_by kind field) folds es h
+  value_exact (value.Quotient var field by_var divisor) h =
+      ap (λ v. divided (addend v) (addend (cell_at (exact_cells folds es) (fold_place kind.Sum divisor folds)))) (cell_exact (fold_by kind.Sum field) folds es h.0)
+      ∙ ap (λ v. divided (sum_of (column field es)) (addend v)) (cell_exact (fold_by kind.Sum divisor) folds es h.1)
+      ∙ quotient_exact (sum_of (column field es)) (sum_of (column divisor es)) (small field)
+
+  row_exact : (row : Fields) (ms : List FoldMember) → HasAllNeeded folds ms → row_from q (exact_cells folds es) row (map (field_of names folds) ms) ≡ row_with names q es row ms
+  row_exact row [] h = refl
+  row_exact row (m ∷ ms) h =
+      ap (λ v. row_from q (exact_cells folds es) (put m.name v row) (map (field_of names folds) ms)) (value_exact m.value h.0)
+      ∙ row_exact (put m.name (member_value names q es m.value) row) ms h.1
 
 -- MAPS FROM KEYS, VALUE BY VALUE
 
@@ -168,7 +221,7 @@ module _ {V : Type 0} (query : ReduceQuery) (f : V → Fields) where
   keyed at es = map (λ (e : List ℕ × V). (key_in query.key f e.1, at (key_in query.key f e.1))) es
 
   -- the rows of the definition are those made of what each key has, in whatever way
-  remade : {X : Type 0} (at : Key → X) (g : Key → X → Fields) (es : List (List ℕ × V)) → ((q : Key) → g q (at q) ≡ row_of query (all_fields f query.key es) q) →
+  remade : {X : Type 0} (at : Key → X) (g : Key → X → Fields) (es : List (List ℕ × V)) → ((q : Key) → length q ≡ length query.key → g q (at q) ≡ row_of query (all_fields f query.key es) q) →
       map (λ (r : Key × X). g r.0 r.1) (entries (from_entries {R = key_order} (keyed at es))) ≡ reduced query (all_fields f query.key es)
   remade {X} at g es h =
       let pair : Key × X → Key × Fields = λ r. (r.0, g r.0 r.1) in
@@ -178,11 +231,11 @@ module _ {V : Type 0} (query : ReduceQuery) (f : V → Fields) where
     where
       lists : (xs : List (List ℕ × V)) → map {B = Key × Fields} (λ (r : Key × X). (r.0, g r.0 r.1)) (keyed at xs) ≡ map {B = Key × Fields} (λ (e : Fields). (key_of query.key e, row_of query (all_fields f query.key es) (key_of query.key e))) (map f (values_of xs))
       lists [] = refl
-      lists (x ∷ xs) = λ i. (key_of query.key (f x.1), h (key_of query.key (f x.1)) i) ∷ lists xs i
+      lists (x ∷ xs) = λ i. (key_of query.key (f x.1), h (key_of query.key (f x.1)) (length_map (λ name. value_at name (f x.1)) query.key) i) ∷ lists xs i
 
   module _ (fold : RowFold) (es : List (List ℕ × V)) (folds : fold.fields ≡ folds_of query.members) (all_words : HaveWords (fields_of f es)) (few : (q : Key) → length (of_group key_order (key_in query.key f) q es) < 2 ^ 64) where
-    made : (q : Key) → row_from query.key q [] query.members (cells_at fold es q) ≡ row_of query (all_fields f query.key es) q
-    made q =
+    made : (q : Key) → length q ≡ length query.key → row_from q (cells_at fold es q) [] (plan_of query) ≡ row_of query (all_fields f query.key es) q
+    made q long =
         let part = values_of (of_group key_order (key_in query.key f) q es) in
         let mine = group query.key q (all_fields f query.key es) in
         let small : length mine < 2 ^ 64 = subst (λ n. n < 2 ^ 64) (sym (ap length (sym (group_is f query.key q es)) ∙ length_map f part ∙ length_map (λ (e : List ℕ × V). e.1) (of_group key_order (key_in query.key f) q es))) (few q) in
@@ -191,16 +244,17 @@ module _ {V : Type 0} (query : ReduceQuery) (f : V → Fields) where
         ∙ ap (fold_of (cells.row_of fold.fields) (no_row fold.fields) merged_row) (group_is f query.key q es)
         ∙ ap (λ fs. fold_of (cells.row_of fs) (no_row fs) merged_row mine) folds
         ∙ cells_exact (folds_of query.members) mine (λ name. group_words f query.key name q es all_words) small in
-        ap (row_from query.key q [] query.members) is ∙ row_exact query.key q mine [] query.members
+        ap (λ cs. row_from q cs [] (plan_of query)) is
+        ∙ row_exact query.key q mine (folds_of query.members) long (few_small mine (λ name. group_words f query.key name q es all_words) small) [] query.members (needed_folded query.members)
 
-    pub rows_made : map (λ (r : Key × List Cell). row_from query.key r.0 [] query.members r.1) (entries (cells_by_key fold es)) ≡ reduced query (all_fields f query.key es)
-    rows_made = remade (cells_at fold es) (λ q cs. row_from query.key q [] query.members cs) es made
+    pub rows_made : map (λ (r : Key × List Cell). row_from r.0 r.1 [] (plan_of query)) (entries (cells_by_key fold es)) ≡ reduced query (all_fields f query.key es)
+    rows_made = remade (cells_at fold es) (λ q cs. row_from q cs [] (plan_of query)) es made
 
   -- there are as many rows as keys
   pub as_many : (fold : RowFold) (es : List (List ℕ × V)) → length (entries (cells_by_key fold es)) ≡ length (reduced query (all_fields f query.key es))
   as_many fold es =
       sym (length_map (λ (r : Key × List Cell). row_of query (all_fields f query.key es) r.0) (entries (cells_by_key fold es)))
-      ∙ ap length (remade (cells_at fold es) (λ q cs. row_of query (all_fields f query.key es) q) es (λ q. refl))
+      ∙ ap length (remade (cells_at fold es) (λ q cs. row_of query (all_fields f query.key es) q) es (λ q long. refl))
 
 -- THE ENTRIES OF THE TREES
 
@@ -210,15 +264,15 @@ module _ {V : Type 0} (query : ReduceQuery) (f : V → Fields) (fold : RowFold) 
       ap values (gathered key_order keys_total f (key_in query.key f) is.all trees is.rising rises is.grouped)
       ∙ values-by_folded (fields_of f is.all) (fields_rising f is.all is.rising) ∙ fields_values f is.all
 
-  pub rows_are : (f2 : RowFold) → AreSound f2 trees → map (λ (r : Key × List Cell). row_from query.key r.0 [] query.members r.1) (entries (cells_by_key query f fold is.all)) ≡ reduced query (values (entries_in f trees))
+  pub rows_are : (f2 : RowFold) → AreSound f2 trees → map (λ (r : Key × List Cell). row_from r.0 r.1 [] (plan_of query)) (entries (cells_by_key query f fold is.all)) ≡ reduced query (values (entries_in f trees))
   rows_are f2 sound =
       rows_made query f fold is.all is.folds is.words (λ q. subst (λ xs. length xs < 2 ^ 64) (is.grouped q) (few_at key_order f2 q trees sound)) ∙ ap (reduced query) (sym entries_are)
 
   pub row_is_at : (f2 : RowFold) → AreSound f2 trees → (place : ℕ) (r : Option (Key × List Cell)) → r ≡ slice_get (entries (cells_by_key query f fold is.all)) place
-      → option_map (λ (r : Key × List Cell). row_from query.key r.0 [] query.members r.1) r ≡ slice_get (reduced query (values (entries_in f trees))) place
+      → option_map (λ (r : Key × List Cell). row_from r.0 r.1 [] (plan_of query)) r ≡ slice_get (reduced query (values (entries_in f trees))) place
   row_is_at f2 sound place r e =
-      ap (option_map (λ (r : Key × List Cell). row_from query.key r.0 [] query.members r.1)) e
-      ∙ sym (got_mapped (λ (r : Key × List Cell). row_from query.key r.0 [] query.members r.1) (entries (cells_by_key query f fold is.all)) place) ∙ ap (λ (rows : List Fields). slice_get rows place) (rows_are f2 sound)
+      ap (option_map (λ (r : Key × List Cell). row_from r.0 r.1 [] (plan_of query))) e
+      ∙ sym (got_mapped (λ (r : Key × List Cell). row_from r.0 r.1 [] (plan_of query)) (entries (cells_by_key query f fold is.all)) place) ∙ ap (λ (rows : List Fields). slice_get rows place) (rows_are f2 sound)
 
   -- each tree gives a row
   pub count_is : (f2 : RowFold) → AreSound f2 trees → length trees ≡ length (reduced query (values (entries_in f trees)))

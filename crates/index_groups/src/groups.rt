@@ -8,7 +8,8 @@ ghost use Rattle.index_groups.specs.Groups.{AreNew, AreSmall, AreThere, HaveWord
 ghost use Rattle.index_groups.specs.Trees.{insertion, removal};
 
 use crate::key::{GroupKey, key_of};
-use crate::query::{copied, folds_of};
+use crate::plan::{RowField, folds_of, plan_of};
+use crate::query::copied;
 use crate::row::{row_of, rows_of};
 use index_tree::ReduceQuery;
 use map_stage::Entry;
@@ -27,6 +28,7 @@ use std::sync::ledger::Ledger;
 /// did not change.
 pub struct IndexGroups<E: HasFields> {
     query: Shared<ReduceQuery>,
+    plan: Shared<Sequence<RowField>>,
     groups: Groups<GroupKey, Id, E, RowFold>,
 }
 
@@ -35,6 +37,7 @@ impl<E: HasFields + Drop> Drop for IndexGroups<E> {
     fn drop(self) {
         let IndexGroups {
             query: _query,
+            plan: _plan,
             groups: _groups,
         } = self;
     }
@@ -47,11 +50,13 @@ impl<E: HasFields> Model for IndexGroups<E> {
 
     ghost coded = { grouped_code };
 
+    ghost use Rattle.std.specs.Prelude.{◌≡◌};
+    ghost use Rattle.index_groups.specs.Cells.{plan_of};
     ghost use Rattle.index_groups.specs.Trees.{AreIndexed, entries_in};
 
     ghost view = { λ a. record { query = a.query; entries = entries_in E.fields a.groups.trees } };
 
-    ghost invariant = { λ a. AreIndexed a.query E.fields a.groups.fold a.groups.trees };
+    ghost invariant = { λ a. (a.plan ≡ plan_of a.query) × AreIndexed a.query E.fields a.groups.fold a.groups.trees };
 }
 
 /// A clone shares all groups, and takes no memory.
@@ -61,6 +66,7 @@ impl<E: HasFields + Drop> Clone for IndexGroups<E> {
     fn clone(&self) -> Result<IndexGroups<E>, AllocError> {
         Ok(IndexGroups {
             query: self.query.clone()?,
+            plan: self.plan.clone()?,
             groups: self.groups.clone()?,
         })
     }
@@ -104,11 +110,15 @@ impl<E: HasFields + Exact + Drop> IndexGroups<E> {
     pub fn new(alloc: Global, query: &ReduceQuery) -> Result<IndexGroups<E>, NoMemory>
         ensures { IfOk result (λ groups. groups ≡ record { query = query.now; entries = empty }) }
     {
-        let fields = folds_of(alloc, query.members.as_slice())?;
+        let names = query.key.as_slice();
+        let members = query.members.as_slice();
+        let fields = folds_of(alloc, members)?;
+        let plan = plan_of(alloc, names, fields.as_slice(), members)?;
         let fold = Shared::of(alloc, RowFold { fields })?;
         let copy = copied(alloc, query)?;
         Ok(IndexGroups {
             query: Shared::of(alloc, copy)?,
+            plan: Shared::of(alloc, plan)?,
             groups: Groups::new(alloc, fold)?,
         })
     }
@@ -143,6 +153,7 @@ impl<E: HasFields + Exact + Drop> IndexGroups<E> {
         let _after = groups.len();
         Ok(IndexGroups {
             query: self.query.clone()?,
+            plan: self.plan.clone()?,
             groups,
         })
     }
@@ -154,7 +165,8 @@ impl<E: HasFields + Exact + Drop> IndexGroups<E> {
         let groups = self.groups.rows(alloc)?;
         // The proof needs it: the entries of a group can be counted, so sums are exact.
         let _groups = self.groups.len();
-        Ok(rows_of(alloc, self.query.get(), groups)?)
+        let plan = self.plan.get().as_slice();
+        Ok(rows_of(alloc, plan, groups)?)
     }
 }
 
@@ -176,7 +188,8 @@ impl<E: HasFields> IndexGroups<E> {
         let _groups = self.groups.len();
         match self.groups.nth(place) {
             Some((key, cells)) => {
-                let row = row_of(alloc, self.query.get(), key, cells.as_slice())?;
+                let plan = self.plan.get().as_slice();
+                let row = row_of(alloc, plan, key, cells.as_slice())?;
                 Ok(Some(row))
             }
             None => Ok(None),

@@ -3,6 +3,7 @@
 
 mod groups;
 mod key;
+mod plan;
 mod query;
 mod row;
 

@@ -1,10 +1,8 @@
 //! What a reduce says, as groups keep it.
 ghost use Rattle.std.specs.Prelude.{◌≡◌, IfOk};
-ghost use Rattle.index_groups.specs.Cells.{folds_of};
 
 use index_tree::{FoldMember, FoldMembers, FoldValue, ReduceQuery};
-use raven_base::{NoMemory, Sequence};
-use reduce_folds::FieldFold;
+use raven_base::NoMemory;
 use std::alloc::Global;
 
 fn copied_value(value: &FoldValue) -> Result<FoldValue, NoMemory>
@@ -16,6 +14,17 @@ fn copied_value(value: &FoldValue) -> Result<FoldValue, NoMemory>
             kind: *kind,
             var: var.clone()?,
             field: field.clone()?,
+        },
+        FoldValue::Quotient {
+            var,
+            field,
+            by_var,
+            by,
+        } => FoldValue::Quotient {
+            var: var.clone()?,
+            field: field.clone()?,
+            by_var: by_var.clone()?,
+            by: by.clone()?,
         },
     })
 }
@@ -49,22 +58,4 @@ pub fn copied(alloc: Global, query: &ReduceQuery) -> Result<ReduceQuery, NoMemor
         key: query.key.clone()?,
         members: copied_members(alloc, query.members.as_slice())?,
     })
-}
-
-/// The folds among the members, in the order of these.
-#[tactic(auto, using(crate::proofs::Folds::folds))]
-pub fn folds_of(alloc: Global, members: &[FoldMember]) -> Result<Sequence<FieldFold>, NoMemory>
-    ensures { IfOk result (λ folds. folds ≡ folds_of members.now) }
-{
-    let mut folds = Sequence::new(alloc);
-    for member in members {
-        match &member.value {
-            FoldValue::Key(_) => {}
-            FoldValue::Fold { kind, field, .. } => folds.push(FieldFold {
-                kind: *kind,
-                field: field.clone()?,
-            })?,
-        }
-    }
-    Ok(folds)
 }

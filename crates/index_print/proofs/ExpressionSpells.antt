@@ -18,7 +18,7 @@ use Rattle.index_grammar.specs.Expressions.{Rule, Whole, Level, Post, Primary, S
 use Rattle.index_print.specs.Print.{sign, mark, is_compound, in_parentheses_if, printed, operand, quoted}
 use Rattle.index_print.specs.Spellable.{IsSpellable, IsVariable, IsApart}
 use Rattle.index_print.proofs.Digits.{digits}
-use Rattle.index_print.proofs.Prefixes.{Next, IsAlone, word_next, number_next, quoted_next, open_next, close_next, point_next, dash_next, bang_next, comma_next, question_next, colon_next, between_gaps, double_between_gaps}
+use Rattle.index_print.proofs.Prefixes.{Next, IsAlone, word_next, number_next, quoted_next, open_next, close_next, point_next, dash_next, bang_next, comma_next, question_next, colon_next, slash_next, between_gaps, double_between_gaps}
 
 -- The tokens of the first bytes up to those of the second, at some places, are these.
 pub record After (X : Tokens → Tokens → Type 0) (place : ℕ) (s r : List ℕ) : Type 0 where
@@ -84,7 +84,7 @@ sign_next b.AtLeast = double_between_gaps 62 61 t.AtLeast (refl, refl, λ e. ome
 sign_next b.Plus = between_gaps 43 t.Plus (refl, refl, λ e. omega arith, refl) refl refl
 sign_next b.Minus = between_gaps 45 t.Dash (refl, refl, λ e. omega arith, refl) refl refl
 sign_next b.Times = between_gaps 42 t.Star (refl, refl, λ e. omega arith, refl) refl refl
-sign_next b.Over = between_gaps 47 t.Slash (refl, refl, λ e. omega arith, refl) refl refl
+sign_next b.Over = slash_next
 sign_next b.Rest = between_gaps 37 t.Percent (refl, refl, λ e. omega arith, refl) refl refl
 
 -- ---- operands

@@ -164,6 +164,9 @@ question_next = between_gaps 63 t.Question (refl, refl, λ e. omega arith, refl)
 pub colon_next : (place : ℕ) (s : List ℕ) → Next t.Colon place (32 ∷ 58 ∷ 32 ∷ s) s
 colon_next = between_gaps 58 t.Colon (refl, refl, λ e. omega arith, refl) refl refl
 
+pub slash_next : (place : ℕ) (s : List ℕ) → Next t.Slash place (32 ∷ 47 ∷ 32 ∷ s) s
+slash_next = between_gaps 47 t.Slash (refl, refl, λ e. omega arith, refl) refl refl
+
 pub assign_next : (place : ℕ) (s : List ℕ) → Next t.Assign place (32 ∷ 61 ∷ 32 ∷ s) s
 assign_next = between_gaps 61 t.Assign (refl, refl, λ e. omega arith, refl) refl refl
 

@@ -7,7 +7,7 @@ use Rattle.index_tokens.specs.declared.token.Token.{Token}
 use Rattle.index_tokens.specs.declared.token.Token.TheVariants as t
 use Rattle.index_tokens.specs.declared.token.Placed.{Placed}
 use Rattle.index_tokens.specs.Tokens.{placed, tokens_from, tokens_of}
-use Rattle.index_tokens.specs.Words.{Tokens}
+use Rattle.index_tokens.specs.Words.{Tokens, variable}
 use Rattle.index_tokens.specs.Reads.{Kind}
 use Rattle.index_tokens.proofs.WordLemmas.{is_variable}
 use Rattle.index_tree.specs.declared.reduce_query.FoldKind.{FoldKind}
@@ -22,13 +22,13 @@ use Rattle.reduce_grammar.specs.declared.spelled.PlacedFold.{PlacedFold}
 use Rattle.reduce_grammar.specs.declared.spelled.SpelledReduce.{SpelledReduce}
 use Rattle.reduce_grammar.specs.Limits.{limit}
 use Rattle.reduce_grammar.specs.ReduceReading.{reduce_text}
-use Rattle.reduce_grammar.specs.Reduces.{SpellsSource, source, SpellsPart, SpellsParts, first_part, next_part, spelled_key, SpellsKey, alone, in_braces, parts_of, SpellsGroup, group, fold_of, SpellsValue, whole_key, placed_fold, SpellsFold, named, SpellsFolds, last, more, spelled_reduce, SpellsReduce, reduce}
+use Rattle.reduce_grammar.specs.Reduces.{SpellsSource, source, SpellsPart, SpellsParts, first_part, next_part, spelled_key, SpellsKey, alone, in_braces, parts_of, SpellsGroup, group, fold_of, SpellsSum, sum, SpellsValue, whole_key, placed_fold, SpellsFold, named, SpellsFolds, last, more, spelled_reduce, SpellsReduce, reduce}
 use Rattle.reduce_grammar.specs.Reduces as grammar
 use Rattle.reduce_grammar.proofs.ReduceMeets.{reduce_meets}
-use Rattle.index_print.specs.Print.{part, key, listed, fold_name, fold_value, fold_member, grouping, printed_reduce}
+use Rattle.index_print.specs.Print.{part, key, listed, fold_name, fold, fold_value, fold_member, grouping, printed_reduce}
 use Rattle.index_print.specs.ReadBack.{reduce_of, ReadsBackReduce}
 use Rattle.index_print.specs.Spellable.{IsName, IsVariable, IsKeyPart, IsSpellableValue, IsSpellableFold, IsSpellableReduce, Each, HasSome, IsApart}
-use Rattle.index_print.proofs.Prefixes.{Next, word_next, word_gap, gap_word_gap, open_next, close_next, point_next, comma_next, assign_next, brace_gap, close_brace_next, double_between_gaps}
+use Rattle.index_print.proofs.Prefixes.{Next, word_next, word_gap, gap_word_gap, open_next, close_next, point_next, comma_next, slash_next, assign_next, brace_gap, close_brace_next, double_between_gaps}
 use Rattle.index_print.proofs.ExpressionSpells.{After, up_to}
 
 -- the token, and then these
@@ -183,8 +183,25 @@ fold_text g word var field s = simp append_assoc
 arrow_next : (place : ℕ) (s : List ℕ) → Next t.Arrow place (codes " => " ++ s) s
 arrow_next = double_between_gaps 61 62 t.Arrow (refl, refl, λ e. omega arith, refl) refl
 
-fold_spelled : (g : List ℕ) (names : List (List ℕ)) (kind : FoldKind) (var field : List ℕ) → IsVariable g → IsVariable var → IsName field → PrintsValue g names (f.Fold kind var field)
-fold_spelled g names kind var field h v n place s apart =
+-- where the tokens of a fold begin
+record FoldTokens (g : List ℕ) (kind : FoldKind) (var field : List ℕ) (place : ℕ) (s : List ℕ) : Type 0 where
+  group_start : ℕ
+  point_start : ℕ
+  word_start : ℕ
+  open_start : ℕ
+  var_start : ℕ
+  arrow_start : ℕ
+  entry_start : ℕ
+  inner_start : ℕ
+  field_start : ℕ
+  close_start : ℕ
+  behind : ℕ
+  is : tokens_from place 0 ((g ++ fold kind var field) ++ s)
+      ≡ placed group_start (t.Word g) ∷ placed point_start t.Point ∷ placed word_start (t.Word (fold_name kind)) ∷ placed open_start t.Open ∷ placed var_start (t.Word var) ∷ placed arrow_start t.Arrow
+      ∷ placed entry_start (t.Word var) ∷ placed inner_start t.Point ∷ placed field_start (t.Word field) ∷ placed close_start t.Close ∷ tokens_from behind 0 s
+
+fold_tokens : (g : List ℕ) (kind : FoldKind) (var field : List ℕ) → IsVariable g → IsVariable var → IsName field → (place : ℕ) (s : List ℕ) → FoldTokens g kind var field place s
+fold_tokens g kind var field h v n place s =
     let last_part = part var field ++ (41 ∷ s) in
     let inner = var ++ (codes " => " ++ last_part) in
     let a = word_next g h.0 place (46 ∷ (fold_name kind ++ (40 ∷ inner))) refl in
@@ -198,13 +215,63 @@ fold_spelled g names kind var field h v n place s apart =
     let tail : tokens_from arrow.behind 0 last_part
     ≡ placed e.first_start (t.Word var) ∷ placed e.point_start t.Point ∷ placed e.last_start (t.Word field) ∷ placed close.start t.Close ∷ tokens_from close.behind 0 s =
     e.is ∙ ap (λ z. placed e.first_start (t.Word var) ∷ placed e.point_start t.Point ∷ placed e.last_start (t.Word field) ∷ z) close.is in
-    let tokens = then (t.Word g) place _ _ a _ (then t.Point a.behind _ _ p _ (then (t.Word (fold_name kind)) p.behind _ _ w _ (then t.Open w.behind _ _ o _ (
-    then (t.Word var) o.behind _ _ x _ (then t.Arrow x.behind _ _ arrow _ tail))))) in
     record {
+      group_start = a.start;
+      point_start = p.start;
+      word_start = w.start;
+      open_start = o.start;
+      var_start = x.start;
+      arrow_start = arrow.start;
+      entry_start = e.first_start;
+      inner_start = e.point_start;
+      field_start = e.last_start;
+      close_start = close.start;
       behind = close.behind;
-      spells = subst (λ z. SpellsValue g (form_of names) (tokens_from place 0 z) (f.Fold kind var field) (tokens_from close.behind 0 s)) (fold_text g (fold_name kind) var field s)
-          (subst (λ z. SpellsValue g (form_of names) z (f.Fold kind var field) (tokens_from close.behind 0 s)) (sym tokens)
-          (grammar.fold refl refl (fold_is kind w.start) refl (is_variable (placed x.start (t.Word var)) var refl v.1) refl (is_variable (placed e.first_start (t.Word var)) var refl v.1) refl refl refl));
+      is = ap (tokens_from place 0) (sym (fold_text g (fold_name kind) var field s)) ∙ then (t.Word g) place _ _ a _ (then t.Point a.behind _ _ p _ (then (t.Word (fold_name kind)) p.behind _ _ w _ (
+          then t.Open w.behind _ _ o _ (then (t.Word var) o.behind _ _ x _ (then t.Arrow x.behind _ _ arrow _ tail)))));
+    }
+
+variable_at : (start : ℕ) (v : List ℕ) → IsVariable v → variable (placed start (t.Word v)) ≡ Some v
+variable_at start v h = is_variable (placed start (t.Word v)) v refl h.1
+
+fold_spelled : (g : List ℕ) (names : List (List ℕ)) (kind : FoldKind) (var field : List ℕ) → IsVariable g → IsVariable var → IsName field → PrintsValue g names (f.Fold kind var field)
+fold_spelled g names kind var field h v n place s apart =
+    let w = fold_tokens g kind var field h v n place s in
+    record {
+      behind = w.behind;
+      spells = subst (λ z. SpellsValue g (form_of names) z (f.Fold kind var field) (tokens_from w.behind 0 s)) (sym w.is)
+          (grammar.fold refl refl (fold_is kind w.word_start) refl (variable_at w.var_start var v) refl (variable_at w.entry_start var v) refl refl refl);
+    }
+
+sum_spelled : (g var field : List ℕ) → IsVariable g → IsVariable var → IsName field → (place : ℕ) (s : List ℕ)
+    → After (λ m r. SpellsSum g m (var, field) r) place ((g ++ fold k.Sum var field) ++ s) s
+sum_spelled g var field h v n place s =
+    let w = fold_tokens g k.Sum var field h v n place s in
+    record {
+      behind = w.behind;
+      spells = subst (λ z. SpellsSum g z (var, field) (tokens_from w.behind 0 s)) (sym w.is)
+          (sum refl refl refl refl (variable_at w.var_start var v) refl (variable_at w.entry_start var v) refl refl refl);
+    }
+
+quotient_text : (g first second s : List ℕ) → (g ++ first) ++ (codes " / " ++ ((g ++ second) ++ s)) ≡ (g ++ (first ++ (codes " / " ++ (g ++ second)))) ++ s
+quotient_text g first second s = simp append_assoc
+
+quotient_spelled : (g : List ℕ) (names : List (List ℕ)) (var field by_var by : List ℕ) → IsVariable g → IsVariable var → IsName field → IsVariable by_var → IsName by
+    → PrintsValue g names (f.Quotient var field by_var by)
+quotient_spelled g names var field by_var by h v n by_v by_n place s apart =
+    let divisor = (g ++ fold k.Sum by_var by) ++ s in
+    let w = fold_tokens g k.Sum var field h v n place (codes " / " ++ divisor) in
+    let slash = slash_next w.behind divisor in
+    let second = sum_spelled g by_var by h by_v by_n slash.behind s in
+    let tokens = w.is
+    ∙ ap (λ z. placed w.group_start (t.Word g) ∷ placed w.point_start t.Point ∷ placed w.word_start (t.Word (fold_name k.Sum)) ∷ placed w.open_start t.Open ∷ placed w.var_start (t.Word var)
+    ∷ placed w.arrow_start t.Arrow ∷ placed w.entry_start (t.Word var) ∷ placed w.inner_start t.Point ∷ placed w.field_start (t.Word field) ∷ placed w.close_start t.Close ∷ z) slash.is in
+    record {
+      behind = second.behind;
+      spells = subst (λ z. SpellsValue g (form_of names) (tokens_from place 0 z) (f.Quotient var field by_var by) (tokens_from second.behind 0 s))
+          (quotient_text g (fold k.Sum var field) (fold k.Sum by_var by) s)
+          (subst (λ z. SpellsValue g (form_of names) z (f.Quotient var field by_var by) (tokens_from second.behind 0 s)) (sym tokens)
+          (grammar.quotient refl refl refl refl (variable_at w.var_start var v) refl (variable_at w.entry_start var v) refl refl refl refl second.spells));
     }
 
 whole_text : (g s : List ℕ) → g ++ (46 ∷ (codes "Key" ++ s)) ≡ (g ++ codes ".Key") ++ s
@@ -248,6 +315,7 @@ key_part_spelled g name (a ∷ b ∷ names) h some is = one_of_spelled g name a 
 value_spelled : (g : List ℕ) (names : List (List ℕ)) (a : FoldValue) → IsVariable g → HasSome names → IsSpellableValue names a → PrintsValue g names a
 value_spelled g names (f.Key name) h some is = key_part_spelled g name names h some is
 value_spelled g names (f.Fold kind var field) h some is = fold_spelled g names kind var field h is.0 is.1
+value_spelled g names (f.Quotient var field by_var by) h some is = quotient_spelled g names var field by_var by h is.0 is.1 is.2 is.3
 
 -- ---- members
 

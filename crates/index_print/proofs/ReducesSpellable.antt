@@ -10,7 +10,7 @@ use Rattle.reduce_grammar.specs.declared.spelled.KeyForm.TheVariants as forms
 use Rattle.reduce_grammar.specs.declared.spelled.PlacedFold.{PlacedFold}
 use Rattle.reduce_grammar.specs.declared.spelled.SpelledKey.{SpelledKey}
 use Rattle.reduce_grammar.specs.declared.spelled.SpelledReduce.{SpelledReduce}
-use Rattle.reduce_grammar.specs.Reduces.{SpellsSource, source, SpellsPart, part, SpellsParts, first_part, next_part, SpellsKey, alone, in_braces, only, only_part, parts_of, SpellsGroup, group, SpellsValue, whole_key, key_part, fold, SpellsFold, named, bare, SpellsFolds, last, last_comma, more, SpellsReduce, reduce}
+use Rattle.reduce_grammar.specs.Reduces.{SpellsSource, source, SpellsPart, part, SpellsParts, first_part, next_part, SpellsKey, alone, in_braces, only, only_part, parts_of, SpellsGroup, group, SpellsSum, sum, SpellsValue, whole_key, key_part, fold, quotient, SpellsFold, named, bare, SpellsFolds, last, last_comma, more, SpellsReduce, reduce}
 use Rattle.index_print.specs.ReadBack.{reduce_of}
 use Rattle.index_print.specs.Spellable.{IsName, IsVariable, IsKeyPart, NamesPart, IsSpellableValue, IsSpellableFold, IsSpellableReduce, Each, HasSome}
 use Rattle.index_print.proofs.TokensSound.{AllSound, all_sound}
@@ -58,11 +58,18 @@ named_part [] n is h = is
 named_part (a ∷ []) n is h = h
 named_part (a ∷ b ∷ names) n is h = is
 
+sum_spellable : {g : List ℕ} {s r : Tokens} {a : List ℕ × List ℕ} → SpellsSum g s a r → AllSound s → (IsVariable a.0 × IsName a.1) × AllSound r
+sum_spellable (sum {y = y} {u = u} {v = v} {n = n} x p f o is a w q called c) h =
+    ((variable_sound y v is h.1.1.1.1.0, name_sound u n called h.1.1.1.1.1.1.1.1.0), h.1.1.1.1.1.1.1.1.1.1)
+
 value_spellable : {g : List ℕ} {form : KeyForm} {s r : Tokens} {a : FoldValue} → SpellsValue g form s a r → AllSound s → NamesPart (parts_of form) a → IsSpellableValue (parts_of form) a × AllSound r
 value_spellable {form = form} (whole_key {n = n} x p k is) h names = (whole_part form n is, h.1.1.1)
 value_spellable {form = form} (key_part {y = y} {n = n} x p k is q called) h names = (named_part (parts_of form) n (name_sound y n called h.1.1.1.1.0) names, h.1.1.1.1.1)
 value_spellable (fold {y = y} {u = u} {v = v} {n = n} x p kind o is a w q called c) h names =
     ((variable_sound y v is h.1.1.1.1.0, name_sound u n called h.1.1.1.1.1.1.1.1.0), h.1.1.1.1.1.1.1.1.1.1)
+value_spellable (quotient {y = y} {u = u} {v = v} {n = n} x p k o is a w q called c d second) h names =
+    let by = sum_spellable second h.1.1.1.1.1.1.1.1.1.1.1 in
+    ((variable_sound y v is h.1.1.1.1.0, name_sound u n called h.1.1.1.1.1.1.1.1.0, by.0.0, by.0.1), by.1)
 
 -- ---- members
 

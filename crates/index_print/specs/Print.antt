@@ -138,6 +138,7 @@ fold kind var field = codes "." ++ (fold_name kind ++ (codes "(" ++ (var ++ (cod
 abbrev pub fold_value : List ℕ → List (List ℕ) → FoldValue → List ℕ
 fold_value group names (f.Key name) = group ++ key_part names name
 fold_value group names (f.Fold kind var field) = group ++ fold kind var field
+fold_value group names (f.Quotient var field by_var by) = group ++ (fold k.Sum var field ++ (codes " / " ++ (group ++ fold k.Sum by_var by)))
 
 abbrev pub fold_member : List ℕ → List (List ℕ) → FoldMember → List ℕ
 fold_member group names m = m.name ++ (codes " = " ++ fold_value group names m.value)

@@ -79,6 +79,7 @@ NamesPart names value = Unit {0}
 abbrev pub IsSpellableValue : List (List ℕ) → FoldValue → Type 0
 IsSpellableValue names (f.Key name) = IsKeyPart names name
 IsSpellableValue names (f.Fold kind var field) = IsVariable var × IsName field
+IsSpellableValue names (f.Quotient var field by_var by) = IsVariable var × IsName field × IsVariable by_var × IsName by
 
 abbrev pub IsSpellableFold : List (List ℕ) → FoldMember → Type 0
 IsSpellableFold names m = IsName m.name × IsSpellableValue names m.value

@@ -100,6 +100,17 @@ fn add_value(
     match value {
         FoldValue::Key(name) => add_key_part(out, names, name.as_str()),
         FoldValue::Fold { kind, var, field } => add_fold(out, *kind, var.as_str(), field.as_str()),
+        FoldValue::Quotient {
+            var,
+            field,
+            by_var,
+            by,
+        } => {
+            add_fold(out, FoldKind::Sum, var.as_str(), field.as_str())?;
+            add(out, " / ")?;
+            add(out, group)?;
+            add_fold(out, FoldKind::Sum, by_var.as_str(), by.as_str())
+        }
     }
 }
 

@@ -19,6 +19,7 @@ same_is t.Assign t.Assign e = refl
 same_is t.Arrow t.Arrow e = refl
 same_is t.Question t.Question e = refl
 same_is t.Colon t.Colon e = refl
+same_is t.Slash t.Slash e = refl
 same_is t.End t.End e = refl
 same_is _ _ e = cc
 

@@ -33,6 +33,7 @@ same_token t.Assign t.Assign = true
 same_token t.Arrow t.Arrow = true
 same_token t.Question t.Question = true
 same_token t.Colon t.Colon = true
+same_token t.Slash t.Slash = true
 same_token t.End t.End = true
 same_token _ _ = false
 

@@ -70,20 +70,31 @@ kind_back kind.Max = refl
 abbrev pub kind_code : Coded FoldKind
 kind_code = code_by ℕ coded_ℕ kind_number number_kind kind_back
 
-abbrev value_parts : FoldValue → List ℕ ⊎ (FoldKind × (List ℕ × List ℕ))
-value_parts (fold.Key part) = inl part
-value_parts (fold.Fold kind name field) = inr (kind, (name, field))
+-- the name of an entry in a sum, and the field that is summed
+abbrev pub Summed : Type 0
+Summed = List ℕ × List ℕ
 
-abbrev parts_value : List ℕ ⊎ (FoldKind × (List ℕ × List ℕ)) → FoldValue
+abbrev value_parts : FoldValue → List ℕ ⊎ ((FoldKind × Summed) ⊎ (Summed × Summed))
+value_parts (fold.Key part) = inl part
+value_parts (fold.Fold kind name field) = inr (inl (kind, (name, field)))
+value_parts (fold.Quotient name field by_name by) = inr (inr ((name, field), (by_name, by)))
+
+abbrev parts_value : List ℕ ⊎ ((FoldKind × Summed) ⊎ (Summed × Summed)) → FoldValue
 parts_value (inl part) = fold.Key part
-parts_value (inr p) = fold.Fold p.0 p.1.0 p.1.1
+parts_value (inr (inl p)) = fold.Fold p.0 p.1.0 p.1.1
+parts_value (inr (inr p)) = fold.Quotient p.0.0 p.0.1 p.1.0 p.1.1
 
 pub value_back : (v : FoldValue) → parts_value (value_parts v) ≡ v
 value_back (fold.Key part) = refl
 value_back (fold.Fold kind name field) = refl
+value_back (fold.Quotient name field by_name by) = refl
+
+abbrev pub summed_code : Coded Summed
+summed_code = coded× text_code text_code
 
 abbrev pub value_code : Coded FoldValue
-value_code = code_by (List ℕ ⊎ (FoldKind × (List ℕ × List ℕ))) (coded⊎ text_code (coded× kind_code (coded× text_code text_code))) value_parts parts_value value_back
+value_code = code_by (List ℕ ⊎ ((FoldKind × Summed) ⊎ (Summed × Summed))) (coded⊎ text_code (coded⊎ (coded× kind_code summed_code) (coded× summed_code summed_code)))
+    value_parts parts_value value_back
 
 abbrev pub fold_code : Coded FoldMember
 fold_code = code_by (List ℕ × FoldValue) (coded× text_code value_code) (λ m. (m.name, m.value)) (λ p. record { name = p.0; value = p.1 }) (λ _. refl)

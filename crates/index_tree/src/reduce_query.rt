@@ -23,6 +23,13 @@ pub enum FoldValue {
         var: Text,
         field: Text,
     },
+    /// The sum of a field of the entries, divided by that of another one. `var` and `by_var` are the names that an entry has in the two sums.
+    Quotient {
+        var: Text,
+        field: Text,
+        by_var: Text,
+        by: Text,
+    },
 }
 
 // Opaque drop: see raven_base.
@@ -34,6 +41,12 @@ impl Drop for FoldValue {
                 kind: _kind,
                 var: _var,
                 field: _field,
+            } => {}
+            FoldValue::Quotient {
+                var: _var,
+                field: _field,
+                by_var: _by_var,
+                by: _by,
             } => {}
         }
     }

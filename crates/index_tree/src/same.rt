@@ -125,6 +125,20 @@ impl SameAs for FoldValue {
                     field: a_field,
                 },
             ) => *kind == *a_kind && *var == *a_var && *field == *a_field,
+            (
+                FoldValue::Quotient {
+                    var,
+                    field,
+                    by_var,
+                    by,
+                },
+                FoldValue::Quotient {
+                    var: a_var,
+                    field: a_field,
+                    by_var: a_by_var,
+                    by: a_by,
+                },
+            ) => *var == *a_var && *field == *a_field && *by_var == *a_by_var && *by == *a_by,
             _ => false,
         }
     }

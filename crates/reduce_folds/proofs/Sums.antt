@@ -14,7 +14,7 @@ use Rattle.index_tree.specs.declared.reduce_query.FoldKind.TheVariants as kind
 use Rattle.reduce_tree.specs.Folding.{fold_of}
 use Rattle.reduce_folds.specs.declared.field_fold.FieldFold.{FieldFold}
 use Rattle.reduce_folds.specs.Cells.{Cell, cell_of, lifted, merged_cell, merged_row, no_cell, no_row, no_value, row_of}
-use Rattle.reduce_folds.specs.Exact.{AreWords}
+use Rattle.reduce_folds.specs.Exact.{AreWords, sizes}
 use Rattle.reduce_folds.specs.CellLaws.{zero_fits}
 use Rattle.spec_index.specs.Folds.{addend, as_one, greatest_of, least_of, sum_of}
 use Rattle.spec_index.specs.Rows.{column, value_at}
@@ -82,3 +82,20 @@ pub exact_fold : (fold : FieldFold) (entries : List Fields) → AreWords (column
 exact_fold fold entries a l =
     let few : length (column fold.field entries) < 18446744073709551616 = omega (arith, length-map entries (value_at fold.field), l) in
     fold_is fold entries ∙ ap (λ v. (fold.kind, v)) (exact fold.kind (column fold.field entries) a few)
+
+abs_sizes : (vs : List Scalar) → unsigned_abs (sum_of vs) ≤ sizes vs
+abs_sizes [] = omega arith
+abs_sizes (v ∷ vs) = let r = abs_sizes vs in omega (arith, r, abs_add (addend v) (sum_of vs))
+
+within : (k : FoldKind) (vs : List Scalar) → sizes vs < 170141183460469231731687303715884105728 → wrapped k vs ≡ as_one k vs
+within kind.Sum vs l = ap number (int_wrap_fits w128 (sum_of vs) (fits_signed_from_abs w128 (sum_of vs) (omega (arith, abs_sizes vs, l))))
+within kind.Min vs l = refl
+within kind.Max vs l = refl
+
+pub exact_sums : (fold : FieldFold) (entries : List Fields) → sizes (column fold.field entries) < 2 ^ 127 →
+    fold_of (cell_of fold) (no_cell fold) merged_cell entries ≡ (fold.kind, as_one fold.kind (column fold.field entries))
+exact_sums fold entries l = fold_is fold entries ∙ ap (λ v. (fold.kind, v)) (within fold.kind (column fold.field entries) l)
+
+-- a sum of numbers of 64 bits is no greater than as many of the greatest
+pub sum_size : (vs : List Scalar) → AreWords vs → unsigned_abs (sum_of vs) ≤ length vs * 9223372036854775808
+sum_size = abs_sum

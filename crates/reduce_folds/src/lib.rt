@@ -11,5 +11,9 @@ mod values;
 pub use cell::Cell;
 pub use field_fold::FieldFold;
 pub use fields::HasFields;
-pub use laws::{order_changes_no_row, parts_give_the_whole, rows_are_folds, sums_are_exact};
+pub use laws::{
+    order_changes_no_row, parts_give_the_whole, rows_are_folds, sums_are_exact, sums_are_small,
+    sums_of_sums_are_exact,
+};
 pub use row_fold::{Cells, RowFold};
+pub use values::addend;

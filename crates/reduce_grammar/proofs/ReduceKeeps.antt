@@ -21,7 +21,7 @@ use Rattle.reduce_grammar.specs.declared.spelled.KeyForm.{KeyForm}
 use Rattle.reduce_grammar.specs.declared.spelled.KeyForm.TheVariants as forms
 use Rattle.reduce_grammar.specs.declared.spelled.PlacedFold.{PlacedFold}
 use Rattle.reduce_grammar.specs.Limits.{most_members}
-use Rattle.reduce_grammar.specs.Reduces.{SpellsSource, SpellsPart, SpellsParts, SpellsKey, SpellsGroup, SpellsValue, SpellsFold, SpellsFolds, SpellsReduce, spelled_key, in_new, only, word_key, fold_of, placed_fold, spelled_reduce}
+use Rattle.reduce_grammar.specs.Reduces.{SpellsSource, SpellsPart, SpellsParts, SpellsKey, SpellsGroup, SpellsSum, SpellsValue, SpellsFold, SpellsFolds, SpellsReduce, spelled_key, in_new, only, word_key, word_sum, fold_of, placed_fold, spelled_reduce}
 use Rattle.reduce_grammar.specs.Reduces as grammar
 use Rattle.reduce_grammar.specs.ReduceReading as read
 
@@ -98,6 +98,12 @@ group_keeps = the_keeps word_into refl (λ i i_is. variable_keeps _ (λ x g x_is
 
 -- ---- values
 
+sum_keeps : (g : List ℕ) → Keeps (SpellsSum g) (read.sum g)
+unfolding read.sum read.divisor
+sum_keeps g = the_keeps (t.Word g) (word_same g) (λ x x_is. the_keeps t.Point refl (λ p p_is. the_keeps word_sum refl (λ f f_is. the_keeps t.Open refl (λ o o_is.
+    variable_keeps _ (λ y v y_is. the_keeps t.Arrow refl (λ a a_is. variable_keeps _ (λ z w z_is. the_keeps t.Point refl (λ q q_is.
+    name_keeps _ (λ u n u_is. the_keeps t.Close refl (λ c c_is. pure_keeps (λ r. grammar.sum x_is p_is f_is o_is y_is a_is z_is q_is u_is c_is)))))))))))
+
 module _ (g : List ℕ) (x p : Placed) (x_is : Is (t.Word g) x) (p_is : Is t.Point p) where
   -- behind `Key`
   module _ (ns : List (List ℕ)) (k : Placed) (k_is : Is word_key k) where
@@ -125,10 +131,39 @@ module _ (g : List ℕ) (x p : Placed) (x_is : Is (t.Word g) x) (p_is : Is t.Poi
   key_value_keeps (forms.New ns) k k_is = in_new_keeps ns k k_is
 
   module _ (form : KeyForm) where
-    fold_keeps : (f : Placed) (kind : FoldKind) → fold_of f ≡ Some kind → Keeps (λ m b r. SpellsValue g form (x ∷ p ∷ f ∷ m) b r) (read.fold kind)
+    -- behind the parenthesis of a fold
+    module _ (f o y a z q u c : Placed) (v w n : List ℕ) (o_is : Is t.Open o) (y_is : variable y ≡ Some v) (a_is : Is t.Arrow a) (z_is : variable z ≡ Some w) (q_is : Is t.Point q)
+        (u_is : name u ≡ Some n) (c_is : Is t.Close c) where
+      abbrev InFold : Tokens → FoldValue → Tokens → Type 0
+      InFold m b r = SpellsValue g form (x ∷ p ∷ f ∷ o ∷ y ∷ a ∷ z ∷ q ∷ u ∷ c ∷ m) b r
+
+      module _ (f_is : fold_of f ≡ Some kinds.Sum) where
+        over_short : Goes InFold []
+        over_short = record { more = []; tree = values.Fold kinds.Sum v n; spells = λ r. grammar.fold x_is p_is f_is o_is y_is a_is z_is q_is u_is c_is }
+
+        divided_keeps : (d : Placed) → Is t.Slash d → Keeps (λ m b r. InFold (d ∷ m) b r) (read.divided g v n)
+        unfolding read.divided
+        divided_keeps d d_is = bind_keeps (λ by. pure (values.Quotient v n by.0 by.1)) (sum_keeps g)
+            (λ by. pure_keeps (λ r s e. grammar.quotient x_is p_is f_is o_is y_is a_is z_is q_is u_is c_is d_is e))
+
+        over_token : (d : Placed) (k : Option (Unit {0})) → the t.Slash d ≡ k → (m : ℕ) (s : Tokens) → Fits InFold (read.over_as g v n k) m (d ∷ s) (read.over_as g v n k m (d ∷ s))
+        over_token d (Some k) is m s = skip_at InFold (read.divided g v n) d (divided_keeps d (taken_is t.Slash d k is)) m s
+        over_token d None is m s = pure_at {X = InFold} (λ r. grammar.fold x_is p_is f_is o_is y_is a_is z_is q_is u_is c_is) m _
+
+        over_keeps : Keeps InFold (choose (read.over_by g v n))
+        over_keeps = choose_keeps InFold (read.over_by g v n) over_short (λ m. pure_at {X = InFold} (λ r. grammar.fold x_is p_is f_is o_is y_is a_is z_is q_is u_is c_is) m [])
+            (λ d. over_token d (the t.Slash d) refl)
+
+      folded_keeps : (kind : FoldKind) → fold_of f ≡ Some kind → Keeps InFold (read.folded g kind v n)
+      unfolding read.folded
+      folded_keeps kinds.Sum f_is = over_keeps f_is
+      folded_keeps kinds.Min f_is = pure_keeps (λ r. grammar.fold x_is p_is f_is o_is y_is a_is z_is q_is u_is c_is)
+      folded_keeps kinds.Max f_is = pure_keeps (λ r. grammar.fold x_is p_is f_is o_is y_is a_is z_is q_is u_is c_is)
+
+    fold_keeps : (f : Placed) (kind : FoldKind) → fold_of f ≡ Some kind → Keeps (λ m b r. SpellsValue g form (x ∷ p ∷ f ∷ m) b r) (read.fold g kind)
     unfolding read.fold
     fold_keeps f kind f_is = the_keeps t.Open refl (λ o o_is. variable_keeps _ (λ y v y_is. the_keeps t.Arrow refl (λ a a_is. variable_keeps _ (λ z w z_is. the_keeps t.Point refl (λ q q_is.
-        name_keeps _ (λ u n u_is. the_keeps t.Close refl (λ c c_is. pure_keeps (λ r. grammar.fold x_is p_is f_is o_is y_is a_is z_is q_is u_is c_is))))))))
+        name_keeps _ (λ u n u_is. the_keeps t.Close refl (λ c c_is. folded_keeps f o y a z q u c v w n o_is y_is a_is z_is q_is u_is c_is kind f_is)))))))
 
     abbrev InGroup : Tokens → FoldValue → Tokens → Type 0
     InGroup m b r = SpellsValue g form (x ∷ p ∷ m) b r
@@ -140,17 +175,17 @@ module _ (g : List ℕ) (x p : Placed) (x_is : Is (t.Word g) x) (p_is : Is t.Poi
       spells = λ z. grammar.fold x_is p_is refl refl refl refl refl refl refl refl;
     }
 
-    fold_token : (f : Placed) (o : Option FoldKind) → fold_of f ≡ o → (c : ℕ) (s : Tokens) → Fits InGroup (read.fold_value_as o) c (f ∷ s) (read.fold_value_as o c (f ∷ s))
-    fold_token f (Some kind) is c s = skip_at InGroup (read.fold kind) f (fold_keeps f kind is) c s
+    fold_token : (f : Placed) (o : Option FoldKind) → fold_of f ≡ o → (c : ℕ) (s : Tokens) → Fits InGroup (read.fold_value_as g o) c (f ∷ s) (read.fold_value_as g o c (f ∷ s))
+    fold_token f (Some kind) is c s = skip_at InGroup (read.fold g kind) f (fold_keeps f kind is) c s
     fold_token f None is c s = refuse_at {X = InGroup} tt group_value_short c _
 
-    value_token : (k : Placed) (o : Option (Unit {0})) → the word_key k ≡ o → (c : ℕ) (s : Tokens) → Fits InGroup (read.value_as form k o) c (k ∷ s) (read.value_as form k o c (k ∷ s))
+    value_token : (k : Placed) (o : Option (Unit {0})) → the word_key k ≡ o → (c : ℕ) (s : Tokens) → Fits InGroup (read.value_as g form k o) c (k ∷ s) (read.value_as g form k o c (k ∷ s))
     value_token k (Some v) is c s = skip_at InGroup (read.key_value form) k (key_value_keeps form k (taken_is word_key k v is)) c s
     value_token k None is c s = fold_token k (fold_of k) refl c s
 
-    group_value_keeps : Keeps InGroup (read.group_value form)
+    group_value_keeps : Keeps InGroup (read.group_value g form)
     unfolding read.group_value
-    group_value_keeps = choose_keeps InGroup (read.value_by form) group_value_short (λ c. refuse_at {X = InGroup} tt group_value_short c []) (λ k. value_token k (the word_key k) refl)
+    group_value_keeps = choose_keeps InGroup (read.value_by g form) group_value_short (λ c. refuse_at {X = InGroup} tt group_value_short c []) (λ k. value_token k (the word_key k) refl)
 
 -- ---- whether the members end
 

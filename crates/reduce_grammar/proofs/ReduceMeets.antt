@@ -10,6 +10,8 @@ use Rattle.index_tokens.specs.declared.token.Placed.{Placed}
 use Rattle.index_tokens.specs.Reads.{Kind, Reads}
 use Rattle.index_tokens.specs.Words.{Tokens, Is, the, name, name_as, variable_as, word_new}
 use Rattle.index_tokens.proofs.WordLemmas.{not_taken, word_same}
+use Rattle.index_tree.specs.declared.reduce_query.FoldKind.{FoldKind}
+use Rattle.index_tree.specs.declared.reduce_query.FoldKind.TheVariants as kinds
 use Rattle.index_tree.specs.declared.reduce_query.FoldValue.{FoldValue}
 use Rattle.index_tree.specs.declared.reduce_query.FoldValue.TheVariants as values
 use Rattle.reduce_grammar.specs.declared.spelled.KeyForm.{KeyForm}
@@ -18,7 +20,7 @@ use Rattle.reduce_grammar.specs.declared.spelled.SpelledKey.{SpelledKey}
 use Rattle.reduce_grammar.specs.declared.spelled.PlacedFold.{PlacedFold}
 use Rattle.reduce_grammar.specs.declared.spelled.SpelledReduce.{SpelledReduce}
 use Rattle.reduce_grammar.specs.Limits.{most_members, folds_verdict, limit}
-use Rattle.reduce_grammar.specs.Reduces.{SpellsSource, source, SpellsPart, part, SpellsParts, first_part, next_part, SpellsKey, alone, in_braces, SpellsGroup, group, SpellsValue, whole_key, key_part, fold, SpellsFold, named, bare, SpellsFolds, last, last_comma, more, SpellsReduce, reduce}
+use Rattle.reduce_grammar.specs.Reduces.{SpellsSource, source, SpellsPart, part, SpellsParts, first_part, next_part, SpellsKey, alone, in_braces, SpellsGroup, group, SpellsSum, sum, SpellsValue, whole_key, key_part, fold, quotient, SpellsFold, named, bare, SpellsFolds, last, last_comma, more, SpellsReduce, reduce}
 use Rattle.reduce_grammar.specs.Reduces.{spelled_key, in_new, only, only_part, word_key, fold_as, placed_fold, spelled_reduce}
 use Rattle.reduce_grammar.specs.ReduceReading as read
 use Rattle.reduce_grammar.proofs.ReduceKeeps.{Behind, parts_turn}
@@ -62,32 +64,52 @@ key_reads (in_braces {r = r} {x = x} {q = q} {ns = ns} x_is b_is d q_is) c = rw 
 
 -- ---- members
 
--- no point goes on with a member
-abbrev Stops : Tokens → Type 0
-Stops r = (ns : List (List ℕ)) → read.key_part_by ns (head r) ≡ read.no_part_as (only ns)
+-- no point and no sign of a quotient goes on with a member
+record Stops (r : Tokens) : Type 0 where
+  pub part : (ns : List (List ℕ)) → read.key_part_by ns (head r) ≡ read.no_part_as (only ns)
+  pub over : (g v n : List ℕ) → read.over_by g v n (head r) ≡ pure (values.Fold kinds.Sum v n)
 
 comma_stops : (k : Placed) (m : Tokens) → Is t.Comma k → Stops (k ∷ m)
-comma_stops k m is ns = rw is refl
+comma_stops k m is = record { part = λ ns. rw is refl; over = λ g v n. rw is refl }
 
 brace_stops : (k : Placed) (m : Tokens) → Is t.CloseBrace k → Stops (k ∷ m)
-brace_stops k m is ns = rw is refl
+brace_stops k m is = record { part = λ ns. rw is refl; over = λ g v n. rw is refl }
 
 whole_key_reads : (form : KeyForm) (n : List ℕ) (r : Tokens) (c : ℕ) → only_part form ≡ Some n → Stops r → read.key_value form c r ≡ Read (values.Key n) c r
 unfolding read.key_value
 whole_key_reads (forms.Alone m) n r c is stops = ap (λ o. read.no_part_as o c r) is
-whole_key_reads (forms.New ns) n r c is stops = ap (λ p. p c r) (stops ns) ∙ ap (λ o. read.no_part_as o c r) is
+whole_key_reads (forms.New ns) n r c is stops = ap (λ p. p c r) (stops.part ns) ∙ ap (λ o. read.no_part_as o c r) is
 
 key_part_reads : (form : KeyForm) (q y : Placed) (n : List ℕ) (r : Tokens) (c : ℕ) → in_new form ≡ true → Is t.Point q → name y ≡ Some n → read.key_value form c (q ∷ y ∷ r) ≡ Read (values.Key n) c r
 unfolding read.key_value read.key_part
 key_part_reads (forms.Alone m) q y n r c new q_is y_is = cc
 key_part_reads (forms.New ns) q y n r c new q_is y_is = rw (q_is, y_is) refl
 
+sum_reads : (g : List ℕ) {s r : Tokens} {by : List ℕ × List ℕ} → SpellsSum g s by r → (c : ℕ) → read.sum g c s ≡ Read by c r
+unfolding read.sum read.divisor
+sum_reads g (sum x p f o y a z q u e) c = rw (x, word_same g, p, f, o, y, a, z, q, u, e) refl
+
+-- behind the parenthesis of a fold
+folded_reads : (g : List ℕ) (kind : FoldKind) (v n : List ℕ) (r : Tokens) → Stops r → (c : ℕ) → read.folded g kind v n c r ≡ Read (values.Fold kind v n) c r
+unfolding read.folded
+folded_reads g kinds.Sum v n r stops c = ap (λ p. p c r) (stops.over g v n)
+folded_reads g kinds.Min v n r stops c = refl
+folded_reads g kinds.Max v n r stops c = refl
+
+divided_reads : (g : List ℕ) {s r : Tokens} {by : List ℕ × List ℕ} (v n : List ℕ) (d : Placed) → Is t.Slash d → SpellsSum g s by r → (c : ℕ) →
+    read.folded g kinds.Sum v n c (d ∷ s) ≡ Read (values.Quotient v n by.0 by.1) c r
+unfolding read.folded read.divided
+divided_reads g v n d d_is x c = rw d_is (ap (λ o. and_then o (λ by. pure (values.Quotient v n by.0 by.1))) (sum_reads g x c))
+
 module _ (g : List ℕ) (form : KeyForm) where
   value_reads : {s r : Tokens} {a : FoldValue} → SpellsValue g form s a r → Stops r → (c : ℕ) → read.value g form c s ≡ Read a c r
   unfolding read.value read.group_value read.fold
   value_reads (whole_key {r = r} {n = n} x p k one) stops c = rw (x, word_same g, p, k) (whole_key_reads form n r c one stops)
   value_reads (key_part {r = r} {q = q} {y = y} {n = n} x p k new q_is y_is) stops c = rw (x, word_same g, p, k) (key_part_reads form q y n r c new q_is y_is)
-  value_reads (fold {f = f} {kind = kind} x p f_is o y a z q u e) stops c = rw (x, word_same g, p, not_taken word_key fold_as refl f kind f_is, f_is, o, y, a, z, q, u, e) refl
+  value_reads (fold {r = r} {f = f} {kind = kind} {v = v} {n = n} x p f_is o y a z q u e) stops c =
+      rw (x, word_same g, p, not_taken word_key fold_as refl f kind f_is, f_is, o, y, a, z, q, u, e) (folded_reads g kind v n r stops c)
+  value_reads (quotient {f = f} {d = d} {v = v} {n = n} x p f_is o y a z q u e d_is by) stops c =
+      rw (x, word_same g, p, not_taken word_key fold_as refl f kinds.Sum f_is, f_is, o, y, a, z, q, u, e) (divided_reads g v n d d_is by c)
 
   member_reads : {s r : Tokens} {a : PlacedFold} → SpellsFold g form s a r → Stops r → (c : ℕ) → read.member g form c s ≡ Read a c r
   unfolding read.member read.behind read.named read.bare

@@ -14,7 +14,7 @@ most_members = 64
 
 -- A member for which there is no room is too large at its first token. A key has as many parts as it likes.
 -- The other limits of the language are never reached here: of parts that are open within one another a member has at most the `(` of its fold,
--- which is one of 64, and it has at most two points, of 256.
+-- which is one of 64, and it has at most four points and one binary operator, of 256.
 abbrev pub folds_verdict : {g : List ℕ} {form : KeyForm} {s r : Tokens} {all : List PlacedFold} → SpellsFolds g form s all r → (room count : ℕ) → Verdict Placed Kind
 folds_verdict (last {s = s} x is) room n = opens tt room s (λ room. Fine n)
 folds_verdict (last_comma {s = s} x is also) room n = opens tt room s (λ room. Fine n)

@@ -6,6 +6,7 @@ use Rattle.index_tokens.specs.declared.token.Placed.{Placed}
 use Rattle.index_tokens.specs.Reads.{Kind, Reads}
 use Rattle.index_tokens.specs.Words.{the, name, variable, word_from, word_in, word_results, word_group, word_by, word_into, word_select, word_new}
 use Rattle.index_tree.specs.declared.reduce_query.FoldKind.{FoldKind}
+use Rattle.index_tree.specs.declared.reduce_query.FoldKind.TheVariants as kinds
 use Rattle.index_tree.specs.declared.reduce_query.FoldValue.{FoldValue}
 use Rattle.index_tree.specs.declared.reduce_query.FoldValue.TheVariants as values
 use Rattle.reduce_grammar.specs.declared.spelled.KeyForm.{KeyForm}
@@ -14,7 +15,7 @@ use Rattle.reduce_grammar.specs.declared.spelled.SpelledKey.{SpelledKey}
 use Rattle.reduce_grammar.specs.declared.spelled.PlacedFold.{PlacedFold}
 use Rattle.reduce_grammar.specs.declared.spelled.SpelledReduce.{SpelledReduce}
 use Rattle.reduce_grammar.specs.Limits.{most_members}
-use Rattle.reduce_grammar.specs.Reduces.{spelled_key, in_new, only, word_key, fold_of, placed_fold, spelled_reduce}
+use Rattle.reduce_grammar.specs.Reduces.{spelled_key, in_new, only, word_key, word_sum, fold_of, placed_fold, spelled_reduce}
 
 -- ---- which entries
 
@@ -90,29 +91,56 @@ unfoldable pub key_value : KeyForm → Reads FoldValue
 key_value (forms.Alone n) = pure (values.Key n)
 key_value (forms.New ns) = choose (key_part_by ns)
 
--- what follows the word of a fold
-unfoldable pub fold : FoldKind → Reads FoldValue
-fold kind = take tt (the t.Open) >>= λ _. take tt variable >>= λ v. take tt (the t.Arrow) >>= λ _. take tt variable >>= λ _. take tt (the t.Point) >>= λ _.
-    take tt name >>= λ n. take tt (the t.Close) >>= λ _. pure (values.Fold kind v n)
+-- what follows the word of a sum by which another one is divided
+unfoldable pub divisor : Reads (List ℕ × List ℕ)
+divisor = take tt (the t.Open) >>= λ _. take tt variable >>= λ v. take tt (the t.Arrow) >>= λ _. take tt variable >>= λ _. take tt (the t.Point) >>= λ _.
+    take tt name >>= λ n. take tt (the t.Close) >>= λ _. pure (v, n)
 
-abbrev pub fold_value_as : Option FoldKind → Reads FoldValue
-fold_value_as (Some kind) = skip >> fold kind
-fold_value_as None = refuse tt
+module _ (g : List ℕ) where
+  -- what follows the sign of a quotient
+  unfoldable pub sum : Reads (List ℕ × List ℕ)
+  sum = take tt (the (t.Word g)) >>= λ _. take tt (the t.Point) >>= λ _. take tt (the word_sum) >>= λ _. divisor
 
-abbrev pub value_as : KeyForm → Placed → Option (Unit {0}) → Reads FoldValue
-value_as form x (Some v) = skip >> key_value form
-value_as form x None = fold_value_as (fold_of x)
+  unfoldable pub divided : List ℕ → List ℕ → Reads FoldValue
+  divided v n = sum >>= λ by. pure (values.Quotient v n by.0 by.1)
 
-abbrev pub value_by : KeyForm → Option Placed → Reads FoldValue
-value_by form (Some x) = value_as form x (the word_key x)
-value_by form None = refuse tt
+  abbrev pub over_as : List ℕ → List ℕ → Option (Unit {0}) → Reads FoldValue
+  over_as v n (Some x) = skip >> divided v n
+  over_as v n None = pure (values.Fold kinds.Sum v n)
 
--- what follows a group and its point
-unfoldable pub group_value : KeyForm → Reads FoldValue
-group_value form = choose (value_by form)
+  abbrev pub over_by : List ℕ → List ℕ → Option Placed → Reads FoldValue
+  over_by v n (Some x) = over_as v n (the t.Slash x)
+  over_by v n None = pure (values.Fold kinds.Sum v n)
 
-unfoldable pub value : List ℕ → KeyForm → Reads FoldValue
-value g form = take tt (the (t.Word g)) >>= λ _. take tt (the t.Point) >>= λ _. group_value form
+  -- what follows the parenthesis of a fold: a sum may be divided by another one
+  unfoldable pub folded : FoldKind → List ℕ → List ℕ → Reads FoldValue
+  folded kinds.Sum v n = choose (over_by v n)
+  folded kinds.Min v n = pure (values.Fold kinds.Min v n)
+  folded kinds.Max v n = pure (values.Fold kinds.Max v n)
+
+  -- what follows the word of a fold
+  unfoldable pub fold : FoldKind → Reads FoldValue
+  fold kind = take tt (the t.Open) >>= λ _. take tt variable >>= λ v. take tt (the t.Arrow) >>= λ _. take tt variable >>= λ _. take tt (the t.Point) >>= λ _.
+      take tt name >>= λ n. take tt (the t.Close) >>= λ _. folded kind v n
+
+  abbrev pub fold_value_as : Option FoldKind → Reads FoldValue
+  fold_value_as (Some kind) = skip >> fold kind
+  fold_value_as None = refuse tt
+
+  abbrev pub value_as : KeyForm → Placed → Option (Unit {0}) → Reads FoldValue
+  value_as form x (Some v) = skip >> key_value form
+  value_as form x None = fold_value_as (fold_of x)
+
+  abbrev pub value_by : KeyForm → Option Placed → Reads FoldValue
+  value_by form (Some x) = value_as form x (the word_key x)
+  value_by form None = refuse tt
+
+  -- what follows a group and its point
+  unfoldable pub group_value : KeyForm → Reads FoldValue
+  group_value form = choose (value_by form)
+
+  unfoldable pub value : KeyForm → Reads FoldValue
+  value form = take tt (the (t.Word g)) >>= λ _. take tt (the t.Point) >>= λ _. group_value form
 
 -- ---- members
 

@@ -73,9 +73,12 @@ pub data SpellsGroup : Tokens → List ℕ → Tokens → Type 0 where
 
 -- ---- members
 
--- a word that only follows a group and a point, and is no reserved one
+-- words that only follow a group and a point, and are no reserved ones
 abbrev pub word_key : Token
 word_key = t.Word (codes "Key")
+
+abbrev pub word_sum : Token
+word_sum = t.Word (codes "Sum")
 
 abbrev pub fold_word : List ℕ → Option FoldKind
 fold_word w =
@@ -91,7 +94,15 @@ fold_as _ = None
 abbrev pub fold_of : Placed → Option FoldKind
 fold_of x = fold_as x.token
 
--- value = g "." "Key" [ "." name ] | g "." fold "(" var "=>" var "." name ")", where g is the name of a group, and no other name
+-- sum = g "." "Sum" folded
+-- The sum by which another one is divided: the name of an entry in it, and the field.
+pub data SpellsSum (g : List ℕ) : Tokens → List ℕ × List ℕ → Tokens → Type 0 where
+  sum : {r : Tokens} {x p f o y a z q u c : Placed} {v w n : List ℕ} →
+      Is (t.Word g) x → Is t.Point p → Is word_sum f → Is t.Open o → variable y ≡ Some v → Is t.Arrow a → variable z ≡ Some w → Is t.Point q → name u ≡ Some n → Is t.Close c →
+      SpellsSum g (x ∷ p ∷ f ∷ o ∷ y ∷ a ∷ z ∷ q ∷ u ∷ c ∷ r) (v, n) r
+
+-- value = g "." "Key" [ "." name ] | g "." fold folded | g "." "Sum" folded "/" g "." "Sum" folded, where g is the name of a group, and no other name
+-- folded = "(" var "=>" var "." name ")"
 -- `Key` with no name after it means a key of one part, and `Key` with a name for one in `new { }`. Whether the key has a part of that name,
 -- and whether both variables of a fold are the same, is not decided here.
 pub data SpellsValue (g : List ℕ) (form : KeyForm) : Tokens → FoldValue → Tokens → Type 0 where
@@ -102,6 +113,10 @@ pub data SpellsValue (g : List ℕ) (form : KeyForm) : Tokens → FoldValue → 
   fold : {r : Tokens} {x p f o y a z q u c : Placed} {kind : FoldKind} {v w n : List ℕ} →
       Is (t.Word g) x → Is t.Point p → fold_of f ≡ Some kind → Is t.Open o → variable y ≡ Some v → Is t.Arrow a → variable z ≡ Some w → Is t.Point q → name u ≡ Some n → Is t.Close c →
       SpellsValue g form (x ∷ p ∷ f ∷ o ∷ y ∷ a ∷ z ∷ q ∷ u ∷ c ∷ r) (values.Fold kind v n) r
+  quotient : {s r : Tokens} {x p f o y a z q u c d : Placed} {v w n : List ℕ} {by : List ℕ × List ℕ} →
+      Is (t.Word g) x → Is t.Point p → fold_of f ≡ Some kinds.Sum → Is t.Open o → variable y ≡ Some v → Is t.Arrow a → variable z ≡ Some w → Is t.Point q → name u ≡ Some n → Is t.Close c →
+      Is t.Slash d → SpellsSum g s by r →
+      SpellsValue g form (x ∷ p ∷ f ∷ o ∷ y ∷ a ∷ z ∷ q ∷ u ∷ c ∷ d ∷ s) (values.Quotient v n by.0 by.1) r
 
 abbrev pub placed_fold : ℕ → List ℕ → FoldValue → PlacedFold
 placed_fold place n a = record { at = place; member = record { name = n; value = a } }

@@ -45,10 +45,10 @@ fn key_value(tokens: &mut Tokens<'_>, form: &KeyForm) -> Result<FoldValue, Stop>
     }
 }
 
-// What follows the word of a fold.
-#[tactic(auto, unfolding(reduce_grammar::specs::ReduceReading::fold))]
-fn fold(tokens: &mut Tokens<'_>, kind: FoldKind) -> Result<FoldValue, Stop>
-    ensures { Gives (spec.fold kind tokens.old.count tokens.old.rest.now) result tokens.new.count tokens.new.rest.now }
+// What follows the word of a sum by which another one is divided: the name of an entry in it, and the field.
+#[tactic(auto, unfolding(reduce_grammar::specs::ReduceReading::divisor))]
+fn divisor(tokens: &mut Tokens<'_>) -> Result<(Text, Text), Stop>
+    ensures { Gives (spec.divisor tokens.old.count tokens.old.rest.now) result tokens.new.count tokens.new.rest.now }
 {
     tokens.mark(&Token::Open)?;
     let var = tokens.variable()?;
@@ -57,13 +57,84 @@ fn fold(tokens: &mut Tokens<'_>, kind: FoldKind) -> Result<FoldValue, Stop>
     tokens.mark(&Token::Point)?;
     let field = tokens.name()?;
     tokens.mark(&Token::Close)?;
-    Ok(FoldValue::Fold { kind, var, field })
+    Ok((var, field))
+}
+
+// What follows the sign of a quotient.
+#[tactic(auto, unfolding(reduce_grammar::specs::ReduceReading::sum))]
+fn sum(tokens: &mut Tokens<'_>, group: &Text) -> Result<(Text, Text), Stop>
+    ensures { Gives (spec.sum group.now tokens.old.count tokens.old.rest.now) result tokens.new.count tokens.new.rest.now }
+{
+    tokens.word(group.as_str())?;
+    tokens.mark(&Token::Point)?;
+    tokens.word("Sum")?;
+    divisor(tokens)
+}
+
+#[tactic(auto, unfolding(reduce_grammar::specs::ReduceReading::divided))]
+fn divided(tokens: &mut Tokens<'_>, group: &Text, var: Text, field: Text) -> Result<FoldValue, Stop>
+    ensures { Gives (spec.divided group.now var field tokens.old.count tokens.old.rest.now) result tokens.new.count tokens.new.rest.now }
+{
+    let (by_var, by) = sum(tokens, group)?;
+    Ok(FoldValue::Quotient {
+        var,
+        field,
+        by_var,
+        by,
+    })
+}
+
+// What follows the parenthesis of a sum.
+fn over(tokens: &mut Tokens<'_>, group: &Text, var: Text, field: Text) -> Result<FoldValue, Stop>
+    ensures { Gives (choose (spec.over_by group.now var field) tokens.old.count tokens.old.rest.now) result tokens.new.count tokens.new.rest.now }
+{
+    if tokens.pass(&Token::Slash) {
+        return divided(tokens, group, var, field);
+    }
+    Ok(FoldValue::Fold {
+        kind: FoldKind::Sum,
+        var,
+        field,
+    })
+}
+
+// What follows the parenthesis of a fold: a sum may be divided by another one.
+#[tactic(auto, unfolding(reduce_grammar::specs::ReduceReading::folded))]
+fn folded(
+    tokens: &mut Tokens<'_>,
+    group: &Text,
+    kind: FoldKind,
+    var: Text,
+    field: Text,
+) -> Result<FoldValue, Stop>
+    ensures { Gives (spec.folded group.now kind var field tokens.old.count tokens.old.rest.now) result tokens.new.count tokens.new.rest.now }
+{
+    match kind {
+        FoldKind::Sum => over(tokens, group, var, field),
+        FoldKind::Min => Ok(FoldValue::Fold { kind, var, field }),
+        FoldKind::Max => Ok(FoldValue::Fold { kind, var, field }),
+    }
+}
+
+// What follows the word of a fold.
+#[tactic(auto, unfolding(reduce_grammar::specs::ReduceReading::fold))]
+fn fold(tokens: &mut Tokens<'_>, group: &Text, kind: FoldKind) -> Result<FoldValue, Stop>
+    ensures { Gives (spec.fold group.now kind tokens.old.count tokens.old.rest.now) result tokens.new.count tokens.new.rest.now }
+{
+    tokens.mark(&Token::Open)?;
+    let var = tokens.variable()?;
+    tokens.mark(&Token::Arrow)?;
+    tokens.variable()?;
+    tokens.mark(&Token::Point)?;
+    let field = tokens.name()?;
+    tokens.mark(&Token::Close)?;
+    folded(tokens, group, kind, var, field)
 }
 
 // What follows a group and its point.
 #[tactic(auto, unfolding(reduce_grammar::specs::ReduceReading::group_value))]
-fn group_value(tokens: &mut Tokens<'_>, form: &KeyForm) -> Result<FoldValue, Stop>
-    ensures { Gives (spec.group_value form.now tokens.old.count tokens.old.rest.now) result tokens.new.count tokens.new.rest.now }
+fn group_value(tokens: &mut Tokens<'_>, group: &Text, form: &KeyForm) -> Result<FoldValue, Stop>
+    ensures { Gives (spec.group_value group.now form.now tokens.old.count tokens.old.rest.now) result tokens.new.count tokens.new.rest.now }
 {
     let Some((first, rest)) = tokens.rest.split_first() else {
         return Err(Stop::Unexpected);
@@ -75,7 +146,7 @@ fn group_value(tokens: &mut Tokens<'_>, form: &KeyForm) -> Result<FoldValue, Sto
     match fold_of(&first.token) {
         Some(kind) => {
             tokens.rest = rest;
-            fold(tokens, kind)
+            fold(tokens, group, kind)
         }
         None => Err(Stop::Unexpected),
     }
@@ -87,7 +158,7 @@ fn value(tokens: &mut Tokens<'_>, group: &Text, form: &KeyForm) -> Result<FoldVa
 {
     tokens.word(group.as_str())?;
     tokens.mark(&Token::Point)?;
-    group_value(tokens, form)
+    group_value(tokens, group, form)
 }
 
 // What follows a name and `=`.

@@ -8,12 +8,13 @@ use Rattle.std.specs.FinMap.{find, get, values, get-from_entries, same_map}
 use Rattle.spec_data.specs.Rising.{put}
 use Rattle.index_tree.specs.Meaning.{Fields}
 use Rattle.index_tree.specs.declared.reduce_query.FoldKind.{FoldKind}
+use Rattle.index_tree.specs.declared.reduce_query.FoldKind.TheVariants as kind
 use Rattle.index_tree.specs.declared.reduce_query.FoldMember.{FoldMember}
 use Rattle.index_tree.specs.declared.reduce_query.FoldValue.{FoldValue}
 use Rattle.index_tree.specs.declared.reduce_query.FoldValue.TheVariants as value
 use Rattle.index_tree.specs.declared.reduce_query.ReduceQuery.{ReduceQuery}
 use Rattle.spec_index.specs.Rows.{IsReordered, Key, column, group, key_of, key_order, member_value, reduced, row_of, row_with, rows_of, value_at}
-use Rattle.spec_index.specs.Folds.{as_one, both}
+use Rattle.spec_index.specs.Folds.{addend, as_one, both, quotient_of, sum_of}
 use Rattle.spec_index.proofs.Folding.{as_one_parted, as_one_reordered}
 use Rattle.spec_index.proofs.Ties.{key_order-total, key_ties}
 
@@ -58,9 +59,14 @@ any_reordered : {A : Type 0} (p : A → Bool) (xs ys : List A) → IsReordered x
 any_reordered p [] ys e = ap (list_any p) (sym e)
 any_reordered p (x ∷ xs) ys r = ap (λ b. p x || b) (any_reordered p xs (r.0 ++ r.1.0) r.1.1.1) ∙ sym (any_append p r.0 r.1.0 x) ∙ ap (list_any p) (sym r.1.1.0)
 
+sum_reordered : (field : List ℕ) (es fs : List Fields) → IsReordered es fs → sum_of (column field es) ≡ sum_of (column field fs)
+sum_reordered field es fs r = ap addend (as_one_reordered kind.Sum (column field es) (column field fs) (map_reordered (value_at field) es fs r))
+
 value_reordered : (names : List (List ℕ)) (key : Key) (es fs : List Fields) (v : FoldValue) → IsReordered es fs → member_value names key es v ≡ member_value names key fs v
 value_reordered names key es fs (value.Key name) r = refl
 value_reordered names key es fs (value.Fold kind var field) r = as_one_reordered kind (column field es) (column field fs) (map_reordered (value_at field) es fs r)
+value_reordered names key es fs (value.Quotient var field by_var by) r =
+    ap (λ n. quotient_of n (sum_of (column by es))) (sum_reordered field es fs r) ∙ ap (quotient_of (sum_of (column field fs))) (sum_reordered by es fs r)
 
 row_reordered : (names : List (List ℕ)) (key : Key) (es fs : List Fields) (row : Fields) (ms : List FoldMember) → IsReordered es fs → row_with names key es row ms ≡ row_with names key fs row ms
 row_reordered names key es fs row [] r = refl

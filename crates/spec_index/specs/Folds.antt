@@ -1,7 +1,7 @@
 -- Values of a field as one.
-use Rattle.std.specs.Prelude.{ℕ, ℤ, pos, ◌+ℤ◌, List, [], ◌∷◌}
+use Rattle.std.specs.Prelude.{ℕ, ℤ, pos, ◌+ℤ◌, int_div, List, [], ◌∷◌, if◌then◌else◌}
 use Rattle.std.specs.declared.cmp.Ordering.{Ordering}
-use Rattle.std.specs.Ordering.{match_ordering, nat_cmp, ordering_then}
+use Rattle.std.specs.Ordering.{int_eq, match_ordering, nat_cmp, ordering_then}
 use Rattle.spec_data.specs.Scalars.{Scalar, nothing, number, order}
 use Rattle.index_tree.specs.declared.reduce_query.FoldKind.{FoldKind}
 use Rattle.index_tree.specs.declared.reduce_query.FoldKind.TheVariants as kind
@@ -51,3 +51,7 @@ abbrev pub both : FoldKind → Scalar → Scalar → Scalar
 both kind.Sum a b = number (addend a +ℤ addend b)
 both kind.Min a b = first null_last a b
 both kind.Max a b = first backwards a b
+
+-- one sum divided by another, cut towards zero; null if the second is 0
+abbrev pub quotient_of : ℤ → ℤ → Scalar
+quotient_of m n = if int_eq n (pos 0) then nothing else number (int_div m n)

@@ -8,3 +8,4 @@ pub mod Optimiser
 pub mod Folds
 pub mod Rows
 pub mod Reduces
+pub mod Again

@@ -13,7 +13,7 @@ use Rattle.index_tree.specs.declared.reduce_query.FoldMember.{FoldMember}
 use Rattle.index_tree.specs.declared.reduce_query.FoldValue.{FoldValue}
 use Rattle.index_tree.specs.declared.reduce_query.FoldValue.TheVariants as value
 use Rattle.index_tree.specs.declared.reduce_query.ReduceQuery.{ReduceQuery}
-use Rattle.spec_index.specs.Folds.{as_one}
+use Rattle.spec_index.specs.Folds.{as_one, quotient_of, sum_of}
 
 -- the value of that name, null if there is none
 abbrev pub value_at : List ℕ → Fields → Scalar
@@ -41,10 +41,11 @@ group names key entries = filter (λ e. is_eq (key_order key (key_of names e))) 
 abbrev pub column : List ℕ → List Fields → List Scalar
 column name entries = map (value_at name) entries
 
--- a part of the key, or the values of a field of the group's entries as one
+-- a part of the key, the values of a field of the group's entries as one, or the quotient of the sums of two fields
 abbrev pub member_value : List (List ℕ) → Key → List Fields → FoldValue → Scalar
 member_value names key entries (value.Key name) = value_at name (zip names key)
 member_value names key entries (value.Fold kind var field) = as_one kind (column field entries)
+member_value names key entries (value.Quotient var field by_var by) = quotient_of (sum_of (column field entries)) (sum_of (column by entries))
 
 -- each member goes in at its name
 abbrev pub row_with : List (List ℕ) → Key → List Fields → Fields → List FoldMember → Fields

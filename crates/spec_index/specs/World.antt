@@ -1,8 +1,8 @@
 -- A database: its store, its indexes and the notes of their switches.
-use Rattle.std.specs.Prelude.{ℕ, ◌+◌, ◌<◌, List, [], ◌∷◌, ◌++◌, Bool, true, false, not, ◌||◌, nat_lt, nat_le, nat_eq, ◌==◌, if◌then◌else◌, Option, Some, None, is_some, Result, Ok, Err, length, codes, filter, find, map, drop}
+use Rattle.std.specs.Prelude.{ℕ, pos, ◌+◌, ◌<◌, List, [], ◌∷◌, ◌++◌, Bool, true, false, not, ◌||◌, nat_lt, nat_le, nat_eq, ◌==◌, if◌then◌else◌, Option, Some, None, is_some, Result, Ok, Err, length, codes, filter, find, map, drop}
 use Rattle.std.specs.List.{starts_with}
 use Rattle.std.specs.FinMap.{empty}
-use Rattle.spec_data.specs.Data.{Data, null, text, array, object, items_of, entries_of}
+use Rattle.spec_data.specs.Data.{Data, null, num, text, array, object, items_of, entries_of}
 use Rattle.spec_data.specs.Faults.{replacement_of}
 use Rattle.spec_data.specs.Folding.{folded, same_key}
 pub use Rattle.spec_data.specs.Limits.{max_index_name}
@@ -100,7 +100,7 @@ abbrev pub text_or_null : Option (List ℕ) → Data
 text_or_null None = null
 text_or_null (Some t) = text t
 
--- the members that are stored for a definition, and shown of it
+-- the members that say a definition in the body of its row
 abbrev pub definition_members : Definition → List (List ℕ × Data)
 definition_members (Static map reduce map_text reduce_text) =
     (codes "Kind", text (codes "static"))
@@ -119,12 +119,21 @@ definition_members (AutoReduce collection groups sums) =
     ∷ (codes "Sums", path_list sums)
     ∷ []
 
-abbrev pub definition_data : Definition → Data
-definition_data d = object (entries_of (definition_members d))
+-- by which a body says that it is of the second version
+abbrev pub version_member : List ℕ × Data
+version_member = (codes "Version", num (pos 2))
 
--- the body of a definition's row, which puts it into the collection `@indexes`
+-- it puts the row into the collection `@indexes`
+abbrev pub metadata_member : List ℕ × Data
+metadata_member = (codes "@metadata", object (entries_of ((codes "@collection", text (codes "@indexes")) ∷ [])))
+
+-- the body of a definition's row, as it is written
 abbrev pub row_body : Definition → Data
-row_body d = object (entries_of ((codes "@metadata", object (entries_of ((codes "@collection", text (codes "@indexes")) ∷ []))) ∷ definition_members d))
+row_body d = object (entries_of (metadata_member ∷ (definition_members d ++ version_member ∷ [])))
+
+-- the body of the first version, which says none. It was written before there were quotients.
+abbrev pub first_body : Definition → Data
+first_body d = object (entries_of (metadata_member ∷ definition_members d))
 
 -- the slots and notes after a request, the commands that the server commits with them, and the slot's name as it is spelled
 pub record SlotChange : Type 0 where

@@ -20,6 +20,7 @@ pub fn same_mark(mark: &Token, token: &Token) -> bool
         | (Token::Arrow, Token::Arrow)
         | (Token::Question, Token::Question)
         | (Token::Colon, Token::Colon)
+        | (Token::Slash, Token::Slash)
         | (Token::End, Token::End) => true,
         (Token::Word(word), Token::Word(other)) => word == other,
         _ => false,

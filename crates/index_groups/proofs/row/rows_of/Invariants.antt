@@ -3,4 +3,4 @@ use Rattle.index_groups.specs.Cells.{row_from}
 use Rattle.index_groups.proofs.row.rows_of.Given as goal
 
 abbrev pub invariant-loop-group : goal.invariant-loop-group
-invariant-loop-group l = l.rows ≡ map (λ g. row_from l.query.key g.0 [] l.query.members g.1) l.yielded
+invariant-loop-group l = l.rows ≡ map (λ g. row_from g.0 g.1 [] l.plan) l.yielded

@@ -8,5 +8,5 @@ use Rattle.index_groups.proofs.groups.IndexGroups.len.Goals as goal
 pub returns : goal.returns
 returns g c =
     c.len.ensures.count
-    ∙ count_is c.self.inside.query g.E.HasFields.fields c.self.inside.groups.fold c.self.inside.groups.trees c.self.invariant c.len.ensures.rising c.self.inside.groups.fold c.len.ensures.sound
+    ∙ count_is c.self.inside.query g.E.HasFields.fields c.self.inside.groups.fold c.self.inside.groups.trees c.self.invariant.1 c.len.ensures.rising c.self.inside.groups.fold c.len.ensures.sound
     ∙ ap (λ (x : Grouped). length (reduced x.query (values x.entries))) c.self.view_is
