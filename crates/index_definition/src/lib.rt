@@ -16,5 +16,5 @@ pub use order::{MAX_FIELD_BYTES, MAX_FIELDS, OrderedPaths, in_order};
 pub use paths::{COUNT_NAME, joined_name, shape_names, sum_name};
 pub use reading::{fields, same, scope};
 pub use refusal::{LangKind, LangRefusal, Part};
-pub use rows::{definition_value, row_body};
+pub use rows::row_body;
 pub use shape::Shape;

@@ -1,4 +1,4 @@
-//! What is kept of a definition, and shown of it.
+//! What is kept of a definition.
 ghost use Rattle.std.specs.Prelude.{◌≡◌, ◌∷◌, [], IfOk, OnOk, codes};
 ghost use Rattle.spec_data.specs.Data.{array, entry, items_of, no_entries, object, text as spec_text};
 ghost use Rattle.spec_data.specs.Rising.{put};
@@ -128,15 +128,6 @@ fn put_body(alloc: Global, members: &mut Members, body: &DefBody) -> Result<(), 
     }
 }
 
-/// What is shown of a definition.
-pub fn definition_value(alloc: Global, definition: &Definition) -> Result<Value, NoMemory>
-    ensures { IfOk result (λ value. data_of value ≡ world.definition_data (definition_view definition.now.body)) }
-{
-    let mut members = Members::new(alloc);
-    put_body(alloc, &mut members, &definition.body)?;
-    Ok(Value::Map(members))
-}
-
 /// The body by which a definition is put into the collection `@indexes`.
 pub fn row_body(alloc: Global, definition: &Definition) -> Result<Value, NoMemory>
     ensures { IfOk result (λ value. data_of value ≡ world.row_body (definition_view definition.now.body)) }
@@ -144,5 +135,6 @@ pub fn row_body(alloc: Global, definition: &Definition) -> Result<Value, NoMemor
     let mut members = Members::new(alloc);
     members.put_at(alloc, "@metadata", metadata_value(alloc)?)?;
     put_body(alloc, &mut members, &definition.body)?;
+    members.put_at(alloc, "Version", Value::Num(2))?;
     Ok(Value::Map(members))
 }

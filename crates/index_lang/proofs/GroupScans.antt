@@ -5,16 +5,17 @@ use Rattle.index_tokens.specs.declared.token.Token.{Token}
 use Rattle.index_tokens.specs.declared.token.Token.TheVariants as t
 use Rattle.index_tokens.specs.declared.token.Placed.{Placed}
 use Rattle.index_tokens.specs.Spelling.{is_reserved}
-use Rattle.index_tokens.specs.Words.{Tokens, Is, word_in, word_results, word_group, word_by, word_into, word_select, word_new, name, name_as, variable_as}
+use Rattle.index_tokens.specs.Words.{Tokens, Is, word_in, word_results, word_group, word_by, word_into, word_select, word_new, name, name_as, variable, variable_as}
 use Rattle.index_tree.specs.declared.reduce_query.FoldKind.{FoldKind}
+use Rattle.index_tree.specs.declared.reduce_query.FoldKind.TheVariants as kinds
 use Rattle.index_tree.specs.declared.reduce_query.FoldValue.{FoldValue}
 use Rattle.reduce_grammar.specs.declared.spelled.SpelledKey.{SpelledKey}
 use Rattle.reduce_grammar.specs.declared.spelled.PlacedFold.{PlacedFold}
 use Rattle.reduce_grammar.specs.declared.spelled.SpelledReduce.{SpelledReduce}
-use Rattle.reduce_grammar.specs.Reduces.{SpellsSource, source, SpellsPart, part, SpellsParts, first_part, next_part, SpellsKey, alone, in_braces, SpellsGroup, group, word_key, fold_as, SpellsValue, whole_key, key_part, fold, SpellsFold, named, bare, SpellsFolds, last, last_comma, more, spelled_reduce, SpellsReduce, reduce}
+use Rattle.reduce_grammar.specs.Reduces.{SpellsSource, source, SpellsPart, part, SpellsParts, first_part, next_part, SpellsKey, alone, in_braces, SpellsGroup, group, word_key, word_sum, fold_as, SpellsSum, sum, SpellsValue, whole_key, key_part, fold, quotient, SpellsFold, named, bare, SpellsFolds, last, last_comma, more, spelled_reduce, SpellsReduce, reduce}
 use Rattle.index_lang.specs.declared.groups.GroupStep.TheVariants.{Found, GoesOn}
 use Rattle.index_lang.specs.Bound.{or_else}
-use Rattle.index_lang.specs.BoundGroups.{unless_is, unbound_source, unbound_part, unbound_parts, unbound_key, unbound_group, unbound_value, unbound_fold, unbound_folds, unbound_in_reduce}
+use Rattle.index_lang.specs.BoundGroups.{unless_is, unbound_source, unbound_part, unbound_parts, unbound_key, unbound_group, unbound_own, unbound_sum, unbound_value, unbound_fold, unbound_folds, unbound_in_reduce}
 use Rattle.index_lang.specs.ScanGroups.{scanned, names_group, at_reserved, at_variable, at_word, own_again, own_name, by_part, follow, scan, scan_reduce}
 use Rattle.index_lang.proofs.Scans.{in_turn, named_variable, some_same, or_else_none}
 
@@ -110,22 +111,45 @@ module _ (v g : List ℕ) (key : SpelledKey) (all : List PlacedFold) where
   abbrev step : Bool → Placed → Token → Tokens → Option ℕ
   step grouped x k s = follow whole (by_part whole grouped x k s) (λ st. scan whole st s)
 
+  -- the parentheses of a fold
+  folded_scans : (o y a z q u c : Placed) {own w n : List ℕ} (r : Tokens) →
+      Is t.Open o → variable y ≡ Some own → variable z ≡ Some w → Is t.Point q → name u ≡ Some n → Is t.Close c →
+      from whole true (o ∷ y ∷ a ∷ z ∷ q ∷ u ∷ c ∷ r) ≡ or_else (unbound_own v g own w y z) (from whole true r)
+  folded_scans o y a z q u c {own} {w} {n} r open_fold first second also field close =
+      pass whole true o (y ∷ a ∷ z ∷ q ∷ u ∷ c ∷ r) (t.Open) open_fold
+      ∙ ap (λ (o : Option (List ℕ)). follow whole (own_name whole o y z) (λ st. scan whole st (y ∷ a ∷ z ∷ q ∷ u ∷ c ∷ r))) (named_variable y.token own first)
+      ∙ ap (λ (o : Option (List ℕ)). follow whole (cond (bytes_eq own v || bytes_eq own g) (Found y.at) (own_again o own z)) (λ st. scan whole st (y ∷ a ∷ z ∷ q ∷ u ∷ c ∷ r))) (named_variable z.token w second)
+      ∙ own_scans whole (bytes_eq own v || bytes_eq own g) (bytes_eq w own) y a z (q ∷ u ∷ c ∷ r)
+      ∙ ap (or_else (unbound_own v g own w y z))
+      (pass whole true q (u ∷ c ∷ r) (t.Point) also ∙ any_name whole u (c ∷ r) n field ∙ pass whole true c r (t.Close) close)
+
+  sum_scans : {s r : Tokens} {by : List ℕ × List ℕ} (d : SpellsSum g s by r) → from whole true s ≡ or_else (unbound_sum v d) (from whole true r)
+  sum_scans (sum {r = r} {x = x} {p = p} {f = f} {o = o} {y = y} {a = a} {z = z} {q = q} {u = u} {c = c} is point word open_fold first arrow second also field close) =
+      pass whole true x (p ∷ f ∷ o ∷ y ∷ a ∷ z ∷ q ∷ u ∷ c ∷ r) (t.Word g) is
+      ∙ pass whole true p (f ∷ o ∷ y ∷ a ∷ z ∷ q ∷ u ∷ c ∷ r) (t.Point) point
+      ∙ pass whole true f (o ∷ y ∷ a ∷ z ∷ q ∷ u ∷ c ∷ r) (word_sum) word
+      ∙ folded_scans o y a z q u c r open_fold first second also field close
+
   value_scans : {s r : Tokens} {a : FoldValue} (d : SpellsValue g key.form s a r) → from whole true s ≡ or_else (unbound_value v d) (from whole true r)
   value_scans (whole_key {r = r} {x = x} {p = p} {k = k} is point word only) =
       pass whole true x (p ∷ k ∷ r) (t.Word g) is ∙ pass whole true p (k ∷ r) (t.Point) point ∙ pass whole true k r (word_key) word
   value_scans (key_part {r = r} {x = x} {p = p} {k = k} {q = q} {y = y} {n = n} is point word braces also part_name) =
       pass whole true x (p ∷ k ∷ q ∷ y ∷ r) (t.Word g) is ∙ pass whole true p (k ∷ q ∷ y ∷ r) (t.Point) point ∙ pass whole true k (q ∷ y ∷ r) (word_key) word
       ∙ pass whole true q (y ∷ r) (t.Point) also ∙ any_name whole y r n part_name
-  value_scans (fold {r = r} {x = x} {p = p} {f = f} {o = o} {y = y} {a = a} {z = z} {q = q} {u = u} {c = c} {kind = kind} {v = own} {w = w} {n = n} is point fold_word open_fold first arrow second also field close) =
+  value_scans (fold {r = r} {x = x} {p = p} {f = f} {o = o} {y = y} {a = a} {z = z} {q = q} {u = u} {c = c} {kind = kind} is point word open_fold first arrow second also field close) =
       pass whole true x (p ∷ f ∷ o ∷ y ∷ a ∷ z ∷ q ∷ u ∷ c ∷ r) (t.Word g) is
       ∙ pass whole true p (f ∷ o ∷ y ∷ a ∷ z ∷ q ∷ u ∷ c ∷ r) (t.Point) point
-      ∙ by_fold whole f (o ∷ y ∷ a ∷ z ∷ q ∷ u ∷ c ∷ r) f.token kind fold_word
-      ∙ pass whole true o (y ∷ a ∷ z ∷ q ∷ u ∷ c ∷ r) (t.Open) open_fold
-      ∙ ap (λ (o : Option (List ℕ)). follow whole (own_name whole o y z) (λ st. scan whole st (y ∷ a ∷ z ∷ q ∷ u ∷ c ∷ r))) (named_variable y.token own first)
-      ∙ ap (λ (o : Option (List ℕ)). follow whole (cond (bytes_eq own v || bytes_eq own g) (Found y.at) (own_again o own z)) (λ st. scan whole st (y ∷ a ∷ z ∷ q ∷ u ∷ c ∷ r))) (named_variable z.token w second)
-      ∙ own_scans whole (bytes_eq own v || bytes_eq own g) (bytes_eq w own) y a z (q ∷ u ∷ c ∷ r)
-      ∙ ap (or_else (cond (bytes_eq own v || bytes_eq own g) (Some y.at) (unless_is own w z)))
-      (pass whole true q (u ∷ c ∷ r) (t.Point) also ∙ any_name whole u (c ∷ r) n field ∙ pass whole true c r (t.Close) close)
+      ∙ by_fold whole f (o ∷ y ∷ a ∷ z ∷ q ∷ u ∷ c ∷ r) f.token kind word
+      ∙ folded_scans o y a z q u c r open_fold first second also field close
+  value_scans (quotient {s = s} {r = r} {x = x} {p = p} {f = f} {o = o} {y = y} {a = a} {z = z} {q = q} {u = u} {c = c} {d = d} {v = own} {w = w} is point word open_fold first arrow second also field close slash by) =
+      let rest : Tokens = d ∷ s in
+      in_turn (unbound_own v g own w y z) (unbound_sum v by) (from whole true (x ∷ p ∷ f ∷ o ∷ y ∷ a ∷ z ∷ q ∷ u ∷ c ∷ rest)) (from whole true s) (from whole true r)
+      (pass whole true x (p ∷ f ∷ o ∷ y ∷ a ∷ z ∷ q ∷ u ∷ c ∷ rest) (t.Word g) is
+      ∙ pass whole true p (f ∷ o ∷ y ∷ a ∷ z ∷ q ∷ u ∷ c ∷ rest) (t.Point) point
+      ∙ by_fold whole f (o ∷ y ∷ a ∷ z ∷ q ∷ u ∷ c ∷ rest) f.token kinds.Sum word
+      ∙ folded_scans o y a z q u c rest open_fold first second also field close
+      ∙ ap (or_else (unbound_own v g own w y z)) (pass whole true d s (t.Slash) slash))
+      (sum_scans by)
 
   fold_scans : {s r : Tokens} {a : PlacedFold} (d : SpellsFold g key.form s a r) → from whole true s ≡ or_else (unbound_fold v d) (from whole true r)
   fold_scans (named {s = s} {x = x} {e = e} {n = n} is assign d) = any_name whole x (e ∷ s) n is ∙ pass whole true e s (t.Assign) assign ∙ value_scans d

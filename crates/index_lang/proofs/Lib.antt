@@ -5,3 +5,4 @@ pub mod Once
 pub mod Forms
 pub mod Texts
 mod ReadPaths
+mod Reducing

@@ -15,20 +15,20 @@ use Rattle.index_lang.specs.Says.{Says}
 use Rattle.index_lang.specs.declared.reading.Trees.{Trees}
 
 module _ (name map : List ℕ) (reduce : Option (List ℕ)) (d : program.Definition) where
-  -- for any property of what is read of trees
-  judged : (P : program.Definition → Type 0) → ((trees : Trees) → P (definition name map reduce trees)) → (trees : Trees) (cause : Option LangRefusal)
-      → Ok d ≡ unless cause (definition name map reduce trees) → P d
-  judged P all trees (Some why) h = absurd cc
-  judged P all trees None h =
+  -- for any property of what is read of trees that have nothing to be refused for
+  judged : (P : program.Definition → Type 0) → ((trees : Trees) → first_cause (causes trees) ≡ None → P (definition name map reduce trees)) → (trees : Trees) (cause : Option LangRefusal)
+      → first_cause (causes trees) ≡ cause → Ok d ≡ unless cause (definition name map reduce trees) → P d
+  judged P all trees (Some why) is h = absurd cc
+  judged P all trees None is h =
       let same : (a b : program.Definition) → (let r : Result program.Definition LangRefusal = Ok a in r) ≡ Ok b → a ≡ b = λ a b e. cc in
-      subst P (sym (same d (definition name map reduce trees) h)) (all trees)
+      subst P (sym (same d (definition name map reduce trees) h)) (all trees is)
 
-  judged-if : (P : program.Definition → Type 0) → ((trees : Trees) → P (definition name map reduce trees)) → (trees : Result Trees LangRefusal)
+  judged-if : (P : program.Definition → Type 0) → ((trees : Trees) → first_cause (causes trees) ≡ None → P (definition name map reduce trees)) → (trees : Result Trees LangRefusal)
       → Ok d ≡ judged_if name map reduce trees → P d
-  judged-if P all (Ok trees) h = judged P all trees (first_cause (causes trees)) h
+  judged-if P all (Ok trees) h = judged P all trees (first_cause (causes trees)) refl h
   judged-if P all (Err why) h = absurd cc
 
-  parsed : (P : program.Definition → Type 0) → ((trees : Trees) → P (definition name map reduce trees)) → IsParsed name map reduce (Ok d) → P d
+  pub parsed : (P : program.Definition → Type 0) → ((trees : Trees) → first_cause (causes trees) ≡ None → P (definition name map reduce trees)) → IsParsed name map reduce (Ok d) → P d
   parsed P all h = by (first_cause (lengths map reduce)) h
     where
       by : (long : Option LangRefusal) → is_long long (Ok d) ((trees : Result Trees LangRefusal) × AreRead map reduce trees × (Ok d ≡ judged_if name map reduce trees)) → P d
@@ -36,10 +36,10 @@ module _ (name map : List ℕ) (reduce : Option (List ℕ)) (d : program.Definit
       by None g = judged-if P all g.0 g.2
 
 pub parsed-name : (name map : List ℕ) (reduce : Option (List ℕ)) (d : program.Definition) → IsParsed name map reduce (Ok d) → d.name ≡ name
-parsed-name name map reduce d h = parsed name map reduce d (λ e. e.name ≡ name) (λ trees. refl) h
+parsed-name name map reduce d h = parsed name map reduce d (λ e. e.name ≡ name) (λ trees none. refl) h
 
 parsed-given : (name map : List ℕ) (reduce : Option (List ℕ)) (d : program.Definition) → IsParsed name map reduce (Ok d) → is_automatic (definition_view d.body) ≡ false
-parsed-given name map reduce d h = parsed name map reduce d (λ e. is_automatic (definition_view e.body) ≡ false) (λ trees. refl) h
+parsed-given name map reduce d h = parsed name map reduce d (λ e. is_automatic (definition_view e.body) ≡ false) (λ trees none. refl) h
 
 -- a definition by texts is no automatic one
 pub said-given : (d : Definition) → IsByTexts d → is_automatic d ≡ false

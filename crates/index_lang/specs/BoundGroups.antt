@@ -8,7 +8,7 @@ use Rattle.reduce_grammar.specs.declared.spelled.KeyForm.{KeyForm}
 use Rattle.reduce_grammar.specs.declared.spelled.SpelledKey.{SpelledKey}
 use Rattle.reduce_grammar.specs.declared.spelled.PlacedFold.{PlacedFold}
 use Rattle.reduce_grammar.specs.declared.spelled.SpelledReduce.{SpelledReduce}
-use Rattle.reduce_grammar.specs.Reduces.{SpellsSource, source, SpellsPart, part, SpellsParts, first_part, next_part, SpellsKey, alone, in_braces, SpellsGroup, group, SpellsValue, whole_key, key_part, fold, SpellsFold, named, bare, SpellsFolds, last, last_comma, more, SpellsReduce, reduce}
+use Rattle.reduce_grammar.specs.Reduces.{SpellsSource, source, SpellsPart, part, SpellsParts, first_part, next_part, SpellsKey, alone, in_braces, SpellsGroup, group, SpellsSum, sum, SpellsValue, whole_key, key_part, fold, quotient, SpellsFold, named, bare, SpellsFolds, last, last_comma, more, SpellsReduce, reduce}
 use Rattle.index_lang.specs.Bound.{or_else}
 
 -- a variable that is to be this name
@@ -36,13 +36,20 @@ module _ (v : List ℕ) where
   abbrev pub unbound_group : {s r : Tokens} {g : List ℕ} → SpellsGroup s g r → Option ℕ
   unbound_group (group {x = x} {g = g} i is z n b) = if bytes_eq g v then Some x.at else None
 
+  -- A fold has its own variable, which is bound in its parentheses alone. It is neither the name of an entry nor that of a group.
+  abbrev pub unbound_own : List ℕ → List ℕ → List ℕ → Placed → Placed → Option ℕ
+  unbound_own g own w y z = if bytes_eq own v || bytes_eq own g then Some y.at else unless_is own w z
+
+  abbrev pub unbound_sum : {g : List ℕ} {s r : Tokens} {by : List ℕ × List ℕ} → SpellsSum g s by r → Option ℕ
+  unbound_sum {g} (sum {y = y} {z = z} {v = own} {w = w} x p f o is a also q u c) = unbound_own g own w y z
+
   module _ {g : List ℕ} {form : KeyForm} where
-    -- A fold has its own variable, which is bound in its parentheses alone. It is neither the name of an entry nor that of a group.
+    -- of a quotient it is that of its first sum, or else of its second one
     abbrev pub unbound_value : {s r : Tokens} {a : FoldValue} → SpellsValue g form s a r → Option ℕ
     unbound_value (whole_key x p k only) = None
     unbound_value (key_part x p k braces q y) = None
-    unbound_value (fold {y = y} {z = z} {v = own} {w = w} x p f o is a also q u c) =
-        if bytes_eq own v || bytes_eq own g then Some y.at else unless_is own w z
+    unbound_value (fold {y = y} {z = z} {v = own} {w = w} x p f o is a also q u c) = unbound_own g own w y z
+    unbound_value (quotient {y = y} {z = z} {v = own} {w = w} x p f o is a also q u c d by) = or_else (unbound_own g own w y z) (unbound_sum by)
 
     abbrev pub unbound_fold : {s r : Tokens} {a : PlacedFold} → SpellsFold g form s a r → Option ℕ
     unbound_fold (named is e x) = unbound_value x

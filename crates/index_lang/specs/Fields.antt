@@ -1,9 +1,10 @@
 -- The fields that members give.
-use Rattle.std.specs.Prelude.{ℕ, ◌&&◌, false, if◌then◌else◌, List, [], ◌∷◌, ◌++◌, Bool, Option, Some, None}
+use Rattle.std.specs.Prelude.{ℕ, ◌&&◌, if◌then◌else◌, List, [], ◌∷◌, ◌++◌, Bool, Option, Some, None}
 use Rattle.std.specs.List.{list_any, list_all}
 use Rattle.std.specs.Str.{bytes_eq}
 use Rattle.index_tree.specs.declared.reduce_query.FoldValue.{FoldValue}
 use Rattle.index_tree.specs.declared.reduce_query.FoldValue.TheVariants as v
+pub use Rattle.spec_index.specs.Again.{gives_part, is_sum_of}
 use Rattle.index_grammar.specs.declared.spelled.PlacedMember.{PlacedMember}
 use Rattle.reduce_grammar.specs.declared.spelled.PlacedFold.{PlacedFold}
 use Rattle.reduce_grammar.specs.declared.spelled.SpelledReduce.{SpelledReduce}
@@ -44,18 +45,19 @@ fields_agree members folds = list_all (λ m. has_name fold_name fold_place folds
 
 -- ---- what can be reduced once more
 
--- a part of the key keeps its name, and a fold folds the field of its own name
-abbrev pub keeps_name : List (List ℕ) → List ℕ → FoldValue → Bool
-keeps_name key name (v.Key part) = is_among key part && bytes_eq part name
-keeps_name key name (v.Fold kind own field) = bytes_eq field name
+-- a member of the name of the field is the sum of the field
+abbrev pub is_summed : List PlacedFold → List ℕ → Bool
+is_summed members field = list_any (λ m. bytes_eq field m.member.name && is_sum_of field m.member.value) members
 
-abbrev pub first_renamed : List (List ℕ) → List PlacedFold → Option ℕ
-first_renamed key [] = None
-first_renamed key (m ∷ members) = if keeps_name key m.member.name m.member.value then first_renamed key members else Some m.at
+-- a part of the key keeps its name, a fold folds the field of its own name, and a quotient is that of two sums that are members too
+abbrev pub keeps_name : List (List ℕ) → List PlacedFold → List ℕ → FoldValue → Bool
+keeps_name key all name (v.Key part) = is_among key part && bytes_eq part name
+keeps_name key all name (v.Fold kind own field) = bytes_eq field name
+keeps_name key all name (v.Quotient own field by_own by) = is_summed all field && is_summed all by
 
-abbrev pub gives_part : List ℕ → FoldValue → Bool
-gives_part part (v.Key other) = bytes_eq part other
-gives_part part (v.Fold kind own field) = false
+abbrev pub first_renamed : List (List ℕ) → List PlacedFold → List PlacedFold → Option ℕ
+first_renamed key all [] = None
+first_renamed key all (m ∷ members) = if keeps_name key all m.member.name m.member.value then first_renamed key all members else Some m.at
 
 -- whether each part of the key has a member
 abbrev pub gives_key : List (List ℕ) → List PlacedFold → Bool
@@ -63,4 +65,4 @@ gives_key key members = list_all (λ part. list_any (λ m. gives_part part m.mem
 
 -- the place of the first member that keeps groups from being reduced once more, or of the key, of which a part is left out
 abbrev pub irreducible : SpelledReduce → Option ℕ
-irreducible r = or_else (first_renamed r.key r.members) (if gives_key r.key r.members then None else Some r.key_at)
+irreducible r = or_else (first_renamed r.key r.members r.members) (if gives_key r.key r.members then None else Some r.key_at)

@@ -8,3 +8,4 @@ pub mod Says
 pub mod Openings
 pub mod Bodies
 pub mod ByTexts
+pub mod Reducing

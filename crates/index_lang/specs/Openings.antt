@@ -1,10 +1,11 @@
 -- What opens from the rows that a keeper holds.
-use Rattle.std.specs.Prelude.{◌≡◌, ℕ, List, [], ◌∷◌, ◌++◌, Bool, true, false, Option, Some, None, Result, Ok, Err}
+use Rattle.std.specs.Prelude.{◌≡◌, ℕ, List, [], ◌∷◌, ◌++◌, Bool, true, false, if◌then◌else◌, Option, Some, None, Result, Ok, Err}
 use Rattle.spec_data.specs.Kept.{KeptRow}
 use Rattle.spec_data.specs.Rows.{Row, Body, doc, gone}
 use Rattle.spec_store.specs.Commit.{Setting}
 use Rattle.spec_store.specs.Kept.{rows_in}
 use Rattle.index_tree.specs.Language.{LangRefusal}
+use Rattle.spec_index.specs.Reduces.{has_quotient}
 use Rattle.spec_server.specs.Courses.{Machine}
 use Rattle.index_tree.specs.Definitions.{Definition, Texts}
 use Rattle.spec_server.specs.Opening.{BodyForm, NoForm, AutoForm, StaticForm, ReadRow, body_form, is_defining, opened, rows_of}
@@ -14,16 +15,22 @@ abbrev pub without_refusal : Result Definition LangRefusal → Option Definition
 without_refusal (Ok d) = Some d
 without_refusal (Err refusal) = None
 
--- what the texts say; if they are refused, there is no definition
-pub record IsSaid (texts : Texts) (d : Option Definition) : Type 0 where
+-- only in the second version there may be quotients
+abbrev pub unless_divided : Bool → Option Definition → Option Definition
+unless_divided true d = d
+unless_divided false None = None
+unless_divided false (Some d) = if has_quotient d then None else Some d
+
+-- what the texts say; if they are refused, or have a quotient that may not be there, there is no definition
+pub record IsSaid (may_divide : Bool) (texts : Texts) (d : Option Definition) : Type 0 where
   pub answer : Result Definition LangRefusal
   pub says : Says texts answer
-  pub told : d ≡ without_refusal answer
+  pub told : d ≡ unless_divided may_divide (without_refusal answer)
 
 abbrev pub IsOfForm : BodyForm → Option Definition → Type 0
 IsOfForm NoForm d = d ≡ None
 IsOfForm (AutoForm definition) d = d ≡ Some definition
-IsOfForm (StaticForm texts) d = IsSaid texts d
+IsOfForm (StaticForm may_divide texts) d = IsSaid may_divide texts d
 
 abbrev pub IsInBody : Body → Option Definition → Type 0
 IsInBody (doc body) d = IsOfForm (body_form body) d

@@ -15,14 +15,14 @@ pub use body::of_row_body;
 pub use by_texts::{TextDefinition, parse_texts};
 pub use groups::unbound_in_reduce;
 pub use index_definition::{
-    DefBody, Definition, LangKind, LangRefusal, Part, Shape, auto_definition, definition_value,
-    fields, joined_name, row_body, same, scope,
+    DefBody, Definition, LangKind, LangRefusal, Part, Shape, auto_definition, fields, joined_name,
+    row_body, same, scope,
 };
 pub use index_tree::{
     BinaryOp, Clause, Clauses, Expr, ExprKind, FoldKind, FoldMember, FoldMembers, FoldValue,
     MapMember, MapMembers, MapQuery, ReduceQuery, UnaryOp,
 };
-pub use laws::texts_have_one_answer;
+pub use laws::{texts_have_one_answer, what_texts_say_reduces_again};
 pub use members::{Field, duplicate, fields_agree, irreducible};
 pub use names::unbound_name;
 pub use parsing::{MAX_TEXT, parse};

@@ -6,7 +6,7 @@ ghost use Rattle.index_lang.specs.Fields.{fold_name, fold_place, member_name, me
 
 use index_definition::is_among;
 use index_grammar::PlacedMember;
-use index_tree::FoldValue;
+use index_tree::{FoldKind, FoldValue};
 use raven_value::Text;
 use reduce_grammar::{PlacedFold, SpelledReduce};
 
@@ -96,20 +96,45 @@ pub fn fields_agree(members: &[PlacedMember], folds: &[PlacedFold]) -> bool
     has_all(members, folds) && has_all(folds, members)
 }
 
-fn keeps_name(key: &[Text], name: &Text, value: &FoldValue) -> bool
-    ensures { result ≡ spec.keeps_name key.now name.now value.now }
+fn is_sum_of(field: &Text, value: &FoldValue) -> bool
+    ensures { result ≡ spec.is_sum_of field.now value.now }
+{
+    match value {
+        FoldValue::Fold {
+            kind: FoldKind::Sum,
+            field: other,
+            ..
+        } => *field == *other,
+        _ => false,
+    }
+}
+
+fn is_summed(members: &[PlacedFold], field: &Text) -> bool
+    ensures { result ≡ spec.is_summed members.now field.now }
+{
+    for placed in members {
+        if *field == placed.member.name && is_sum_of(field, &placed.member.value) {
+            return true;
+        }
+    }
+    false
+}
+
+fn keeps_name(key: &[Text], all: &[PlacedFold], name: &Text, value: &FoldValue) -> bool
+    ensures { result ≡ spec.keeps_name key.now all.now name.now value.now }
 {
     match value {
         FoldValue::Key(part) => is_among(key, part) && *part == *name,
         FoldValue::Fold { field, .. } => *field == *name,
+        FoldValue::Quotient { field, by, .. } => is_summed(all, field) && is_summed(all, by),
     }
 }
 
 fn first_renamed(key: &[Text], members: &[PlacedFold]) -> Option<usize>
-    ensures { result ≡ spec.first_renamed key.now members.now }
+    ensures { result ≡ spec.first_renamed key.now members.now members.now }
 {
     for placed in members {
-        if !keeps_name(key, &placed.member.name, &placed.member.value) {
+        if !keeps_name(key, members, &placed.member.name, &placed.member.value) {
             return Some(placed.at);
         }
     }
@@ -121,7 +146,7 @@ fn gives_part(part: &Text, value: &FoldValue) -> bool
 {
     match value {
         FoldValue::Key(other) => *part == *other,
-        FoldValue::Fold { .. } => false,
+        _ => false,
     }
 }
 

@@ -39,10 +39,10 @@ use Rattle.raven_laws.proofs.SlotLemmas.{Has-append, Has-left, Has-map, Has-mapp
 
 -- FIELDS THAT GO IN AT THEIR NAMES
 
-abbrev Named : Type 0
+abbrev pub Named : Type 0
 Named = List ℕ × Scalar
 
-abbrev puts : Fields → List Named → Fields
+abbrev pub puts : Fields → List Named → Fields
 puts found [] = found
 puts found (e ∷ more) = puts (put e.0 e.1 found) more
 
@@ -51,7 +51,7 @@ puts-append found [] ys = refl
 puts-append found (e ∷ xs) ys = puts-append (put e.0 e.1 found) xs ys
 
 -- the value that each field of this name has
-puts-named : (n : List ℕ) (x : Scalar) (xs : List Named) (found : Fields) → ((e : Named) → Has xs e → e.0 ≡ n → e.1 ≡ x) → Has xs (n, x) ⊎ (field_named n found ≡ Some x)
+pub puts-named : (n : List ℕ) (x : Scalar) (xs : List Named) (found : Fields) → ((e : Named) → Has xs e → e.0 ≡ n → e.1 ≡ x) → Has xs (n, x) ⊎ (field_named n found ≡ Some x)
     → field_named n (puts found xs) ≡ Some x
 puts-named n x [] found one (inl at) = absurd at
 puts-named n x [] found one (inr e) = e

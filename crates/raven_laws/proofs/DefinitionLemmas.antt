@@ -14,6 +14,7 @@ use Rattle.index_tree.specs.Definitions.{Definition, Static, Auto, AutoReduce, m
 use Rattle.spec_store.specs.Commit.{Command, AnyVector, Server, after_command, commit, document_at, stored_body, tombstone}
 use Rattle.spec_index.specs.World.{Slot, SlotRefusal, World, added, added_if_room, added_to, define_at, define_beside, define_named, dropped, index_id, is_named, is_reserved_name, max_index_name, removed, row_body, serving, taken_out, unchanged, unless_refused, without}
 use Rattle.spec_server.specs.Sound.{Has, IsListed, Sound}
+use Rattle.spec_server.specs.Sound as sound
 use Rattle.spec_server.specs.Replies.{Reply}
 use Rattle.spec_server.specs.Requests.{Keeping, Pump, Do}
 use Rattle.spec_server.specs.Courses.{Machine, Replied, changed, settled, with_world}
@@ -110,7 +111,7 @@ put-listed now S name d new called under means =
           ∙ ap (λ b. cond b (Some r) (row_at (folded (index_id new.name)) S.rows)) (ap (λ n. same_key (folded (index_id n)) (folded (index_id name))) called ∙ same_itself (folded (index_id name)));
       etag = sym under;
       collection = in_indexes_collection d;
-      body = ap (λ x. doc (stored_body (row_body x))) (sym means);
+      body = sound.second (ap (λ x. doc (stored_body (row_body x))) (sym means));
     }
 
 pub put-others : (now : ℕ) (S : Store) (id : List ℕ) (body : Data) (q : List ℕ) → same_key q (folded id) ≡ false → row_at q (after_command now S (Command.Put id AnyVector body)).rows ≡ row_at q S.rows

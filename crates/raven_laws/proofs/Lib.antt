@@ -1,4 +1,5 @@
 pub mod IndexLemmas
+pub mod VersionLemmas
 pub mod MappingLemmas
 pub mod SlotLemmas
 pub mod ListedLemmas
@@ -43,3 +44,4 @@ pub mod CleaningLemmas
 pub mod MemberLemmas
 pub mod OpenLemmas
 pub mod OpenedRuns
+pub mod AgainLemmas

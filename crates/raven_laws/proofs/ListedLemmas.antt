@@ -1,5 +1,5 @@
 -- The rows of `@indexes` stay those of the slots.
-use Rattle.std.proofs.Common.{◌≡◌, ℕ, ◌+◌, List, [], ◌∷◌, ◌++◌, true, false, cond, nat_eq, Option, Some, None, Ok, map, refl, sym, ap, ◌∙◌, subst, ◌⊎◌, inl, inr, codes}
+use Rattle.std.proofs.Common.{◌≡◌, ℕ, ◌+◌, List, [], ◌∷◌, ◌++◌, Bool, true, false, cond, nat_eq, Option, Some, None, Ok, map, refl, sym, ap, ◌∙◌, subst, ◌⊎◌, inl, inr, codes}
 use Rattle.std.specs.List.{starts_with}
 use Rattle.std.specs.Str.{bytes_eq}
 use Rattle.std.proofs.lemmas.Slice.Eq.{bytes_eq-Decides}
@@ -10,7 +10,7 @@ use Rattle.spec_store.specs.Store.{row_at, put, Store, last, with_row}
 use Rattle.index_tree.specs.Definitions.{Definition, Static, Auto, AutoReduce}
 use Rattle.spec_store.specs.Commit.{Command, Put, Delete, AnyVector, Writer, Client, Setting, Refusal, Written, first_of, refusal_of, reserved, is_reserved, is_index_id, too_large, collection_changed, conflict, store_full, etags_spent, collection_of, stored_body, row_spelling, document_at, tombstone, row_of, with_written, with_option, after_commands, or_refused, commit_from}
 use Rattle.spec_index.specs.World.{Slot, index_id, row_body}
-use Rattle.spec_server.specs.Sound.{Has, IsListed, AreListed}
+use Rattle.spec_server.specs.Sound.{Has, IsBodyOf, first, second, IsListed, AreListed}
 use Rattle.spec_store.proofs.StoreLemmas.{same_row, either_false, row_at-put, same_itself, same_means, found_key}
 use Rattle.spec_store.proofs.CommitLemmas.{put_key, document_found}
 use Rattle.raven_laws.proofs.SlotLemmas.{Has-map, Has-mapped}
@@ -48,6 +48,18 @@ in_indexes_collection (AutoReduce c groups sums) = refl
 pub differ : (q k : List ℕ) → (q ≡ k → ⊥) → same_key q k ≡ false
 differ q k never = elim (same_key q k) as (λ b. same_key q k ≡ b → b ≡ false) [ true ↦ λ e. absurd (never (same_means q k e)) | false ↦ λ e. refl ] refl
 
+-- the row of a definition is a live one
+pub body-live : (d : Definition) (r : Row) → IsBodyOf d r.body → is_document r ≡ true
+body-live d r b = by b
+  where
+    is_live : Body → Bool
+    is_live (doc body) = true
+    is_live gone = false
+
+    by : IsBodyOf d r.body → is_live r.body ≡ true
+    by (second is) = ap is_live is
+    by (first is undivided) = ap is_live is
+
 -- A PUT OF A DEFINITION
 
 pub put-AreListed : (S : Store) (slots more : List Slot) (now : ℕ) (name : List ℕ) (d : Definition) (new : Slot) → AreListed S slots
@@ -62,7 +74,7 @@ put-AreListed S slots more now name d new l there called under means from to = r
       found = found_at (folded (index_id new.name)) ∙ ap (λ b. cond b (Some r) (row_at (folded (index_id new.name)) S.rows)) (subst (λ k. same_key (folded (index_id new.name)) k ≡ true) (index_joined new.name name called) (same_itself (folded (index_id new.name))));
       etag = sym under;
       collection = in_indexes_collection d;
-      body = ap (λ x. doc (stored_body (row_body x))) (sym means);
+      body = second (ap (λ x. doc (stored_body (row_body x))) (sym means));
     })
     | inr old ↦
         let i = l.each x old.0 in
@@ -93,19 +105,10 @@ put-AreListed S slots more now name d new l there called under means from to = r
 
 -- A DELETE OF A DEFINITION
 
-abbrev if_document : Body → Row → Option Row
-if_document (doc d) r = Some r
-if_document gone r = None
-
-if_document_is : (r : Row) → cond (is_document r) (Some r) None ≡ if_document r.body r
-if_document_is r = elim r.body as (λ b. cond (is_document (record r { body = b })) (Some r) None ≡ if_document b r) [ doc d ↦ refl | gone ↦ refl ]
-
 -- the row of a definition is a document
 pub listed-document : (S : Store) (s : Slot) (i : IsListed S s) → document_at S (folded (index_id s.name)) ≡ Some i.row
 listed-document S s i =
-    ap (option_and_then (λ r. cond (is_document r) (Some r) None)) i.found
-    ∙ if_document_is i.row
-    ∙ ap (λ (b : Body). if_document b i.row) i.body
+    ap (option_and_then (λ r. cond (is_document r) (Some r) None)) i.found ∙ ap (λ b. cond b (Some i.row) None) (body-live s.version.definition i.row i.body)
 
 pub delete-AreListed : (S : Store) (slots less : List Slot) (now : ℕ) (s : Slot) → AreListed S slots → Has slots s
     → ((x : Slot) → Has less x → Has slots x × (folded x.name ≡ folded s.name → ⊥))
@@ -206,7 +209,7 @@ map-AreListed S f slots keeps l = record {
         collection = i.collection;
         etag = i.etag ∙ sym k.1;
         found = ap (λ n. row_at (folded (index_id n)) S.rows) k.0 ∙ i.found;
-        body = i.body ∙ ap (λ d. doc (stored_body (row_body d))) (sym k.2);
+        body = subst (λ d. IsBodyOf d i.row.body) (sym k.2) i.body;
       });
   only = λ q r h is c. let s = l.only q r h is c in (f s.0, Has-mapped f slots s.0 s.1, s.2 ∙ ap (λ n. folded (index_id n)) (sym (keeps s.0 s.1).0));
 }

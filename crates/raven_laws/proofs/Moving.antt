@@ -2,7 +2,7 @@
 use Rattle.std.proofs.Common.{◌≡◌, ℕ, ◌+◌, ◌<◌, ◌≤◌, List, [], ◌∷◌, ◌++◌, Bool, not, nat_lt, length, Some, None, Ok, map, refl, sym, ap, ◌∙◌, subst, arith, ◌⊎◌, inl, inr, true, false, cond, ◌-◌, min}
 use Rattle.std.proofs.lemmas.Bool.{ltb-true, ltb-false}
 use Rattle.spec_data.specs.Folding.{folded}
-use Rattle.spec_data.specs.Rows.{Row, Body, doc, gone}
+use Rattle.spec_data.specs.Rows.{Row}
 use Rattle.spec_store.specs.Store.{Store, last, IsStore}
 use Rattle.spec_store.specs.Later.{Later}
 use Rattle.spec_store.specs.Cleaning.{clean, is_old_tombstone}
@@ -23,7 +23,7 @@ use Rattle.spec_store.proofs.CommitLemmas.{row_of-follows, commit-Commits, Commi
 use Rattle.spec_store.proofs.CleanLemmas.{IsStore-clean, Later-clean, last-clean, clean-cases, clean-iff, clean-rows, document_stays}
 use Rattle.raven_laws.proofs.Acts.{AllDo, IsAct, IsReslot, Reslots, advanced_by, batch_if, all-acts, all-along, all-weaker, course-acts, tidy-acts}
 use Rattle.raven_laws.proofs.SlotLemmas.{Fits-later, Fits-unread, Has-append, Has-map, HaveTheirSlots-map, NumbersRise-map, NamesApart-map, batch-Brought}
-use Rattle.raven_laws.proofs.ListedLemmas.{commit_from-applied, clients-AreListed, map-AreListed}
+use Rattle.raven_laws.proofs.ListedLemmas.{body-live, commit_from-applied, clients-AreListed, map-AreListed}
 use Rattle.raven_laws.proofs.KindLemmas.{auto-no-replacement, definition_of-automatic, name_of-begins}
 use Rattle.raven_laws.proofs.LimitLemmas.{commit_from-fits, commit_from-last, length_mapped, length_filtered}
 use Rattle.raven_laws.proofs.WorldLemmas.{append-none, LaterW-itself, LaterW-then, Comes, stays, StartsWithPut, Onto, Settles, SuitsName, define-Settles, define_named-Settles, remove-Settles, switch-Settles, retirement-Settles}
@@ -342,17 +342,13 @@ cleaned-AreListed : (upto : ℕ) (S : Store) (slots : List Slot) → IsStore S �
 cleaned-AreListed upto S slots s a = record {
   each = λ x h. let l = a.each x h in record {
     row = l.row;
-    found = (clean-iff upto S (folded (index_id x.name)) l.row s).1 (l.found, document_stays upto l.row (ap is_document_body l.body));
+    found = (clean-iff upto S (folded (index_id x.name)) l.row s).1 (l.found, document_stays upto l.row (body-live x.version.definition l.row l.body));
     etag = l.etag;
     collection = l.collection;
     body = l.body;
   };
   only = λ q r h is. a.only q r ((clean-iff upto S q r s).0 h).0 is;
 }
-  where
-    is_document_body : Body → Bool
-    is_document_body (doc d) = true
-    is_document_body gone = false
 
 length-clean : (upto : ℕ) (S : Store) → length (clean upto S).rows ≤ length S.rows
 length-clean upto S = let a = length_filtered (λ r. not (is_old_tombstone upto r)) S.rows in let e = ap length (clean-rows upto S) in omega arith

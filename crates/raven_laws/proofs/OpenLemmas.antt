@@ -1,35 +1,44 @@
 -- What stored rows open is a sound world.
-use Rattle.std.proofs.Common.{◌≡◌, ℕ, zero, suc, ◌+◌, ◌<◌, ◌≤◌, List, [], ◌∷◌, ◌++◌, Bool, true, false, cond, not, ◌&&◌, ◌||◌, ◌==◌, nat_eq, nat_lt, nat_le, is_none, length, take, drop, codes, map, Option, Some, None, option_map, Result, Ok, Err, refl, sym, ap, ◌∙◌, subst, arith, inl, inr, append_assoc, append-nil}
+use Rattle.std.proofs.Common.{◌≡◌, ℕ, zero, suc, ◌+◌, ◌<◌, ◌≤◌, List, [], ◌∷◌, ◌++◌, Bool, true, false, cond, not, ◌&&◌, ◌||◌, ◌==◌, nat_eq, nat_lt, nat_le, is_none, length, take, drop, codes, map, Option, Some, None, option_map, Result, Ok, Err, refl, sym, ap, ◌∙◌, subst, arith, inl, inr, append_assoc, append-nil, pos, negsuc}
 use Rattle.std.proofs.lemmas.Bool.{ltb-true, leb-true, leb-false, eqb-true}
 use Rattle.std.proofs.lemmas.List.{length-append, take-append-drop}
 use Rattle.std.proofs.lemmas.Slice.Eq.{bytes_eq-Decides}
 use Rattle.std.specs.Cmp.Lexicographic.{nat_list_eq_equiv}
+use Rattle.std.specs.declared.cmp.Ordering.TheVariants.{Less}
+use Rattle.std.specs.Ordering.{match_ordering, ordering_reverse}
+use Rattle.std.proofs.lemmas.Cmp.{nat_list_cmp_total}
 use Rattle.std.specs.Option.{option_or}
-use Rattle.std.specs.List.{starts_with}
+use Rattle.std.specs.List.{list_any, starts_with}
 use Rattle.std.specs.Str.{bytes_eq}
-use Rattle.spec_data.specs.Data.{Data, null, flag, num, text, array, object, Items, Entries, no_items, item, items_of, no_entries, entry, pairs_of}
+use Rattle.spec_data.specs.Data.{Data, null, flag, num, text, array, object, Items, Entries, no_items, item, items_of, no_entries, entry, entries_of, pairs_of}
 use Rattle.spec_data.specs.Faults.{is_fit, max_id, replacement_of}
-use Rattle.spec_data.specs.Folding.{folded, same_key}
+use Rattle.spec_data.specs.Folding.{folded, key_cmp, same_key}
 use Rattle.spec_data.specs.Json.{JsonRefusal, reading}
 use Rattle.spec_data.specs.Kept.{KeptRow, all_kept, body_text, kept}
 use Rattle.spec_data.specs.Members.{Path, member}
 use Rattle.spec_data.specs.Moments.{moments_end}
-use Rattle.spec_data.specs.Rising.{Pairs, IsRising}
+use Rattle.spec_data.specs.Rising.{Pairs, IsBelowAll, IsRising, put, without}
+use Rattle.spec_data.proofs.MemberLemmas.{pairs_of-entries_of}
 use Rattle.spec_data.specs.Rows.{Row, Body, doc, gone, key, is_document}
 use Rattle.spec_data.specs.Written.{text_of}
 use Rattle.spec_store.specs.Store.{row_at, last_of, AreRising, AreApart, IsStore, store_of}
-use Rattle.index_tree.specs.Definitions.{Definition, Auto, AutoReduce, Texts}
+use Rattle.index_tree.specs.Definitions.{Definition, Static, Auto, AutoReduce, Texts}
+use Rattle.index_tree.specs.Mapper.{count_name, sum_name}
+use Rattle.spec_index.specs.Reduces.{has_quotient, is_quotient, key_member, sum_member}
 use Rattle.spec_store.specs.Commit.{Setting, is_index_id, stored_body}
-use Rattle.spec_index.specs.World.{Slot, new_version, index_id, row_body, path_list, text_list, text_or_null, is_automatic, is_reserved_name, begins_with_auto, begins_with_replacement}
+use Rattle.spec_index.specs.World.{Slot, new_version, index_id, first_body, row_body, path_list, text_list, text_or_null, is_automatic, is_reserved_name, begins_with_auto, begins_with_replacement}
 use Rattle.spec_server.specs.Courses.{Machine}
-use Rattle.spec_server.specs.Opening.{OpenedFrom, and_then_some, words_of, is_path, path_of, paths_of, are_rising, paths_read, is_empty_object, is_kind, text_in, auto_read, reduce_read, texts_read, form_of, reduce_form, body_form, NoForm, ReadRow, is_defining, name_in, may_be_named, is_filed, is_too_many, is_live, is_beside, slot_of, with_slot, slots_with, slots_after, or_bad, and_then, slots_from, opened_with, rows_of}
+use Rattle.spec_server.specs.Opening.{OpenedFrom, and_then_some, words_of, is_path, path_of, paths_of, are_rising, paths_read, is_empty_object, is_kind, text_in, auto_read, reduce_read, texts_read, form_of, form_by, first_form, dividing, is_two, without_version, reduce_form, body_form, BodyForm, NoForm, AutoForm, StaticForm, ReadRow, is_defining, name_in, may_be_named, is_filed, is_too_many, is_live, is_beside, slot_of, with_slot, slots_with, slots_after, or_bad, and_then, slots_from, opened_with, rows_of}
 use Rattle.spec_store.specs.Kept.{max_body, max_etag, is_stored, document_of, document_in, body_in, is_etag, row_in, can_follow, row_if_it_follows, or_bad_row, rows_after, rows_in}
+use Rattle.spec_server.specs.Sound as sound
 use Rattle.spec_server.specs.Sound.{Has, Fits, NumbersRise, NamesApart, HaveTheirSlots, AreListed, IsMachine, Sound}
+use Rattle.raven_laws.specs.Versions.{with_version}
 use Rattle.raven_laws.specs.Opened.{AgreesWithForm, AgreesWithBody, HasOwnDefinition, HaveOwnDefinitions, OpenedFaithfully}
 use Rattle.spec_store.proofs.StoreLemmas.{IsStore-of, same_row, both_true, either_false, same_itself, same_means, found_key, row_at-append, last_of-append}
 use Rattle.raven_laws.proofs.KindLemmas.{named-given, named-kind}
 use Rattle.raven_laws.proofs.ListedLemmas.{index_apart}
 use Rattle.raven_laws.proofs.WorldLemmas.{reserved-other}
+use Rattle.raven_laws.proofs.VersionLemmas.{entries-again, with_version-first}
 use Rattle.raven_laws.proofs.SlotLemmas.{Has-append, Has-left, Has-right, find-Has, NumbersRise-push, Fits-fresh, same_slot}
 use Rattle.raven_laws.proofs.MemberLemmas.{Rises, read_rises, they_are}
 
@@ -444,52 +453,177 @@ four_of texts = (codes "@metadata", object no_entries) ∷ (codes "Kind", text (
 four_of-rise : (texts : Texts) → IsRising (four_of texts)
 four_of-rise texts = ((refl, (refl, (refl, tt))), ((refl, (refl, tt)), ((refl, tt), (tt, tt))))
 
--- the body of a definition is the one that the server writes for it
+-- what is said of a body that may divide is no more than what is said of one that may not
+weaker : (f : BodyForm) (d : Definition) → AgreesWithForm f d → AgreesWithForm (dividing f) d
+weaker NoForm d h = h
+weaker (AutoForm told) d h = h
+weaker (StaticForm may_divide texts) d h = record { agrees = h.agrees; undivided = λ e. absurd cc }
+
+-- the body of a definition of the first version is the one that the server wrote for it
 members-told : (ms : Entries) (d : Definition) → Rises (object ms) → length (pairs_of ms) ≡ 4
     → (auto : Option Definition) → auto_read (member (codes "@metadata") ms) (member (codes "Collection") ms) (member (codes "Fields") ms) (member (codes "Kind") ms) ≡ auto
     → (read : Option Texts) → texts_read (member (codes "@metadata") ms) (member (codes "Kind") ms) (member (codes "Map") ms) (member (codes "Reduce") ms) ≡ read
-    → AgreesWithForm (form_of auto read) d → object ms ≡ stored_body (row_body d)
+    → AgreesWithForm (dividing (form_of auto read)) d → object ms ≡ stored_body (first_body d)
 members-told ms d up n (Some told) e read k h =
     let a = auto_read-IsAuto (member (codes "@metadata") ms) (member (codes "Collection") ms) (member (codes "Fields") ms) (member (codes "Kind") ms) told e in
     let they = they_are (four a.name a.paths) ms (four-rise a.name a.paths) up (a.metadata_is, (a.collection_is, (a.fields_are, (a.kind_is, tt)))) (omega arith) in
-    ap object they ∙ ap (λ x. stored_body (row_body x)) (a.definition_is ∙ sym h)
+    ap object they ∙ ap (λ x. stored_body (first_body x)) (a.definition_is ∙ sym h)
 members-told ms d up n None e (Some texts) k h =
     let a = texts_read-IsStatic (member (codes "@metadata") ms) (member (codes "Kind") ms) (member (codes "Map") ms) (member (codes "Reduce") ms) texts k in
     let they = they_are (four_of texts) ms (four_of-rise texts) up (a.metadata_is, (a.kind_is, (a.map_is, (a.reduce_is, tt)))) (omega arith) in
-    ap object they ∙ ap (λ x. stored_body (row_body x)) (sym h.by_texts)
+    ap object they ∙ ap (λ x. stored_body (first_body x)) (sym h.agrees.by_texts)
 members-told ms d up n None e None k h = absurd h
 
 -- the same of one with groups
 five-told : (ms : Entries) (d : Definition) → Rises (object ms) → length (pairs_of ms) ≡ 5
     → (read : Option Definition) → reduce_read (member (codes "@metadata") ms) (member (codes "Collection") ms) (member (codes "Groups") ms) (member (codes "Kind") ms) (member (codes "Sums") ms) ≡ read
-    → AgreesWithForm (reduce_form read) d → object ms ≡ stored_body (row_body d)
+    → AgreesWithForm (dividing (reduce_form read)) d → object ms ≡ stored_body (first_body d)
 five-told ms d up n None e h = absurd h
 five-told ms d up n (Some told) e h =
     let a = reduce_read-IsGrouped (member (codes "@metadata") ms) (member (codes "Collection") ms) (member (codes "Groups") ms) (member (codes "Kind") ms) (member (codes "Sums") ms) told e in
     let they = they_are (five a.name a.paths a.totals) ms (five-rise a.name a.paths a.totals) up
     (a.metadata_is, (a.collection_is, (a.groups_are, (a.kind_is, (a.sums_are, tt))))) (omega arith) in
-    ap object they ∙ ap (λ x. stored_body (row_body x)) (a.definition_is ∙ sym h)
+    ap object they ∙ ap (λ x. stored_body (first_body x)) (a.definition_is ∙ sym h)
 
-told-is : (v : Data) (d : Definition) → Rises v → AgreesWithForm (body_form v) d → v ≡ stored_body (row_body d)
-told-is null d up h = absurd h
-told-is (flag b) d up h = absurd h
-told-is (num n) d up h = absurd h
-told-is (text s) d up h = absurd h
-told-is (array ds) d up h = absurd h
-told-is (object ms) d up h =
+first-told : (v : Data) (d : Definition) → Rises v → AgreesWithForm (dividing (first_form v)) d → v ≡ stored_body (first_body d)
+first-told null d up h = absurd h
+first-told (flag b) d up h = absurd h
+first-told (num n) d up h = absurd h
+first-told (text s) d up h = absurd h
+first-told (array ds) d up h = absurd h
+first-told (object ms) d up h =
     let auto = auto_read (member (codes "@metadata") ms) (member (codes "Collection") ms) (member (codes "Fields") ms) (member (codes "Kind") ms) in
     let read = texts_read (member (codes "@metadata") ms) (member (codes "Kind") ms) (member (codes "Map") ms) (member (codes "Reduce") ms) in
     let grouped = reduce_read (member (codes "@metadata") ms) (member (codes "Collection") ms) (member (codes "Groups") ms) (member (codes "Kind") ms) (member (codes "Sums") ms) in
-    elim (length (pairs_of ms) == 4) as (λ b. length (pairs_of ms) == 4 ≡ b → AgreesWithForm (cond b (form_of auto read) (cond (length (pairs_of ms) == 5) (reduce_form grouped) NoForm)) d → object ms ≡ stored_body (row_body d)) [
+    elim (length (pairs_of ms) == 4) as (λ b. length (pairs_of ms) == 4 ≡ b → AgreesWithForm (dividing (cond b (form_of auto read) (cond (length (pairs_of ms) == 5) (reduce_form grouped) NoForm))) d → object ms ≡ stored_body (first_body d)) [
       | true ↦ λ e g. members-told ms d up (eqb-true (length (pairs_of ms)) 4 e) auto refl read refl g
-      | false ↦ λ e g. elim (length (pairs_of ms) == 5) as (λ b. length (pairs_of ms) == 5 ≡ b → AgreesWithForm (cond b (reduce_form grouped) NoForm) d → object ms ≡ stored_body (row_body d)) [
+      | false ↦ λ e g. elim (length (pairs_of ms) == 5) as (λ b. length (pairs_of ms) == 5 ≡ b → AgreesWithForm (dividing (cond b (reduce_form grouped) NoForm)) d → object ms ≡ stored_body (first_body d)) [
         | true ↦ λ f k. five-told ms d up (eqb-true (length (pairs_of ms)) 5 f) grouped refl k
         | false ↦ λ f k. absurd k
       ] refl g
     ] refl h
 
-pub toldin-is : (b : Body) (d : Definition) → BodyRises b → AgreesWithBody b d → b ≡ doc (stored_body (row_body d))
-toldin-is (doc v) d up h = ap doc (told-is v d up h)
+-- in the first version there is no quotient
+
+sums-undivided : (ps : List Path) → list_any (λ m. is_quotient m.value) (map (λ path. sum_member (sum_name path)) ps) ≡ false
+sums-undivided [] = refl
+sums-undivided (p ∷ ps) = sums-undivided ps
+
+groups-undivided : (gs ps : List Path) → list_any (λ m. is_quotient m.value) (map key_member gs ++ sum_member count_name ∷ map (λ path. sum_member (sum_name path)) ps) ≡ false
+groups-undivided [] ps = sums-undivided ps
+groups-undivided (g ∷ gs) ps = groups-undivided gs ps
+
+form-undivided : (m c fs gs k ss t r : Option Data) (d : Definition) → (auto : Option Definition) → auto_read m c fs k ≡ auto → (read : Option Texts) → texts_read m k t r ≡ read
+    → AgreesWithForm (form_of auto read) d → has_quotient d ≡ false
+form-undivided m c fs gs k ss t r d (Some told) e read f h = let a = auto_read-IsAuto m c fs k told e in ap has_quotient (h ∙ sym a.definition_is)
+form-undivided m c fs gs k ss t r d None e (Some texts) f h = h.undivided refl
+form-undivided m c fs gs k ss t r d None e None f h = absurd h
+
+grouped-undivided : (m c gs k ss : Option Data) (d : Definition) → (read : Option Definition) → reduce_read m c gs k ss ≡ read → AgreesWithForm (reduce_form read) d → has_quotient d ≡ false
+grouped-undivided m c gs k ss d None e h = absurd h
+grouped-undivided m c gs k ss d (Some told) e h =
+    let a = reduce_read-IsGrouped m c gs k ss told e in
+    ap has_quotient (h ∙ sym a.definition_is) ∙ groups-undivided a.paths a.totals
+
+first-undivided : (v : Data) (d : Definition) → AgreesWithForm (first_form v) d → has_quotient d ≡ false
+first-undivided null d h = absurd h
+first-undivided (flag b) d h = absurd h
+first-undivided (num n) d h = absurd h
+first-undivided (text s) d h = absurd h
+first-undivided (array ds) d h = absurd h
+first-undivided (object ms) d h =
+    let at = λ (k : List ℕ). member k ms in
+    elim (length (pairs_of ms) == 4) as (λ b. AgreesWithForm (cond b (form_of (auto_read (at (codes "@metadata")) (at (codes "Collection")) (at (codes "Fields")) (at (codes "Kind")))
+    (texts_read (at (codes "@metadata")) (at (codes "Kind")) (at (codes "Map")) (at (codes "Reduce"))))
+    (cond (length (pairs_of ms) == 5) (reduce_form (reduce_read (at (codes "@metadata")) (at (codes "Collection")) (at (codes "Groups")) (at (codes "Kind")) (at (codes "Sums")))) NoForm)) d → has_quotient d ≡ false) [
+      | true ↦ λ g. form-undivided (at (codes "@metadata")) (at (codes "Collection")) (at (codes "Fields")) None (at (codes "Kind")) None (at (codes "Map")) (at (codes "Reduce")) d _ refl _ refl g
+      | false ↦ λ g. elim (length (pairs_of ms) == 5) as (λ b.
+          AgreesWithForm (cond b (reduce_form (reduce_read (at (codes "@metadata")) (at (codes "Collection")) (at (codes "Groups")) (at (codes "Kind")) (at (codes "Sums")))) NoForm) d → has_quotient d ≡ false) [
+            | true ↦ λ k. grouped-undivided (at (codes "@metadata")) (at (codes "Collection")) (at (codes "Groups")) (at (codes "Kind")) (at (codes "Sums")) d _ refl k
+            | false ↦ λ k. absurd k
+          ] g
+    ] h
+
+-- a member that is taken out, and put back
+
+below-found : (j k : List ℕ) (x : Data) (ps : Pairs) → IsBelowAll j ps → member k (entries_of ps) ≡ Some x → key_cmp j k ≡ Less
+below-found j k x [] b h = absurd cc
+below-found j k x (m ∷ ps) b h = by (below-found j k x ps b.1) (bytes_eq k m.0) refl h
+  where
+    by : (member k (entries_of ps) ≡ Some x → key_cmp j k ≡ Less) → (o : Bool) → bytes_eq k m.0 ≡ o → cond o (Some m.1) (member k (entries_of ps)) ≡ Some x → key_cmp j k ≡ Less
+    by rest true e g = ap (key_cmp j) ((bytes_eq-Decides k m.0).0 e) ∙ b.0
+    by rest false e g = rest g
+
+below-without : (j k : List ℕ) (ps : Pairs) → IsBelowAll j ps → IsBelowAll j (without k ps)
+below-without j k [] b = tt
+below-without j k (m ∷ ps) b = elim (same_key k m.0) as (λ o. IsBelowAll j (cond o ps (m ∷ without k ps))) [ true ↦ b.1 | false ↦ (b.0, below-without j k ps b.1) ]
+
+rising-without : (k : List ℕ) (ps : Pairs) → IsRising ps → IsRising (without k ps)
+rising-without k [] up = tt
+rising-without k (m ∷ ps) up = elim (same_key k m.0) as (λ o. IsRising (cond o ps (m ∷ without k ps))) [ true ↦ up.1 | false ↦ (below-without m.0 k ps up.0, rising-without k ps up.1) ]
+
+put-below : (k : List ℕ) (x : Data) (ps : Pairs) → IsBelowAll k ps → put k x ps ≡ (k, x) ∷ ps
+put-below k x [] b = refl
+put-below k x (m ∷ ps) b = ap (λ o. match_ordering o ((k, x) ∷ m ∷ ps) ((k, x) ∷ ps) (m ∷ put k x ps)) b.0
+
+put-back : (k : List ℕ) (x : Data) (ps : Pairs) → IsRising ps → member k (entries_of ps) ≡ Some x → put k x (without k ps) ≡ ps
+put-back k x [] up h = absurd cc
+put-back k x (m ∷ ps) up h = by (put-back k x ps up.1) (same_key k m.0) refl h
+  where
+    here : (l : List ℕ) (y : Data) → k ≡ l → y ≡ x → IsBelowAll l ps → put k x ps ≡ (l, y) ∷ ps
+    here l y same is b = ap (λ q. put q x ps) same ∙ put-below l x ps b ∙ ap (λ z. (l, z) ∷ ps) (sym is)
+
+    by : (member k (entries_of ps) ≡ Some x → put k x (without k ps) ≡ ps) → (o : Bool) → same_key k m.0 ≡ o → cond o (Some m.1) (member k (entries_of ps)) ≡ Some x
+        → put k x (without k (m ∷ ps)) ≡ m ∷ ps
+    by rest true e g = ap (λ o. put k x (cond o ps (m ∷ without k ps))) e ∙ here m.0 m.1 ((bytes_eq-Decides k m.0).0 e) (let is : m.1 ≡ x = cc in is) up.0
+    by rest false e g =
+        ap (λ o. put k x (cond o ps (m ∷ without k ps))) e
+        ∙ ap (λ o. match_ordering o ((k, x) ∷ m ∷ without k ps) ((k, x) ∷ without k ps) (m ∷ put k x (without k ps)))
+        (nat_list_cmp_total.antisymm k m.0 ∙ ap ordering_reverse (below-found m.0 k x ps up.0 g))
+        ∙ ap (λ l. m ∷ l) (rest g)
+
+two-is : (v : Data) → is_two v ≡ true → v ≡ num (pos 2)
+two-is (num (pos n)) h = ap (λ m. num (pos m)) (eqb-true n 2 h)
+two-is (num (negsuc n)) h = absurd cc
+two-is null h = absurd cc
+two-is (flag b) h = absurd cc
+two-is (text s) h = absurd cc
+two-is (array ds) h = absurd cc
+two-is (object ms) h = absurd cc
+
+second-told : (ms : Entries) (d : Definition) → Rises (object ms) → (v : Data) → member (codes "Version") ms ≡ Some v → is_two v ≡ true
+    → AgreesWithForm (dividing (first_form (object (entries_of (without (codes "Version") (pairs_of ms)))))) d → object ms ≡ stored_body (row_body d)
+second-told ms d up v found two h =
+    let rest = entries_of (without (codes "Version") (pairs_of ms)) in
+    let is = first-told (object rest) d (subst (λ (ps : Pairs). IsRising ps) (sym (pairs_of-entries_of (without (codes "Version") (pairs_of ms)))) (rising-without (codes "Version") (pairs_of ms) up)) h in
+    ap object (sym (entries-again ms))
+    ∙ ap (λ ps. object (entries_of ps)) (sym (put-back (codes "Version") v (pairs_of ms) up (ap (member (codes "Version")) (entries-again ms) ∙ found)))
+    ∙ ap (λ x. object (entries_of (put (codes "Version") x (without (codes "Version") (pairs_of ms))))) (two-is v two)
+    ∙ ap (λ ps. object (entries_of (put (codes "Version") (num (pos 2)) ps))) (sym (pairs_of-entries_of (without (codes "Version") (pairs_of ms))))
+    ∙ ap with_version is
+    ∙ with_version-first d
+
+told-is : (v : Data) (d : Definition) → Rises v → AgreesWithForm (body_form v) d → sound.IsBodyOf d (doc v)
+told-is null d up h = absurd h
+told-is (flag b) d up h = absurd h
+told-is (num n) d up h = absurd h
+told-is (text s) d up h = absurd h
+told-is (array ds) d up h = absurd h
+told-is (object ms) d up h = by (member (codes "Version") ms) refl h
+  where
+    first : AgreesWithForm (first_form (object ms)) d → sound.IsBodyOf d (doc (object ms))
+    first g = sound.first (ap doc (first-told (object ms) d up (weaker (first_form (object ms)) d g))) (first-undivided (object ms) d g)
+
+    by : (o : Option Data) → member (codes "Version") ms ≡ o → AgreesWithForm (form_by (without_version ms o) (object ms)) d → sound.IsBodyOf d (doc (object ms))
+    by None e g = first g
+    by (Some v) e g =
+        elim (is_two v) as (λ b. is_two v ≡ b → AgreesWithForm (form_by (cond b (Some (object (entries_of (without (codes "Version") (pairs_of ms))))) None) (object ms)) d → sound.IsBodyOf d (doc (object ms))) [
+          | true ↦ λ two k. sound.second (ap doc (second-told ms d up v e two k))
+          | false ↦ λ two k. first k
+        ] refl g
+
+pub toldin-is : (b : Body) (d : Definition) → BodyRises b → AgreesWithBody b d → sound.IsBodyOf d b
+toldin-is (doc v) d up h = told-is v d up h
 toldin-is gone d up h = absurd h
 
 -- THE KEY OF A DEFINITION'S ROW
@@ -711,7 +845,7 @@ opened-listed all max rows slots s most a = record {
         found = ap (λ (z : Slot). row_at (folded (index_id z.name)) rows) (sym m.made) ∙ ap (λ k. row_at k rows) (sym (indexed m.from.id m.indexed)) ∙ Has-found rows m.from s.apart m.there;
         etag = ap (λ (z : Slot). z.row) m.made;
         collection = (bytes_eq-Decides m.from.collection (codes "@indexes")).0 shut.1;
-        body = toldin-is m.from.body m.definition (s.rises m.from m.there) m.told ∙ ap (λ (z : Slot). doc (stored_body (row_body z.version.definition))) m.made;
+        body = subst (λ (z : Slot). sound.IsBodyOf z.version.definition m.from.body) m.made (toldin-is m.from.body m.definition (s.rises m.from m.there) m.told);
       };
   only = λ q r h is c.
       let at = find-Has (λ x. same_key q (key x)) rows r h in

@@ -52,6 +52,7 @@ no_index : replies (Ask (named (codes "Name") (codes "x")) ∷ []) ≡ NoIndex (
 no_index = refl
 
 no_field : replies (Auto (codes "Users") (codes "Name") ∷ Ask (named (codes "Age") (codes "x")) ∷ []) ≡ Index (codes "Auto/Users/ByName") ∷ BadPlan (NoField (codes "Age")) ∷ []
+unfolding digits
 no_field = refl
 
 -- a page is refused before the index is looked up

@@ -13,7 +13,9 @@ use Rattle.spec_index.specs.Mapping.{entry_of}
 use Rattle.spec_query.specs.Binding.{NoParameter, BadPage}
 use Rattle.spec_query.specs.Refusals as query
 use Rattle.spec_store.specs.Commit.{Command, AnyVector, Vector}
-use Rattle.spec_index.specs.World.{definition_data}
+use Rattle.spec_index.specs.World.{row_body}
+use Rattle.spec_store.specs.Commit.{stored_body}
+use Rattle.spec_server.specs.Answers.{without_metadata}
 use Rattle.spec_server.specs.Replies.{Result as Done, Reply, Index, Indexes, Removed, ReservedName, NameTooLong, Pumped, Pumping, Found, Answer, BadQuery, BadPlan, NoIndex, UnknownLine, Stale, Stats, Document, NoDocument, Deleted, CollectionChanged, ReservedId, Conflict, TooLong, KeeperFault, printed}
 use Rattle.spec_server.specs.Requests.{Request, Do, Put, Delete, Bulk, Get, Define, Remove, Auto, Find, Pump, Stale as AskStale, Stats as AskStats, takes_all}
 use Rattle.spec_server.specs.Courses.{Machine}
@@ -195,8 +197,8 @@ stale_text : printed (Found [] 0 true) ≡ codes "{\"Ids\":[],\"IndexEtag\":0,\"
 unfolding digits
 stale_text = refl
 
-indexes_text : printed (Indexes (record { definition = definition_data (Definition.Auto (codes "C") ((codes "F" ∷ []) ∷ [])); entries = 1; errors = 0; etag = 2; is_stale = true; name = codes "N" } ∷ []))
-    ≡ codes "{\"Results\":[{\"Definition\":{\"Collection\":\"C\",\"Fields\":[[\"F\"]],\"Kind\":\"auto\"},\"Entries\":1,\"Errors\":0,\"Etag\":2,\"IsStale\":true,\"Name\":\"N\"}]}\n"
+indexes_text : printed (Indexes (record { definition = without_metadata (stored_body (row_body (Definition.Auto (codes "C") ((codes "F" ∷ []) ∷ [])))); entries = 1; errors = 0; etag = 2; is_stale = true; name = codes "N" } ∷ []))
+    ≡ codes "{\"Results\":[{\"Definition\":{\"Collection\":\"C\",\"Fields\":[[\"F\"]],\"Kind\":\"auto\",\"Version\":2},\"Entries\":1,\"Errors\":0,\"Etag\":2,\"IsStale\":true,\"Name\":\"N\"}]}\n"
 unfolding digits
 indexes_text = refl
 

@@ -1,4 +1,5 @@
 pub mod Queries
+pub mod Versions
 pub mod Flags
 pub mod Claims
 pub mod Writes

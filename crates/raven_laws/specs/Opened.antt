@@ -1,11 +1,12 @@
 -- What stored rows open, if each definition that was read of a row agrees with the row's body.
-use Rattle.std.specs.Prelude.{◌≡◌, List, [], ◌∷◌, Option, Some, IsTrue, is_some}
+use Rattle.std.specs.Prelude.{◌≡◌, List, [], ◌∷◌, Bool, false, Option, Some, IsTrue, is_some}
 use Rattle.spec_data.specs.Kept.{KeptRow}
 use Rattle.spec_data.specs.Rows.{Body, doc, gone}
 use Rattle.spec_store.specs.Commit.{Setting}
 use Rattle.spec_server.specs.Opening.{OpenedFrom, BodyForm, NoForm, AutoForm, StaticForm, ReadRow, body_form, is_defining}
 use Rattle.spec_server.specs.Courses.{Machine}
 use Rattle.index_tree.specs.Definitions.{Definition, Static, Texts}
+use Rattle.spec_index.specs.Reduces.{has_quotient}
 use Rattle.index_tree.specs.declared.map_query.MapQuery.{MapQuery}
 use Rattle.index_tree.specs.declared.reduce_query.ReduceQuery.{ReduceQuery}
 
@@ -16,11 +17,16 @@ pub record AgreesWithTexts (texts : Texts) (d : Definition) : Type 0 where
   pub both : is_some reduce ≡ is_some texts.1
   pub by_texts : d ≡ Static query reduce texts.0 texts.1
 
+-- of the first version it has no quotient
+pub record AgreesInVersion (may_divide : Bool) (texts : Texts) (d : Definition) : Type 0 where
+  pub agrees : AgreesWithTexts texts d
+  pub undivided : may_divide ≡ false → has_quotient d ≡ false
+
 -- the definition agrees with what the body says; of texts it need only be some definition by these
 abbrev pub AgreesWithForm : BodyForm → Definition → Type 0
 AgreesWithForm NoForm d = ⊥
 AgreesWithForm (AutoForm told) d = d ≡ told
-AgreesWithForm (StaticForm texts) d = AgreesWithTexts texts d
+AgreesWithForm (StaticForm may_divide texts) d = AgreesInVersion may_divide texts d
 
 abbrev pub AgreesWithBody : Body → Definition → Type 0
 AgreesWithBody (doc body) d = AgreesWithForm (body_form body) d

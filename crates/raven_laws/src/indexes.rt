@@ -1,6 +1,6 @@
 //! What an index has recorded, and when it is stale.
 
-ghost use Rattle.std.specs.Prelude.{◌≡◌, ◌≤◌, ◌↔◌, ◌⊎◌, ℕ, nat_lt, List, Option, Some, None, true, false};
+ghost use Rattle.std.specs.Prelude.{◌≡◌, ◌≤◌, ◌↔◌, ◌⊎◌, ℕ, nat_lt, List, Option, Some, None, true, false, flat_map};
 ghost use Rattle.std.specs.Cmp.{IsTotalOrder};
 ghost use Rattle.std.specs.FinMap.{get};
 ghost use Rattle.std.specs.Option.{option_and_then};
@@ -12,7 +12,15 @@ ghost use Rattle.spec_data.specs.Tables.{Scope, Table, note_rows};
 ghost use Rattle.spec_index.specs.Index.{Agrees, etag_of_batch, record_of, documents};
 ghost use Rattle.spec_store.specs.Stale.{batch_rows, stale, newest, up_to, Unseen};
 ghost use Rattle.index_tree.specs.Mapper.{Mapper, scope_of};
+ghost use Rattle.index_tree.specs.Meaning.{Fields};
+ghost use Rattle.index_tree.specs.declared.reduce_query.FoldMember.{FoldMember};
+ghost use Rattle.index_tree.specs.declared.reduce_query.FoldValue.TheVariants as value;
+ghost use Rattle.index_tree.specs.declared.reduce_query.ReduceQuery.{ReduceQuery};
+ghost use Rattle.spec_index.specs.Again.{reduces_again};
 ghost use Rattle.spec_index.specs.Mapping.{Results, AreResults, remapped, touched};
+ghost use Rattle.spec_index.specs.Folds.{addend, quotient_of};
+ghost use Rattle.spec_index.specs.Rows.{Key, reduced, row_of, value_at};
+ghost use Rattle.spec_server.specs.Sound.{Has};
 
 /// What an index has recorded up to an etag stays right in every later store, and need not be read again, unless tombstones past that etag
 /// were cleaned since.
@@ -65,4 +73,19 @@ pub fn touched_is_enough()
 /// The order of scalars is total.
 pub fn orders_are_total()
     ensures { IsTotalOrder order }
+{}
+
+/// The rows that a reduce gives for several lists of entries, one list after another, give when they are reduced once more the rows of all entries
+/// together.
+pub fn rows_reduce_again()
+    ensures { (reduce : ReduceQuery) (parts : List (List Fields)) → reduces_again reduce ≡ true →
+        reduced reduce (flat_map (reduced reduce) parts) ≡ reduced reduce (flat_map (λ entries. entries) parts) }
+{}
+
+/// In the row of a key each quotient is that of its two sums in this row, cut towards zero, or null if the second is 0.
+pub fn quotients_are_of_their_sums()
+    ensures { (reduce : ReduceQuery) (entries : List Fields) (key : Key) (m : FoldMember) (var field by_var by : List ℕ) → reduces_again reduce ≡ true →
+        Has reduce.members m → m.value ≡ value.Quotient var field by_var by →
+        value_at m.name (row_of reduce entries key)
+        ≡ quotient_of (addend (value_at field (row_of reduce entries key))) (addend (value_at by (row_of reduce entries key))) }
 {}

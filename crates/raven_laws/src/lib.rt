@@ -24,12 +24,14 @@ pub use definitions::{
 };
 pub use indexes::{
     agreement_survives, batch_agrees, documents_are_all, fresh_is_whole, orders_are_total,
-    stale_by_newest, stale_is_unseen, touched_is_enough,
+    quotients_are_of_their_sums, rows_reduce_again, stale_by_newest, stale_is_unseen,
+    touched_is_enough,
 };
 pub use keeping::{changes_are_their_rows, keepers_follow_stores, keepers_store_every_run};
 pub use opening::{
     changes_go_on, every_run_from_stored_rows_is_sound, every_script_from_stored_rows_is_sound,
-    opened_is_sound, rows_were_there_or_written, sound_states_answer_truly, sound_states_go_on,
+    opened_is_sound, rows_of_both_versions_open_alike, rows_were_there_or_written,
+    sound_states_answer_truly, sound_states_go_on,
 };
 pub use queries::{
     covering_is_exact, queries_are_answered, retired_indexes_are_outdone, shapes_are_asked,

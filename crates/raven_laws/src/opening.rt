@@ -1,10 +1,12 @@
 //! What stored rows open, and what holds after every run from there.
 
-ghost use Rattle.std.specs.Prelude.{◌≡◌, ◌⊎◌, ◌++◌, ℕ, List, [], Some, false};
+ghost use Rattle.std.specs.Prelude.{◌≡◌, ◌⊎◌, ◌++◌, ℕ, List, [], Some, None, codes, map, false};
+ghost use Rattle.spec_data.specs.Data.{Entries, object};
 ghost use Rattle.spec_data.specs.Kept.{KeptRow, all_kept};
+ghost use Rattle.spec_data.specs.Members.{member};
 ghost use Rattle.spec_data.specs.Rows.{Row};
 ghost use Rattle.spec_store.specs.Commit.{Setting, is_index_id};
-ghost use Rattle.spec_server.specs.Opening.{OpenedFrom};
+ghost use Rattle.spec_server.specs.Opening.{OpenedFrom, ReadRow, body_form, dividing, first_form, slots_from};
 ghost use Rattle.spec_server.specs.Requests.{AreFromClients, Event, IsFromClient, Line};
 ghost use Rattle.spec_server.specs.Courses.{Change, Machine};
 ghost use Rattle.spec_server.specs.Machine.{changes_of, run};
@@ -15,6 +17,7 @@ ghost use Rattle.spec_index.specs.World.{Slot, World, new_version};
 ghost use Rattle.raven_laws.specs.Claims.{FreshIsExact, FreshIsFromScratch, IdsAreSpelledAsStored};
 ghost use Rattle.raven_laws.specs.Flags.{FlagsAreExact};
 ghost use Rattle.raven_laws.specs.Opened.{OpenedFaithfully};
+ghost use Rattle.raven_laws.specs.Versions.{upgraded, upgraded_read, with_version};
 ghost use Rattle.raven_laws.specs.Writes.{IsWritten};
 
 /// The database that stored rows open is sound, if each definition that was read of a row agrees with the row's body. Whatever was read,
@@ -89,4 +92,12 @@ pub fn every_script_from_stored_rows_is_sound()
 pub fn rows_were_there_or_written()
     ensures { (M : Machine) (events : List Event) (id : List ℕ) (r : Row) → AreApart M.world.store.rows →
         row_at id (run events M).world.store.rows ≡ Some r → is_index_id r.id ≡ false → (row_at id M.world.store.rows ≡ Some r) ⊎ IsWritten M events r }
+{}
+
+/// Rows of definitions open to the same slots, or to the same bad etag, if each is as it would be written in the second version, as long as the same
+/// definitions are read of their bodies; and a body of the first version says with the member `Version` what it says without.
+pub fn rows_of_both_versions_open_alike()
+    ensures slots { (setting : Setting) (all : List Row) (count : ℕ) (slots : List Slot) (xs : List ReadRow) →
+        slots_from setting (map upgraded all) count slots (map upgraded_read xs) ≡ slots_from setting all count slots xs }
+    ensures form { (ms : Entries) → member (codes "Version") ms ≡ None → body_form (with_version (object ms)) ≡ dividing (first_form (object ms)) }
 {}

@@ -26,7 +26,7 @@ use Rattle.rql_grammar.specs.Kinds.{query_refusal}
 use Rattle.rql_parser.specs.declared.refusal.RqlRefusal.{RqlRefusal}
 use Rattle.rql_parser.specs.declared.refusal.RqlRefusal.TheVariants as rql
 use Rattle.rql_parser.proofs.Answering.{one_of}
-use Rattle.index_lang.specs.Openings.{AreReadRows, IsInBody, IsOfForm, IsOpened, IsOpenedBy, IsReadIf, Opens, without_refusal}
+use Rattle.index_lang.specs.Openings.{AreReadRows, IsInBody, IsOfForm, IsOpened, IsOpenedBy, IsReadIf, Opens, unless_divided, without_refusal}
 use Rattle.index_definition.specs.RefusalView.{refusal_view}
 use Rattle.index_lang.specs.Says.{Says}
 
@@ -102,7 +102,8 @@ line_once line a b x y = comes_once (asked_of line) a b x y
 form_once : (form : BodyForm) (a b : Option Definition) → IsOfForm form a → IsOfForm form b → a ≡ b
 form_once NoForm a b x y = x ∙ sym y
 form_once (AutoForm d) a b x y = x ∙ sym y
-form_once (StaticForm texts) a b x y = x.told ∙ ap without_refusal (says_once texts x.answer y.answer x.says y.says) ∙ sym y.told
+form_once (StaticForm may_divide texts) a b x y =
+    x.told ∙ ap (λ r. unless_divided may_divide (without_refusal r)) (says_once texts x.answer y.answer x.says y.says) ∙ sym y.told
 
 pub body_once : (body : Body) (a b : Option Definition) → IsInBody body a → IsInBody body b → a ≡ b
 body_once (doc d) a b x y = form_once (body_form d) a b x y

@@ -1,5 +1,5 @@
 -- What texts say is a definition by these texts, so what is read of a row agrees with its body.
-use Rattle.std.proofs.Common.{◌≡◌, ℕ, List, [], ◌∷◌, true, Option, Some, None, option_map, is_some, Result, Ok, Err, refl, sym, ap, ◌∙◌, subst}
+use Rattle.std.proofs.Common.{◌≡◌, ℕ, List, [], ◌∷◌, true, false, cond, Option, Some, None, option_map, is_some, Result, Ok, Err, refl, sym, ap, ◌∙◌, subst}
 use Rattle.spec_data.specs.Kept.{KeptRow}
 use Rattle.spec_data.specs.Rows.{Body, doc, gone}
 use Rattle.spec_store.specs.Commit.{Setting}
@@ -7,6 +7,7 @@ use Rattle.spec_store.specs.Kept.{rows_in}
 use Rattle.index_tree.specs.Language as is
 use Rattle.spec_server.specs.Courses.{Machine}
 use Rattle.index_tree.specs.Definitions.{Definition, Texts}
+use Rattle.spec_index.specs.Reduces.{has_quotient}
 use Rattle.spec_server.specs.Opening.{BodyForm, NoForm, AutoForm, StaticForm, ReadRow, body_form, is_defining, opened}
 use Rattle.index_grammar.specs.View.{query_of}
 use Rattle.index_definition.specs.DefinitionView.{definition_view}
@@ -16,7 +17,7 @@ use Rattle.index_lang.specs.declared.reading.ReadReduce.{ReadReduce}
 use Rattle.index_lang.specs.declared.reading.Trees.{Trees}
 use Rattle.index_definition.specs.declared.refusal.LangRefusal.{LangRefusal}
 use Rattle.raven_laws.specs.Opened.{AgreesWithTexts, AgreesWithForm, AgreesWithBody, HasOwnDefinition, HaveOwnDefinitions, OpenedFaithfully}
-use Rattle.index_lang.specs.Openings.{AreReadRows, IsInBody, IsOfForm, IsOpened, IsOpenedBy, IsReadIf, IsReadRow, without_refusal}
+use Rattle.index_lang.specs.Openings.{AreReadRows, IsInBody, IsOfForm, IsOpened, IsOpenedBy, IsReadIf, IsReadRow, unless_divided, without_refusal}
 use Rattle.index_lang.specs.Says.{Says}
 
 -- WHAT TEXTS SAY
@@ -63,10 +64,20 @@ pub said-of : (texts : Texts) (d : Definition) (answer : Result Definition is.La
 said-of texts d (Ok e) says h = subst (λ x. Says texts (Ok x)) (sym (same_definition d e h)) says
 said-of texts d (Err refusal) says h = absurd cc
 
+-- without quotients there is what the texts say, and it has none
+pub undivided-told : (d : Definition) (o : Option Definition) → Some d ≡ unless_divided false o → (Some d ≡ o) × (has_quotient d ≡ false)
+undivided-told d None h = absurd cc
+undivided-told d (Some e) h = elim (has_quotient e) as (λ b. has_quotient e ≡ b → Some d ≡ cond b None (Some e) → (Some d ≡ Some e) × (has_quotient d ≡ false)) [
+  | true ↦ λ is g. absurd cc
+  | false ↦ λ is g. (g, ap has_quotient (same_definition d e g) ∙ is)
+] refl h
+
 form-told : (form : BodyForm) (d : Definition) → IsOfForm form (Some d) → AgreesWithForm form d
 form-told NoForm d h = absurd cc
 form-told (AutoForm e) d h = same_definition d e h
-form-told (StaticForm texts) d h = said-by texts d (said-of texts d h.answer h.says h.told)
+form-told (StaticForm true texts) d h = record { agrees = said-by texts d (said-of texts d h.answer h.says h.told); undivided = λ never. absurd cc }
+form-told (StaticForm false texts) d h =
+    let told = undivided-told d (without_refusal h.answer) h.told in record { agrees = said-by texts d (said-of texts d h.answer h.says told.0); undivided = λ is. told.1 }
 
 pub body-told : (b : Body) (d : Definition) → IsInBody b (Some d) → AgreesWithBody b d
 body-told (doc v) d h = form-told (body_form v) d h

@@ -1,5 +1,5 @@
 -- The stored rows of a machine open it again.
-use Rattle.std.proofs.Common.{◌≡◌, ℕ, ◌+◌, ◌<◌, ◌≤◌, List, [], ◌∷◌, ◌++◌, Bool, true, false, not, cond, ◌&&◌, ◌||◌, nat_eq, nat_le, length, codes, drop, filter, Option, Some, None, option_map, Ok, refl, sym, ap, ◌∙◌, subst, arith, inl, inr, append_assoc, append-nil}
+use Rattle.std.proofs.Common.{◌≡◌, ℕ, ◌+◌, ◌<◌, ◌≤◌, List, [], ◌∷◌, ◌++◌, true, false, not, cond, ◌&&◌, ◌||◌, nat_eq, nat_le, length, codes, drop, filter, Option, Some, None, option_map, Ok, refl, sym, ap, ◌∙◌, subst, arith, inl, inr, append_assoc, append-nil}
 use Rattle.std.proofs.lemmas.Bool.Decides.{nat_tests}
 use Rattle.std.proofs.lemmas.List.{length-append}
 use Rattle.std.proofs.lemmas.Slice.Eq.{bytes_eq-Decides}
@@ -7,21 +7,21 @@ use Rattle.std.specs.List.{cons_option, filter_map, starts_with}
 use Rattle.std.specs.Str.{bytes_eq}
 use Rattle.spec_data.specs.Folding.{folded, same_key}
 use Rattle.spec_data.specs.Kept.{KeptRow, all_kept}
-use Rattle.spec_data.specs.Rows.{Row, Body, doc, gone, key, is_document}
-use Rattle.spec_store.specs.Commit.{Setting, stored_body}
+use Rattle.spec_data.specs.Rows.{Row, key, is_document}
+use Rattle.spec_store.specs.Commit.{Setting}
 use Rattle.spec_server.specs.Requests.{Event}
 use Rattle.spec_server.specs.Courses.{Machine}
 use Rattle.spec_server.specs.Machine.{run}
 use Rattle.index_tree.specs.Definitions.{Definition}
 use Rattle.spec_server.specs.Opening.{ReadRow, is_defining, name_in, may_be_named, is_beside, is_filed, is_live, is_too_many, slot_of, with_slot, slots_with, slots_after, or_bad, and_then, slots_from, opened_with, rows_of}
-use Rattle.spec_server.specs.Sound.{Has, Sound}
+use Rattle.spec_server.specs.Sound.{Has, IsBodyOf, Sound}
 use Rattle.spec_store.specs.Store.{row_at}
-use Rattle.spec_index.specs.World.{Slot, begins_with_replacement, new_version, index_id, row_body}
+use Rattle.spec_index.specs.World.{Slot, begins_with_replacement, new_version, index_id}
 use Rattle.spec_store.proofs.StoreLemmas.{both_true, found_key, same_row}
 use Rattle.raven_laws.proofs.EntryLemmas.{into-filter_map}
 use Rattle.raven_laws.proofs.AnswerLemmas.{Has-filter_map}
 use Rattle.raven_laws.proofs.OpenedRuns.{go-IsMachine, go-LaterW}
-use Rattle.raven_laws.proofs.ListedLemmas.{index_joined}
+use Rattle.raven_laws.proofs.ListedLemmas.{body-live, index_joined}
 use Rattle.raven_laws.proofs.OpenLemmas.{Has-found, folded-drop, opened_from-rows, opened_from-IsMachine}
 use Rattle.raven_laws.proofs.SlotLemmas.{Has-map, Has-mapped, find-Has}
 use Rattle.index_lang.specs.Openings.{AreReadRows, IsInBody, IsOpened, IsOpenedBy, IsReadIf, IsReadRow}
@@ -35,6 +35,7 @@ use Rattle.raven_reopening.proofs.CountLemmas.{definitions, few-definitions, one
 use Rattle.raven_reading.proofs.TextLemmas.{opened-told}
 use Rattle.raven_reopening.proofs.AgainLemmas.{Again, events-clients, run-Again}
 use Rattle.raven_reopening.proofs.OpenedLemmas.{machine_of, opened-Again}
+use Rattle.raven_reopening.proofs.VersionLemmas.{read-stored}
 
 -- WHAT IS READ OF THE ROWS
 
@@ -51,16 +52,13 @@ record Lasting (rows : List Row) (x : ReadRow) : Type 0 where
   pub right : IsReadRow x
   pub means : is_defining x.row ≡ true → IsMeant rows x
 
-abbrev is_live_body : Body → Bool
-is_live_body b = elim b as (λ x. Bool) [ doc v ↦ true | gone ↦ false ]
-
 -- a live row of a definition is that of an index
 record IsIndexed (M : Machine) (r : Row) : Type 0 where
   pub slot : Slot
   pub there : Has M.world.slots slot
   pub named : folded (name_in r) ≡ folded slot.name
   pub etag : r.etag ≡ slot.row
-  pub body : r.body ≡ doc (stored_body (row_body slot.version.definition))
+  pub body : IsBodyOf slot.version.definition r.body
 
 indexed-row : (M : Machine) (r : Row) → Sound M.world → Has M.world.store.rows r → is_defining r ≡ true → IsIndexed M r
 indexed-row M r o at e =
@@ -69,7 +67,7 @@ indexed-row M r o at e =
     let x = o.listed.only (key r) r found is.0 ((bytes_eq-Decides r.collection (codes "@indexes")).0 is.1) in
     let i = o.listed.each x.0 x.1 in
     let same : i.row ≡ r = same_row i.row r (sym i.found ∙ ap (λ k. row_at k M.world.store.rows) (sym x.2) ∙ found) in
-    record { slot = x.0; there = x.1; named = name-under r x.0.name x.2; etag = ap (λ (y : Row). y.etag) (sym same) ∙ i.etag; body = ap (λ (y : Row). y.body) (sym same) ∙ i.body }
+    record { slot = x.0; there = x.1; named = name-under r x.0.name x.2; etag = ap (λ (y : Row). y.etag) (sym same) ∙ i.etag; body = subst (λ (y : Row). IsBodyOf x.0.version.definition y.body) same i.body }
 
 -- a replacement has the row of its index beside it
 indexed-beside : (M : Machine) (name : List ℕ) (s : Slot) → Sound M.world → Has M.world.slots s → folded name ≡ folded s.name → is_beside M.world.store.rows name ≡ true
@@ -80,7 +78,7 @@ indexed-beside M name s o h named = elim (begins_with_replacement name) as (λ b
           let b = o.beside s h (ap (λ q. starts_with nat_eq q (codes "replacementof/")) (sym named) ∙ e) in
           let i = o.listed.each b.slot b.there in
           let rest : folded (drop 14 name) ≡ folded b.slot.name = folded-drop 14 name ∙ ap (drop 14) (named ∙ b.named) in
-          ap (λ q. is_live (row_at q M.world.store.rows)) (index_joined (drop 14 name) b.slot.name rest) ∙ ap is_live i.found ∙ ap is_live_body i.body
+          ap (λ q. is_live (row_at q M.world.store.rows)) (index_joined (drop 14 name) b.slot.name rest) ∙ ap is_live i.found ∙ body-live b.slot.version.definition i.row i.body
     ] refl
 
 -- a row with what is read of it
@@ -100,7 +98,7 @@ one-read M r o a at = elim (is_defining r) as (λ b. is_defining r ≡ b → IsO
         row = refl;
         lasting = record {
           filed = (a.all r at).filed;
-          right = subst (λ b. IsReadIf b r (Some d)) (sym e) (subst (λ b. IsInBody b (Some d)) (sym i.body) right.read);
+          right = subst (λ b. IsReadIf b r (Some d)) (sym e) (read-stored d r.body i.body right.read);
           means = λ _. record { definition = d; read = refl; named = named-other d (name_in r) i.slot.name i.named right.named; beside = indexed-beside M (name_in r) i.slot o i.there i.named };
         };
       }
@@ -226,11 +224,11 @@ same_definition : (a b : Definition) → Some a ≡ Some b → a ≡ b
 same_definition a b h = cc
 
 -- what is read of the row of an index is its definition
-own-definition : (M : Machine) (x : ReadRow) (s : Slot) (d : Definition) → Again M.world → Has M.world.slots s → x.row.body ≡ doc (stored_body (row_body s.version.definition)) → IsReadRow x → is_defining x.row ≡ true → x.definition ≡ Some d
+own-definition : (M : Machine) (x : ReadRow) (s : Slot) (d : Definition) → Again M.world → Has M.world.slots s → IsBodyOf s.version.definition x.row.body → IsReadRow x → is_defining x.row ≡ true → x.definition ≡ Some d
     → d ≡ s.version.definition
 own-definition M x s d a h body right is read =
     let mine : IsInBody x.row.body (Some d) = subst (IsInBody x.row.body) read (subst (λ b. IsReadIf b x.row x.definition) is right) in
-    let its : IsInBody x.row.body (Some s.version.definition) = subst (λ b. IsInBody b (Some s.version.definition)) (sym body) (a.slots s h).read in
+    let its : IsInBody x.row.body (Some s.version.definition) = read-stored s.version.definition x.row.body body (a.slots s h).read in
     same_definition d s.version.definition (body_once x.row.body (Some d) (Some s.version.definition) mine its)
 
 there-again : (M : Machine) (s : Slot) (all : AreAllRead M.world.store.rows M.world.store.rows) → Sound M.world → Again M.world → Has M.world.slots s → IsThereAgain (slots_in all.read) s
@@ -245,12 +243,12 @@ there-again M s all o a h =
     by : (x : ReadRow) → Has all.read x → x.row ≡ (o.listed.each s h).row → IsThereAgain (slots_in all.read) s
     by x at same =
         let i = o.listed.each s h in
-        let live : is_document x.row ≡ true = ap is_document same ∙ ap is_live_body i.body in
+        let live : is_document x.row ≡ true = ap is_document same ∙ body-live s.version.definition i.row i.body in
         let kept : x.row.collection ≡ codes "@indexes" = ap (λ (y : Row). y.collection) same ∙ i.collection in
         let defining : is_defining x.row ≡ true = ap (λ b. b && bytes_eq x.row.collection (codes "@indexes")) live ∙ (bytes_eq-Decides x.row.collection (codes "@indexes")).1 kept in
         let l = one-lasting M.world.store.rows all.read x all.lasting at in
         let m = l.means defining in
-        let own = own-definition M x s m.definition a h (ap (λ (y : Row). y.body) same ∙ i.body) l.right defining m.read in
+        let own = own-definition M x s m.definition a h (subst (λ (y : Row). IsBodyOf s.version.definition y.body) (sym same) i.body) l.right defining m.read in
         let slot : slot_in x ≡ Some (slot_of x.row m.definition) = ap (λ b. cond b (option_map (slot_of x.row) x.definition) None) defining ∙ ap (option_map (slot_of x.row)) m.read in
         record {
           slot = slot_of x.row m.definition;

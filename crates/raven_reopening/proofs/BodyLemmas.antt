@@ -16,8 +16,8 @@ use Rattle.spec_store.specs.Kept.{is_clean, max_body}
 use Rattle.index_tree.specs.declared.map_query.MapQuery.{MapQuery}
 use Rattle.index_tree.specs.declared.reduce_query.ReduceQuery.{ReduceQuery}
 use Rattle.index_tree.specs.Definitions.{Auto, AutoReduce, Definition, Static}
-use Rattle.spec_server.specs.Opening.{AutoForm, BodyForm, StaticForm, and_then_some, are_rising, body_form, form_of, is_part, is_path, path_of, paths_of, paths_read, reduce_form, words_of}
-use Rattle.spec_index.specs.World.{path_list, row_body, text_list, text_or_null}
+use Rattle.spec_server.specs.Opening.{AutoForm, BodyForm, StaticForm, and_then_some, are_rising, body_form, dividing, form_of, is_part, is_path, path_of, paths_of, paths_read, reduce_form, words_of}
+use Rattle.spec_index.specs.World.{first_body, path_list, row_body, text_list, text_or_null, version_member}
 use Rattle.spec_store.proofs.KeyedLemmas.{differ_greater}
 use Rattle.spec_store.proofs.StoreLemmas.{both_true}
 use Rattle.spec_data.proofs.MemberLemmas.{IsRising-put, pairs_of-entries_of}
@@ -27,13 +27,13 @@ use Rattle.raven_json.proofs.PairLemmas.{ArePairsSound, member-depth, member-sou
 use Rattle.raven_reopening.specs.Form.{IsStorable, AreKept, IsKept}
 use Rattle.raven_reopening.proofs.ReadLemmas.{IsReadBack, document-back}
 
-entries-pairs : (ms : Entries) → entries_of (pairs_of ms) ≡ ms
+pub entries-pairs : (ms : Entries) → entries_of (pairs_of ms) ≡ ms
 entries-pairs no_entries = refl
 entries-pairs (entry k d ms) = ap (entry k d) (entries-pairs ms)
 
 -- SOUND MEMBERS
 
-pairs-sound : (ms : Entries) → HasSound ms → ArePairsSound (pairs_of ms)
+pub pairs-sound : (ms : Entries) → HasSound ms → ArePairsSound (pairs_of ms)
 pairs-sound no_entries h = tt
 pairs-sound (entry k d ms) h = (h.0, (h.1.0, pairs-sound ms h.1.1))
 
@@ -158,11 +158,15 @@ paths-flat : (fs : List Path) → items_depth (items_of (map text_list fs)) ≤ 
 paths-flat [] = omega arith
 paths-flat (p ∷ fs) = let one = parts-flat p in let more = paths-flat fs in omega arith
 
+-- the member that says the version
+version-sound : HasSound (entries_of (version_member ∷ []))
+version-sound = (IsUtf8-are_ascii _ refl, (omega arith, tt))
+
 -- the body of an automatic index's definition is a valid one
 pub auto-body : (c : List ℕ) (fs : List Path) → IsUtf8 c → ArePaths fs → IsRequestBody (row_body (Auto c fs))
 auto-body c fs u v = record {
   sound = (
-    ((refl, (refl, (refl, tt))), ((refl, (refl, tt)), ((refl, tt), (tt, tt)))),
+    ((refl, (refl, (refl, (refl, tt)))), ((refl, (refl, (refl, tt))), ((refl, (refl, tt)), ((refl, tt), (tt, tt))))),
     (
       IsUtf8-are_ascii _ refl,
       (
@@ -175,7 +179,7 @@ auto-body c fs u v = record {
               IsUtf8-are_ascii _ refl,
               (
                 paths-sound fs v,
-                (IsUtf8-are_ascii _ refl, (IsUtf8-are_ascii _ refl, tt)),
+                (IsUtf8-are_ascii _ refl, (IsUtf8-are_ascii _ refl, version-sound)),
               ),
             ),
           ),
@@ -192,7 +196,7 @@ auto-body c fs u v = record {
 pub reduce-body : (c : List ℕ) (gs ss : List Path) → IsUtf8 c → ArePaths gs → ArePaths ss → IsRequestBody (row_body (AutoReduce c gs ss))
 reduce-body c gs ss u v w = record {
   sound = (
-    ((refl, (refl, (refl, (refl, tt)))), ((refl, (refl, (refl, tt))), ((refl, (refl, tt)), ((refl, tt), (tt, tt))))),
+    ((refl, (refl, (refl, (refl, (refl, tt))))), ((refl, (refl, (refl, (refl, tt)))), ((refl, (refl, (refl, tt))), ((refl, (refl, tt)), ((refl, tt), (tt, tt)))))),
     (
       IsUtf8-are_ascii _ refl,
       (
@@ -209,7 +213,7 @@ reduce-body c gs ss u v w = record {
                   IsUtf8-are_ascii _ refl,
                   (
                     IsUtf8-are_ascii _ refl,
-                    (IsUtf8-are_ascii _ refl, (paths-sound ss w, tt)),
+                    (IsUtf8-are_ascii _ refl, (paths-sound ss w, version-sound)),
                   ),
                 ),
               ),
@@ -238,7 +242,7 @@ pub static-body : (query : MapQuery) (reduce : Option ReduceQuery) (words : List
     → IsRequestBody (row_body (Static query reduce words reduce_words))
 static-body query reduce words reduce_words u v = record {
   sound = (
-    ((refl, (refl, (refl, tt))), ((refl, (refl, tt)), ((refl, tt), (tt, tt)))),
+    ((refl, (refl, (refl, (refl, tt)))), ((refl, (refl, (refl, tt))), ((refl, (refl, tt)), ((refl, tt), (tt, tt))))),
     (
       IsUtf8-are_ascii _ refl,
       (
@@ -249,7 +253,7 @@ static-body query reduce words reduce_words u v = record {
             IsUtf8-are_ascii _ refl,
             (
               IsUtf8-are_ascii _ refl,
-              (u, (IsUtf8-are_ascii _ refl, (text-sound reduce_words v, tt))),
+              (u, (IsUtf8-are_ascii _ refl, (text-sound reduce_words v, version-sound))),
             ),
           ),
         ),
@@ -300,25 +304,40 @@ list-read fs =
 list-back : (fs : List Path) → list_all is_path fs ≡ true → are_rising fs ≡ true → paths_read (Some (path_list fs)) ≡ Some fs
 list-back fs all up = list-read fs ∙ (λ i. cond (all i && up i) (Some fs) None)
 
--- what is read of the body of an automatic index's definition, by what its lists are read as
+-- What is read of the body of an automatic index's definition, by what its lists are read as. Either version says the same.
 abbrev auto_form : List ℕ → Option (List Path) → BodyForm
 auto_form c o = form_of (option_map (Auto c) o) None
 
 abbrev grouped_form : List ℕ → Option (List Path) → Option (List Path) → BodyForm
 grouped_form c o p = reduce_form (and_then_some o (λ gs. option_map (AutoReduce c gs) p))
 
-auto-form : (c : List ℕ) (fs : List Path) → body_form (stored_body (row_body (Auto c fs))) ≡ auto_form c (paths_read (Some (path_list fs)))
+auto-form : (c : List ℕ) (fs : List Path) → body_form (stored_body (first_body (Auto c fs))) ≡ auto_form c (paths_read (Some (path_list fs)))
 auto-form c fs = refl
 
-grouped-form : (c : List ℕ) (gs ss : List Path) → body_form (stored_body (row_body (AutoReduce c gs ss))) ≡ grouped_form c (paths_read (Some (path_list gs))) (paths_read (Some (path_list ss)))
+grouped-form : (c : List ℕ) (gs ss : List Path)
+    → body_form (stored_body (first_body (AutoReduce c gs ss))) ≡ grouped_form c (paths_read (Some (path_list gs))) (paths_read (Some (path_list ss)))
 grouped-form c gs ss = refl
 
+-- the second version says what the first one does, and may divide
+pub versions-alike : (d : Definition) → body_form (stored_body (row_body d)) ≡ dividing (body_form (stored_body (first_body d)))
+versions-alike (Static query reduce words None) = refl
+versions-alike (Static query reduce words (Some other)) = refl
+versions-alike (Auto c fs) = refl
+versions-alike (AutoReduce c gs ss) = refl
+
+pub auto-first : (c : List ℕ) (fs : List Path) → list_all is_path fs ≡ true → are_rising fs ≡ true → body_form (stored_body (first_body (Auto c fs))) ≡ AutoForm (Auto c fs)
+auto-first c fs all up = auto-form c fs ∙ ap (auto_form c) (list-back fs all up)
+
 pub auto-back : (c : List ℕ) (fs : List Path) → list_all is_path fs ≡ true → are_rising fs ≡ true → body_form (stored_body (row_body (Auto c fs))) ≡ AutoForm (Auto c fs)
-auto-back c fs all up = auto-form c fs ∙ ap (auto_form c) (list-back fs all up)
+auto-back c fs all up = versions-alike (Auto c fs) ∙ ap dividing (auto-first c fs all up)
+
+pub reduce-first : (c : List ℕ) (gs ss : List Path) → list_all is_path gs ≡ true → are_rising gs ≡ true → list_all is_path ss ≡ true → are_rising ss ≡ true
+    → body_form (stored_body (first_body (AutoReduce c gs ss))) ≡ AutoForm (AutoReduce c gs ss)
+reduce-first c gs ss all up each over = grouped-form c gs ss ∙ (λ i. grouped_form c (list-back gs all up i) (list-back ss each over i))
 
 pub reduce-back : (c : List ℕ) (gs ss : List Path) → list_all is_path gs ≡ true → are_rising gs ≡ true → list_all is_path ss ≡ true → are_rising ss ≡ true
     → body_form (stored_body (row_body (AutoReduce c gs ss))) ≡ AutoForm (AutoReduce c gs ss)
-reduce-back c gs ss all up each over = grouped-form c gs ss ∙ (λ i. grouped_form c (list-back gs all up i) (list-back ss each over i))
+reduce-back c gs ss all up each over = versions-alike (AutoReduce c gs ss) ∙ ap dividing (reduce-first c gs ss all up each over)
 
 -- PATHS THAT CAN BE KEPT are read back, and what is read back can be kept
 
@@ -346,23 +365,24 @@ paths-told (p ∷ fs) h s =
 list-told : (fs : List Path) → are_paths fs ≡ true → AreSound (items_of (map text_list fs)) → AreKept fs
 list-told fs h s = let both = both_true (list_all is_path fs) (are_rising fs) h in record { paths = paths-told fs both.0 s; rising = both.1 }
 
-auto-told : (c : List ℕ) (fs : List Path) (d : Definition) → IsOfForm (auto_form c (paths_read (Some (path_list fs)))) (Some d) → are_paths fs ≡ true
-auto-told c fs d h = elim (are_paths fs) as (λ b. IsOfForm (auto_form c (cond b (Some fs) None)) (Some d) → b ≡ true) [
+auto-told : (c : List ℕ) (fs : List Path) (d : Definition) → IsOfForm (dividing (auto_form c (paths_read (Some (path_list fs))))) (Some d) → are_paths fs ≡ true
+auto-told c fs d h = elim (are_paths fs) as (λ b. IsOfForm (dividing (auto_form c (cond b (Some fs) None))) (Some d) → b ≡ true) [
   | true ↦ λ g. refl
   | false ↦ λ g. absurd cc
-] (subst (λ o. IsOfForm (auto_form c o) (Some d)) (list-read fs) h)
+] (subst (λ o. IsOfForm (dividing (auto_form c o)) (Some d)) (list-read fs) h)
 
-reduce-told : (c : List ℕ) (gs ss : List Path) (d : Definition) → IsOfForm (grouped_form c (paths_read (Some (path_list gs))) (paths_read (Some (path_list ss)))) (Some d) → (are_paths gs ≡ true) × (are_paths ss ≡ true)
-reduce-told c gs ss d h = elim (are_paths gs) as (λ b. IsOfForm (grouped_form c (cond b (Some gs) None) (paths_read (Some (path_list ss)))) (Some d) → (b ≡ true) × (are_paths ss ≡ true)) [
+reduce-told : (c : List ℕ) (gs ss : List Path) (d : Definition) → IsOfForm (dividing (grouped_form c (paths_read (Some (path_list gs))) (paths_read (Some (path_list ss))))) (Some d)
+    → (are_paths gs ≡ true) × (are_paths ss ≡ true)
+reduce-told c gs ss d h = elim (are_paths gs) as (λ b. IsOfForm (dividing (grouped_form c (cond b (Some gs) None) (paths_read (Some (path_list ss))))) (Some d) → (b ≡ true) × (are_paths ss ≡ true)) [
   | true ↦ λ g. (
     refl,
-    elim (are_paths ss) as (λ b. IsOfForm (grouped_form c (Some gs) (cond b (Some ss) None)) (Some d) → b ≡ true) [
+    elim (are_paths ss) as (λ b. IsOfForm (dividing (grouped_form c (Some gs) (cond b (Some ss) None))) (Some d) → b ≡ true) [
       | true ↦ λ k. refl
       | false ↦ λ k. absurd cc
-    ] (subst (λ o. IsOfForm (grouped_form c (Some gs) o) (Some d)) (list-read ss) g),
+    ] (subst (λ o. IsOfForm (dividing (grouped_form c (Some gs) o)) (Some d)) (list-read ss) g),
   )
   | false ↦ λ g. absurd cc
-] (subst (λ o. IsOfForm (grouped_form c o (paths_read (Some (path_list ss)))) (Some d)) (list-read gs) h)
+] (subst (λ o. IsOfForm (dividing (grouped_form c o (paths_read (Some (path_list ss))))) (Some d)) (list-read gs) h)
 
 -- the paths of a definition that was stored, and is read of its body, can be kept
 pub stored-kept : (d : Definition) → IsSound (stored_body (row_body d)) → IsOfForm (body_form (stored_body (row_body d))) (Some d) → IsKept d
@@ -371,7 +391,11 @@ stored-kept (Auto c fs) s h = (s.1.1.1.1.0, list-told fs (auto-told c fs (Auto c
 stored-kept (AutoReduce c gs ss) s h =
     let told = reduce-told c gs ss (AutoReduce c gs ss) h in (s.1.1.1.1.0, (list-told gs told.0 s.1.1.1.1.1.1.0, list-told ss told.1 s.1.1.1.1.1.1.1.1.1.1.0))
 
+pub static-first : (query : MapQuery) (reduce : Option ReduceQuery) (words : List ℕ) (reduce_words : Option (List ℕ))
+    → body_form (stored_body (first_body (Static query reduce words reduce_words))) ≡ StaticForm false (words, reduce_words)
+static-first query reduce words None = refl
+static-first query reduce words (Some other) = refl
+
 pub static-back : (query : MapQuery) (reduce : Option ReduceQuery) (words : List ℕ) (reduce_words : Option (List ℕ))
-    → body_form (stored_body (row_body (Static query reduce words reduce_words))) ≡ StaticForm (words, reduce_words)
-static-back query reduce words None = refl
-static-back query reduce words (Some other) = refl
+    → body_form (stored_body (row_body (Static query reduce words reduce_words))) ≡ StaticForm true (words, reduce_words)
+static-back query reduce words reduce_words = versions-alike (Static query reduce words reduce_words) ∙ ap dividing (static-first query reduce words reduce_words)

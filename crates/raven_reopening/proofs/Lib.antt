@@ -5,7 +5,9 @@ pub mod FitLemmas
 pub mod CountLemmas
 pub mod LastLemmas
 pub mod RightLemmas
+pub mod VersionLemmas
 pub mod AgainLemmas
 pub mod OpenedLemmas
+pub mod UpgradeLemmas
 pub mod BackLemmas
 pub mod LineLemmas

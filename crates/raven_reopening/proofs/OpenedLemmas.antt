@@ -9,6 +9,7 @@ use Rattle.spec_data.specs.Json.{JsonRefusal, reading}
 use Rattle.spec_data.specs.Kept.{KeptRow}
 use Rattle.spec_data.specs.Moments.{moments_end}
 use Rattle.spec_data.specs.Rows.{Row, Body, doc, gone}
+use Rattle.spec_data.specs.Sound.{IsSound}
 use Rattle.spec_data.specs.Written.{text_of}
 use Rattle.spec_store.specs.Store.{store_of}
 use Rattle.spec_store.specs.Commit.{Setting, stored_body}
@@ -24,7 +25,7 @@ use Rattle.raven_laws.proofs.SlotLemmas.{Has-append}
 use Rattle.index_lang.specs.Openings.{AreReadRows, IsInBody, IsOpened, IsOpenedBy, IsReadIf, IsReadRow}
 use Rattle.raven_reopening.proofs.ReadLemmas.{IsReadBack, IsBodyBack, IsBack}
 use Rattle.raven_reopening.proofs.RightLemmas.{IsRight}
-use Rattle.raven_json.proofs.SoundLemmas.{reading-fine}
+use Rattle.raven_reopening.proofs.VersionLemmas.{fine-written, read-written}
 use Rattle.raven_reading.proofs.TextLemmas.{body-told}
 use Rattle.raven_reading.specs.Requests.{IsRequestBody}
 use Rattle.raven_reopening.proofs.BodyLemmas.{static-stored, stored-kept}
@@ -104,6 +105,9 @@ rows-read max earlier (k ∷ ks) rows all h =
           ]) g
     ] refl h
 
+pub rows-back : (max : ℕ) (held : List KeptRow) (rows : List Row) → rows_in max held ≡ Ok rows → (r : Row) → Has rows r → IsBack r
+rows-back max held rows e = rows-read max [] held rows (λ r at. absurd at) e
+
 -- THE SLOTS OF ROWS
 
 -- the slot is that of a row whose definition was read of it
@@ -173,9 +177,8 @@ all-shown s rows n slots (x ∷ xs) all right h =
     first r (inr no_more) = absurd no_more
 
 -- the body of a definition by texts that is stored and read back
-body-sound : (d : Definition) → IsReadBack (stored_body (row_body d)) → is_automatic d ≡ false → IsRequestBody (row_body d)
-body-sound (Static query reduce words reduce_words) f is =
-    static-stored query reduce words reduce_words (reading-fine (text_of (stored_body (row_body (Static query reduce words reduce_words)))) (stored_body (row_body (Static query reduce words reduce_words))) f.read).0
+body-sound : (d : Definition) → IsSound (stored_body (row_body d)) → is_automatic d ≡ false → IsRequestBody (row_body d)
+body-sound (Static query reduce words reduce_words) f is = static-stored query reduce words reduce_words f
 body-sound (Auto collection fields) f is = absurd cc
 body-sound (AutoReduce collection groups sums) f is = absurd cc
 
@@ -183,17 +186,12 @@ body-sound (AutoReduce collection groups sums) f is = absurd cc
 from-right : (rows : List Row) (y : Slot) → ((r : Row) → Has rows r → BodyRises r.body) → ((r : Row) → Has rows r → IsBack r) → IsReadFrom rows y → IsRight y
 from-right rows y rises back f =
     let d = y.version.definition in
-    let kept = toldin-is f.from.body d (rises f.from f.there) (body-told f.from.body d f.read) in
-    let own = subst IsBodyBack kept (back f.from f.there).body in
-    let read = subst (λ b. IsInBody b (Some d)) kept f.read in
-    record {
-      body = body-sound d own;
-      read = read;
-      named = f.named;
-      kept = stored-kept d (reading-fine (text_of (stored_body (row_body d))) (stored_body (row_body d)) own.read).0 read;
-    }
+    let its = toldin-is f.from.body d (rises f.from f.there) (body-told f.from.body d f.read) in
+    let sound = (fine-written d f.from.body its (back f.from f.there).body).0 in
+    let read = read-written d f.from.body its f.read in
+    record { body = body-sound d sound; read = read; named = f.named; kept = stored-kept d sound read }
 
-same_opened : (a b : Machine) → (let r : Result Machine ℕ = Ok a in r) ≡ Ok b → a ≡ b
+pub same_opened : (a b : Machine) → (let r : Result Machine ℕ = Ok a in r) ≡ Ok b → a ≡ b
 same_opened a b h = cc
 
 abbrev pub machine_of : Setting → List Row → List Slot → Machine
@@ -204,7 +202,7 @@ opened-slots : (s : Setting) (held : List KeptRow) (M : Machine) (xs : List Read
 opened-slots s held M xs e right (Err etag) k g = absurd cc
 opened-slots s held M xs e right (Ok slots) k g =
     let rows = rows_of xs in
-    let back = rows-read s.max_rows [] held rows (λ r at. absurd at) e in
+    let back = rows-back s.max_rows held rows e in
     let stand = (rows_in-AreRowsOf s.max_rows held rows e).stand in
     let f = all-shown s (rows_of xs) 0 [] xs slots right k in
     subst (λ (N : Machine). Again N.world) (same_opened (machine_of s rows slots) M g) (record {

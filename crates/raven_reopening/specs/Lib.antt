@@ -1,2 +1,3 @@
 pub mod Form
 pub mod Reopened
+pub mod Upgraded

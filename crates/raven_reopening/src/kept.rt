@@ -1,6 +1,6 @@
 //! Rows and definitions are read back as they were stored.
 
-ghost use Rattle.std.specs.Prelude.{◌≡◌, ◌≤◌, ℕ, List, IsTrue, Ok, Option, Some, length};
+ghost use Rattle.std.specs.Prelude.{◌≡◌, ◌≤◌, ℕ, List, IsTrue, Ok, Option, Some, false, length, true};
 ghost use Rattle.std.specs.List.{list_all};
 ghost use Rattle.index_tree.specs.declared.map_query.MapQuery.{MapQuery};
 ghost use Rattle.index_tree.specs.declared.reduce_query.ReduceQuery.{ReduceQuery};
@@ -15,7 +15,7 @@ ghost use Rattle.spec_store.specs.Kept.{row_in, rows_in};
 ghost use Rattle.index_tree.specs.Definitions.{Auto, AutoReduce, Static, Texts};
 ghost use Rattle.spec_server.specs.Opening.{AutoForm, StaticForm, are_rising, body_form, is_path};
 ghost use Rattle.spec_store.specs.Store.{IsStore, Store};
-ghost use Rattle.spec_index.specs.World.{row_body};
+ghost use Rattle.spec_index.specs.World.{first_body, row_body};
 ghost use Rattle.raven_reopening.specs.Form.{AreValidRows, IsValidRow};
 
 /// A valid row is read back as it was stored.
@@ -37,7 +37,18 @@ pub fn definitions_are_read_back()
         IsTrue (list_all is_path sums) → IsTrue (are_rising sums) →
         body_form (stored_body (row_body (AutoReduce collection groups sums))) ≡ AutoForm (AutoReduce collection groups sums) }
     ensures by_text { (query : MapQuery) (reduce : Option ReduceQuery) (texts : Texts) →
-        body_form (stored_body (row_body (Static query reduce texts.0 texts.1))) ≡ StaticForm texts }
+        body_form (stored_body (row_body (Static query reduce texts.0 texts.1))) ≡ StaticForm true texts }
+{}
+
+/// From a body of the first version a definition is read back in the same way, but that there may be no quotient in its texts.
+pub fn first_definitions_are_read_back()
+    ensures automatic { (collection : List ℕ) (fields : List Path) → IsTrue (list_all is_path fields) → IsTrue (are_rising fields) →
+        body_form (stored_body (first_body (Auto collection fields))) ≡ AutoForm (Auto collection fields) }
+    ensures grouped { (collection : List ℕ) (groups sums : List Path) → IsTrue (list_all is_path groups) → IsTrue (are_rising groups) →
+        IsTrue (list_all is_path sums) → IsTrue (are_rising sums) →
+        body_form (stored_body (first_body (AutoReduce collection groups sums))) ≡ AutoForm (AutoReduce collection groups sums) }
+    ensures by_text { (query : MapQuery) (reduce : Option ReduceQuery) (texts : Texts) →
+        body_form (stored_body (first_body (Static query reduce texts.0 texts.1))) ≡ StaticForm false texts }
 {}
 
 /// What JSON bytes are read as is sound: its numbers have 64 bits, its texts are UTF-8, its members rise. It is at most a hundred deep.

@@ -1,6 +1,6 @@
 //! What is stored after a run opens again.
 
-ghost use Rattle.std.specs.Prelude.{◌≡◌, List, Ok};
+ghost use Rattle.std.specs.Prelude.{◌≡◌, List, Ok, map};
 ghost use Rattle.spec_data.specs.Kept.{KeptRow};
 ghost use Rattle.spec_data.specs.Members.{Path};
 ghost use Rattle.spec_store.specs.Commit.{Setting};
@@ -13,15 +13,23 @@ ghost use Rattle.spec_server.specs.Script.{Given, after_lines};
 ghost use Rattle.spec_server.specs.Sound.{Has};
 ghost use Rattle.raven_laws.specs.Asked.{AreTold};
 ghost use Rattle.raven_laws.specs.Opened.{OpenedFaithfully};
+ghost use Rattle.raven_laws.specs.Versions.{upgraded};
 ghost use Rattle.raven_lines.specs.Lines.{AreLines};
 ghost use Rattle.index_lang.specs.Openings.{IsOpened};
 ghost use Rattle.raven_reopening.specs.Form.{AreEvents, AreKept, AreTimely, IsKept};
 ghost use Rattle.raven_reopening.specs.Reopened.{OpensAgain};
+ghost use Rattle.raven_reopening.specs.Upgraded.{AreShort, OpensUpgraded};
 
 /// The laws of what stored rows open hold of what they open as they are read: each definition that is read of a row agrees with its
 /// body.
 pub fn definitions_agree_with_bodies()
     ensures { (setting : Setting) (held : List KeptRow) (M : Machine) → IsOpened setting held (Ok M) → OpenedFaithfully setting held M }
+{}
+
+/// Where rows open, the same rows with the member `Version` in the body of each definition open to the same indexes, if no body is too long then.
+pub fn upgraded_rows_open_alike()
+    ensures { (setting : Setting) (held : List KeptRow) (M : Machine) → IsOpened setting held (Ok M) → AreShort (map upgraded M.world.store.rows) →
+        OpensUpgraded setting M.world }
 {}
 
 /// After every run from stored rows, if the program can hold its requests, the rows of the database open again: with the same rows, of which

@@ -31,7 +31,7 @@ pub type Pumpings = Sequence<Pumping>;
 /// What is reported of an index.
 #[derive(Drop)]
 pub struct Listing {
-    /// What it was defined by.
+    /// The body of the row of its definition, without the metadata.
     pub definition: Value,
 
     /// How many entries it has.

@@ -1,20 +1,18 @@
 //! Answers that change nothing.
-ghost use Rattle.std.specs.Prelude.{◌≡◌, IfOk, map};
-ghost use Rattle.spec_server.specs.Answers.{answer_get, answer_indexes, answer_stale, answer_stats, listing as spec_listing, shown as spec_shown};
+ghost use Rattle.std.specs.Prelude.{◌≡◌, IfOk};
+ghost use Rattle.spec_server.specs.Answers.{answer_get, answer_indexes, answer_stale, answer_stats, shown as spec_shown};
 ghost use Rattle.spec_index.specs.World.{serving as spec_serving};
 ghost use Rattle.spec_server.specs.Replies.{Document as DocumentOf, Index as IndexOf, NoIndex as NoIndexOf};
 ghost use Rattle.raven_reply.specs.ReplyView.{reply_view};
 
 use crate::documents::shown_metadata;
+use crate::listing::listings;
 use crate::snapshot::Snapshot;
 use crate::stale::is_stale;
-use doc_store::Store;
 use doc_txn::{BaseId, spelling};
-use index_definition::definition_value;
 use raven_base::NoMemory;
-use raven_reply::{Listing, Listings, Reply};
+use raven_reply::{Listings, Reply};
 use raven_value::{Body, Document, Id, Name, Row, Text};
-use side_by_side::Slot;
 use std::alloc::Global;
 
 // The reply that shows a document. It shares the document that is stored.
@@ -26,31 +24,6 @@ fn shown(alloc: Global, base: &BaseId, row: &Row, document: &Document) -> Result
         document: document.clone()?,
         metadata,
     })
-}
-
-// What is reported of an index.
-fn listing(alloc: Global, store: &Store, slot: &Slot) -> Result<Listing, NoMemory>
-    ensures { IfOk result (λ listing. listing ≡ spec_listing store.now slot.now) }
-{
-    let version = &slot.version;
-    Ok(Listing {
-        definition: definition_value(alloc, version.definition())?,
-        entries: version.entries(),
-        errors: version.errors(),
-        etag: version.etag(),
-        is_stale: is_stale(store, version, None),
-        name: slot.name.clone()?,
-    })
-}
-
-fn listings(alloc: Global, store: &Store, slots: &[Slot]) -> Result<Vec<Listing>, NoMemory>
-    ensures { IfOk result (λ listings. listings.items ≡ map (spec_listing store.now) slots.now) }
-{
-    let mut listings = Vec::with_capacity(alloc, slots.len())?;
-    for slot in slots {
-        listings.push(listing(alloc, store, slot)?)?;
-    }
-    Ok(listings)
 }
 
 /// The reply if no index serves the name.

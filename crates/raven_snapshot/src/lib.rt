@@ -8,6 +8,7 @@ mod cleaning;
 mod documents;
 mod entries;
 mod find;
+mod listing;
 mod snapshot;
 mod stale;
 

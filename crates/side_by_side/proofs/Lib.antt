@@ -4,3 +4,4 @@ pub mod Names
 pub mod Rising
 pub mod InOrder
 pub mod Depths
+pub mod Crossing

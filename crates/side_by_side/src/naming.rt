@@ -1,6 +1,5 @@
 //! Names of indexes, and the rows of their definitions.
-ghost use Rattle.std.specs.Prelude.{◌≡◌, IfOk, None};
-ghost use Rattle.raven_value.specs.Refusal.{fault_in};
+ghost use Rattle.std.specs.Prelude.{◌≡◌, IfOk};
 ghost use Rattle.spec_store.specs.Commit.{AnyVector, Delete, Put};
 ghost use Rattle.spec_index.specs.World.{index_id as spec_index_id, is_reserved_name as spec_is_reserved_name, row_body as spec_row_body};
 ghost use Rattle.doc_txn.specs.CommandView.{command_view};
@@ -9,7 +8,7 @@ ghost use Rattle.index_definition.specs.DefinitionView.{definition_view};
 use doc_txn::{Command, Expect};
 use index_definition::{Definition, row_body};
 use raven_base::NoMemory;
-use raven_value::{Id, IdRefusal, Name, Shallow, starts_folded};
+use raven_value::{Id, Name, Shallow, starts_folded};
 use std::alloc::Global;
 
 /// Whether only the server gives such names.
@@ -17,16 +16,6 @@ pub fn is_reserved_name(name: &str) -> bool
     ensures { result ≡ spec_is_reserved_name name.now }
 {
     starts_folded(name.as_bytes(), b"auto/") || starts_folded(name.as_bytes(), b"replacementof/")
-}
-
-// What is left of a refusal of a text that has no fault.
-fn memory_alone(refusal: IdRefusal) -> NoMemory
-    requires { fault_in refusal ≡ None }
-{
-    match refusal {
-        IdRefusal::NoMemory => NoMemory,
-        IdRefusal::Empty | IdRefusal::TooLong { .. } | IdRefusal::Control { .. } => unreachable!(),
-    }
 }
 
 /// The id of the row of the definition of this name.
@@ -37,7 +26,7 @@ pub fn index_id(alloc: Global, name: &Name) -> Result<Id, NoMemory>
     text.push_str(name.as_str())?;
     match Id::new(alloc, text.as_str()) {
         Ok(id) => Ok(id),
-        Err(refusal) => Err(memory_alone(refusal)),
+        Err(refusal) => Err(refusal.memory_alone()),
     }
 }
 

@@ -1,7 +1,9 @@
 -- The replies to questions, which change nothing.
 use Rattle.std.specs.Prelude.{ℕ, List, [], Bool, not, ◌&&◌, if◌then◌else◌, Option, Some, None, is_some, length, codes, filter, map}
 use Rattle.std.specs.Str.{bytes_eq}
+use Rattle.spec_data.specs.Data.{Data, null, object, entries_of, pairs_of}
 use Rattle.spec_data.specs.Folding.{folded}
+use Rattle.spec_data.specs.Rising.{without}
 use Rattle.spec_data.specs.Rows.{Row, doc, gone, is_document}
 use Rattle.spec_data.specs.Tables.{Table}
 use Rattle.spec_store.specs.Store.{Store, row_at, last}
@@ -12,7 +14,7 @@ use Rattle.spec_index.specs.Mapping.{failures, scratch}
 use Rattle.index_tree.specs.Mapper.{mapper_of}
 use Rattle.spec_server.specs.Replies.{Reply, Listing, Found, NoIndex}
 use Rattle.spec_server.specs.Replies as replies
-use Rattle.spec_index.specs.World.{Slot, World, reads, definition_data}
+use Rattle.spec_index.specs.World.{Slot, World, reads, index_id}
 pub use Rattle.spec_index.specs.World.{is_stale}
 use Rattle.spec_index.specs.Find.{found_in}
 pub use Rattle.spec_server.specs.Shown.{members_of, shown, shown_metadata}
@@ -35,10 +37,22 @@ answer_stale W name cutoff None = NoIndex name
 answer_stale W name cutoff (Some s) =
     replies.Stale s.version.etag (stale W.store (reads s.version) s.version.etag cutoff) (newest W.store (reads s.version) cutoff)
 
+abbrev pub without_metadata : Data → Data
+without_metadata (object ms) = object (entries_of (without (codes "@metadata") (pairs_of ms)))
+without_metadata other = other
+
+abbrev pub body_shown : Option Row → Data
+body_shown None = null
+body_shown (Some r) = elim r.body [ doc d ↦ without_metadata d | gone ↦ null ]
+
+-- the body of the slot's row, of either version, without its metadata; in a sound world each slot has its row
+abbrev pub definition_shown : Store → Slot → Data
+definition_shown S s = body_shown (row_at (folded (index_id s.name)) S.rows)
+
 -- what is reported of a slot: its entries and failed documents are counted over what it has recorded
 abbrev pub listing : Store → Slot → Listing
 listing S s = record {
-  definition = definition_data s.version.definition;
+  definition = definition_shown S s;
   entries = length (scratch (mapper_of s.version.definition) s.version.table);
   errors = failures (mapper_of s.version.definition) s.version.table;
   etag = s.version.etag;

@@ -1,13 +1,14 @@
 -- What stored rows open: a machine, or the first row that is not valid.
-use Rattle.std.specs.Prelude.{ℕ, ◌+◌, List, [], ◌∷◌, ◌++◌, Bool, true, false, not, ◌&&◌, ◌||◌, ◌==◌, nat_le, nat_lt, if◌then◌else◌, Option, Some, None, Result, Ok, Err, length, codes, drop, map, ◌≡◌}
+use Rattle.std.specs.Prelude.{ℕ, pos, ◌+◌, List, [], ◌∷◌, ◌++◌, Bool, true, false, not, ◌&&◌, ◌||◌, ◌==◌, nat_le, nat_lt, if◌then◌else◌, Option, Some, None, Result, Ok, Err, length, codes, drop, map, ◌≡◌}
 use Rattle.std.specs.List.{list_all, list_any}
 use Rattle.std.specs.Option.{option_map}
 use Rattle.std.specs.Ordering.{is_lt}
 use Rattle.std.specs.Str.{bytes_eq}
-use Rattle.spec_data.specs.Data.{Data, null, text, array, object, Items, no_items, item, no_entries, pairs_of}
+use Rattle.spec_data.specs.Data.{Data, null, num, text, array, object, Items, no_items, item, Entries, no_entries, entries_of, pairs_of}
 use Rattle.spec_data.specs.Faults.{is_fit}
 use Rattle.spec_data.specs.Folding.{folded, key_cmp}
 use Rattle.spec_data.specs.Members.{Path, member}
+use Rattle.spec_data.specs.Rising.{without}
 use Rattle.spec_data.specs.Rows.{Row, is_document}
 use Rattle.spec_store.specs.Commit.{Setting, is_index_id}
 use Rattle.index_tree.specs.Definitions.{Definition, Static, Auto, AutoReduce, Texts}
@@ -95,20 +96,21 @@ texts_read metadata kind map reduce = None
 pub data BodyForm : Type 0 where
   NoForm : BodyForm
   AutoForm : (definition : Definition) → BodyForm
-  StaticForm : (texts : Texts) → BodyForm
+  -- only in the second version there may be quotients
+  StaticForm : (may_divide : Bool) (texts : Texts) → BodyForm
 
 abbrev pub form_of : Option Definition → Option Texts → BodyForm
 form_of (Some d) other = AutoForm d
-form_of None (Some texts) = StaticForm texts
+form_of None (Some texts) = StaticForm false texts
 form_of None None = NoForm
 
 abbrev pub reduce_form : Option Definition → BodyForm
 reduce_form None = NoForm
 reduce_form (Some d) = AutoForm d
 
--- what the body says; it has exactly four members, or five for an automatic index with groups
-abbrev pub body_form : Data → BodyForm
-body_form (object ms) =
+-- what a body of the first version says; it has exactly four members, or five for an automatic index with groups
+abbrev pub first_form : Data → BodyForm
+first_form (object ms) =
     if length (pairs_of ms) == 4
     then form_of (auto_read (member (codes "@metadata") ms) (member (codes "Collection") ms) (member (codes "Fields") ms) (member (codes "Kind") ms))
     (texts_read (member (codes "@metadata") ms) (member (codes "Kind") ms) (member (codes "Map") ms) (member (codes "Reduce") ms))
@@ -116,7 +118,33 @@ body_form (object ms) =
     if length (pairs_of ms) == 5
     then reduce_form (reduce_read (member (codes "@metadata") ms) (member (codes "Collection") ms) (member (codes "Groups") ms) (member (codes "Kind") ms) (member (codes "Sums") ms))
     else NoForm)
-body_form other = NoForm
+first_form other = NoForm
+
+abbrev pub is_two : Data → Bool
+is_two (num (pos n)) = n == 2
+is_two other = false
+
+-- these members without that which says the version, if it says the second one
+abbrev pub without_version : Entries → Option Data → Option Data
+without_version ms None = None
+without_version ms (Some version) = if is_two version then Some (object (entries_of (without (codes "Version") (pairs_of ms)))) else None
+
+-- what a body of the second version says beside its version
+abbrev pub second_body : Data → Option Data
+second_body (object ms) = without_version ms (member (codes "Version") ms)
+second_body other = None
+
+abbrev pub dividing : BodyForm → BodyForm
+dividing (StaticForm may_divide texts) = StaticForm true texts
+dividing other = other
+
+abbrev pub form_by : Option Data → Data → BodyForm
+form_by (Some second) body = dividing (first_form second)
+form_by None body = first_form body
+
+-- What the body says. One that says another version is of no form, since it has a member too many, or lacks one.
+abbrev pub body_form : Data → BodyForm
+body_form body = form_by (second_body body) body
 
 -- ROWS OF DEFINITIONS
 

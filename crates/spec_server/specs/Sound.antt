@@ -3,12 +3,14 @@ use Rattle.std.specs.Prelude.{◌≡◌, ℕ, ◌≤◌, ◌<◌, List, [], ◌�
 use Rattle.spec_data.specs.Faults.{replacement_of}
 use Rattle.spec_data.specs.Folding.{folded}
 use Rattle.spec_data.specs.Limits.{max_etag}
-use Rattle.spec_data.specs.Rows.{Row, doc, is_document}
+use Rattle.spec_data.specs.Rows.{Row, Body, doc, is_document}
+use Rattle.index_tree.specs.Definitions.{Definition}
+use Rattle.spec_index.specs.Reduces.{has_quotient}
 use Rattle.spec_store.specs.Store.{row_at, Store, last, IsStore}
 use Rattle.spec_store.specs.Later.{Later}
 use Rattle.spec_index.specs.Index.{Agrees}
 pub use Rattle.spec_index.specs.World.{NumbersRise}
-use Rattle.spec_index.specs.World.{Version, Slot, Note, World, reads, index_id, row_body, is_automatic, begins_with_auto, begins_with_replacement, is_reserved_name, replaced_name}
+use Rattle.spec_index.specs.World.{Version, Slot, Note, World, reads, index_id, first_body, row_body, is_automatic, begins_with_auto, begins_with_replacement, is_reserved_name, replaced_name}
 use Rattle.spec_store.specs.Commit.{stored_body}
 use Rattle.spec_server.specs.Courses.{Held, Machine}
 
@@ -37,13 +39,18 @@ pub record IsBeside (slots : List Slot) (s : Slot) : Type 0 where
 abbrev pub HaveTheirSlots : List Slot → Type 0
 HaveTheirSlots slots = (s : Slot) → Has slots s → begins_with_replacement s.name ≡ true → IsBeside slots s
 
+-- the body is one of the definition: as it is written, or of the first version, in which there are no quotients
+pub data IsBodyOf (d : Definition) (b : Body) : Type 0 where
+  second : b ≡ doc (stored_body (row_body d)) → IsBodyOf d b
+  first : b ≡ doc (stored_body (first_body d)) → has_quotient d ≡ false → IsBodyOf d b
+
 -- the store has the row of the slot's definition, under the etag that the slot states
 pub record IsListed (S : Store) (s : Slot) : Type 0 where
   pub row : Row
   pub found : row_at (folded (index_id s.name)) S.rows ≡ Some row
   pub etag : row.etag ≡ s.row
   pub collection : row.collection ≡ codes "@indexes"
-  pub body : row.body ≡ doc (stored_body (row_body s.version.definition))
+  pub body : IsBodyOf s.version.definition row.body
 
 -- each slot has its row, and each live row of `@indexes` is that of a slot
 pub record AreListed (S : Store) (slots : List Slot) : Type 0 where

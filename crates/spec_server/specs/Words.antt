@@ -3,6 +3,7 @@ use Rattle.std.specs.Prelude.{ℕ, ◌+◌, ◌-◌, ◌*◌, List, [], ◌∷�
 use Rattle.std.specs.List.{list_any, list_all}
 use Rattle.std.specs.Str.{bytes_eq}
 use Rattle.spec_data.specs.Data.{Data}
+pub use Rattle.spec_data.specs.Digits.{is_digit, number_from, number_up_to}
 use Rattle.spec_data.specs.Data as json
 use Rattle.spec_data.specs.Faults.{Fault, fault_of, max_id, max_name}
 use Rattle.spec_data.specs.Json.{JsonRefusal}
@@ -60,17 +61,9 @@ parts_read text = or_unknown (argument_and_rest text)
 
 -- NUMBERS
 
-abbrev pub is_digit : ℕ → Bool
-is_digit b = nat_le 48 b && nat_le b 57
-
--- the number whose digits are those of n and then these
-abbrev pub number_from : ℕ → List ℕ → ℕ
-number_from n [] = n
-number_from n (b ∷ bs) = number_from (n * 10 + (b - 48)) bs
-
 -- the number that a text of 1 to 16 digits spells
 abbrev pub number_of : List ℕ → Option ℕ
-number_of text = if nat_lt 0 (length text) && nat_le (length text) 16 && list_all is_digit text then Some (number_from 0 text) else None
+number_of = number_up_to 16
 
 -- how many rows a batch may take: 1 to 65536
 abbrev pub max_read : List ℕ → Result ℕ ReadRefusal
