@@ -302,7 +302,7 @@ def test_replacements() -> None:
     """One that reads nothing is ready at once, and serves when the next request is read."""
     define = '{"Indexes":[{"Map":"from u in docs.U select new { u.%s }","Name":"%s"}]}'
     first, second = (asked("PUT", "/admin/indexes", (), (define % way).encode()) for way in (("A", "U"), ("B", "u")))
-    shown = '{"Results":[{"Definition":{"Kind":"static","Map":"from u in docs.U select new { u.B }","Reduce":null},'
+    shown = '{"Results":[{"Definition":{"Kind":"static","Map":"from u in docs.U select new { u.B }","Reduce":null,"Version":2},'
     shown += '"Entries":0,"Errors":0,"Etag":0,"IsStale":false,"Name":"U"}]}'
     stats = response("200 OK", '{"CountOfDocuments":0,"CountOfIndexes":1,"CountOfTombstones":0,"LastDocEtag":4}')
     parts = [response("201 Created", '{"Index":"U"}'), response("201 Created", '{"Index":"ReplacementOf/U"}'), response("200 OK", shown)]

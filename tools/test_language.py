@@ -7,12 +7,13 @@ It needs no program. It ends with 0 if every test holds, and otherwise at the fi
 """
 
 import collections
+import itertools
 import random
 import sys
 
 sys.dont_write_bytecode = True
 from raven_tools import language
-from raven_tools.language import dates, definitions, reduces
+from raven_tools.language import dates, definitions, groups, reduces
 from raven_tools.making import limit_maps, maps, worked
 from raven_tools.making import reduces as making_reduces
 
@@ -201,6 +202,52 @@ def test_reduces(rounds=400):
             assert refusal.part == "Reduce", seed
             kinds[refusal.kind] += 1
     assert all(kinds[kind] > rounds // 100 for kind in ("read", "DuplicateField", "FieldsDiffer", "NotReducible")), kinds
+
+
+def refusal_of_texts(text, reduce_text):
+    """The part, the place and the kind, or None."""
+    try:
+        definitions.parse(text, reduce_text)
+    except definitions.Refusal as refusal:
+        return refusal.part, refusal.at, refusal.kind
+    return None
+
+
+def test_quotients():
+    """What texts with a quotient say, and what it comes to."""
+    for text, printed in worked.PRINTED_MEANS:
+        for spelled in (text, printed):
+            assert reduces.printed(definitions.parse(worked.MEAN_MAP, spelled).reduce) == printed, spelled
+    head = len(worked.SUMMED)
+    for text, at, kind in worked.MEANS:
+        refused = refusal_of_texts(worked.MEAN_MAP, worked.SUMMED + text)
+        assert refused == ("Reduce", head + at, kind), (text, refused, refused[1] - head)
+    # A quotient may not be what another one divides, nor the minimum of a field, nor the sum of another field than that of its name.
+    for total in ("g.Min(x => x.Total)", "g.Sum(x => x.Count)", "g.Sum(x => x.Total) / g.Sum(x => x.Count)"):
+        text = worked.FROM + f"Company = g.Key, Mean = g.Sum(x => x.Total) / g.Sum(x => x.Count), Count = g.Sum(x => x.Count), Total = {total} }}"
+        at = text.index("Mean")
+        assert refusal_of_texts(worked.MEAN_MAP, text) == ("Reduce", at, "NotReducible"), total
+    tree = definitions.parse(worked.MEAN_MAP, worked.PRINTED_MEANS[0][0]).reduce
+    for totals, counts, quotient in worked.QUOTIENTS:
+        both = itertools.zip_longest(totals, counts, fillvalue=None)
+        entries = [{"Company": "c", "Total": total, "Count": count, "Mean": 7} for total, count in both]
+        means = [row["Mean"] for row in groups.rows_of(tree, entries)]
+        assert means == ([quotient] if entries else []), (totals, counts, means)
+
+
+def test_rows_reduce_again(rounds=400):
+    """The rows of several lists of entries, reduced once more, are the rows of all entries together."""
+    texts = [worked.PRINTED_MEANS[0][0], worked.PRINTED_MEANS[2][0]]
+    texts += [worked.FROM + "Company = g.Key, Total = g.Min(x => x.Total), Count = g.Max(x => x.Count), Mean = g.Sum(x => x.Mean) }"]
+    trees = [definitions.parse(worked.MEAN_MAP, text).reduce for text in texts]
+    for seed in range(rounds):
+        source = random.Random(seed)
+        values = [None, False, True, -(2**63), -3, 0, 2, 2**63 - 1, "", "a", "A", "b"]
+        entry = lambda: {name: source.choice(values) for name in ("Company", "Total", "Count", "Mean")}
+        parts = [[entry() for _ in range(source.randint(0, 4))] for _ in range(source.randint(0, 8))]
+        for tree in trees:
+            rows = [row for part in parts for row in groups.rows_of(tree, part)]
+            assert groups.rows_of(tree, rows) == groups.rows_of(tree, [one for part in parts for one in part]), seed
 
 
 def test_scopes():

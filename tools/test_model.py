@@ -67,7 +67,7 @@ SQUARES = """
 < {"Index":"Squares"}
 < {"ChangeVector":"A:2-{B}","Id":"orders/1"}
 < {"Pumped":[{"From":0,"Index":"Squares","To":2}]}
-< {"Results":[{"Definition":{"Kind":"static","Map":"from o in docs.Orders select new { P = o.Cents * o.Cents }","Reduce":null},\
+< {"Results":[{"Definition":{"Kind":"static","Map":"from o in docs.Orders select new { P = o.Cents * o.Cents }","Reduce":null,"Version":2},\
 "Entries":0,"Errors":1,"Etag":2,"IsStale":false,"Name":"Squares"}]}
 """
 
@@ -93,11 +93,42 @@ TOTALS = """
 < {"Pumped":[{"From":0,"Index":"T","To":3}]}
 < {"Ids":[],"IndexEtag":3,"IsStale":false}
 < {"Results":[{"Definition":{"Kind":"static","Map":"from o in docs.Orders select new { o.Company, Total = o.Cents }",\
-"Reduce":"from r in results group r by r.Company into g select new { Company = g.Key, Total = g.Sum(x => x.Total) }"},\
+"Reduce":"from r in results group r by r.Company into g select new { Company = g.Key, Total = g.Sum(x => x.Total) }","Version":2},\
 "Entries":2,"Errors":0,"Etag":3,"IsStale":false,"Name":"T"}]}
 < {"At":0,"Error":"FieldsDiffer","Part":"Reduce"}
 < {"At":76,"Error":"NotReducible","Part":"Reduce"}
 < {"Index":"ReplacementOf/T"}
+"""
+
+# A field of the groups may be the quotient of two sums. What the map gives for it does not count.
+MEANS = """
+> INDEX {"Map":"from o in docs.Orders select new { o.Company, Total = o.Cents, Count = 1, Mean = 0 }","Name":"M",\
+"Reduce":"from r in results group r by r.Company into g select new { Company = g.Key, Total = g.Sum(x => x.Total), \
+Count = g.Sum(x => x.Count), Mean = g.Sum(x => x.Total) / g.Sum(x => x.Count) }"}
+> PUT orders/1 {"Cents":-4,"Company":"c",[Orders]}
+> PUT orders/2 {"Cents":-3,"Company":"c",[Orders]}
+> PUMP 64
+> QUERY from index 'M'
+> QUERY from index 'M' where Mean < -2 select Company, Mean
+> QUERY from index 'M' where Mean < -3
+> DEL orders/1
+> PUMP 64
+> QUERY from index 'M' select Mean, Total
+> GET @index/M
+< {"Index":"M"}
+< {"ChangeVector":"A:2-{B}","Id":"orders/1"}
+< {"ChangeVector":"A:3-{B}","Id":"orders/2"}
+< {"Pumped":[{"From":0,"Index":"M","To":3}]}
+< {"Includes":{},"IndexEtag":3,"IndexName":"M","IsStale":false,"Results":[{"Company":"c","Count":2,"Mean":-3,"Total":-7}],"TotalResults":1}
+< {"Includes":{},"IndexEtag":3,"IndexName":"M","IsStale":false,"Results":[{"Company":"c","Mean":-3}],"TotalResults":1}
+< {"Includes":{},"IndexEtag":3,"IndexName":"M","IsStale":false,"Results":[],"TotalResults":0}
+< {"Deleted":true,"Id":"orders/1"}
+< {"Pumped":[{"From":3,"Index":"M","To":4}]}
+< {"Includes":{},"IndexEtag":4,"IndexName":"M","IsStale":false,"Results":[{"Mean":-3,"Total":-3}],"TotalResults":1}
+< {"@metadata":{"@change-vector":"A:1-{B}","@collection":"@indexes","@id":"@index/M","@last-modified":"1970-01-01T00:00:00.0000000Z"},\
+"Kind":"static","Map":"from o in docs.Orders select new { o.Company, Total = o.Cents, Count = 1, Mean = 0 }",\
+"Reduce":"from r in results group r by r.Company into g select new { Company = g.Key, Total = g.Sum(x => x.Total), \
+Count = g.Sum(x => x.Count), Mean = g.Sum(x => x.Total) / g.Sum(x => x.Count) }","Version":2}
 """
 
 # Definition rows may be loaded too. Then each definition and removal counts, also those of the index itself.
@@ -252,7 +283,7 @@ CUTOFFS = """
 
 
 def test_worked_scripts():
-    for worked in (ADULTS, LOADED, SQUARES, TOTALS, OF_DEFINITIONS, GONE, APPEARS, GROUPS, CUTOFFS):
+    for worked in (ADULTS, LOADED, SQUARES, TOTALS, MEANS, OF_DEFINITIONS, GONE, APPEARS, GROUPS, CUTOFFS):
         holds(worked)
 
 

@@ -10,7 +10,7 @@ import sys
 
 sys.dont_write_bytecode = True
 from raven_tools import model
-from raven_tools.making import worked_choices
+from raven_tools.making import worked, worked_choices
 from raven_tools.making.lines import ask, definition
 from raven_tools.model import keeping, opening
 from raven_tools.transcripts import holds, replies_of
@@ -34,6 +34,19 @@ def names_of(*lines: str, found: model.Database | None = None) -> list[str]:
 
 def kept(etag: int, name: str, **body: object) -> keeping.KeptRow:
     return keeping.KeptRow(etag, "@index/" + name, "@indexes", model.write_json({"@metadata": {}, **body}), 0)
+
+
+def test_versions() -> None:
+    """Opening changes no row, and each shows what it has. What is put has the second version."""
+    texts = {"Kind": "static", "Map": "from u in docs.U select new { u.A }", "Reduce": None}
+    other = {**texts, "Map": "from u in docs.U select new { u.B }"}
+    rows = [kept(1, "N", **texts), kept(2, "ReplacementOf/N", **other), kept(3, "M", **texts, Version=2)]
+    found = opened(*rows)
+    shown = [result["Definition"] for result in replies_of("INDEXES", database=found)[0]["Results"]]
+    assert shown == [texts, other, {**texts, "Version": 2}]
+    replies = replies_of("SWITCH N", "INDEXES", database=found)
+    assert replies[0] == {"Etag": 4, "Switched": "N"}
+    assert [result["Definition"] for result in replies[1]["Results"]] == [{**other, "Version": 2}, {**texts, "Version": 2}]
 
 
 def auto(etag: int, name: str, *fields: str, collection: str = "C") -> keeping.KeptRow:
@@ -60,6 +73,8 @@ def bad(*rows: keeping.KeptRow) -> int | None:
 
 def test_opening() -> None:
     """Paths are in order of their joined bytes, each once; none of their parts is empty or has a mark of a joined one."""
+    texts = {"Kind": "static", "Map": "from u in docs.U select new { u.A }", "Reduce": None}
+    means = {"Kind": "static", "Map": worked.MEAN_MAP, "Reduce": worked.PRINTED_MEANS[0][0]}
     good = [auto(1, "Auto/x"), auto(1, "Auto/x", "A", "A.B", "B"), auto(1, "Auto/x", "A", "A-B", "A.B"), auto(1, "auto/x", "Z", "a", "é")]
     grouped = {"Kind": "auto-reduce", "Collection": "C", "Groups": [["A", "B"], ["C"]], "Sums": [["A"], ["B"]]}
     good += [kept(1, "Auto/x", **{**grouped, "Groups": groups, "Sums": sums}) for groups in ([], [["A"]]) for sums in ([], [["é"]])]
@@ -72,13 +87,18 @@ def test_opening() -> None:
     wrong += [kept(1, "Auto/x", **{**grouped, name: None}) for name in ("Collection", "Kind")]
     wrong += [kept(1, "Auto/x", **{**grouped, "Fields": []}), kept(1, "Auto/x", Kind="auto", Collection="C", Groups=[], Sums=[])]
     wrong += [kept(1, "Auto/x", Kind="auto", Collection="C", Fields=[["A"]], More=None), kept(1, "x", **grouped)]
+    # A row says that it is of the second version, or says nothing.
+    good += [kept(1, "Auto/x", Version=2, **grouped), kept(1, "Auto/x", Kind="auto", Collection="C", Fields=[["A"]], Version=2)]
+    good += [kept(1, "x", **texts, Version=2), kept(1, "x", **texts), kept(1, "x", **means, Version=2)]
+    wrong += [kept(1, "Auto/x", **grouped, Version=value) for value in (1, 3, "2", None, True, [2])] + [kept(1, "x", **means)]
+    wrong += [kept(1, "x", **texts, Version=value) for value in (1, 3, "2", None, False)] + [kept(1, "x", **texts, Version=2, More=1)]
     for row in good:
         assert bad(row) is None, row
     for row in wrong:
         assert bad(row) == 1, row
     index = opened(kept(3, "Auto/x", **grouped)).indexes[0]
     assert (index.number, index.name, index.etag) == (3, "Auto/x", 0)
-    assert index.definition.shown() == grouped and index.definition.fields() == ["A.B", "C", "count()", "sum(A)", "sum(B)"]
+    assert index.definition.body() == {**grouped, "Version": 2} and index.definition.fields() == ["A.B", "C", "count()", "sum(A)", "sum(B)"]
 
 
 # The choice
@@ -137,7 +157,7 @@ def test_static_indexes_are_not_used() -> None:
 
 
 def fields_of(found: model.Database) -> list[list[list[str]]]:
-    return [index.definition.shown()["Fields"] for index in found.indexes]
+    return [index.definition.body()["Fields"] for index in found.indexes]
 
 
 def test_sixty_four_fields() -> None:
@@ -171,7 +191,7 @@ def test_group_paths_do_not_count_as_bytes() -> None:
     found = model.Database()
     names = names_of(*(f"QUERY from C group by {group} select sum({path})" for path in (first, second)), found=found)
     assert names == ["Auto/1", "Auto/2"]
-    assert [index.definition.shown()["Sums"] for index in found.indexes] == [[[first]], [[first], [second]]]
+    assert [index.definition.body()["Sums"] for index in found.indexes] == [[[first]], [[first], [second]]]
 
 
 # Names

@@ -108,7 +108,7 @@ def test_rows_and_notes() -> None:
         (5, "@index/Foo", True),
         (6, "@index/ReplacementOf/FOO", False),
     ]
-    assert rows[0].body == {"@metadata": {}, "Kind": "static", "Map": map_of("B"), "Reduce": None}
+    assert rows[0].body == {"@metadata": {}, "Kind": "static", "Map": map_of("B"), "Reduce": None, "Version": 2}
     assert [(index.name, index.number) for index in found.indexes] == [("FOO", 4)]
     assert [(index.name, index.number) for index in found.opened().indexes] == [("Foo", 5)]
     replies_of(definition("FOO", map_of("C")), "DROP foo", database=found)

@@ -105,6 +105,14 @@ id @index/auto/x
 collection @indexes
 body {"@metadata":{},"Collection":"C","Fields":[["F"]],"Kind":"auto"}
 > STALE AUTO/X
+== A definition of the first version has no quotient
+row 3 5
+id @index/M
+collection @indexes
+body {"@metadata":{},"Kind":"static","Map":"from o in docs.Orders select new { o.Company, Total = o.Cents, Count = 1, Mean = 0 }",\
+"Reduce":"from r in results group r by r.Company into g select new { Company = g.Key, Total = g.Sum(x => x.Total), \
+Count = g.Sum(x => x.Count), Mean = g.Sum(x => x.Total) / g.Sum(x => x.Count) }"}
+> STATS
 """, """\
 == Wrong arguments come first
 status Usage
@@ -128,6 +136,9 @@ status KeptBad 9
 == A definition
 status Done
 > {"IndexEtag":0,"IsStale":false,"Newest":0}
+
+== A definition of the first version has no quotient
+status KeptBad 3
 
 """
 
@@ -186,7 +197,7 @@ status Done
 row 1 5 "@index/Orders/ByCompanyMonth" "@indexes" {"@metadata":{},"Kind":"static","Map":"from o in docs.Orders select new { \
 o.Company, o.OrderedAt.Year, o.OrderedAt.Month, Total = o.Cents, Count = 1 }","Reduce":"from r in results group r by new { \
 r.Company, r.Year, r.Month } into g select new { g.Key.Company, g.Key.Year, g.Key.Month, Total = g.Sum(x => x.Total), \
-Count = g.Sum(x => x.Count) }"}
+Count = g.Sum(x => x.Count) }","Version":2}
 row 2 5 "orders/1" "Orders" {"@metadata":{},"Cents":94887,"Company":"companies/22","OrderedAt":"1996-03-16T00:00:00.0000000"}
 row 3 5 "orders/2" "Orders" {"@metadata":{},"Cents":55684,"Company":"companies/13","OrderedAt":"1997-09-19T00:00:00.0000000"}
 again
@@ -204,7 +215,7 @@ status KeptFault
 row 1 0 "@index/Orders/ByCompanyMonth" "@indexes" {"@metadata":{},"Kind":"static","Map":"from o in docs.Orders select new { \
 o.Company, o.OrderedAt.Year, o.OrderedAt.Month, Total = o.Cents, Count = 1 }","Reduce":"from r in results group r by new { \
 r.Company, r.Year, r.Month } into g select new { g.Key.Company, g.Key.Year, g.Key.Month, Total = g.Sum(x => x.Total), \
-Count = g.Sum(x => x.Count) }"}
+Count = g.Sum(x => x.Count) }","Version":2}
 
 == The summary cannot be written
 status WriteFault

@@ -103,7 +103,7 @@ class Round:
         again = opening.opened(keeping.Keeper(rows), limits=limits)
         expected = self.database.opened()
         for left, right in zip(again.indexes, expected.indexes, strict=True):
-            assert (left.number, left.name, left.definition.shown()) == (right.number, right.name, right.definition.shown())
+            assert (left.number, left.name, left.definition.body()) == (right.number, right.name, right.definition.body())
         model.answer(again, b"PUMP 65536")
         sound.check_alone(again)
         for index in again.indexes:

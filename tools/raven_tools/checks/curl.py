@@ -1,4 +1,4 @@
-"""Runs each command of docs/http.md against the command `serve`, and what clients of the standard library of Python ask."""
+"""Runs each command of docs/http.md and docs/tour.md against the command `serve`, and what clients of the standard library of Python ask."""
 
 import argparse
 import http.client
@@ -57,22 +57,40 @@ def message_of(ended: subprocess.CompletedProcess[bytes]) -> str:
     return "".join(f"  {line}\n" for line in lines if line.startswith(("curl: ", "raven: ")))
 
 
-def page(port: int, program: str | None) -> int:
+def page(name: str, program: str | None) -> int:
     """How many commands of the page write something else than what is beside them. They run one after another, over one database, whose
-    indexes have caught up before each."""
+    indexes have caught up before each. The model, which stores nothing, goes on where the page starts the server once more."""
     wrong = 0
-    examples = http_page.examples()
-    with tempfile.TemporaryDirectory() as name:
-        folder = pathlib.Path(name)
+    examples = http_page.examples(name)
+    with tempfile.TemporaryDirectory() as made:
+        folder = pathlib.Path(made)
         put_raven(folder, program)
-        for example in examples:
-            command = example.command.replace(http_page.ADDRESS, f"127.0.0.1:{port}")
-            ended = shell(command, folder)
-            wrong += differs(example.command.strip(), plain(example.written.encode()), plain(ended.stdout), message_of(ended))
-            with Client(port) as client:
-                caught_up(client)
-    print(f"{wrong} of {len(examples)} commands of docs/http.md differ")
+        data = ["--data", str(folder / "kept")] if program else []
+        server = started(program, data)
+        try:
+            for example in examples:
+                if example.restarts and program:
+                    server.kill()
+                    server = started(program, data)
+                    ready(server.port)
+                command = example.command.replace(http_page.ADDRESS, f"127.0.0.1:{server.port}")
+                ended = shell(command, folder)
+                wrong += differs(example.command.strip(), plain(example.written.encode()), plain(ended.stdout), message_of(ended))
+                ready(server.port)
+        finally:
+            server.kill()
+    print(f"{wrong} of {len(examples)} commands of docs/{name}.md differ")
     return wrong
+
+
+def started(program: str | None, options: list[str]) -> Server:
+    return Server([program] if program else MODEL, *options)
+
+
+def ready(port: int) -> None:
+    """Waits until the indexes have caught up."""
+    with Client(port) as client:
+        caught_up(client)
 
 
 # Clients of Python
@@ -141,20 +159,20 @@ def over(program: str | None, check, *more: object) -> int:
     """What a check finds over a database of its own."""
     with tempfile.TemporaryDirectory() as folder:
         data = ["--data", os.path.join(folder, "kept")] if program else []
-        with Server([program] if program else MODEL, *data) as server:
+        with started(program, data) as server:
             return check(server.port, *more)
 
 
 def has_curl() -> bool:
     if shutil.which("curl"):
         return True
-    print("there is no curl, so no command of docs/http.md was run")
+    print("there is no curl, so no command of docs/http.md and docs/tour.md was run")
     return False
 
 
 def main() -> int:
     sys.setrecursionlimit(10_000)
-    given = argparse.ArgumentParser(description="Runs each command of docs/http.md.")
+    given = argparse.ArgumentParser(description="Runs each command of docs/http.md and docs/tour.md.")
     given.add_argument("program", nargs="?", default=str(PROGRAM))
     given.add_argument("--model", action="store_true", help="the model in Python, not the program")
     given = given.parse_args()
@@ -165,7 +183,7 @@ def main() -> int:
     wrong = over(program, one_connection) + over(program, large_bodies)
     print(f"http.client: {wrong} answers are wrong")
     if has_curl():
-        wrong += over(program, page, program)
+        wrong += sum(page(name, program) for name in http_page.PAGES)
     elif os.environ.get("RAVEN_WITHOUT_CURL") != "1":
         wrong += 1
     return 1 if wrong else 0

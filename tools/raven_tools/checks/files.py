@@ -4,6 +4,7 @@ import collections.abc
 import contextlib
 import pathlib
 import resource
+import shutil
 import signal
 import sqlite3
 import subprocess
@@ -12,7 +13,8 @@ import tempfile
 from raven_tools import model
 from raven_tools.checks.killable import PATIENCE, Run
 from raven_tools.making.lines import bulk, delete, get, put, put_command
-from raven_tools.model import keeping, messages
+from raven_tools.model import keeping, messages, opening
+from raven_tools.places import DATA
 from raven_tools.programs import number_of, run
 
 COLUMNS = "key, etag, id, collection, body, changed"
@@ -151,6 +153,83 @@ def old(program: str, folder: pathlib.Path) -> bool:
     return right
 
 
+def kept_in(file: pathlib.Path) -> keeping.Keeper:
+    """A keeper of the rows of a file, at no moment."""
+    with contextlib.closing(sqlite3.connect(file)) as connection:
+        found = connection.execute("SELECT etag, id, collection, body FROM kept ORDER BY etag").fetchall()
+    return keeping.Keeper(keeping.KeptRow(*row, 0) for row in found)
+
+
+def body_in(file: pathlib.Path, name: str) -> str:
+    """The body of the row of a definition."""
+    with contextlib.closing(sqlite3.connect(file)) as connection:
+        (body,) = connection.execute("SELECT body FROM kept WHERE id = ?", ["@index/" + name]).fetchone()
+    return body
+
+
+def write_body(file: pathlib.Path, name: str, body: str) -> int:
+    """Puts a body into the row of a definition. Returns the etag of the row."""
+    with contextlib.closing(sqlite3.connect(file)) as connection:
+        connection.execute("UPDATE kept SET body = ? WHERE id = ?", [body, "@index/" + name])
+        connection.commit()
+        (etag,) = connection.execute("SELECT etag FROM kept WHERE id = ?", ["@index/" + name]).fetchone()
+    return etag
+
+
+FIRST = DATA / "first-version.db"
+"""A file that a program made before definitions had versions: four definitions, of each kind, and some orders."""
+
+ASKED = ["PUMP 1024", "INDEXES", "QUERY from index 'Totals' order by Total as long desc", "QUERY from Orders where Cents > 100", "STATS"]
+
+
+def with_version(body: str, version: str) -> str:
+    """A body of the first version with this version."""
+    return f'{body[:-1]},"Version":{version}}}'
+
+
+def divided(body: str) -> str:
+    """The body of the index of totals, with a mean in place of its greatest order."""
+    return body.replace("High = g.Max(x => x.High)", "High = g.Sum(x => x.Total) / g.Sum(x => x.Count)")
+
+
+def versions(program: str, folder: pathlib.Path) -> bool:
+    """A file of the first version opens as it is, and as one of the second version; opening changes no row of it."""
+    right, first = True, folder / "first"
+    shutil.copy(FIRST, first)
+    names = [index.name for index in opening.opened(kept_in(first)).indexes]
+    before = [body_in(first, name) for name in names]
+    right &= is_so(len(names) == 4 and "Version" not in "".join(before), "bodies of the first version", before)
+    for version in ("", "2"):
+        file = folder / f"version-{version}"
+        shutil.copy(FIRST, file)
+        after = [with_version(body, version) for body in before] if version else before
+        for name, body in zip(names, after, strict=True):
+            write_body(file, name, body)
+        right &= answers(program, file, ASKED, opening.opened(kept_in(file)), f"a file of version {version or 1}")
+        right &= is_so([body_in(file, name) for name in names] == after, "its definitions after that", names)
+    return right
+
+
+def no_versions(program: str, folder: pathlib.Path) -> bool:
+    """A quotient in a row of the first version is refused, and so is any version but the second; in the second a quotient is read."""
+    first = folder / "first"
+    shutil.copy(FIRST, first)
+    body = body_in(first, "Totals")
+    assert divided(body) != body
+    bad = {version: with_version(body, version) for version in ("1", "3", "true", '"2"', "null")}
+    right = True
+    for version, text in {"without a version": divided(body), **bad}.items():
+        file = folder / "bad"
+        shutil.copy(FIRST, file)
+        etag = write_body(file, "Totals", text)
+        ended = run(program, b"STATS\n", "--data", file)
+        right &= says(ended, messages.message_of(f"KeptBad {etag}", str(file)), version) and is_so(body_in(file, "Totals") == text, "the row after that", version)
+    file = folder / "good"
+    shutil.copy(FIRST, file)
+    write_body(file, "Totals", with_version(divided(body), "2"))
+    return right and answers(program, file, ASKED, opening.opened(kept_in(file)), "a quotient of the second version")
+
+
 def is_left(program: str, file: pathlib.Path, cause: str) -> bool:
     """Whether a file is refused for this cause, and left byte for byte as it was."""
     before = file.read_bytes()
@@ -203,7 +282,7 @@ def whole(program: str, folder: pathlib.Path) -> bool:
 def files(program: str) -> int:
     """How many of these checks find something wrong."""
     wrong = 0
-    for check in (rows, many, small, old, others, alone, whole):
+    for check in (rows, many, small, old, versions, no_versions, others, alone, whole):
         with tempfile.TemporaryDirectory() as folder:
             wrong += not check(program, pathlib.Path(folder))
     return wrong

@@ -84,7 +84,7 @@ def check_rows(database: model.Database) -> None:
     assert live == {"@index/" + model.folded(index.name) for index in database.indexes}, live
     for index in database.indexes:
         body = rows["@index/" + model.folded(index.name)].body
-        assert body == {"@metadata": {}, **index.definition.shown()}, index.name
+        assert body == {"@metadata": {}, **index.definition.body()}, index.name
 
 
 def check_held(database: model.Database) -> None:

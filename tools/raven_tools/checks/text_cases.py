@@ -97,6 +97,11 @@ def by_hand() -> collections.abc.Iterator[tuple[list[str], str]]:
         yield ["map " + worked.REDUCED_MAP, "reduce " + text], "reduce " + printed
     for text, *refusal in worked.REDUCED:
         yield ["map " + worked.REDUCED_MAP, line_of("reduce", text)], refused(*refusal)
+    for text, printed in worked.PRINTED_MEANS:
+        yield ["map " + worked.MEAN_MAP, "reduce " + text], "reduce " + printed
+    head = len(worked.SUMMED)
+    for text, at, kind in worked.MEANS:
+        yield ["map " + worked.MEAN_MAP, "reduce " + worked.SUMMED + text], refused("Reduce", head + at, kind)
     for map_text, reduce_text, *refusal in worked.BOTH:
         yield ["map " + map_text, "reduce " + reduce_text], refused(*refusal)
     for text, printed in worked_queries.PRINTED:

@@ -57,8 +57,8 @@ def loads_of(tree: tuple) -> list[str]:
 
 
 def row_of(members: dict) -> dict:
-    """The body by which a definition is put into the collection `@indexes`."""
-    return {"@metadata": {"@collection": "@indexes"}, **members}
+    """The body by which a definition is put into the collection `@indexes`, which is of the second version."""
+    return {"@metadata": {"@collection": "@indexes"}, **members, "Version": 2}
 
 
 def json_of(value: object) -> str:

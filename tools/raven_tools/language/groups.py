@@ -18,12 +18,25 @@ def folded_values(kind: str, values: list[Scalar]) -> Scalar:
     return (min if kind == "Min" else max)(present, key=place_of, default=None)
 
 
+def quotient(left: int, right: int) -> int | None:
+    """Cut towards zero; null if the second is 0."""
+    if right == 0:
+        return None
+    size = abs(left) // abs(right)
+    return size if (left < 0) == (right < 0) else -size
+
+
+def value_of(value: tuple, name: str, group: list[Entry]) -> Scalar:
+    kind, *parts = value
+    if kind == "quotient":
+        _, field, _, by = parts
+        return quotient(*(folded_values("Sum", [entry[summed] for entry in group]) for summed in (field, by)))
+    values = [entry[name] for entry in group]
+    return values[0] if kind == "key" else folded_values(parts[0], values)
+
+
 def row_of(reduce: Reduce, group: list[Entry]) -> Entry:
-    row = {}
-    for name, (kind, *parts) in reduce.members:
-        values = [entry[name] for entry in group]
-        row[name] = values[0] if kind == "key" else folded_values(parts[0], values)
-    return row
+    return {name: value_of(value, name, group) for name, value in reduce.members}
 
 
 def rows_of(reduce: Reduce, entries: list[Entry]) -> list[Entry]:

@@ -13,7 +13,8 @@ class Reduce:
     var: str
     group: str  # the name behind `into`
     key: tuple[str, ...]
-    members: tuple  # of (name, value); a value is ("key", part) or ("fold", kind, variable, field)
+    # of (name, value); a value is ("key", part), ("fold", kind, variable, field) or ("quotient", variable, field, variable, field)
+    members: tuple
 
 
 class Reader(maps.Reader):
@@ -95,7 +96,20 @@ class Reader(maps.Reader):
         if not self.is_word("Key", *FOLDS):
             raise self.unexpected()
         kind = self.take().value
-        return ("key", self.key_part()) if kind == "Key" else ("fold", kind, *self.folded())
+        if kind == "Key":
+            return ("key", self.key_part())
+        folded = self.folded()
+        if kind == "Sum" and self.is_mark("/"):
+            self.take()
+            return ("quotient", *folded, *self.sum())
+        return ("fold", kind, *folded)
+
+    def sum(self):
+        """A Sum, where nothing else may stand."""
+        self.word(self.group)
+        self.mark(".")
+        self.word("Sum")
+        return self.folded()
 
     def key_part(self):
         if len(self.key) > 1 or self.is_new and self.is_mark("."):
@@ -114,8 +128,16 @@ class Reader(maps.Reader):
         return own, field
 
 
+def is_summed(reduce: Reduce, field: str) -> bool:
+    """Whether a member of this name is the sum of the field."""
+    value = dict(reduce.members).get(field, ())
+    return value[:2] == ("fold", "Sum") and value[-1] == field
+
+
 def keeps_name(reduce: Reduce, name: str, value: tuple) -> bool:
     kind, *_, source = value
+    if kind == "quotient":
+        return is_summed(reduce, value[2]) and is_summed(reduce, source)
     return source == name and (kind == "fold" or source in reduce.key)
 
 
@@ -128,10 +150,15 @@ def irreducible(reduce: Reduce, reader: Reader) -> int | None:
     return None if kept.issuperset(reduce.key) else reader.key_at
 
 
+def printed_fold(reduce: Reduce, kind: str, var: str, field: str) -> str:
+    return f"{reduce.group}.{kind}({var} => {var}.{field})"
+
+
 def printed_value(reduce: Reduce, value: tuple) -> str:
     if value[0] == "fold":
-        _, kind, var, field = value
-        return f"{reduce.group}.{kind}({var} => {var}.{field})"
+        return printed_fold(reduce, *value[1:])
+    if value[0] == "quotient":
+        return f"{printed_fold(reduce, 'Sum', *value[1:3])} / {printed_fold(reduce, 'Sum', *value[3:])}"
     return f"{reduce.group}.Key" + (f".{value[1]}" if len(reduce.key) > 1 else "")
 
 

@@ -292,6 +292,52 @@ KEYED = {
 for _head, _members in KEYED.items():
     REDUCED += [(_head + text, "Reduce", 0 if at is None else len(_head) + at, kind) for text, at, kind in _members]
 
+# The map of the reduces below, which have a quotient.
+MEAN_MAP = "from o in docs.Orders select new { o.Company, Total = o.Cents, Count = 1, Mean = 0 }"
+SUMMED = FROM + "Company = g.Key, Total = g.Sum(x => x.Total), Count = g.Sum(x => x.Count), Mean = "
+
+# Such reduces, and how they are printed.
+PRINTED_MEANS = [
+    (SUMMED + "g.Sum(x => x.Total) / g.Sum(x => x.Count) }", SUMMED + "g.Sum(x => x.Total) / g.Sum(x => x.Count) }"),
+    (SUMMED + "g.Sum(x=>x.Count)/g.Sum(y=>y.Count),}", SUMMED + "g.Sum(x => x.Count) / g.Sum(y => y.Count) }"),
+    (
+        "from r in results group r by new { r.Company } into g select new { Mean = g.Sum(a => a.Total) / g . Sum ( b => b . Count ), "
+        "g.Key.Company, Count = g.Sum(x => x.Count), Total = g.Sum(x => x.Total) }",
+        FROM + "Mean = g.Sum(a => a.Total) / g.Sum(b => b.Count), Company = g.Key, Count = g.Sum(x => x.Count), Total = g.Sum(x => x.Total) }",
+    ),
+]
+
+# Behind `Mean = ` of such a reduce: the places, counted from there, and the kinds.
+MEANS = [
+    ("g.Sum(x => x.Total) / g.Sum(x => x.Mean) }", -7, "NotReducible"),
+    ("g.Sum(x => x.Mean) / g.Sum(x => x.Count) }", -7, "NotReducible"),
+    ("g.Sum(x => x.Total) / g.Sum(x => x.Company) }", -7, "NotReducible"),
+    ("g.Sum(x => x.Total) / g.Sum(x => x.Other) }", -7, "NotReducible"),
+    ("g.Sum(x => x.Total) }", -7, "NotReducible"),
+    ("g.Sum(x => y.Total) / g.Sum(x => x.Count) }", 11, "UnknownName"),
+    ("g.Sum(x => x.Total) / g.Sum(x => y.Count) }", 33, "UnknownName"),
+    ("g.Sum(x => x.Total) / g.Sum(r => r.Count) }", 28, "UnknownName"),
+    ("g.Sum(x => x.Total) / g.Sum(g => g.Count) }", 28, "UnknownName"),
+    ("g.Min(x => x.Total) / g.Sum(x => x.Count) }", 20, "Unexpected"),
+    ("g.Sum(x => x.Total) / g.Max(x => x.Count) }", 24, "Unexpected"),
+    ("g.Sum(x => x.Total) / g.Key }", 24, "Unexpected"),
+    ("g.Key / g.Sum(x => x.Count) }", 6, "Unexpected"),
+    ("g.Sum(x => x.Total) / r.Sum(x => x.Count) }", 22, "Unexpected"),
+    ("g.Sum(x => x.Total) / 2 }", 22, "Unexpected"),
+    ("g.Sum(x => x.Total) / }", 22, "Unexpected"),
+    ("g.Sum(x => x.Total) * g.Sum(x => x.Count) }", 20, "Unexpected"),
+    ("g.Sum(x => x.Total) / g.Sum(x => x.Count) / g.Sum(x => x.Count) }", 42, "Unexpected"),
+    ("(g.Sum(x => x.Total) / g.Sum(x => x.Count)) }", 0, "Unexpected"),
+    ("g.Sum(x => x.Total) /", 21, "Unexpected"),
+]
+
+# Totals and counts of entries, and the quotient of their sums.
+QUOTIENTS = [
+    ([-4, -3], [1, 1], -3), ([7], [2], 3), ([7], [-2], -3), ([-7], [2], -3), ([-7], [-2], 3), ([1], [2], 0), ([-1], [2], 0), ([6], [3], 2),
+    ([0], [5], 0), ([5], [0], None), ([0], [0], None), ([5, 1], [1, -1], None), ([], [], None), ([None, "7", True], [1], 0), ([9], [None, "2", True], None),
+    ([2**63 - 1] * 3, [1], 3 * (2**63 - 1)), ([-(2**63)] * 2, [-1], 2**64), ([-(2**63)], [-1], 2**63),
+]
+
 # A map and a reduce, each of which is refused by itself.
 BOTH = [
     ("from o in docs.Orders select new { x.Company, Total = o.Cents }", FROM + "Company = g.Key, Total }", "Reduce", 82, "Unexpected"),

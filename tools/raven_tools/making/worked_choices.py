@@ -66,7 +66,7 @@ WIDENED = """
 < {"Includes":{},"IndexEtag":3,"IndexName":"Auto/Users/ByAgeAndName","IsStale":false,"Results":[{"Name":"Ada"}],"TotalResults":1}
 < {"Error":"NoDocument","Id":"@index/Auto/Users/ByName"}
 < {"@metadata":{"@change-vector":"A:3-{B}","@collection":"@indexes","@id":"@index/Auto/Users/ByAgeAndName",\
-"@last-modified":"1970-01-01T00:00:00.0000000Z"},"Collection":"Users","Fields":[["Age"],["Name"]],"Kind":"auto"}
+"@last-modified":"1970-01-01T00:00:00.0000000Z"},"Collection":"Users","Fields":[["Age"],["Name"]],"Kind":"auto","Version":2}
 < {"CountOfDocuments":1,"CountOfIndexes":1,"CountOfTombstones":0,"LastDocEtag":4}
 """
 
@@ -85,7 +85,7 @@ GROUPED = """
 < {"Includes":{},"IndexEtag":3,"IndexName":"Auto/Orders/ByCentsAndCountReducedByCompany","IsStale":false,\
 "Results":[{"Cents":10,"Company":"c","Count":2}],"TotalResults":1}
 < {"Includes":{},"IndexEtag":3,"IndexName":"collection/Orders","IsStale":false,"Results":[{"Cents":4},{"Cents":6}],"TotalResults":2}
-< {"Results":[{"Definition":{"Collection":"Orders","Groups":[["Company"]],"Kind":"auto-reduce","Sums":[["Cents"]]},\
+< {"Results":[{"Definition":{"Collection":"Orders","Groups":[["Company"]],"Kind":"auto-reduce","Sums":[["Cents"]],"Version":2},\
 "Entries":2,"Errors":0,"Etag":3,"IsStale":false,"Name":"Auto/Orders/ByCentsAndCountReducedByCompany"}]}
 """
 

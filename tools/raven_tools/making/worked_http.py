@@ -414,7 +414,7 @@ ANSWERS = [
      '{"Index":"Names"}'),
     ("PUT", "/admin/indexes", (), b'{"Indexes":[{"Map":"%s","Name":"names"}]}' % MAP.encode(), 201, '{"Index":"Names"}'),
     ("GET", "/indexes?name=x", (), b"{", 200,
-     '{"Results":[{"Definition":{"Kind":"static","Map":"%s","Reduce":null},"Entries":0,"Errors":0,"Etag":0,"IsStale":true,'
+     '{"Results":[{"Definition":{"Kind":"static","Map":"%s","Reduce":null,"Version":2},"Entries":0,"Errors":0,"Etag":0,"IsStale":true,'
      '"Name":"Names"}]}' % MAP),
     # how far an index is
     ("GET", "/indexes/staleness", (), b"", 400, '{"Error":"BadMember","Name":"name"}'),

@@ -107,8 +107,8 @@ HELD_ACROSS_A_SWITCH = """
 < {"Error":"NothingHeld"}
 < {"Includes":{},"IndexEtag":4,"IndexName":"U","IsStale":false,"Results":[{"Age":7}],"TotalResults":1}
 < {"@metadata":{"@change-vector":"A:5-{B}","@collection":"@indexes","@id":"@index/U",\
-"@last-modified":"1970-01-01T00:00:00.0000000Z"},"Kind":"static","Map":"from u in docs.Users select new { u.Age }","Reduce":null}
-< {"Results":[{"Definition":{"Kind":"static","Map":"from u in docs.Users select new { u.Age }","Reduce":null},\
+"@last-modified":"1970-01-01T00:00:00.0000000Z"},"Kind":"static","Map":"from u in docs.Users select new { u.Age }","Reduce":null,"Version":2}
+< {"Results":[{"Definition":{"Kind":"static","Map":"from u in docs.Users select new { u.Age }","Reduce":null,"Version":2},\
 "Entries":1,"Errors":0,"Etag":4,"IsStale":false,"Name":"U"}]}
 """
 
@@ -171,8 +171,8 @@ AS_INDEXES = """
 < {"IndexEtag":4,"IsStale":false,"Newest":4}
 < {"Includes":{},"IndexEtag":4,"IndexName":"ReplacementOf/Foo","IsStale":false,"Results":[{"B":"y"}],"TotalResults":1}
 < {"CountOfDocuments":2,"CountOfIndexes":2,"CountOfTombstones":0,"LastDocEtag":4}
-< {"Results":[{"Definition":{"Kind":"static","Map":"from u in docs.U select new { u.A }","Reduce":null},"Entries":1,"Errors":0,\
-"Etag":4,"IsStale":false,"Name":"Foo"},{"Definition":{"Kind":"static","Map":"from u in docs.U select new { u.B }","Reduce":null},\
+< {"Results":[{"Definition":{"Kind":"static","Map":"from u in docs.U select new { u.A }","Reduce":null,"Version":2},"Entries":1,"Errors":0,\
+"Etag":4,"IsStale":false,"Name":"Foo"},{"Definition":{"Kind":"static","Map":"from u in docs.U select new { u.B }","Reduce":null,"Version":2},\
 "Entries":1,"Errors":0,"Etag":4,"IsStale":false,"Name":"ReplacementOf/Foo"}]}
 < {"Error":"NoReplacement"}
 < {"Removed":"ReplacementOf/Foo"}

@@ -44,10 +44,16 @@ def find(database: Database, name: str, field: str, text: str) -> Reply:
     return {"Ids": ids, "IndexEtag": index.etag, "IsStale": database.is_stale(index)}
 
 
+def definition_of(database: Database, index: Index) -> Reply:
+    """The body of the index's row, without its metadata."""
+    body = database.store.document("@index/" + index.name).body
+    return {name: value for name, value in body.items() if name != "@metadata"}
+
+
 def shown(database: Database, index: Index) -> Reply:
     entries, errors = index.mapped()
     return {
-        "Definition": index.definition.shown(),
+        "Definition": definition_of(database, index),
         "Entries": len(entries),
         "Errors": errors,
         "Etag": index.etag,

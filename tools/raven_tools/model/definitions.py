@@ -18,6 +18,8 @@ from raven_tools.scalars import Scalar
 Paths: typing.TypeAlias = tuple[Path, ...]
 Document: typing.TypeAlias = dict[str, Json]
 Entry: typing.TypeAlias = dict[str, Scalar]
+# The version of the rows that are written. Those of the first version, which say none, are read too.
+VERSION = 2
 
 
 def scalar_at(body: Document, path: Path) -> Scalar:
@@ -50,8 +52,8 @@ class Auto:
     def entry(self, body: Document, load: Load) -> Entry:
         return {joined(path): scalar_at(body, path) for path in self.paths}
 
-    def shown(self) -> Document:
-        return {"Collection": self.collection, "Fields": in_json(self.paths), "Kind": "auto"}
+    def body(self) -> Document:
+        return {"Collection": self.collection, "Fields": in_json(self.paths), "Kind": "auto", "Version": VERSION}
 
 
 @dataclasses.dataclass(frozen=True)
@@ -82,8 +84,8 @@ class AutoReduce:
         sums = {sum_name(path): scalar_at(body, path) for path in self.sums}
         return {**{joined(path): scalar_at(body, path) for path in self.groups}, COUNT: 1, **sums}
 
-    def shown(self) -> Document:
-        kind = {"Collection": self.collection, "Kind": "auto-reduce"}
+    def body(self) -> Document:
+        kind = {"Collection": self.collection, "Kind": "auto-reduce", "Version": VERSION}
         return {**kind, "Groups": in_json(self.groups), "Sums": in_json(self.sums)}
 
 
@@ -113,8 +115,12 @@ class Static:
     def entry(self, body: Document, load: Load) -> Entry | None:
         return language.entry_of(self.tree, body, load)
 
-    def shown(self) -> Document:
-        return {"Kind": "static", "Map": self.text, "Reduce": self.reduce_text}
+    def body(self) -> Document:
+        return {"Kind": "static", "Map": self.text, "Reduce": self.reduce_text, "Version": VERSION}
+
+    def has_quotient(self) -> bool:
+        """No row of the first version has one."""
+        return self.reduce is not None and any(value[0] == "quotient" for _, value in self.reduce.members)
 
 
 Definition: typing.TypeAlias = Auto | AutoReduce | Static

@@ -2,14 +2,15 @@
 
 from raven_tools import model
 from raven_tools.model import keeping
-from raven_tools.model.definitions import Auto, AutoReduce, Definition, Document, Paths, Static
+from raven_tools.model.definitions import VERSION, Auto, AutoReduce, Definition, Document, Paths, Static
 from raven_tools.model.indexes import REPLACEMENT, Index, is_replacement
 from raven_tools.model.json import Json
 from raven_tools.model.limits import MAX_NEW_NAME, Limits
 from raven_tools.queries.trees import in_order
+from raven_tools.scalars import is_number
 from raven_tools.texts import folded
 
-# The members of the body of a definition, by its kind.
+# The members of the body of a definition, by its kind. Those of the second version say so in one more.
 MEMBERS = {
     "static": {"@metadata", "Kind", "Map", "Reduce"},
     "auto": {"@metadata", "Collection", "Fields", "Kind"},
@@ -46,19 +47,26 @@ def auto_reduce_of(body: Document) -> AutoReduce | None:
 
 
 def static_of(body: Document) -> Static | None:
-    """A definition by the text of a map, and by that of a reduce or null."""
+    """A definition by the text of a map, and by that of a reduce or null. In the first version there are no quotients."""
     if not isinstance(body["Map"], str) or not isinstance(body["Reduce"], str | None):
         return None
     try:
-        return Static(body["Map"], body["Reduce"])
+        definition = Static(body["Map"], body["Reduce"])
     except model.Refused:
         return None
+    return definition if "Version" in body or not definition.has_quotient() else None
+
+
+def is_version(value: Json) -> bool:
+    return is_number(value) and value == VERSION
 
 
 def definition_of(body: Document) -> Definition | None:
-    """The definition in the body of its row, or None."""
+    """The definition in the body of its row, or None. A body of the second version says so, and one of the first says nothing."""
     kind = body.get("Kind")
-    if body["@metadata"] != {} or not isinstance(kind, str) or set(body) != MEMBERS.get(kind):
+    if body["@metadata"] != {} or not isinstance(kind, str) or set(body) - {"Version"} != MEMBERS.get(kind):
+        return None
+    if not is_version(body.get("Version", VERSION)):
         return None
     return {"static": static_of, "auto": auto_of, "auto-reduce": auto_reduce_of}[kind](body)
 

@@ -11,7 +11,7 @@ from raven_tools.texts import folded, size
 
 def put_of(name: str, definition: Definition) -> Command:
     """Puts the row of a definition."""
-    return Command("@index/" + name, None, {"@metadata": {"@collection": "@indexes"}, **definition.shown()})
+    return Command("@index/" + name, None, {"@metadata": {"@collection": "@indexes"}, **definition.body()})
 
 
 def deletion_of(index: Index) -> Command:
