@@ -1,7 +1,7 @@
 #!/usr/bin/env python3
-"""Runs each command that docs/http.md shows, most of them lines of curl, and compares what is written with what is beside it, byte for
-byte but for line ends and moments. They run one after another over one database, which `raven serve` serves on a free port, and whose
-indexes have caught up before each. `http.client` asks too: over one connection, in chunks, and with large bodies.
+"""Runs each command that docs/http.md and docs/tour.md show, most of them lines of curl, and compares what is written with what is beside it,
+byte for byte but for line ends and moments. Those of a page run one after another over one database, which `raven serve` serves on a free port,
+and whose indexes have caught up before each. `http.client` asks too: over one connection, in chunks, and with large bodies.
 
     tools/curl.py              the built program of crates/raven
     tools/curl.py PROGRAM      this program

@@ -1,5 +1,5 @@
 #!/usr/bin/env python3
-"""Tries what README.md, that of bench/ and the pages of docs/ point at: each relative link, and each path and each name of the code in backticks.
+"""Tries what README.md, those of bench/ and examples/, and the pages of docs/ point at: each relative link, and each path and name of the code in backticks.
 
     tools/links.py
 
@@ -92,7 +92,7 @@ def is_there(target: pathlib.Path) -> bool:
 def main() -> int:
     count, lost, words = 0, 0, words_of_code()
     calls = calls_of_types()
-    for page in [TOP / "README.md", TOP / "bench/README.md", *sorted((TOP / "docs").glob("*.md"))]:
+    for page in [TOP / "README.md", TOP / "bench/README.md", TOP / "examples/README.md", *sorted((TOP / "docs").glob("*.md"))]:
         text = BLOCK.sub("", page.read_text())
         for name, target in links_of(page, text) + paths_of(text):
             count += 1

@@ -13,7 +13,7 @@ import xml.etree.ElementTree
 
 sys.dont_write_bytecode = True
 import gate_cost
-from raven_tools import crates_file
+from raven_tools import crates_file, tool_list
 from raven_tools.pages import gate, house, laws, marks, sources
 
 SOURCE = """//! A store. It is small.
@@ -134,7 +134,16 @@ def test_gate() -> None:
     assert gate.page(page.replace("| 0.8 |", "| 0.9 |")) == page, "a sum that is changed by hand is put right"
 
 
-TESTS = (test_sources, test_crates, test_house, test_gate)
+def test_tools() -> None:
+    """Each tool has a place in the list of tools/raven, and says what it is for; each name of the list is a tool."""
+    found = tool_list.tools()
+    assert tool_list.OTHERS not in tool_list.listed(), tool_list.listed()
+    assert all(name in found for names in tool_list.GROUPS.values() for name in names.split())
+    assert all(tool_list.said_of(file).endswith(".") for file in found.values())
+    assert tool_list.said_of(found["release"]).startswith("Packs a release")
+
+
+TESTS = (test_sources, test_crates, test_house, test_gate, test_tools)
 
 
 def main() -> None:

@@ -1,4 +1,6 @@
-"""Texts: how they are compared, and how long they are."""
+"""Texts: how they are compared, how long they are, and where a sentence ends."""
+
+import re
 
 UPPER = {code: code + 32 for code in range(ord("A"), ord("Z") + 1)}
 
@@ -10,3 +12,8 @@ def folded(text: str) -> str:
 
 def size(text: str) -> int:
     return len(text.encode())
+
+
+def first_sentence(text: str) -> str:
+    end = re.search(r"\.(?=\s|$)", text)
+    return text[: end.end()] if end else text

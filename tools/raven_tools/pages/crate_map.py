@@ -1,19 +1,18 @@
-"""The made parts of docs/map.md: the crates by subject and by floor, the pages, and the tools."""
+"""The made parts of docs/map.md: the crates by subject and by floor, and the pages."""
 
-import ast
 import pathlib
 import re
 
 from raven_tools.crates_file import floors_of, rows_of, subjects_of
 from raven_tools.pages import marks
-from raven_tools.pages.sources import first_sentence, purpose_of
+from raven_tools.pages.sources import purpose_of
 from raven_tools.places import TOP
 
 CRATES_FILE = TOP / "crates.txt"
 # The pages in the order in which to read them, by why they are read.
 READING = {
-    "To use it": "serving http queries index-language replacing operating studio messages script reliability measure",
-    "To judge it": "glossary guarantees definitions values json query-language index-text keeping laws believed performance DECISIONS",
+    "To use it": "tour serving http queries index-language replacing operating studio messages script reliability measure",
+    "To judge it": "glossary guarantees definitions values json query-language index-text http-rules server-inside keeping laws believed performance DECISIONS",
     "To change it": "map adding desk turn indexes paged-map exact-parsing cases gate",
 }
 
@@ -52,24 +51,7 @@ def pages() -> str:
     return "\n\n".join(f"**{why}**\n\n{lines}" for why, lines in parts.items())
 
 
-def said_of(file: pathlib.Path) -> str:
-    """The first sentence of the text at the head of a tool."""
-    text = file.read_text()
-    if file.suffix == ".py":
-        return first_sentence(" ".join((ast.get_docstring(ast.parse(text)) or "").split()))
-    comment = re.match(r"#!.*\n((?:#.*\n)*)", text)
-    return first_sentence(" ".join(comment[1].replace("#", " ").split())) if comment else ""
-
-
-def tools() -> str:
-    folder = TOP / "tools"
-    files = [file for file in folder.iterdir() if file.is_file()]
-    files += folder.glob("raven_tools/*/__init__.py")
-    names = {file: file.parent if file.name == "__init__.py" else file for file in files}
-    return "\n".join(f"- `{names[file].relative_to(TOP)}`: {said_of(file)}" for file in sorted(files))
-
-
-PARTS = {"subjects": subjects, "floors": floors, "pages": pages, "tools": tools}
+PARTS = {"subjects": subjects, "floors": floors, "pages": pages}
 
 
 def page(text: str) -> str:

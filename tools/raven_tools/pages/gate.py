@@ -13,6 +13,8 @@ from raven_tools.places import CRATES
 KINDS = ("Proof", "Tests", "Edits", "Program")
 # The budget in CPU minutes, and the lines that it is for.
 BUDGET, LINES = 360, 175_000
+# So many crates have a row of their own. The others share one.
+MOST, OTHERS = 25, "all others"
 KEPT = re.compile(r"^rt: (\w+) is kept: ", re.MULTILINE)
 RESULT = re.compile(r"^(\d+ passed, \d+ failed.*)$", re.MULTILINE)
 
@@ -42,13 +44,25 @@ class Run:
     def table(self) -> collections.abc.Iterator[str]:
         yield f"| Crate | {' | '.join(KINDS)} | All |"
         yield "|---|" + "---:|" * (len(KINDS) + 1)
-        for crate, row in sorted(self.seconds.items(), key=lambda pair: (-sum(pair[1]), pair[0])):
-            yield f"| `{crate}` | {' | '.join(str(cost or '') for cost in row)} | {sum(row)} |"
+        for crate, row in in_order(self.seconds):
+            yield f"| {crate if crate == OTHERS else f'`{crate}`'} | {' | '.join(str(cost or '') for cost in row)} | {sum(row)} |"
         shares = " | ".join(f"{self.minutes(kind):.1f}" for kind in range(len(KINDS)))
         yield f"| all, in minutes | {shares} | {self.minutes():.1f} |"
 
     def text(self) -> str:
         return "\n".join([*self.facts(), "", *self.table()])
+
+
+def in_order(seconds: dict[str, list[int]]) -> list[tuple[str, list[int]]]:
+    """The dearest crate first, and what the others share last."""
+    return sorted(seconds.items(), key=lambda pair: (pair[0] == OTHERS, -sum(pair[1]), pair[0]))
+
+
+def with_others(seconds: dict[str, list[int]]) -> dict[str, list[int]]:
+    """The dearest crates, and the sums of all others."""
+    rows = in_order(seconds)
+    rest = [row for _, row in rows[MOST:]]
+    return dict(rows[:MOST]) | ({OTHERS: [sum(column) for column in zip(*rest)]} if rest else {})
 
 
 def measured(costs: list[pathlib.Path], log: pathlib.Path | None) -> Run:
@@ -72,7 +86,7 @@ def measured(costs: list[pathlib.Path], log: pathlib.Path | None) -> Run:
         edits_of_crates(),
         (RESULT.findall(said) or ["not known"])[-1],
         ", ".join(f"`{crate}`" for crate in kept) or "none",
-        seconds,
+        with_others(seconds),
     )
 
 
@@ -89,7 +103,7 @@ def edits_of_crates() -> str:
 def read(part: str) -> Run:
     """The run that the part of the page has."""
     facts = dict(re.findall(r"^- ([^:]*): (.*)\.$", part, re.MULTILINE))
-    rows = [[cell.strip() for cell in line.strip("|").split("|")] for line in part.splitlines() if line.startswith("| `")]
+    rows = [[cell.strip() for cell in line.strip("|").split("|")] for line in part.splitlines() if line.startswith(("| `", f"| {OTHERS} |"))]
     seconds = {row[0].strip("`"): [int(cell or 0) for cell in row[1:-1]] for row in rows}
     lines = int(facts["Lines of code, contracts, specifications and proofs"].replace(",", ""))
     return Run(facts["Run"], lines, facts["Must-fail edits"], facts["Result"], facts["Kept from an earlier run, so without a figure"], seconds)

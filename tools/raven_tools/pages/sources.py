@@ -6,6 +6,7 @@ import pathlib
 import re
 
 from raven_tools.places import CRATES
+from raven_tools.texts import first_sentence
 
 EXPORT = re.compile(r"^pub use (?:crate::)?([a-z_0-9:]+)::(?:\{([^}]*)\}|(\w+))(?: as \w+)?;", re.M | re.S)
 ITEM = re.compile(r"^(\s*)(pub(?:\([a-z]+\))? )?(?:final )?(?:const )?(fn|struct|enum|trait|type|const) (\w+)(?:<.*>)?(\(\))?")
@@ -24,11 +25,6 @@ class Item:
     comment: str
     clauses: tuple[str, ...]
     is_law: bool
-
-
-def first_sentence(text: str) -> str:
-    end = re.search(r"\.(?=\s|$)", text)
-    return text[: end.end()] if end else text
 
 
 def purpose_of(crate: str) -> str:
