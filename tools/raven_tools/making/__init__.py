@@ -4,6 +4,7 @@
 
 - `random_scripts`, in which something is wrong now and then;
 - `map_scripts`, mostly good lines, of maps and of documents that load one another;
+- `totals_scripts`, mostly reduces with quotients, and questions about their rows;
 - `query_scripts`, mostly good queries, over indexes that lag behind;
 - `slot_scripts`, mostly definitions under names that serve, switches, and batches that are held meanwhile;
 - `choice_scripts`, mostly queries that choose, make and widen automatic indexes, and tidyings;
@@ -17,7 +18,7 @@
 what they are read as and what is answered, and `http_rounds` makes runs of the command `http` out of both.
 """
 
-from raven_tools.making import choice_scripts, map_scripts, query_scripts, random_scripts, slot_scripts
+from raven_tools.making import choice_scripts, map_scripts, query_scripts, random_scripts, slot_scripts, totals_scripts
 
 # The kinds of random scripts, in turn.
 MAKERS = [
@@ -31,4 +32,5 @@ MAKERS = [
     query_scripts.QueryMaker,
     *[slot_scripts.SlotMaker] * 4,
     *[choice_scripts.ChoiceMaker] * 4,
+    *[totals_scripts.TotalsMaker] * 2,
 ]
