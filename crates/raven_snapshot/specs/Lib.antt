@@ -1,3 +1,2 @@
 pub mod AnsweredView
 pub mod Asked
-pub mod Unread

@@ -2,7 +2,7 @@
 ghost use Rattle.std.specs.Prelude.{◌≡◌, IfOk};
 ghost use Rattle.spec_server.specs.Answers.{answer_get, answer_indexes, answer_stale, answer_stats, shown as spec_shown};
 ghost use Rattle.spec_index.specs.World.{serving as spec_serving};
-ghost use Rattle.spec_server.specs.Replies.{Document as DocumentOf, Index as IndexOf, NoIndex as NoIndexOf};
+ghost use Rattle.spec_server.specs.Replies.{Document as DocumentOf};
 ghost use Rattle.raven_reply.specs.ReplyView.{reply_view};
 
 use crate::documents::shown_metadata;
@@ -11,8 +11,8 @@ use crate::snapshot::Snapshot;
 use crate::stale::is_stale;
 use doc_txn::{BaseId, spelling};
 use raven_base::NoMemory;
-use raven_reply::{Listings, Reply};
-use raven_value::{Body, Document, Id, Name, Row, Text};
+use raven_reply::{Listings, Reply, no_index};
+use raven_value::{Body, Document, Id, Name, Row};
 use std::alloc::Global;
 
 // The reply that shows a document. It shares the document that is stored.
@@ -23,24 +23,6 @@ fn shown(alloc: Global, base: &BaseId, row: &Row, document: &Document) -> Result
     Ok(Reply::Document {
         document: document.clone()?,
         metadata,
-    })
-}
-
-/// The reply if no index serves the name.
-pub fn no_index(alloc: Global, name: &Name) -> Result<Reply, NoMemory>
-    ensures { IfOk result (λ reply. reply_view reply ≡ NoIndexOf name.now) }
-{
-    Ok(Reply::NoIndex {
-        name: Text::of(alloc, name.as_str())?,
-    })
-}
-
-/// The reply that reports the name of an index.
-pub fn index_reply(name: &Name) -> Result<Reply, NoMemory>
-    ensures { IfOk result (λ reply. reply_view reply ≡ IndexOf name.now) }
-{
-    Ok(Reply::Index {
-        name: name.clone()?,
     })
 }
 

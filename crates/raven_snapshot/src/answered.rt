@@ -5,12 +5,11 @@ ghost use Rattle.spec_server.specs.Indexing.{one_field};
 ghost use Rattle.index_definition.specs.ShapeView.{shape_view};
 ghost use Rattle.raven_snapshot.specs.AnsweredView.{answered_view, name_of_choice};
 
-use crate::answer::index_reply;
 use crate::snapshot::Snapshot;
 use index_definition::Shape;
 use query_optimizer::{Choice, pick};
 use raven_base::NoMemory;
-use raven_reply::Reply;
+use raven_reply::{Reply, index_reply};
 use raven_value::{Path, Paths, Text};
 use std::alloc::Global;
 

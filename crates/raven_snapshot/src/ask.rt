@@ -17,7 +17,6 @@ ghost use Rattle.spec_index.specs.Optimiser.{pick as spec_pick};
 ghost use Rattle.raven_snapshot.specs.AnsweredView.{answered_view};
 ghost use Rattle.raven_snapshot.specs.Asked.{ReadsToAnswer, ReadsWhatItCounts};
 
-use crate::answer::no_index;
 use crate::answered::Answered;
 use crate::documents::{ShownBy, StoreRows};
 use crate::entries::IndexEntries;
@@ -30,7 +29,7 @@ use index_definition::Shape;
 use index_version::IndexVersion;
 use query_optimizer::{Choice, pick};
 use raven_base::{NoMemory, Steps};
-use raven_reply::Reply;
+use raven_reply::{Reply, no_index};
 use raven_value::{Name, Text};
 use rql_eval::{Found, find, find_all, find_in_rows, page_len};
 use rql_plan::{Plan, PlanRefusal, QueryAsk, bind, check, plan_for_collection, shape_of};

@@ -8,7 +8,6 @@ ghost use Rattle.raven_reply.specs.ReplyView.{reply_view};
 ghost use Rattle.rql_eval.specs.Pages.{ReadsAtMost};
 ghost use Rattle.raven_snapshot.specs.Asked.{ReadsWhatItCounts};
 
-use crate::answer::no_index;
 use crate::entries::IndexEntries;
 use crate::snapshot::Snapshot;
 use crate::stale::is_stale;
@@ -16,7 +15,7 @@ use doc_store::Store;
 use index_definition::{DefBody, Definition};
 use index_version::IndexVersion;
 use raven_base::{NoMemory, Steps};
-use raven_reply::Reply;
+use raven_reply::{Reply, no_index};
 use raven_value::{Ids, Name, Scalar, Test, Text};
 use rql_eval::ids_that_meet;
 use rql_plan::{Condition, ConditionKind};

@@ -4,7 +4,6 @@
 mod answer;
 mod answered;
 mod ask;
-mod cleaning;
 mod documents;
 mod entries;
 mod find;
@@ -12,6 +11,5 @@ mod listing;
 mod snapshot;
 mod stale;
 
-pub use answer::{index_reply, no_index};
 pub use answered::Answered;
 pub use snapshot::Snapshot;

@@ -1,13 +1,37 @@
-//! Whether there is something to clean, and an index that has read nothing.
+//! What a database is made of, and what it has to clean.
 ghost use Rattle.std.specs.Prelude.{◌≡◌};
 ghost use Rattle.std.specs.List.{list_any};
 ghost use Rattle.spec_store.specs.Cleaning.{is_old_tombstone};
 ghost use Rattle.spec_index.specs.Cleaning.{clean_upto as spec_clean_upto, etags_reached, least};
-ghost use Rattle.raven_snapshot.specs.Unread.{has_unread as spec_has_unread, is_unread as spec_is_unread};
+ghost use Rattle.side_by_side.specs.Unread.{has_unread as spec_has_unread, is_unread as spec_is_unread};
 
-use crate::snapshot::Snapshot;
+use crate::slot::Slot;
+use crate::slots::Slots;
 use doc_store::Store;
-use side_by_side::Slot;
+use doc_txn::{BaseId, Limits};
+use std::marker::Model;
+
+/// A database as it stands, which is borrowed: its store, its live indexes, its base id and its limits.
+#[derive(Drop)]
+pub struct Parts<'w> {
+    pub store: &'w Store,
+    pub slots: &'w Slots,
+    pub base: &'w BaseId,
+    pub limits: Limits,
+}
+
+impl<'w> Model for Parts<'w> {
+    ghost use Rattle.spec_index.specs.World as world;
+    ghost use Rattle.spec_index.specs.Codes.{world_code};
+    ghost use Rattle.doc_txn.specs.SettingView.{setting_of};
+    ghost use Rattle.side_by_side.specs.Standing.{world_of};
+
+    ghost Value = { world.World };
+
+    ghost coded = { world_code };
+
+    ghost view = { λ a. world_of (setting_of a.base.now a.limits) a.store.now a.slots.now };
+}
 
 // The least of an etag and of those that the indexes have reached which have read something.
 fn least_reached(most: u64, slots: &[Slot]) -> u64
@@ -30,7 +54,7 @@ fn is_unread(store: &Store, slot: &Slot) -> bool
     slot.version.etag() == 0 && slot.is_stale(store)
 }
 
-impl<'w> Snapshot<'w> {
+impl<'w> Parts<'w> {
     /// The etag up to which tombstones may go: all indexes that have read something have reached it, and it is below that of the
     /// last row, which stays.
     pub fn clean_upto(&self) -> u64
