@@ -13,14 +13,16 @@ ghost use Rattle.raven_world.specs.WorldView.{answer_view, change_view};
 ghost use Rattle.raven_reply.specs.ReplyView.{reply_view};
 ghost use Rattle.raven_desk.specs.CourseView.{course_view};
 
+use crate::making::{make, make_for};
 use crate::tidying::tidied;
 use doc_keeper::all_kept;
 use doc_txn::{Command, Expect};
 use raven_base::{NoMemory, Shared, Steps};
 use raven_ports::KeptRows;
 use raven_request::Request;
+use raven_snapshot::{Answered, Snapshot};
 use raven_value::{Id, Name, Rows, Shallow, Text, Value};
-use raven_world::{Answered, Change, Cleaning, Reply, Snapshot, World, WorldFault};
+use raven_world::{Change, Cleaning, Reply, World, WorldFault};
 use rql_plan::QueryAsk;
 use std::alloc::Global;
 use std::marker::{Brand, Model};
@@ -139,7 +141,7 @@ fn count_of(tombstones: &Rows, world: &World) -> u32
     requires { length tombstones.now ≤ length world.now.store.rows }
     ensures { result ≡ length tombstones.now }
 {
-    let most = world.snapshot().store.len() as usize;
+    let most = world.parts().store.len() as usize;
     tombstones.len().min(most) as u32
 }
 
@@ -192,9 +194,9 @@ fn picked(
 ) -> Result<Course, NoMemory>
     ensures { IfOk result (λ course. course_view course ≡ spec_course_of world.now now (Auto collection.now field.now)) }
 {
-    match world.snapshot().auto(alloc, collection, field)? {
+    match Snapshot::of(world.parts()).auto(alloc, collection, field)? {
         Answered::Reply(reply) => Ok(unchanged(alloc, reply)),
-        Answered::MustMake(shape) => changed_or_refused(alloc, world.make(alloc, shape, now)),
+        Answered::MustMake(shape) => changed_or_refused(alloc, make(alloc, world, shape, now)),
     }
 }
 
@@ -250,10 +252,10 @@ fn asked<L: Ledger>(
     ensures { IfOk result (λ course. course_view course ≡ spec_course_of world.now now (Ask ask.now)) }
 {
     let mut steps = Steps::<L>::new(blank);
-    match world.snapshot().ask(alloc, ask, &mut steps)? {
+    match Snapshot::of(world.parts()).ask(alloc, ask, &mut steps)? {
         Answered::Reply(reply) => Ok(unchanged(alloc, reply)),
         Answered::MustMake(shape) => {
-            let answer = world.make_for(alloc, ask, shape, now, &mut steps);
+            let answer = make_for(alloc, world, ask, shape, now, &mut steps);
             changed_or_refused(alloc, answer)
         }
     }
@@ -296,7 +298,7 @@ pub fn course_of<R: Threads + Sync>(
     requires { IsWellFormed (Do (request_view request)) }
     ensures { IfOk result (λ course. course_view course ≡ spec_course_of world.now now (request_view request)) }
 {
-    let seen = world.snapshot();
+    let seen = Snapshot::of(world.parts());
     match request {
         Request::Put { id, expected, body } => {
             let command = putting(id, expected, body);

@@ -5,6 +5,7 @@ mod course;
 mod desk;
 mod keeping;
 mod live;
+mod making;
 mod one_desk;
 mod opening;
 mod publishing;

@@ -103,7 +103,7 @@ impl<K: Keeper> Measured<K> {
     pub fn last(&self) -> u64
         ensures { result ≡ last self.now.live.world.store }
     {
-        self.live.world().snapshot().store.last()
+        self.live.world().parts().store.last()
     }
 
     /// The keeper of the database.

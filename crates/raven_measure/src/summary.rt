@@ -88,7 +88,7 @@ fn total_of(alloc: Global, rows: &[Shown]) -> Result<i128, NoMemory>
 fn documents_of(world: &World) -> u64
     ensures { result ≡ count_documents world.now.store }
 {
-    let counts = world.snapshot().store.counts_beside("@indexes");
+    let counts = world.parts().store.counts_beside("@indexes");
     u64::from(counts.documents)
 }
 

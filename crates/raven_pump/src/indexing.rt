@@ -46,7 +46,7 @@ pub fn turn_index<K: Keeper, G: Gate, R: Threads + Wait + Sync, L: Ledger>(
     ensures same { (pass.new.turn ≡ pass.old.turn) × (pass.new.shares ≡ pass.old.shares) × (pass.new.made ≡ pass.old.made) }
 {
     let shot = turn.look(rt, alloc, pass)?;
-    let seen = shot.world().snapshot();
+    let seen = shot.world().parts();
     let Some(slot) = seen.slots.numbered(number) else {
         return Ok(Turned::Gone);
     };

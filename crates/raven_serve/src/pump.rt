@@ -62,7 +62,7 @@ fn batches<R: Threads + Wait + Sync, K: Keeper, G: Gate, L: Ledger>(
 {
     let mut steps = Steps::<L>::new(blank);
     let mut round = Round::Still;
-    let seen = shot.world().snapshot();
+    let seen = shot.world().parts();
     let slots = seen.slots.list();
     let mut at = begin as usize;
     for _ in 0..slots.len() {
@@ -79,7 +79,7 @@ fn batches<R: Threads + Wait + Sync, K: Keeper, G: Gate, L: Ledger>(
 // Whether a CLEAN is worth a hold, by the look of the round: there is something to clean, and each index that lags has read something. The first batch of an
 // index is the one that a cleaning can overtake, again and again: so no CLEAN is made before it is published.
 fn may_clean(shot: &Shot) -> bool {
-    let seen = shot.world().snapshot();
+    let seen = shot.world().parts();
     seen.has_to_clean() && !seen.has_unread()
 }
 

@@ -1,7 +1,6 @@
 //! Cleaning a world.
 ghost use Rattle.std.specs.Prelude.{◌≡◌, IfOk};
-ghost use Rattle.std.specs.List.{list_any};
-ghost use Rattle.spec_store.specs.Cleaning.{is_old_tombstone, old_tombstones};
+ghost use Rattle.spec_store.specs.Cleaning.{old_tombstones};
 ghost use Rattle.spec_index.specs.Cleaning.{clean_upto as spec_clean_upto, cleaned_world};
 
 use crate::world::World;
@@ -28,14 +27,7 @@ impl World {
     pub fn clean_upto(&self) -> u64
         ensures { result ≡ spec_clean_upto self.now }
     {
-        self.snapshot().clean_upto()
-    }
-
-    /// Whether a cleaning would remove something. It looks at each index once, and at no row.
-    pub fn has_to_clean(&self) -> bool
-        ensures { result ≡ list_any (is_old_tombstone (spec_clean_upto self.now)) self.now.store.rows }
-    {
-        self.snapshot().has_to_clean()
+        self.parts().clean_upto()
     }
 
     /// The world without the tombstones that no index has to read any more. The indexes and the notes are as they were.

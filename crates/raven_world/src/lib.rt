@@ -19,6 +19,5 @@ pub use publish::{Batch, PublishRefusal};
 pub use raven_reply::{
     BulkResult, BulkResults, IndexNames, Listing, Listings, Pumping, Pumpings, Reply, reply_text,
 };
-pub use raven_snapshot::{Answered, Snapshot};
 pub use switch::Taken;
-pub use world::{Change, World, WorldFault};
+pub use world::{Change, Made, World, WorldFault};

@@ -13,8 +13,7 @@ ghost use Rattle.raven_world.specs.WorldView.{answer_view, change_view};
 
 use crate::world::{Change, World, WorldFault};
 use raven_base::{NoMemory, Steps};
-use raven_reply::{Pumpings, Reply};
-use raven_snapshot::no_index;
+use raven_reply::{Pumpings, Reply, no_index};
 use raven_value::{Name, Rows};
 use side_by_side::Slots;
 use slot_batches::bring_on;

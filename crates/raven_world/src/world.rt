@@ -13,9 +13,8 @@ use doc_store::Store;
 use doc_txn::{BaseId, Limits};
 use raven_base::NoMemory;
 use raven_reply::Reply;
-use raven_snapshot::Snapshot;
-use raven_value::Rows;
-use side_by_side::Slots;
+use raven_value::{Name, Rows};
+use side_by_side::{Parts, Slots};
 use std::alloc::Global;
 use std::marker::Model;
 
@@ -72,6 +71,14 @@ pub struct Rewritten {
     pub rows: Rows,
 }
 
+/// A world after an automatic index is made, the rows that its keeper is to take, and the name of the index.
+#[derive(Drop)]
+pub struct Made {
+    pub world: World,
+    pub rows: Rows,
+    pub name: Name,
+}
+
 /// Why a change was not made. The world is as it was.
 #[derive(Drop)]
 pub enum WorldFault {
@@ -92,10 +99,10 @@ impl From<NoMemory> for WorldFault {
 
 impl World {
     /// The database as it stands.
-    pub fn snapshot(&self) -> Snapshot<'_>
+    pub fn parts(&self) -> Parts<'_>
         ensures { result ≡ self.now }
     {
-        Snapshot {
+        Parts {
             store: &self.store,
             slots: &self.slots,
             base: &self.base,

@@ -17,7 +17,8 @@ use raven_desk::{Course, Live, Shot, course_of};
 use raven_ports::{Clock, Keeper};
 use raven_request::Request;
 use raven_turn::{Pass, Turn};
-use raven_world::{Answered, Reply, World};
+use raven_snapshot::{Answered, Snapshot};
+use raven_world::{Reply, World};
 use rql_plan::QueryAsk;
 use std::alloc::Global;
 use std::marker::Brand;
@@ -76,7 +77,7 @@ fn found<L: Ledger>(
     ensures { IfOk result (λ found. IfSome found (λ reply. answer_ask world.now ask.now ≡ Ready (reply_view reply))) }
 {
     let mut steps = Steps::<L>::new(blank);
-    match world.snapshot().ask(alloc, ask, &mut steps)? {
+    match Snapshot::of(world.parts()).ask(alloc, ask, &mut steps)? {
         Answered::Reply(reply) => Ok(Some(reply)),
         Answered::MustMake(_) => Ok(None),
     }

@@ -26,7 +26,7 @@ returns-in_default-next-clause-turned g c =
     let s = c.in-Some.slot.now in
     let W = c.world.result.now in
     let at : W ≡ l.0.world = c.world.ensures.world ∙ ap (λ (k : Seen). k.world) l.2 in
-    let here = c.seen.view_is ∙ c.snapshot-seen.ensures in
+    let here = c.seen.view_is ∙ c.parts-seen.ensures in
     let store : c.seen.inside.store.now ≡ W.store = ap (λ (V : World). V.store) here in
     let r = reads_at c.args.pass.now.seen c.args.number c.args.max l.0 W c.seen.inside.store.now s true c.args.steps.now c.read.new.steps l.1 at store (subst Sound (sym c.world.ensures.world) c.world.ensures.sound)
     (ap (λ (V : World). numbered V.slots c.args.number) (sym here) ∙ sym c.in-Some.ensures) c.in_ok-next.ensures.bounds in
@@ -42,7 +42,7 @@ with-requires-clause-needs g c =
     let s = c.in-Some.slot.now in
     let W = c.world.result.now in
     let at : W ≡ l.0.world = c.world.ensures.world ∙ ap (λ (k : Seen). k.world) l.2 in
-    let here = c.seen.view_is ∙ c.snapshot-seen.ensures in
+    let here = c.seen.view_is ∙ c.parts-seen.ensures in
     let store : c.seen.inside.store.now ≡ W.store = ap (λ (V : World). V.store) here in
     let batch_is = some_next _ c.in_ok-next.next c.in-Some-next.version s.version c.seen.inside.store.now l.0.world.store c.args.max c.in_ok-next.ensures.version c.in-Some-next.is (store ∙ ap (λ (V : World). V.store) at) in
     let live = ap (λ (V : World). numbered V.slots c.args.number) (sym (here ∙ at)) ∙ sym c.in-Some.ensures in
@@ -59,7 +59,7 @@ returns-in_err-_found-clause-turned g c =
     let s = c.in-Some.slot.now in
     let W = c.world.result.now in
     let at : W ≡ l.0.world = c.world.ensures.world ∙ ap (λ (k : Seen). k.world) l.2 in
-    let here = c.seen.view_is ∙ c.snapshot-seen.ensures in
+    let here = c.seen.view_is ∙ c.parts-seen.ensures in
     let store : c.seen.inside.store.now ≡ W.store = ap (λ (V : World). V.store) here in
     let r = reads_at c.args.pass.now.seen c.args.number c.args.max l.0 W c.seen.inside.store.now s true c.args.steps.now c.read.new.steps l.1 at store (subst Sound (sym c.world.ensures.world) c.world.ensures.sound)
     (ap (λ (V : World). numbered V.slots c.args.number) (sym here) ∙ sym c.in-Some.ensures) c.in_ok-next.ensures.bounds in
@@ -79,7 +79,7 @@ returns-clause-turned g c =
     let s = c.in-Some.slot.now in
     let W = c.world.result.now in
     let at : W ≡ l.0.world = c.world.ensures.world ∙ ap (λ (k : Seen). k.world) l.2 in
-    let here = c.seen.view_is ∙ c.snapshot-seen.ensures in
+    let here = c.seen.view_is ∙ c.parts-seen.ensures in
     let store : c.seen.inside.store.now ≡ W.store = ap (λ (V : World). V.store) here in
     let r = reads_at c.args.pass.now.seen c.args.number c.args.max l.0 W c.seen.inside.store.now s true c.args.steps.now c.read.new.steps l.1 at store (subst Sound (sym c.world.ensures.world) c.world.ensures.sound)
     (ap (λ (V : World). numbered V.slots c.args.number) (sym here) ∙ sym c.in-Some.ensures) c.in_ok-next.ensures.bounds in
