@@ -43,7 +43,15 @@ pub(crate) fn make_for<L: Ledger>(
     ensures course { IfSome (answer_view result) (λ course. course ≡ ask_course world.now now ask.now (MustMake (shape_view shape))) }
     ensures reads { IfOk result (λ change. ReadsWhatItCounts (reply_view change.reply) steps.old steps.new) }
 {
-    let Made { world, rows, name } = world.make(alloc, shape, now)?;
-    let reply = Snapshot::of(world.parts()).ask_named(alloc, ask, &name, steps)?;
-    Ok(Change { world, rows, reply })
+    let Made {
+        world: left,
+        rows,
+        name,
+    } = world.make(alloc, shape, now)?;
+    let reply = Snapshot::of(left.parts()).ask_named(alloc, ask, &name, steps)?;
+    Ok(Change {
+        world: left,
+        rows,
+        reply,
+    })
 }
