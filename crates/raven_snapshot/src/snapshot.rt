@@ -31,7 +31,7 @@ impl<'w> Model for Snapshot<'w> {
 impl<'w> Snapshot<'w> {
     /// The database of these parts.
     pub fn of(parts: Parts<'w>) -> Snapshot<'w>
-        ensures { result ≡ parts }
+        ensures { result ≡ parts.entry }
     {
         let Parts {
             store,
