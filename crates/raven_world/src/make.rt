@@ -47,7 +47,8 @@ impl World {
     /// Makes an automatic index of this shape. What is asked of it is told in the world that this leaves.
     pub fn make(&self, alloc: Global, shape: Shape, now: u64) -> Result<Made, WorldFault>
         ensures named { IfSome (made_view named result) (λ course. course ≡ use_or_make self.now now (Make (shape_view shape))) }
-        ensures asked { (ask : query.Ask) → IfSome (made_view (answering ask) result) (λ course. course ≡ ask_course self.now now ask (MustMake (shape_view shape))) }
+        ensures asked { (ask : query.Ask) →
+            IfSome (made_view (answering ask) result) (λ course. course ≡ ask_course self.now now ask (MustMake (shape_view shape))) }
     {
         let SlotChange {
             slots,
