@@ -8,9 +8,11 @@ use Rattle.spec_server.specs.Courses.{Course, only_reply}
 use Rattle.spec_server.specs.Indexing.{ask_course, use_or_make}
 use Rattle.spec_server.specs.Replies.{Index, Reply}
 use Rattle.raven_snapshot.specs.AnsweredView.{name_of_choice}
-use Rattle.raven_world.specs.WorldView.{answer_view}
+use Rattle.raven_world.specs.WorldView.{answer_view, made_view}
 use Rattle.raven_world.specs.declared.world.Change.{Change}
+use Rattle.raven_world.specs.declared.world.Made.{Made}
 use Rattle.raven_world.specs.declared.world.WorldFault.{WorldFault}
+use Rattle.raven_world.specs.declared.world.WorldFault.TheVariants.{Refused, NoMemory}
 
 -- an index was picked, and its name is the reply
 pub picks : (W : World) (now : ℕ) (choice : Choice) (reply : Reply) → Ready reply ≡ name_of_choice choice → only_reply reply ≡ use_or_make W now choice
@@ -40,3 +42,8 @@ pub makes_first : (W : World) (now : ℕ) (ask : query.Ask) (answered : Answered
 makes_first W now ask answered shape course e is = is ∙ ap (ask_course W now ask) e
 
 pub ruleset asking = (replies, makes_first)
+
+-- if no index was made, it is refused or memory ran out, whatever is told of what is made
+pub not_made : (told : Made → Reply) (fault : WorldFault) (P : Course → Type 0) → IfSome (made_view told (Err fault)) P → IfSome (answer_view (Err fault)) P
+not_made told (Refused reply) P h = h
+not_made told NoMemory P h = h
