@@ -7,7 +7,7 @@ PROGRAM is the built program, by default that of crates/raven. Each figure is a 
 same run. The part of the page with the table is printed, with what was measured, and the other figures as the page has them.
 With --write it takes the place of that part of the page.
 --only measures one group of figures, and may be given several times: puts, file, memory, batches, idle, finds, queries,
-indexes, totals, reduces, million, threads, instructions. Without it all are measured but million, which takes long.
+indexes, totals, reduces, several, million, threads, instructions. Without it all are measured but million, which takes long.
 --part divides all sizes, to try the command.
 
 What a group needs and this machine lacks is said, and its figures stay as they were; if the group was asked for, the status is then 1.

@@ -17,6 +17,8 @@ SCRIPT = r"""PUT a {}
 INDEX {"Name":"\u0041","Map":"from u in docs.Users where u.A == \"\u00e9\" select new { v.Name }"}
 QUERY from Users were Age = 3
 ASK {"Query":"from Users\nwhere A = 'é' 'é'"}
+MASK {"Query":"from index Net"}
+MULTI {"Maps":["from u in docs.Users select new { u.A }","from o in docs.Orders select new { p.A }"],"Name":"N","Reduce":"from r in results group r by r.A into g select new { A = g.Key }"}
 PUT b {"N":1.5}
 GET c
 STATS
@@ -25,6 +27,8 @@ REPLIES = """{"ChangeVector":"A:1-AAAAAAAAAAAAAAAAAAAAAA","Id":"a"}
 {"At":52,"Error":"UnknownName","Part":"Map"}
 {"At":11,"Error":"Unexpected"}
 {"At":26,"Error":"Unexpected"}
+{"At":11,"Error":"Unexpected"}
+{"At":35,"Error":"UnknownName","Part":"Map"}
 {"Error":"NumberNotWhole"}
 {"Error":"NoDocument","Id":"c"}
 """
@@ -40,11 +44,19 @@ line 5: ASK {"Query":"from Users\\nwhere A = 'é' 'é'"}
   {"At":26,"Error":"Unexpected"}
   where A = 'é' 'é'
                 ^
-line 6: PUT b {"N":1.5}
+line 6: MASK {"Query":"from index Net"}
+  {"At":11,"Error":"Unexpected"}
+  from index Net
+             ^
+line 7: MULTI {"Maps":["from u in docs.Users select new { u.A }","from o in docs.Orders select new { p.A }"]..
+  {"At":35,"Error":"UnknownName","Part":"Map"}
+  from o in docs.Orders select new { p.A }
+                                     ^
+line 8: PUT b {"N":1.5}
   {"Error":"NumberNotWhole"}
-line 7: GET c
+line 9: GET c
   {"Error":"NoDocument","Id":"c"}
-the replies end before line 8
+the replies end before line 10
 """
 
 

@@ -127,8 +127,9 @@ def test_page() -> None:
 def test_each_line_is_known() -> None:
     """Each line of a script has a route or is said to have none."""
     known = set(shell.REQUESTS) | set(shell.ALONE)
-    assert known | shell.BY_ITSELF == set(COMMANDS) | set(ALONE), known
-    assert not known & shell.BY_ITSELF
+    others = shell.BY_ITSELF | shell.OF_SCRIPTS
+    assert known | others == set(COMMANDS) | set(ALONE), known
+    assert not known & others
     assert set(re.findall(r"\b[A-Z]{2,}\b", shell.HELP)) == known
 
 

@@ -16,18 +16,19 @@ import sys
 sys.dont_write_bytecode = True
 from raven_tools import model
 from raven_tools.checks import sound
-from raven_tools.making import MAKERS, choice_scripts, slot_scripts
+from raven_tools.making import MAKERS, choice_scripts, multi_scripts, slot_scripts
 from raven_tools.model import keeping, opening
 
 FEW = model.Limits(slots=6, notes=1)
 # The makers of most scripts.
-OWN = [slot_scripts.SlotMaker, slot_scripts.SlotMaker, choice_scripts.ChoiceMaker]
+OWN = [slot_scripts.SlotMaker, slot_scripts.SlotMaker, choice_scripts.ChoiceMaker, multi_scripts.MultiMaker]
 # What many scripts have to reach.
 REACHED = """
 switched by a line, switched by tidying, retired, published, Gone, Passed, NotFresh, NoReplacement, NothingHeld, NotesFull, TooManyIndexes,
 KeeperFault, made by a query, a fresh answer of a query that chose, a fresh answer of groups, a replacement, kept by tidying,
 a replacement in place of another, a replacement that ended, removed together, published after a switch, tidied up to a fault,
-tombstones cleaned, nothing cleaned, Cleaned, published after a cleaning
+tombstones cleaned, nothing cleaned, Cleaned, published after a cleaning, several maps, several maps up to a refusal, a part replaced by several maps,
+NotOneReduce, a fresh answer of several maps, a stale answer of several maps
 """
 
 
@@ -43,6 +44,7 @@ def reached(before: model.Database, after: model.Database, line: bytes, reply: d
     switched = {note.new for note in before.notes}
     gone = [batch for worker, batch in before.held.items() if word == "PUBLISH" and worker not in after.held]
     published = [batch.number for batch in gone if "To" in reply]
+    is_of_several = word == "MASK" and reply.get("Results")
     tests = {
         "switched by a line": "Switched" in reply and word == "SWITCH",
         "switched by tidying": word == "TIDY" and reply.get("Switched"),
@@ -61,6 +63,11 @@ def reached(before: model.Database, after: model.Database, line: bytes, reply: d
         "published after a cleaning": published and any(batch.cleaned < before.store.cleaned for batch in gone),
         "a fresh answer of a query that chose": is_chosen and not ask.query.groups,
         "a fresh answer of groups": is_chosen and ask.query.groups,
+        "several maps": reply.get("Indexes"),
+        "several maps up to a refusal": word == "MULTI" and "Error" in reply and before.store.last < after.store.last,
+        "a part replaced by several maps": any(name.startswith("ReplacementOf/") for name in reply.get("Indexes", ())),
+        "a fresh answer of several maps": is_of_several and is_fresh,
+        "a stale answer of several maps": is_of_several and reply["IsStale"],
         reply.get("Error", ""): True,
     }
     return [name for name, is_so in tests.items() if is_so and name]

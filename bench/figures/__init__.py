@@ -1,6 +1,6 @@
 """What is measured, by the name that `--only` takes. Each module has its lines of the table, and measures them."""
 
-from figures import batches, file, finds, idle, indexes, instructions, memory, million, puts, queries, reduces, threads, totals
+from figures import batches, file, finds, idle, indexes, instructions, memory, million, puts, queries, reduces, several, threads, totals
 
 GROUPS = {
     "puts": puts,
@@ -13,6 +13,7 @@ GROUPS = {
     "indexes": indexes,
     "totals": totals,
     "reduces": reduces,
+    "several": several,
     "million": million,
     "threads": threads,
     "instructions": instructions,

@@ -6,7 +6,7 @@ import re
 from raven_tools.places import TOP
 
 # The pages with scripts.
-PAGES = ["script", "queries", "replacing"]
+PAGES = ["script", "queries", "replacing", "documents"]
 BLOCK = re.compile(r"^```(raven|replies)\n(.*?)^```$", re.MULTILINE | re.DOTALL)
 
 

@@ -6,6 +6,7 @@ import re
 import typing
 
 from raven_tools import model
+from raven_tools.model.refused import Refused
 from raven_tools.places import TOP
 
 # Refusals of texts, whose `At` counts the bytes of the text.
@@ -43,6 +44,16 @@ def when_of(reply: Reply, table: list[Cause]) -> str | None:
     return found[0] if found else "the file took nothing of this line" if reply["Error"] == "KeeperFault" else None
 
 
+def refused_map(maps: list[str], reduce: str) -> str:
+    """The first map that is refused with this reduce."""
+    for text in maps:
+        try:
+            model.Static(text, reduce)
+        except Refused:
+            return text
+    raise ValueError("no map is refused")
+
+
 def text_of(line: str, reply: Reply) -> str | None:
     """The text in which the refusal names a place."""
     if reply["Error"] not in OF_TEXTS or "At" not in reply or "Len" in reply:
@@ -51,10 +62,12 @@ def text_of(line: str, reply: Reply) -> str | None:
     if word == "QUERY":
         return rest
     members = model.read_json(rest.encode())
-    if word == "ASK":
+    if word in ("ASK", "MASK"):
         return members["Query"]
     if reply["Part"] == "Reduce":
         return members["Reduce"]
+    if word == "MULTI":
+        return refused_map(members["Maps"], members["Reduce"])
     return members["Maps"][0] if "Maps" in members else members["Map"]
 
 

@@ -15,6 +15,8 @@ from raven_tools.scalars import is_number
 
 # Lines that have no route: the server does by itself what they ask for.
 BY_ITSELF = {"AUTO", "PUMP", "SWITCH", "TIDY", "READ", "PUBLISH", "CLEAN", "FIND"}
+# Lines that scripts alone have.
+OF_SCRIPTS = {"MULTI", "MASK"}
 # The widest cell of a table, in characters.
 WIDEST = 40
 # How long a stale query is left alone before it is asked again, in seconds.
@@ -233,6 +235,8 @@ class Shell:
 
 def unknown(line: str) -> str:
     word = line.partition(" ")[0]
+    if word in OF_SCRIPTS:
+        return f"{word} has no route: define the parts by an INDEX each, and ask one after another"
     if word in BY_ITSELF:
         return f"{word} has no route: indexes catch up, switch and are cleaned by themselves, and a query makes those that it needs"
     return "UnknownLine: no line with a route; `help` lists them, and docs/script.md says what each is"

@@ -5,4 +5,3 @@ pub mod Utf8
 pub mod Formed
 pub mod Routed
 pub mod Bodies
-pub mod Once

@@ -19,6 +19,7 @@ pub fn status_of(reply: &Reply) -> StatusCode
         | Reply::Pumped { .. }
         | Reply::Switched { .. }
         | Reply::Tidied { .. }
+        | Reply::Defined { .. }
         | Reply::CleanDone { .. }
         | Reply::Held { .. }
         | Reply::Published { .. }
@@ -45,6 +46,7 @@ pub fn status_of(reply: &Reply) -> StatusCode
         | Reply::TooLong { .. }
         | Reply::Control { .. }
         | Reply::BadMember { .. }
+        | Reply::NotOneReduce { .. }
         | Reply::Rql { .. }
         | Reply::NoParameter { .. }
         | Reply::NotGrouped { .. }

@@ -6,3 +6,5 @@ pub mod Changing
 pub mod Rows
 pub mod Sizes
 pub mod Crossing
+pub mod Merging
+pub mod Parts

@@ -102,7 +102,7 @@ module _ {V : Type 0} (f : V → Fields) (names : List (List ℕ)) where
       by true h = (word_small (value_at name (f e.1)) (word_at name (f e.1) w.0), h)
       by false h = h
 
-fold_mapped : {A B R : Type 0} (f : A → B) (lifted : B → R) (none : R) (merged : R → R → R) (xs : List A) → fold_of (λ x. lifted (f x)) none merged xs ≡ fold_of lifted none merged (map f xs)
+pub fold_mapped : {A B R : Type 0} (f : A → B) (lifted : B → R) (none : R) (merged : R → R → R) (xs : List A) → fold_of (λ x. lifted (f x)) none merged xs ≡ fold_of lifted none merged (map f xs)
 fold_mapped f lifted none merged [] = refl
 fold_mapped f lifted none merged (x ∷ xs) = ap (merged (lifted (f x))) (fold_mapped f lifted none merged xs)
 

@@ -2,3 +2,4 @@ pub mod KeyLaws
 pub mod Cells
 pub mod Groups
 pub mod Trees
+pub mod Together

@@ -4,6 +4,8 @@ ghost use Rattle.std.specs.FinMap.{empty, values};
 ghost use Rattle.std.specs.List.{slice_get};
 ghost use Rattle.paged_map.specs.Merges.{MergesAtMost};
 ghost use Rattle.spec_index.specs.Rows.{reduced};
+ghost use Rattle.index_groups.specs.Cells.{plan_of};
+ghost use Rattle.index_groups.specs.Together.{AreOfWords, cells_of};
 ghost use Rattle.index_groups.specs.Groups.{AreNew, AreSmall, AreThere, HaveWords, fields_of, with_all, without_all};
 ghost use Rattle.index_groups.specs.Trees.{insertion, removal};
 
@@ -15,7 +17,7 @@ use index_tree::ReduceQuery;
 use map_stage::Entry;
 use raven_base::{Exact, NoMemory, Sequence, Shared, Steps};
 use raven_value::{Id, Text};
-use reduce_folds::{HasFields, RowFold};
+use reduce_folds::{Cells, HasFields, RowFold};
 use reduce_groups::Groups;
 use std::alloc::{AllocError, Global};
 use std::marker::Model;
@@ -167,6 +169,25 @@ impl<E: HasFields + Exact + Drop> IndexGroups<E> {
         let _groups = self.groups.len();
         let plan = self.plan.get().as_slice();
         Ok(rows_of(alloc, plan, groups)?)
+    }
+}
+
+impl<E: HasFields + Exact + Drop> IndexGroups<E> {
+    /// The cells of each group, under its key, in the order of the keys.
+    pub(crate) fn groups(&self, alloc: Global) -> Result<Vec<(GroupKey, Cells)>, NoMemory>
+        ensures groups { IfOk result (λ groups. groups.items ≡ cells_of self.now.query (values self.now.entries)) }
+        ensures words { AreOfWords (values self.now.entries) }
+    {
+        // The proof needs it: the groups are in the order of their keys.
+        let _groups = self.groups.len();
+        self.groups.rows(alloc)
+    }
+
+    /// Where each field of a row comes from.
+    pub(crate) fn plan(&self) -> &[RowField]
+        ensures { result.now ≡ plan_of self.now.query }
+    {
+        self.plan.get().as_slice()
     }
 }
 

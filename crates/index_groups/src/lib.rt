@@ -6,5 +6,7 @@ mod key;
 mod plan;
 mod query;
 mod row;
+mod together;
 
 pub use groups::IndexGroups;
+pub use together::rows_together;

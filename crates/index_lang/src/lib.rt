@@ -10,6 +10,7 @@ mod names;
 mod parsing;
 mod paths;
 mod reading;
+mod reduces;
 
 pub use body::of_row_body;
 pub use by_texts::{TextDefinition, parse_texts};
@@ -27,3 +28,4 @@ pub use members::{Field, duplicate, fields_agree, irreducible};
 pub use names::unbound_name;
 pub use parsing::{MAX_TEXT, parse};
 pub use reading::{ReadMap, ReadReduce, Trees};
+pub use reduces::same_reduce;

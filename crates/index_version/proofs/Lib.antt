@@ -16,3 +16,4 @@ mod Terming
 mod FieldNames
 mod EntryLemmas
 pub mod Crossing
+mod Several

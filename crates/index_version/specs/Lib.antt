@@ -7,3 +7,4 @@ pub mod Renewed
 pub mod Reduced
 pub mod Termed
 pub mod Entries
+pub mod Together

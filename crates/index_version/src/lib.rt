@@ -11,9 +11,11 @@ mod renewal;
 mod results;
 mod table;
 mod terms;
+mod together;
 mod touched;
 mod version;
 
 pub use mapping::DefinitionMapper;
 pub use table::{Table, is_document};
+pub use together::rows_together;
 pub use version::IndexVersion;

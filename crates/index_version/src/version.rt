@@ -16,6 +16,7 @@ ghost use Rattle.index_version.specs.Entries.{all_entries, entry_at, is_past};
 ghost use Rattle.index_version.specs.Meaning.{Means};
 ghost use Rattle.index_version.specs.Reduced.{HasSmallGroups, KeepCollections, reduce_of, rows_of};
 ghost use Rattle.index_version.specs.Renewed.{touched_documents};
+ghost use Rattle.index_version.specs.Together.{in_groups, in_version};
 
 use crate::kept::Kept;
 use crate::regrouping::{GivenGroups, no_groups, regrouped};
@@ -266,6 +267,16 @@ impl IndexVersion {
         ensures { length (all_entries self.now.version) ≤ result }
     {
         self.kept.len()
+    }
+
+    /// Its entries in groups, if the definition has a reduce.
+    pub(crate) fn given_groups(&self) -> Option<&GivenGroups>
+        ensures { option_map (λ g. in_groups g.now) result ≡ in_version self.now.version }
+    {
+        match &self.groups {
+            Some(groups) => Some(groups),
+            None => None,
+        }
     }
 
     /// How many rows it has, 0 if the definition has no reduce.

@@ -32,7 +32,7 @@ world_after-push W (x ∷ changes) c = world_after-push x.world changes c
 
 -- THE COURSE
 
-after_changes-push : (changes : List Change) (c : Change) (course : Course) → after_changes (changes ++ c ∷ []) course ≡ after_changes changes (then_course c course)
+pub after_changes-push : (changes : List Change) (c : Change) (course : Course) → after_changes (changes ++ c ∷ []) course ≡ after_changes changes (then_course c course)
 after_changes-push changes c course = ap (λ (all : List Change). (let x : Course = record { changes = all; reply = course.reply } in x)) (append_assoc changes (c ∷ []) course.changes)
 
 -- the whole course, after these changes and with these names left

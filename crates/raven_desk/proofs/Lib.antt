@@ -3,6 +3,7 @@ pub mod Changes
 pub mod Kept
 pub mod Opened
 pub mod Courses
+pub mod Definings
 pub mod Publications
 pub mod Picked
 pub mod Bodies

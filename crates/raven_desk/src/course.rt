@@ -13,10 +13,12 @@ ghost use Rattle.raven_world.specs.WorldView.{answer_view, change_view};
 ghost use Rattle.raven_reply.specs.ReplyView.{reply_view};
 ghost use Rattle.raven_desk.specs.CourseView.{course_view};
 
+use crate::defining::{define, define_parts};
 use crate::making::{make, make_for};
 use crate::tidying::tidied;
 use doc_keeper::all_kept;
 use doc_txn::{Command, Expect};
+use multi_map::ask;
 use raven_base::{NoMemory, Shared, Steps};
 use raven_ports::KeptRows;
 use raven_request::Request;
@@ -94,7 +96,7 @@ impl Pending {
 }
 
 /// The reply to a request, and the changes that it makes, each of the world that the one before it leaves. The reply is due if all are made. Only a
-/// TIDY makes several.
+/// TIDY and a MULTI make several.
 #[derive(Drop)]
 pub struct Course {
     pub reply: Reply,
@@ -318,9 +320,11 @@ pub fn course_of<R: Threads + Sync>(
         }
         Request::Ask { ask } => course_of_query(alloc, world, now, &ask),
         Request::Define { definition } => {
-            changed_or_refused(alloc, world.define(alloc, definition, now))
+            changed_or_refused(alloc, define(alloc, world, definition, now))
         }
+        Request::Multi { parts } => define_parts(alloc, world, parts, now),
         Request::Remove { name } => changed_or_refused(alloc, world.remove(alloc, &name, now)),
+        Request::Mask { ask: question } => Ok(unchanged(alloc, ask(alloc, world.parts(), &question)?)),
         Request::Pump { max, index } => {
             pumped::<R, Brand>(rt, alloc, world, max, index, Blank::new(3))
         }

@@ -2,6 +2,7 @@
 #![tactic(auto)]
 
 mod course;
+mod defining;
 mod desk;
 mod keeping;
 mod live;

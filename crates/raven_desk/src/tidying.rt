@@ -12,8 +12,8 @@ use raven_value::Name;
 use raven_world::{Change, Taken, World, WorldFault};
 use std::alloc::Global;
 
-// The world after these changes.
-fn world_after<'a>(world: &'a World, changes: &'a [Pending]) -> &'a World
+/// The world after these changes.
+pub(crate) fn world_after<'a>(world: &'a World, changes: &'a [Pending]) -> &'a World
     ensures { result.now ≡ spec_world_after world.now changes.now }
 {
     match changes.last() {

@@ -1,5 +1,5 @@
 -- What each change of a request is: one of four kinds. What holds of the kinds holds of every change, whatever requests there are.
-use Rattle.std.proofs.Common.{◌≡◌, ◌≢◌, ℕ, ◌≤◌, List, [], ◌∷◌, Bool, true, cond, ◌++◌, ◌+◌, length, Option, Some, None, Result, Ok, Err, refl, sym, ap, subst, map, arith, ◌⊎◌, inl, inr}
+use Rattle.std.proofs.Common.{◌≡◌, ℕ, ◌≤◌, List, [], ◌∷◌, Bool, true, false, cond, ◌++◌, ◌+◌, length, Option, Some, None, Result, Ok, Err, refl, sym, ap, ◌∙◌, subst, map, arith, ◌⊎◌, inl, inr}
 use Rattle.index_tree.specs.Definitions.{Definition}
 use Rattle.spec_store.specs.Store.{Store, last}
 use Rattle.spec_store.specs.Cleaning.{old_tombstones}
@@ -10,12 +10,13 @@ use Rattle.spec_index.specs.Optimiser.{Choice, Make, Shape, Use, pick, retiremen
 use Rattle.spec_index.specs.World.{Slot, SlotChange, SlotRefusal, World, define_named, is_named, remove, serving, switch}
 use Rattle.spec_server.specs.Asking.{Answered, MustMake, Ready, answer_ask}
 use Rattle.spec_server.specs.Replies as replies
-use Rattle.spec_server.specs.Requests.{Ask, Auto, Bulk, Clean, Define, Delete, Pump, Put, Remove, Request, Switch, Tidy, commands_in}
+use Rattle.spec_server.specs.Requests.{Ask, Auto, Bulk, Clean, Define, Delete, Multi, Pump, Put, Remove, Request, Switch, Tidy, commands_in, makes_several}
 use Rattle.spec_server.specs.Courses.{Change, Course, changed, cleaning, in_world, storing, with_slots}
 use Rattle.spec_server.specs.Writes.{single_reply, write, wrote}
-use Rattle.spec_server.specs.Indexing.{answer_made, answer_making, ask_course, change_of_slots, made_name, make, one_field, replaced_names, retire, rewrote, switch_and, tidied, tidy, try_switch, use_or_make}
+use Rattle.spec_server.specs.Indexing.{answer_made, answer_making, ask_course, change_of_slots, define_parts, define_then, made_name, make, one_field, replaced_names, retire, rewrote, switch_and, tidied, tidy, try_switch, use_or_make}
 use Rattle.spec_server.specs.Batches.{after_batch, pump_at, pump_for}
 use Rattle.spec_server.specs.Machine.{course_of}
+use Rattle.spec_server.specs.Sound.{Has}
 
 -- KINDS
 
@@ -24,9 +25,14 @@ pub data Makes (r : Request) (W : World) (shape : Shape) : Type 0 where
   for_auto : (collection field : List ℕ) → r ≡ Auto collection field → pick (one_field collection field) W.store W.slots ≡ Make shape → Makes r W shape
   for_ask : (ask : query.Ask) → r ≡ Ask ask → answer_ask W ask ≡ MustMake shape → Makes r W shape
 
+-- the request asks for this definition of an index, alone or as one of several
+pub data Defines (r : Request) (name : List ℕ) (d : Definition) : Type 0 where
+  alone : r ≡ Define name d → Defines r name d
+  among : (parts : List (List ℕ × Definition)) → r ≡ Multi parts → Has parts (name, d) → Defines r name d
+
 -- how the request changes the indexes
 pub data IsReslot (r : Request) (W : World) (c : SlotChange) : Type 0 where
-  defined : (name : List ℕ) (d : Definition) → r ≡ Define name d → define_named W name d ≡ Ok c → IsReslot r W c
+  defined : (name : List ℕ) (d : Definition) → Defines r name d → define_named W name d ≡ Ok c → IsReslot r W c
   made : (shape : Shape) → Makes r W shape → make W shape ≡ Ok c → IsReslot r W c
   removed : (name : List ℕ) → r ≡ Remove name → remove W name ≡ Ok c → IsReslot r W c
   switched : (name : List ℕ) → (r ≡ Switch name) ⊎ (r ≡ Tidy) → switch W name ≡ Ok c → IsReslot r W c
@@ -59,11 +65,11 @@ abbrev pub AllDo : (World → Change → Type 0) → World → List Change → T
 AllDo P W [] = Unit {0}
 AllDo P W (c ∷ more) = P W c × AllDo P c.world more
 
--- The changes of a request: none, or one, or those of a TIDY, which change indexes one after another.
+-- The changes of a request: none, or one, or those of a request that makes several, which change indexes one after another.
 pub data AreActs (now : ℕ) (r : Request) (W : World) (changes : List Change) : Type 0 where
   none : changes ≡ [] → AreActs now r W changes
   one : (c : Change) → IsAct now r W c → changes ≡ c ∷ [] → AreActs now r W changes
-  several : r ≡ Tidy → AllDo (Reslots now r) W changes → AreActs now r W changes
+  several : makes_several r ≡ true → AllDo (Reslots now r) W changes → AreActs now r W changes
 
 -- WRITES
 
@@ -131,6 +137,25 @@ pub tidy-acts : (now : ℕ) (names : List (List ℕ)) (W : World) (done : List (
 tidy-acts now [] W done = retire-acts now W done
 tidy-acts now (name ∷ names) W done = switch-acts now W name done (λ V all. tidy now names V all) (λ V all. tidy-acts now names V all) (switch W name) refl
 
+-- a part is defined, and what comes after it goes on
+define-acts : (now : ℕ) (r : Request) (W : World) (name : List ℕ) (d : Definition) (more : World → List ℕ → Course) → Defines r name d
+    → ((V : World) (given : List ℕ) → AllDo (Reslots now r) V (more V given).changes)
+    → (s : Result SlotChange SlotRefusal) → define_named W name d ≡ s → AllDo (Reslots now r) W (define_then W now name more s).changes
+define-acts now r W name d more is rest (Err refusal) e = tt
+define-acts now r W name d more is rest (Ok c) e = by (commit W.setting Server now c.commands W.store) refl
+  where
+    by : (o : Result Written Refused) → commit W.setting Server now c.commands W.store ≡ o → AllDo (Reslots now r) W (switch_and W c (λ V. more V c.name) o).changes
+    by (Err refused) f = tt
+    by (Ok w) f = (record { slots = c; written = w; by = defined name d is e; commits = f; is = refl }, rest (changed W w.store c) c.name)
+
+-- so one part after another
+parts-acts : (now : ℕ) (r : Request) (parts : List (List ℕ × Definition)) (W : World) (names : List (List ℕ)) → ((p : List ℕ × Definition) → Has parts p → Defines r p.0 p.1)
+    → AllDo (Reslots now r) W (define_parts now parts W names).changes
+parts-acts now r [] W names all = tt
+parts-acts now r (p ∷ parts) W names all =
+    define-acts now r W p.0 p.1 (λ V name. define_parts now parts V (names ++ name ∷ [])) (all p (inl refl))
+    (λ V name. parts-acts now r parts V (names ++ name ∷ []) (λ q at. all q (inr at))) (define_named W p.0 p.1) refl
+
 -- BATCHES
 
 pump-acts : (now : ℕ) (r : Request) (W : World) (max : ℕ) (index : Option (List ℕ)) → AreActs now r W (pump_for W max index).changes
@@ -148,7 +173,8 @@ pub course-acts : (W : World) (now : ℕ) (r : Request) → AreActs now r W (cou
 course-acts W now (Put id expected body) = write-acts now (Put id expected body) W single_reply
 course-acts W now (Delete id expected) = write-acts now (Delete id expected) W single_reply
 course-acts W now (Bulk commands) = write-acts now (Bulk commands) W replies.Bulk
-course-acts W now (Define name d) = reslotted-acts now (Define name d) W replies.Index name (define_named W name d) (λ c e. defined name d refl e)
+course-acts W now (Define name d) = reslotted-acts now (Define name d) W replies.Index name (define_named W name d) (λ c e. defined name d (alone refl) e)
+course-acts W now (Multi parts) = several refl (parts-acts now (Multi parts) parts W [] (λ p at. among parts refl at))
 course-acts W now (Remove name) = reslotted-acts now (Remove name) W replies.Removed name (remove W name) (λ c e. removed name refl e)
 course-acts W now (Auto collection field) =
     auto-acts now (Auto collection field) W (pick (one_field collection field) W.store W.slots) (λ shape e. for_auto collection field refl e)
@@ -160,12 +186,12 @@ course-acts W now Tidy = several refl (tidy-acts now (replaced_names W) W [])
 course-acts W now Clean = one _ (cleans refl refl) refl
 course-acts W now other = none refl
 
--- only a TIDY makes more than one change
-pub one-at-most : (W : World) (now : ℕ) (r : Request) → r ≢ Tidy → length (course_of W now r).changes ≤ 1
+-- so only some requests make more than one change
+pub one-at-most : (W : World) (now : ℕ) (r : Request) → makes_several r ≡ false → length (course_of W now r).changes ≤ 1
 one-at-most W now r other = elim (course-acts W now r) [
   | none e ↦ let n = ap length e in omega arith
   | one c act e ↦ let n = ap length e in omega arith
-  | several is all ↦ absurd (other is)
+  | several is all ↦ absurd (let e = sym is ∙ other in cc)
 ]
 
 -- ALL CHANGES

@@ -27,26 +27,9 @@ use Rattle.spec_index.proofs.Ties.{key_order-total, key_ties}
 use Rattle.spec_store.proofs.StoreLemmas.{both_true, either_false}
 use Rattle.spec_server.specs.Sound.{Has}
 use Rattle.raven_laws.proofs.AlikeGroups.{Named, puts, puts-named}
-use Rattle.raven_laws.proofs.SlotLemmas.{Has-map, Has-mapped}
+use Rattle.raven_laws.proofs.SlotLemmas.{Has-map, Has-mapped, every, none_passes, some}
 
 -- LISTS
-
-every : {X : Type 0} (p : X → Bool) (xs : List X) (x : X) → list_all p xs ≡ true → Has xs x → p x ≡ true
-every p [] x h at = absurd at
-every p (y ∷ xs) x h (inl e) = ap p (sym e) ∙ (both_true (p y) (list_all p xs) h).0
-every p (y ∷ xs) x h (inr more) = every p xs x (both_true (p y) (list_all p xs) h).1 more
-
-some : {X : Type 0} (p : X → Bool) (xs : List X) → list_any p xs ≡ true → (x : X) × Has xs x × (p x ≡ true)
-some p [] h = absurd cc
-some p (x ∷ xs) h = elim (p x) as (λ b. p x ≡ b → (b || list_any p xs) ≡ true → (y : _) × Has (x ∷ xs) y × (p y ≡ true)) [
-  | true ↦ λ e g. (x, inl refl, e)
-  | false ↦ λ e g. let f = some p xs g in (f.0, inr f.1, f.2)
-] refl h
-
-none_passes : {X : Type 0} (p : X → Bool) (xs : List X) (x : X) → list_any p xs ≡ false → Has xs x → p x ≡ false
-none_passes p [] x h at = absurd at
-none_passes p (y ∷ xs) x h (inl e) = ap p (sym e) ∙ (either_false (p y) (list_any p xs) h).0
-none_passes p (y ∷ xs) x h (inr more) = none_passes p xs x (either_false (p y) (list_any p xs) h).1 more
 
 any-append : {X : Type 0} (p : X → Bool) (xs ys : List X) → list_any p (xs ++ ys) ≡ (list_any p xs || list_any p ys)
 any-append p [] ys = refl

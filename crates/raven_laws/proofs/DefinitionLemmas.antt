@@ -283,7 +283,7 @@ module _ (M : Machine) (k : Keeping) (now : ℕ) (name : List ℕ) (d : Definiti
                 reply = refl;
               })
               | false ↦ λ f v. replacing-answered given s (record { serves = serves; other = not-same s e }) (without r.number M.world.slots) v (none-left M.world r called o built)
-                  (without-has M.world s r name s o p (no_replacement name given.unreserved) serves) (λ x h other. other-left M.world r called x o built h other) (λ x h. Has-without r.number M.world.slots x h)
+                  (without-has M.world s r name s o.rising p.new p.named (no_replacement name given.unreserved) serves) (λ x h other. other-left M.world r called x o built h other) (λ x h. Has-without r.number M.world.slots x h)
             ] refl w
       ] refl wanted
     where

@@ -24,6 +24,7 @@ use Rattle.raven_laws.specs.Queries.{AsksIndex, FitsIndex}
 use Rattle.spec_store.proofs.StaleLemmas.{stale-Unseen, Unseen-stale, fresh-seen, seen-fresh}
 use Rattle.raven_laws.proofs.Moving.{Moves, made-Moves}
 use Rattle.raven_laws.proofs.PickLemmas.{picked-has}
+use Rattle.raven_laws.proofs.PartFlags.{told-several}
 use Rattle.raven_laws.proofs.SlotLemmas.{Has-map, Has-mapped, served, serves}
 use Rattle.raven_laws.proofs.QueryLemmas.{answer_by_origin, not-whole, plan-answer}
 
@@ -169,6 +170,7 @@ shown_flag M k now other f o at = absurd at
 pub Sound-flags : (M : Machine) → Sound M.world → FlagsAreExact M
 Sound-flags M o = record {
   exact = λ k now line f at. shown_flag M k now line f o at;
+  several = λ k now ask answer e. told-several M.world ask o.store answer e;
   find = λ index field ws s h. (
     is_stale M.world.store s,
     subst (λ there. Has (flags_in (Do (Find index field ws)) (answer_find M.world index field ws there)) (flag index None (is_stale M.world.store s))) (sym h) (inl refl),

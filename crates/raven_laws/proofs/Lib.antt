@@ -45,3 +45,5 @@ pub mod MemberLemmas
 pub mod OpenLemmas
 pub mod OpenedRuns
 pub mod AgainLemmas
+pub mod SeveralLemmas
+pub mod PartFlags

@@ -7,6 +7,7 @@ use Rattle.spec_store.specs.Store.{Store, last, IsStore}
 use Rattle.spec_store.specs.Later.{Later}
 use Rattle.spec_store.specs.Cleaning.{clean, is_old_tombstone}
 use Rattle.spec_store.specs.Stale.{batch_rows}
+use Rattle.index_tree.specs.Definitions.{Definition}
 use Rattle.spec_index.specs.Index.{etag_of_batch}
 use Rattle.spec_index.specs.Optimiser.{Shape, definition_of}
 use Rattle.spec_store.specs.Commit.{Command, Put, Delete, Writer, Client, Server, Setting, Written, refusal_of, row_of, with_written, or_refused, commit_from, commit}
@@ -21,8 +22,8 @@ use Rattle.spec_server.specs.Sound.{Has, Fits, NumbersRise, NamesApart, HaveThei
 use Rattle.spec_store.proofs.LaterLemmas.{Later-itself, IsStore-with, last-with}
 use Rattle.spec_store.proofs.CommitLemmas.{row_of-follows, commit-Commits, Commits-cleaned}
 use Rattle.spec_store.proofs.CleanLemmas.{IsStore-clean, Later-clean, last-clean, clean-cases, clean-iff, clean-rows, document_stays}
-use Rattle.raven_laws.proofs.Acts.{AllDo, IsAct, IsReslot, Reslots, advanced_by, batch_if, all-acts, all-along, all-weaker, course-acts, tidy-acts}
-use Rattle.raven_laws.proofs.SlotLemmas.{Fits-later, Fits-unread, Has-append, Has-map, HaveTheirSlots-map, NumbersRise-map, NamesApart-map, batch-Brought}
+use Rattle.raven_laws.proofs.Acts.{AllDo, Defines, IsAct, IsReslot, Reslots, advanced_by, batch_if, all-acts, all-along, all-weaker, course-acts, tidy-acts}
+use Rattle.raven_laws.proofs.SlotLemmas.{Fits-later, Fits-unread, Has-append, Has-map, HaveTheirSlots-map, NumbersRise-map, NamesApart-map, batch-Brought, none_passes}
 use Rattle.raven_laws.proofs.ListedLemmas.{body-live, commit_from-applied, clients-AreListed, map-AreListed}
 use Rattle.raven_laws.proofs.KindLemmas.{auto-no-replacement, definition_of-automatic, name_of-begins}
 use Rattle.raven_laws.proofs.LimitLemmas.{commit_from-fits, commit_from-last, length_mapped, length_filtered}
@@ -151,7 +152,7 @@ commit_from-grows at s w now (c ∷ cs) done new o h =
       | Some kind ↦ λ e g. absurd cc
     ] refl h
 
-put-grows : (s : Setting) (w : Writer) (now : ℕ) (cs : List Command) (S : Store) (new : Written) → IsStore S → commit s w now cs S ≡ Ok new → StartsWithPut cs → last S < last new.store
+pub put-grows : (s : Setting) (w : Writer) (now : ℕ) (cs : List Command) (S : Store) (new : Written) → IsStore S → commit s w now cs S ≡ Ok new → StartsWithPut cs → last S < last new.store
 put-grows s w now [] S new o h p = absurd p
 put-grows s w now (Delete id expected ∷ cs) S new o h p = absurd p
 put-grows s w now (Put id expected body ∷ cs) S new o h p =
@@ -211,8 +212,14 @@ pub made-Moves : (now : ℕ) (W : World) (shape : Shape) (c : SlotChange) (w : W
     → commit W.setting Server now c.commands W.store ≡ Ok w → Moves W (changed W w.store c)
 made-Moves now W shape c w o e = changed-Moves now W c w o (made-Settles W shape c e o)
 
+-- what a client may ask to define is not automatic
+pub defines-client : (r : Request) (name : List ℕ) (d : Definition) → IsFromClient (Do r) → Defines r name d → is_automatic d ≡ false
+defines-client r name d from (Defines.alone is) = subst (λ (q : Request). IsFromClient (Do q)) is from
+defines-client r name d from (Defines.among parts is at) =
+    none_passes (λ (p : List ℕ × Definition). is_automatic p.1) parts (name, d) (subst (λ (q : Request). IsFromClient (Do q)) is from) at
+
 reslot-Settles : (r : Request) (W : World) (c : SlotChange) → IsFromClient (Do r) → IsReslot r W c → Sound W → (S : Store) → Onto W c S → Settles W c S
-reslot-Settles r W c from (IsReslot.defined name d is e) = define_named-Settles W name d (subst (λ (q : Request). IsFromClient (Do q)) is from) c e
+reslot-Settles r W c from (IsReslot.defined name d is e) = define_named-Settles W name d (defines-client r name d from is) c e
 reslot-Settles r W c from (IsReslot.made shape by e) = made-Settles W shape c e
 reslot-Settles r W c from (IsReslot.removed name is e) = remove-Settles W name c e
 reslot-Settles r W c from (IsReslot.switched name is e) = switch-Settles W name c e

@@ -22,7 +22,7 @@ use Rattle.spec_data.proofs.MemberLemmas.{pairs_of-entries_of}
 use Rattle.spec_data.specs.Rows.{Row, Body, doc, gone, key, is_document}
 use Rattle.spec_data.specs.Written.{text_of}
 use Rattle.spec_store.specs.Store.{row_at, last_of, AreRising, AreApart, IsStore, store_of}
-use Rattle.index_tree.specs.Definitions.{Definition, Static, Auto, AutoReduce, Texts}
+use Rattle.index_tree.specs.Definitions.{Definition, Auto, AutoReduce, Texts}
 use Rattle.index_tree.specs.Mapper.{count_name, sum_name}
 use Rattle.spec_index.specs.Reduces.{has_quotient, is_quotient, key_member, sum_member}
 use Rattle.spec_store.specs.Commit.{Setting, is_index_id, stored_body}

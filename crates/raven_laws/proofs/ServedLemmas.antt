@@ -6,26 +6,27 @@ use Rattle.std.specs.Option.{option_map}
 use Rattle.spec_data.specs.Faults.{replacement_of}
 use Rattle.spec_data.specs.Folding.{folded, same_key}
 use Rattle.index_tree.specs.Definitions.{Definition, same_definition}
-use Rattle.spec_store.specs.Store.{Store, last}
+use Rattle.spec_store.specs.Store.{Store, IsStore, last}
 use Rattle.spec_store.specs.Commit.{Refused, Server, Written, commit}
 use Rattle.spec_index.specs.Optimiser.{definition_of, is_retired, retired, retirement}
 use Rattle.spec_index.specs.Cleaning.{cleaned_world}
 use Rattle.spec_index.specs.World.{Slot, SlotChange, SlotRefusal, World, added, added_if_room, added_to, batch, begins_with_replacement, define, define_at, define_beside, define_named, dropped, is_automatic, is_named, is_stale, name_refusal, named_anew, numbered, removed, renamed, serving, switch, taken_out, takes_over, unchanged, unless_refused, without}
 use Rattle.spec_server.specs.Replies.{Reply}
-use Rattle.spec_server.specs.Requests.{Request, Do, Keeping, Line, Publish, Read, Remove, Switch, Tidy}
+use Rattle.spec_server.specs.Requests.{Request, Do, Keeping, Line, Multi, Publish, Read, Remove, Switch, Tidy, makes_several}
 use Rattle.spec_server.specs.Courses.{Change, Course, Held, Machine, Replied, changed, in_world, is_taken, made, same_machine, settled, takes_after, with_slots, with_world}
 use Rattle.spec_server.specs.Writes.{write_refused}
 use Rattle.spec_server.specs.Indexing.{change_of_slots, made_name, replaced_names, retire, rewrote, switch_and, tidied, tidy, try_switch}
 use Rattle.spec_server.specs.Batches.{after_batch, or_as_before}
 use Rattle.spec_server.specs.Workers.{Cleaned, Passed, PublishRefusal, held_by, publish_by, publish_to, published, published_in, published_reply, with_version, put_in, was_cleaned}
 use Rattle.spec_server.specs.Machine.{course_of}
-use Rattle.spec_server.specs.Sound.{Continues, Has, IsHeld, IsMachine, LaterW, NamesApart, Sound}
+use Rattle.spec_server.specs.Sound.{Continues, Has, IsHeld, IsMachine, LaterW, NamesApart, NumbersRise, Sound}
 use Rattle.raven_laws.specs.Served.{IsSwitch, ServedStays, StaysOrGoes, StillServes}
-use Rattle.raven_laws.proofs.Acts.{AllDo, AllLeave, AreActs, IsAct, IsReslot, advanced_by, batch_if, chain, course-acts}
+use Rattle.spec_store.proofs.CommitLemmas.{commit-Commits}
+use Rattle.raven_laws.proofs.Acts.{AllDo, AllLeave, AreActs, IsAct, IsReslot, Makes, Reslots, advanced_by, all-along, batch_if, chain, course-acts}
 use Rattle.raven_laws.proofs.MachineLemmas.{made-leaves, read-world, settled-leaves}
-use Rattle.raven_laws.proofs.Moving.{AllMove, CourseMoves, Moves, kept-by-batch, reslot-Moves, tidy-Moves}
-use Rattle.raven_laws.proofs.SlotLemmas.{Has-mapped, batch-Brought, find-Has, into-filter, left_or, replacing, served, serves}
-use Rattle.raven_laws.proofs.WorldLemmas.{LaterW-itself, LaterW-then, Replaces, client-unretired, found-Replaces, one_number, past_test, r_left, same_change, switch-Switches, take-apart, taken}
+use Rattle.raven_laws.proofs.Moving.{AllMove, CourseMoves, Moves, kept-by-batch, put-grows, reslot-Moves, tidy-Moves}
+use Rattle.raven_laws.proofs.SlotLemmas.{Has-append, Has-mapped, Has-without, NumbersRise-filter, NumbersRise-push, batch-Brought, find-Has, into-filter, left_or, replacing, same_slot, served, serves}
+use Rattle.raven_laws.proofs.WorldLemmas.{StartsWithPut, new_slot, LaterW-itself, LaterW-then, Replaces, client-unretired, found-Replaces, one_number, past_test, r_left, same_change, switch-Switches, take-apart, taken}
 
 -- LISTS OF SLOTS
 
@@ -86,11 +87,6 @@ HasServed W c = (name : List ℕ) (s : Slot) → begins_with_replacement name �
 added-has : (W : World) (name : List ℕ) (d : Definition) → HasServed W (added W name d)
 added-has W name d = λ n s plain h. serving-append W.slots _ n s h
 
-if_room-has : (W : World) (name : List ℕ) (d : Definition) (c : SlotChange) → added_if_room W name d ≡ Ok c → HasServed W c
-if_room-has W name d c h =
-    let room = past_test (nat_le W.setting.max_slots (length W.slots)) SlotRefusal.TooManyIndexes (Ok (added W name d)) c h in
-    subst (HasServed W) (same_change (added W name d) c room.1) (added-has W name d)
-
 define-has : (W : World) (name : List ℕ) (d : Definition) (c : SlotChange) → define W name d ≡ Ok c → HasServed W c
 define-has W name d c h =
     let room = past_test (nat_le W.setting.max_slots (length W.slots)) SlotRefusal.TooManyIndexes (cond (is_some (serving W.slots name)) (Err SlotRefusal.NameServes) (Ok (added W name d))) c h in
@@ -98,46 +94,89 @@ define-has W name d c h =
     subst (HasServed W) (same_change (added W name d) c free.1) (added-has W name d)
 
 -- without a replacement each other name is served as before
-pub without-has : (W : World) (s r : Slot) (name : List ℕ) (x : Slot) → Sound W → Replaces W s r → begins_with_replacement name ≡ false → serving W.slots name ≡ Some x
-    → serving (without r.number W.slots) name ≡ Some x
-without-has W s r name x o p plain h = serving-filter (λ y. not (y.number == r.number)) W.slots name x h (by (x.number == r.number) refl)
+pub without-has : (W : World) (s r : Slot) (name : List ℕ) (x : Slot) → NumbersRise 0 W.slots → Has W.slots r → folded r.name ≡ folded (replacement_of s.name)
+    → begins_with_replacement name ≡ false → serving W.slots name ≡ Some x → serving (without r.number W.slots) name ≡ Some x
+without-has W s r name x up there named plain h = serving-filter (λ y. not (y.number == r.number)) W.slots name x h (by (x.number == r.number) refl)
   where
     by : (b : Bool) → (x.number == r.number) ≡ b → not b ≡ true
     by false e = refl
     by true e =
         let at = served W.slots name x h in
-        let same = one_number W x r o at.0 p.new (eqb-true x.number r.number e) in
-        let begins = replacing r.name s.name p.named in
+        let same = same_slot 0 W.slots x r up at.0 there (eqb-true x.number r.number e) in
+        let begins = replacing r.name s.name named in
         let f = ap (λ q. starts_with nat_eq q (codes "replacementof/")) (at.1 ∙ ap (λ (z : Slot). folded z.name) same) in
         absurd (let g = sym plain ∙ f ∙ begins in cc)
 
-define_beside-has : (W : World) (d : Definition) (s : Slot) (other : Option Slot) (c : SlotChange) → Sound W → Has W.slots s → serving W.slots (replacement_of s.name) ≡ other
-    → define_beside W d s other ≡ Ok c → HasServed W c
-define_beside-has W d s None c o at none = elim (same_definition d s.version.definition) as (λ b. cond b (Ok (unchanged W s.name)) (added_if_room W (replacement_of s.name) d) ≡ Ok c → HasServed W c) [
-  | true ↦ λ h. subst (HasServed W) (same_change (unchanged W s.name) c h) (λ n x plain e. e)
-  | false ↦ λ h. if_room-has W (replacement_of s.name) d c h
+-- the numbers of slots rise, and none is past the last etag
+record AreNumbered (W : World) : Type 0 where
+  pub store : IsStore W.store
+  pub within : (s : Slot) → Has W.slots s → s.number ≤ last W.store
+  pub rising : NumbersRise 0 W.slots
+
+-- A change of slots after which each name that is no replacement's is served as before. A new slot has the next etag as its number, and a row is put.
+record Extends (W : World) (c : SlotChange) : Type 0 where
+  pub has : HasServed W c
+  pub rising : NumbersRise 0 c.slots
+  pub each : (s : Slot) → Has c.slots s → Has W.slots s ⊎ (StartsWithPut c.commands × (s.number ≡ last W.store + 1))
+
+unchanged-Extends : (W : World) (name : List ℕ) → AreNumbered W → Extends W (unchanged W name)
+unchanged-Extends W name n = record { has = λ m x plain h. h; rising = n.rising; each = λ x h. inl h }
+
+-- slots that were there, and a new one at the end
+added_to-Extends : (W : World) (slots : List Slot) (name : List ℕ) (d : Definition) → AreNumbered W → NumbersRise 0 slots → ((x : Slot) → Has slots x → Has W.slots x)
+    → ((m : List ℕ) (x : Slot) → begins_with_replacement m ≡ false → serving W.slots m ≡ Some x → serving slots m ≡ Some x) → Extends W (added_to W slots name d)
+added_to-Extends W slots name d n up sub has = record {
+  has = λ m x plain h. serving-append slots (new_slot W name d ∷ []) m x (has m x plain h);
+  rising = NumbersRise-push 0 slots (new_slot W name d) up (omega arith) (λ x h. let a = n.within x (sub x h) in omega arith);
+  each = λ x h. elim (Has-append slots (new_slot W name d ∷ []) x h) [
+    | inl old ↦ inl (sub x old)
+    | inr new ↦ inr (tt, elim new [ inl e ↦ ap (λ (y : Slot). y.number) (sym e) | inr none ↦ absurd none ])
+  ];
+}
+
+if_room-Extends : (W : World) (name : List ℕ) (d : Definition) (c : SlotChange) → AreNumbered W → added_if_room W name d ≡ Ok c → Extends W c
+if_room-Extends W name d c n h =
+    let room = past_test (nat_le W.setting.max_slots (length W.slots)) SlotRefusal.TooManyIndexes (Ok (added W name d)) c h in
+    subst (Extends W) (same_change (added W name d) c room.1) (added_to-Extends W W.slots name d n n.rising (λ x g. g) (λ m x plain g. g))
+
+dropped-Extends : (W : World) (s r : Slot) (name : List ℕ) → AreNumbered W → Has W.slots r → folded r.name ≡ folded (replacement_of s.name) → Extends W (dropped W r name)
+dropped-Extends W s r name n there named = record {
+  has = λ m x plain h. without-has W s r m x n.rising there named plain h;
+  rising = NumbersRise-filter 0 (λ x. not (x.number == r.number)) W.slots n.rising;
+  each = λ x h. inl (Has-without r.number W.slots x h);
+}
+
+replaced-Extends : (W : World) (s r : Slot) (d : Definition) → AreNumbered W → Has W.slots r → folded r.name ≡ folded (replacement_of s.name)
+    → Extends W (added_to W (without r.number W.slots) (replacement_of s.name) d)
+replaced-Extends W s r d n there named = added_to-Extends W (without r.number W.slots) (replacement_of s.name) d n
+    (NumbersRise-filter 0 (λ x. not (x.number == r.number)) W.slots n.rising) (Has-without r.number W.slots) (λ m x plain h. without-has W s r m x n.rising there named plain h)
+
+define_beside-Extends : (W : World) (d : Definition) (s : Slot) (other : Option Slot) (c : SlotChange) → AreNumbered W → serving W.slots (replacement_of s.name) ≡ other
+    → define_beside W d s other ≡ Ok c → Extends W c
+define_beside-Extends W d s None c n none = elim (same_definition d s.version.definition) as (λ b. cond b (Ok (unchanged W s.name)) (added_if_room W (replacement_of s.name) d) ≡ Ok c → Extends W c) [
+  | true ↦ λ h. subst (Extends W) (same_change (unchanged W s.name) c h) (unchanged-Extends W s.name n)
+  | false ↦ λ h. if_room-Extends W (replacement_of s.name) d c n h
 ]
-define_beside-has W d s (Some r) c o at there =
-    let p = found-Replaces W s r o at there in
+define_beside-Extends W d s (Some r) c n is =
+    let at = served W.slots (replacement_of s.name) r is in
     elim (same_definition d s.version.definition) as (λ b.
     cond {A = Result SlotChange SlotRefusal} b (Ok (dropped W r s.name))
-    (cond (same_definition d r.version.definition) (Ok (unchanged W r.name)) (Ok (added_to W (without r.number W.slots) (replacement_of s.name) d))) ≡ Ok c → HasServed W c) [
-      | true ↦ λ h. subst (HasServed W) (same_change (dropped W r s.name) c h) (λ n x plain e. without-has W s r n x o p plain e)
+    (cond (same_definition d r.version.definition) (Ok (unchanged W r.name)) (Ok (added_to W (without r.number W.slots) (replacement_of s.name) d))) ≡ Ok c → Extends W c) [
+      | true ↦ λ h. subst (Extends W) (same_change (dropped W r s.name) c h) (dropped-Extends W s r s.name n at.0 (sym at.1))
       | false ↦ elim (same_definition d r.version.definition) as (λ b.
-          cond {A = Result SlotChange SlotRefusal} b (Ok (unchanged W r.name)) (Ok (added_to W (without r.number W.slots) (replacement_of s.name) d)) ≡ Ok c → HasServed W c) [
-            | true ↦ λ h. subst (HasServed W) (same_change (unchanged W r.name) c h) (λ n x plain e. e)
-            | false ↦ λ h. subst (HasServed W) (same_change (added_to W (without r.number W.slots) (replacement_of s.name) d) c h)
-                (λ n x plain e. serving-append (without r.number W.slots) _ n x (without-has W s r n x o p plain e))
+          cond {A = Result SlotChange SlotRefusal} b (Ok (unchanged W r.name)) (Ok (added_to W (without r.number W.slots) (replacement_of s.name) d)) ≡ Ok c → Extends W c) [
+            | true ↦ λ h. subst (Extends W) (same_change (unchanged W r.name) c h) (unchanged-Extends W r.name n)
+            | false ↦ λ h. subst (Extends W) (same_change (added_to W (without r.number W.slots) (replacement_of s.name) d) c h) (replaced-Extends W s r d n at.0 (sym at.1))
           ]
     ]
 
-define_at-has : (W : World) (name : List ℕ) (d : Definition) (there : Option Slot) (c : SlotChange) → Sound W → serving W.slots name ≡ there → define_at W name d there ≡ Ok c → HasServed W c
-define_at-has W name d None c o is = if_room-has W name d c
-define_at-has W name d (Some s) c o is = define_beside-has W d s (serving W.slots (replacement_of s.name)) c o (served W.slots name s is).0 refl
+define_at-Extends : (W : World) (name : List ℕ) (d : Definition) (there : Option Slot) (c : SlotChange) → AreNumbered W → define_at W name d there ≡ Ok c → Extends W c
+define_at-Extends W name d None c n = if_room-Extends W name d c n
+define_at-Extends W name d (Some s) c n = define_beside-Extends W d s (serving W.slots (replacement_of s.name)) c n refl
 
-define_named-has : (W : World) (name : List ℕ) (d : Definition) (c : SlotChange) → Sound W → define_named W name d ≡ Ok c → HasServed W c
-define_named-has W name d c o = elim (name_refusal name) as (λ r. unless_refused r (define_at W name d (serving W.slots name)) ≡ Ok c → HasServed W c) [
-  | None ↦ define_at-has W name d (serving W.slots name) c o refl
+define_named-Extends : (W : World) (name : List ℕ) (d : Definition) (c : SlotChange) → AreNumbered W → define_named W name d ≡ Ok c → Extends W c
+define_named-Extends W name d c n = elim (name_refusal name) as (λ r. unless_refused r (define_at W name d (serving W.slots name)) ≡ Ok c → Extends W c) [
+  | None ↦ define_at-Extends W name d (serving W.slots name) c n
   | Some refusal ↦ λ h. absurd cc
 ]
 
@@ -480,7 +519,7 @@ data Ends (r : Request) : Type 0 where
   tidies : r ≡ Tidy → Ends r
 
 reslot-has : (r : Request) (W : World) (c : SlotChange) → Sound W → IsReslot r W c → HasServed W c ⊎ Ends r
-reslot-has r W c o (IsReslot.defined name d is e) = inl (define_named-has W name d c o e)
+reslot-has r W c o (IsReslot.defined name d is e) = inl (let x = define_named-Extends W name d c (record { store = o.store; within = o.numbers; rising = o.rising }) e in x.has)
 reslot-has r W c o (IsReslot.made shape by e) = inl (define-has W (made_name W shape) (definition_of shape) c e)
 reslot-has r W c o (IsReslot.removed name is e) = inr (removes name is)
 reslot-has r W c o (IsReslot.switched name (inl is) e) = inr (switches name is)
@@ -499,13 +538,65 @@ act-Stays now r W c o (IsAct.reslots a) = elim (reslot-has r W a.slots o a.by) [
 act-Stays now r W c o (IsAct.advances max chosen e) = inl (subst (λ (x : Change). Stays W x.world) (sym e) (advanced-Stays W max chosen o))
 act-Stays now r W c o (IsAct.cleans is e) = inl (subst (λ (x : Change). Stays W x.world) (sym e) (has-Stays W (cleaned_world W) (λ n x p g. g)))
 
+Stays-then : (A B C : World) → Stays A B → Stays B C → Stays A C
+Stays-then A B C f g name s plain h =
+    let t = f name s plain h in
+    let u = g name t.slot plain t.serves in
+    record {
+      slot = u.slot;
+      serves = u.serves;
+      continues = record {
+        number = t.continues.number ∙ u.continues.number;
+        definition = t.continues.definition ∙ u.continues.definition;
+        onward = let a = t.continues.onward in let b = u.continues.onward in omega arith;
+        named = t.continues.named ∙ u.continues.named;
+      };
+    }
+
+-- what defines a part
+part-Extends : (parts : List (List ℕ × Definition)) (W : World) (c : SlotChange) → AreNumbered W → IsReslot (Multi parts) W c → Extends W c
+part-Extends parts W c n (IsReslot.defined name d is e) = define_named-Extends W name d c n e
+part-Extends parts W c n (IsReslot.made shape (Makes.for_auto collection field is picks) e) = absurd cc
+part-Extends parts W c n (IsReslot.made shape (Makes.for_ask ask is must) e) = absurd cc
+part-Extends parts W c n (IsReslot.removed name is e) = absurd cc
+part-Extends parts W c n (IsReslot.switched name (inl is) e) = absurd cc
+part-Extends parts W c n (IsReslot.switched name (inr is) e) = absurd cc
+part-Extends parts W c n (IsReslot.retires is e) = absurd cc
+
+extended : (now : ℕ) (W : World) (c : SlotChange) (w : Written) → AreNumbered W → Extends W c → commit W.setting Server now c.commands W.store ≡ Ok w → AreNumbered (changed W w.store c)
+extended now W c w n x is =
+    let k = commit-Commits W.setting Server now c.commands W.store w n.store is in
+    let l = k.later in record {
+      store = k.sound;
+      within = λ s h. elim (x.each s h) [
+        | inl old ↦ (let a = n.within s old in let b = l.grown in omega arith)
+        | inr new ↦ (let a = put-grows W.setting Server now c.commands W.store w n.store is new.0 in let e = new.1 in omega arith)
+      ];
+      rising = x.rising;
+    }
+
+-- each name goes on to be served while parts are defined
+part-Stays : (now : ℕ) (parts : List (List ℕ × Definition)) (V : World) (c : Change) → AreNumbered V → Reslots now (Multi parts) V c → Stays V c.world × AreNumbered c.world
+part-Stays now parts V c n a =
+    let x = part-Extends parts V a.slots n a.by in (
+      subst (λ (y : Change). Stays V y.world) (sym a.is) (has-Stays V (changed V a.written.store a.slots) x.has),
+      subst (λ (y : Change). AreNumbered y.world) (sym a.is) (extended now V a.slots a.written n x a.commits),
+    )
+
+several-Stays : (now : ℕ) (r : Request) (W : World) (changes : List Change) → AreNumbered W → makes_several r ≡ true → AllDo (Reslots now r) W changes
+    → AllLeave (Stays W) changes ⊎ Ends r
+several-Stays now Tidy W changes n is all = inr (tidies refl)
+several-Stays now (Multi parts) W changes n is all = inl (chain Stays Stays-then W W (itself W) changes
+    (all-along (Reslots now (Multi parts)) (λ V c. Stays V c.world) AreNumbered (part-Stays now parts) W changes n all))
+several-Stays now other W changes n is all = absurd cc
+
 course-Stays : (now : ℕ) (r : Request) (W : World) (changes : List Change) → Sound W → AreActs now r W changes → AllLeave (Stays W) changes ⊎ Ends r
 course-Stays now r W changes o (AreActs.none e) = inl (subst (AllLeave (Stays W)) (sym e) tt)
 course-Stays now r W changes o (AreActs.one c act e) = elim (act-Stays now r W c o act) [
   | inl stays ↦ inl (subst (AllLeave (Stays W)) (sym e) (stays, tt))
   | inr ends ↦ inr ends
 ]
-course-Stays now r W changes o (AreActs.several is all) = inr (tidies is)
+course-Stays now r W changes o (AreActs.several is all) = several-Stays now r W changes (record { store = o.store; within = o.numbers; rising = o.rising }) is all
 
 -- what becomes of a name at a request
 abbrev ServedBy : Machine → Keeping → ℕ → Request → List ℕ → Slot → Type 0

@@ -1,7 +1,7 @@
 -- Lists of slots, and versions that a batch advances.
 use Rattle.std.proofs.Common.{◌≡◌, ℕ, zero, suc, ◌<◌, ◌≤◌, List, [], ◌∷◌, ◌++◌, Bool, true, false, not, ◌&&◌, ◌||◌, ◌==◌, nat_eq, nat_lt, cond, codes, length, drop, Some, None, filter, find, map, refl, sym, ap, ◌∙◌, subst, arith, ◌⊎◌, inl, inr}
 use Rattle.std.proofs.lemmas.Bool.{eq-eqb, eqb-true, ltb-false}
-use Rattle.std.specs.List.{list_any, starts_with}
+use Rattle.std.specs.List.{list_all, list_any, starts_with}
 use Rattle.std.specs.FinMap.{get, get-empty}
 use Rattle.spec_data.specs.Faults.{replacement_of}
 use Rattle.spec_data.specs.Folding.{folded, key_cmp, same_key}
@@ -15,7 +15,7 @@ use Rattle.index_tree.specs.Definitions.{Definition}
 use Rattle.spec_index.specs.World.{Version, Slot, reads, new_version, advanced, batch, begins_with_auto, begins_with_replacement, is_reserved_name, replaced_name, serving, without}
 use Rattle.spec_server.specs.Workers.{was_cleaned}
 use Rattle.spec_server.specs.Sound.{Has, Fits, StillFits, NumbersRise, NamesApart, HaveTheirSlots}
-use Rattle.spec_store.proofs.StoreLemmas.{either_false, found_etag, same_itself, same_means}
+use Rattle.spec_store.proofs.StoreLemmas.{both_true, either_false, found_etag, same_itself, same_means}
 use Rattle.raven_laws.proofs.IndexLemmas.{Taken, Agrees-later, Agrees-batch, Taken-batch}
 
 -- MEMBERSHIP
@@ -76,6 +76,25 @@ find-Has p (y ∷ xs) x h =
       | true ↦ λ e is. let same : y ≡ x = cc in (inl same, subst (λ z. p z ≡ true) same e)
       | false ↦ λ e is. let r = find-Has p xs x is in (inr r.0, r.1)
     ] refl h
+
+-- TESTS OF LISTS
+
+pub every : {X : Type 0} (p : X → Bool) (xs : List X) (x : X) → list_all p xs ≡ true → Has xs x → p x ≡ true
+every p [] x h at = absurd at
+every p (y ∷ xs) x h (inl e) = ap p (sym e) ∙ (both_true (p y) (list_all p xs) h).0
+every p (y ∷ xs) x h (inr more) = every p xs x (both_true (p y) (list_all p xs) h).1 more
+
+pub some : {X : Type 0} (p : X → Bool) (xs : List X) → list_any p xs ≡ true → (x : X) × Has xs x × (p x ≡ true)
+some p [] h = absurd cc
+some p (x ∷ xs) h = elim (p x) as (λ b. p x ≡ b → (b || list_any p xs) ≡ true → (y : _) × Has (x ∷ xs) y × (p y ≡ true)) [
+  | true ↦ λ e g. (x, inl refl, e)
+  | false ↦ λ e g. let f = some p xs g in (f.0, inr f.1, f.2)
+] refl h
+
+pub none_passes : {X : Type 0} (p : X → Bool) (xs : List X) (x : X) → list_any p xs ≡ false → Has xs x → p x ≡ false
+none_passes p [] x h at = absurd at
+none_passes p (y ∷ xs) x h (inl e) = ap p (sym e) ∙ (either_false (p y) (list_any p xs) h).0
+none_passes p (y ∷ xs) x h (inr more) = none_passes p xs x (either_false (p y) (list_any p xs) h).1 more
 
 -- NUMBERS
 

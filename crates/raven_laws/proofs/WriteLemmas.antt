@@ -20,7 +20,7 @@ use Rattle.spec_query.specs.Query.{Origin, OfIndex, OfCollection, is_dynamic, is
 use Rattle.spec_server.specs.Asking.{Answered, Ready, answer_ask, answer_from, answer_from_collection, answer_from_index, answer_picked, unless_refused as unless_refused_ask}
 use Rattle.spec_server.specs.Shapes.{shape_asked}
 use Rattle.raven_laws.proofs.QueryLemmas.{answer_by_origin, of_collection}
-use Rattle.spec_server.specs.Requests.{Event, Keeping, Line, Do, Get, Find, Ask, Pump, Stale, Indexes, Stats, Read, Publish, commands_in, Request}
+use Rattle.spec_server.specs.Requests.{Event, Keeping, Line, Do, Get, Find, Ask, Pump, Stale, Indexes, Mask, Stats, Read, Publish, commands_in, Request}
 use Rattle.spec_server.specs.Courses.{Machine, Course, Replied, changed, in_world, is_first_taken, is_taken, one_change, same_machine, settled, with_world, Change}
 use Rattle.spec_server.specs.Writes.{single_reply, wrote, results_of}
 use Rattle.spec_server.specs.Indexing.{ask_course, made_name}
@@ -214,6 +214,7 @@ pub reads-change-nothing : (M : Machine) (k : Keeping) (now : ℕ) (line : Line)
 reads-change-nothing M k now (Do (Get id)) h = refl
 reads-change-nothing M k now (Do (Find index field ws)) h = refl
 reads-change-nothing M k now (Do (Ask ask)) h = ask-changes-nothing M k now ask h
+reads-change-nothing M k now (Do (Mask ask)) h = refl
 reads-change-nothing M k now (Do (Stale name cutoff)) h = refl
 reads-change-nothing M k now (Do Indexes) h = refl
 reads-change-nothing M k now (Do Stats) h = refl

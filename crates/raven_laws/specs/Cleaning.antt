@@ -6,7 +6,7 @@ use Rattle.spec_store.specs.Cleaning.{old_tombstones}
 use Rattle.spec_index.specs.Cleaning.{clean_upto}
 use Rattle.spec_index.specs.World.{Slot, World}
 use Rattle.spec_server.specs.Requests.{Clean, Do, Event, Keeping}
-use Rattle.spec_server.specs.Courses.{Machine, Replied, is_taken, same_machine}
+use Rattle.spec_server.specs.Courses.{Machine, Replied, is_taken}
 use Rattle.spec_server.specs.Machine.{run, step}
 use Rattle.spec_server.specs.Replies.{Reply}
 use Rattle.spec_server.specs.Sound.{Has}

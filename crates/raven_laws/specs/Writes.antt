@@ -7,7 +7,7 @@ use Rattle.spec_store.specs.Store.{Store, row_at, last}
 use Rattle.spec_store.specs.Commit.{Command, Expect, Client, Refused, Written, after_commands, collection_of, commit, document_at, etags_taken, refusal_of, row_of, stored_body, tombstone, vector_of}
 use Rattle.spec_query.specs.Query.{is_dynamic}
 use Rattle.spec_server.specs.Replies.{Reply}
-use Rattle.spec_server.specs.Requests.{Event, Keeping, Line, Do, Put, Delete, Bulk, Get, Find, Ask, Stale, Indexes, Stats, commands_on}
+use Rattle.spec_server.specs.Requests.{Event, Keeping, Line, Do, Put, Delete, Bulk, Get, Find, Ask, Mask, Stale, Indexes, Stats, commands_on}
 use Rattle.spec_server.specs.Courses.{Machine, Replied, is_first_taken, is_taken, same_machine}
 use Rattle.spec_server.specs.Writes.{results_of, spelling, write_refused}
 use Rattle.spec_server.specs.Machine.{after, run, step}
@@ -107,6 +107,7 @@ abbrev pub OnlyReads : Line → Type 0
 OnlyReads (Do (Get id)) = Unit {0}
 OnlyReads (Do (Find index field words)) = Unit {0}
 OnlyReads (Do (Ask ask)) = is_dynamic ask.query ≡ false
+OnlyReads (Do (Mask ask)) = Unit {0}
 OnlyReads (Do (Stale name cutoff)) = Unit {0}
 OnlyReads (Do Indexes) = Unit {0}
 OnlyReads (Do Stats) = Unit {0}

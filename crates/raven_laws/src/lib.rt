@@ -10,6 +10,7 @@ mod opening;
 mod queries;
 mod runs;
 mod scripts;
+mod several;
 mod stores;
 mod workers;
 mod writes;
@@ -45,6 +46,10 @@ pub use runs::{
 };
 pub use scripts::{
     arguments_are_split_at_spaces, every_script_is_sound, numbers_are_decimal, scripts_are_runs,
+};
+pub use several::{
+    flags_of_several_maps_are_exact, fresh_answers_of_several_maps_are_from_scratch,
+    rows_of_several_maps_are_of_their_parts,
 };
 pub use stores::{commit_grows, later_orders};
 pub use workers::{publications_are_answered, publications_go_on, reads_are_answered};

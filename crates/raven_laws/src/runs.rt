@@ -67,7 +67,7 @@ pub fn fresh_answers_are_exact()
 {}
 
 /// Each flag in a reply, of a FIND, of a query, of a question about staleness or in the list of all indexes, is exact, up to the cutoff that was
-/// asked.
+/// asked. An index of several maps says stale exactly if one of its parts is.
 pub fn flags_are_exact()
     ensures { (setting : Setting) (events : List Event) → AreFromClients events → FlagsAreExact (run events (start setting)) }
 {}

@@ -34,5 +34,5 @@ formed_defining None d = tt
 formed_defining (Some request) d = by d.answer d.says d.asks
   where
     by : (answer : Result Definition tree.LangRefusal) → Says index_texts answer → request_view request ∷ [] ≡ definitions answer → MayBeMade (request_view request)
-    by (Ok e) says h = let same : request_view request ≡ Define index_name e = cc in subst MayBeMade (sym same) (ap is_automatic (said-by index_texts e says).by_texts, tt)
+    by (Ok e) says h = let same : request_view request ≡ Define index_name e = cc in subst MayBeMade (sym same) (ap is_automatic (said-by index_texts e says).by_texts, refl)
     by (Err refusal) says h = absurd cc

@@ -1,31 +1,27 @@
 -- What is left of a request once its changes were settled.
-use Rattle.std.proofs.Common.{◌≡◌, ◌≢◌, ℕ, ◌+◌, ◌≤◌, List, [], ◌∷◌, Bool, true, false, Option, length, refl, sym, ap, ◌∙◌, subst, arith}
+use Rattle.std.proofs.Common.{◌≡◌, ℕ, ◌+◌, ◌≤◌, List, [], ◌∷◌, Bool, true, false, Option, length, refl, sym, ap, ◌∙◌, subst, arith}
 use Rattle.std.specs.Int.{from_bool}
 use Rattle.spec_data.specs.Rows.{Row}
 use Rattle.spec_measure.specs.Summary.{is_moving, one_if}
-use Rattle.spec_server.specs.Requests.{Keeping, Request, Tidy, takes_all}
+use Rattle.spec_server.specs.Requests.{Keeping, Request, takes_all}
 use Rattle.spec_server.specs.Courses.{Change, Course, Machine, Replied, made, with_world}
 use Rattle.spec_server.specs.Machine.{course_of}
 use Rattle.spec_server.specs.Replies.{KeeperFault, Reply, UnknownLine}
 use Rattle.raven_ports.specs.Asking.{Asked, Task}
 use Rattle.raven_ports.specs.Faults.{Rose}
 use Rattle.raven_ports.specs.States.{KeeperState}
-use Rattle.spec_desk.proofs.Few.{one_at_most}
+use Rattle.raven_laws.proofs.Acts.{one-at-most}
 use Rattle.spec_desk.proofs.Parts.{alone}
 use Rattle.spec_desk.specs.Keepers.{MayGive, task, tasks_of}
 use Rattle.spec_desk.specs.Lived.{Follows, Lived, machine_in}
 use Rattle.spec_desk.specs.Stepped.{All, IsMadeInPart, Settles, Stays, Stopped}
-use Rattle.raven_measure.specs.Defining.{MakesOneChange, MayBeMade}
+use Rattle.raven_measure.specs.Defining.{MayBeMade}
 use Rattle.raven_measure.specs.Doing.{Does, IsNotTaken}
 
--- what a request does is one change at most, if it is not a TIDY
-not_tidy : (request : Request) → MakesOneChange request → request ≢ Tidy
-not_tidy request one e = subst MakesOneChange e one
-
--- so of one that was made in part nothing was made
+-- it makes one change at most: so of one that was made in part nothing was made
 pub not_made : (x y : Lived) (now : ℕ) (request : Request) (c : Course) → MayBeMade request → c ≡ course_of x.world now request → IsMadeInPart c.changes x y → Stays x y
 not_made x y now request c may e part =
-    alone c.changes x y (subst (λ (d : Course). length d.changes ≤ 1) (sym e) (one_at_most x.world now request (not_tidy request may.1))) part
+    alone c.changes x y (subst (λ (d : Course). length d.changes ≤ 1) (sym e) (one-at-most x.world now request may.1)) part
 
 -- ALL WERE MADE
 

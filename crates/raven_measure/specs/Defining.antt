@@ -1,5 +1,5 @@
 -- The request that defines the index.
-use Rattle.std.specs.Prelude.{◌≡◌, ℕ, List, [], ◌∷◌, Option, Some, None, Result}
+use Rattle.std.specs.Prelude.{◌≡◌, ℕ, List, [], ◌∷◌, false, Option, Some, None, Result}
 use Rattle.index_lang.specs.Says.{Says}
 use Rattle.index_tree.specs.Definitions.{Definition}
 use Rattle.index_tree.specs.Language.{LangRefusal}
@@ -11,19 +11,14 @@ use Rattle.spec_server.specs.Requests as is
 use Rattle.spec_server.specs.Machine as is_machine
 use Rattle.spec_server.specs.WellFormed.{IsWellFormed}
 
--- one request makes one change at most: any but a TIDY
-abbrev pub MakesOneChange : is.Request → Type 0
-MakesOneChange is.Tidy = ⊥
-MakesOneChange other = Unit {0}
-
 -- a well-formed request that changes nothing, whenever and wherever it is made
 pub record MakesNothing (q : is.Request) : Type 0 where
   pub formed : IsWellFormed (is.Do q)
   pub unchanged : (W : World) (now : ℕ) → (is_machine.course_of W now q).changes ≡ []
 
--- a request that a measurement may make
+-- a request that a measurement may make: it makes one change at most
 abbrev pub MayBeMade : is.Request → Type 0
-MayBeMade q = IsWellFormed (is.Do q) × MakesOneChange q
+MayBeMade q = IsWellFormed (is.Do q) × (is.makes_several q ≡ false)
 
 -- one request, or none
 abbrev pub requests_view : Option Request → List is.Request

@@ -1,7 +1,7 @@
 -- What a line asks is well formed.
-use Rattle.std.proofs.Common.{◌≡◌, ℕ, ◌≤◌, List, [], ◌∷◌, ◌++◌, Bool, true, false, ◌&&◌, Option, Some, None, Ok, IfSome, unwrap_or, option_map, length, map, refl, ap, ◌∙◌, subst}
+use Rattle.std.proofs.Common.{◌≡◌, ℕ, ◌≤◌, List, [], ◌∷◌, ◌++◌, Bool, true, false, ◌&&◌, ◌||◌, Option, Some, None, Ok, IfSome, unwrap_or, option_map, length, map, refl, ap, ◌∙◌, subst}
 use Rattle.std.proofs.lemmas.Bool.{le-leb, lt-ltb}
-use Rattle.std.specs.List.{list_all}
+use Rattle.std.specs.List.{list_all, list_any}
 use Rattle.spec_data.specs.Data.{Data, object, depth}
 use Rattle.spec_data.specs.Members.{Path}
 use Rattle.spec_store.specs.Commit.{Command}
@@ -9,7 +9,7 @@ use Rattle.index_tree.specs.Definitions.{Definition}
 use Rattle.spec_index.specs.World.{is_automatic}
 use Rattle.spec_query.specs.Fields.{asked_fields, cond_fields, selected_fields}
 use Rattle.spec_query.specs.Query.{At, Column, Cond, Count, Field, Query, Sort, Sum}
-use Rattle.spec_server.specs.Requests.{Line, Do, Put, Bulk, Define, Auto, Ask}
+use Rattle.spec_server.specs.Requests.{Line, Do, Put, Bulk, Define, Multi, Auto, Ask}
 use Rattle.spec_server.specs.Opening.{is_part, is_path}
 use Rattle.spec_server.specs.WellFormed.{IsWellFormed, has_valid_path, has_valid_paths, is_body, put_bodies}
 use Rattle.raven_lines.specs.Lines.{IsLine}
@@ -29,6 +29,11 @@ commands-formed (Command.Delete id expected ∷ commands) are = commands-formed 
 -- a definition by texts is no automatic one
 text-formed : (name : List ℕ) (d : Definition) → IsByText name d → is_automatic d ≡ false
 text-formed name d x = let by = x.by_texts in ap is_automatic by.by_texts
+
+-- so is no part by texts
+pub parts-formed : (parts : List (List ℕ × Definition)) → AreAll (λ part. IsByText part.0 part.1) parts → list_any (λ p. is_automatic p.1) parts ≡ false
+parts-formed [] are = refl
+parts-formed (p ∷ parts) are = λ i. text-formed p.0 p.1 are.0 i || parts-formed parts are.1 i
 
 -- PATHS OF A QUERY
 
@@ -63,6 +68,7 @@ valid-formed : (asks : Line) → IsValidLine asks → IsWellFormed asks
 valid-formed (Do (Put id expected body)) valid = let are = valid.commands in body-formed body are.0.1
 valid-formed (Do (Bulk commands)) valid = commands-formed commands valid.commands
 valid-formed (Do (Define name d)) valid = text-formed name d valid.indexing
+valid-formed (Do (Multi parts)) valid = parts-formed parts valid.indexing
 valid-formed (Do (Auto collection field)) valid = let is = valid.indexing in is.1.1
 valid-formed (Do (Ask ask)) valid = query-formed ask.query valid.indexing
 valid-formed other valid = tt

@@ -4,5 +4,6 @@ pub mod TokenLemmas
 pub mod AskedLemmas
 pub mod ByKind
 pub mod Clients
+pub mod PartNames
 pub mod LineLemmas
 pub mod Formed

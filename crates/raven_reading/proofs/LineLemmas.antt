@@ -1,7 +1,7 @@
 -- What the lines of a script ask to write can be stored.
-use Rattle.std.proofs.Common.{◌≡◌, ℕ, ◌<◌, ◌≤◌, List, [], ◌∷◌, ◌++◌, Bool, true, false, not, cond, ◌&&◌, ◌||◌, ◌==◌, nat_lt, is_none, length, codes, Option, Some, None, IfSome, Result, Ok, Err, IsUtf8, refl, sym, ap, ◌∙◌, subst, arith}
+use Rattle.std.proofs.Common.{◌≡◌, ℕ, ◌+◌, ◌<◌, ◌≤◌, List, [], ◌∷◌, ◌++◌, Bool, true, false, not, cond, ◌&&◌, ◌||◌, ◌==◌, nat_lt, is_none, nat_le, length, codes, Option, Some, None, IfSome, Result, Ok, Err, IsUtf8, refl, sym, ap, ◌∙◌, subst, arith}
 use Rattle.std.proofs.Math.Utf8.{encode, encodes, scalar, scalars}
-use Rattle.std.proofs.lemmas.Bool.{ltb-true, ltb-false, ne_eqb}
+use Rattle.std.proofs.lemmas.Bool.{leb-true, ltb-true, ltb-false, ne_eqb}
 use Rattle.std.proofs.lemmas.Str.{IsUtf8-append, IsUtf8-encode, IsUtf8-from_is_utf8, IsUtf8-nil, encode_ascii}
 use Rattle.std.specs.List.{list_any}
 use Rattle.std.specs.Str.{bytes_eq, is_utf8}
@@ -20,14 +20,16 @@ use Rattle.spec_server.specs.Opening.{is_part}
 use Rattle.spec_server.specs.Words.{LineRead, ReadRefusal, unless_name_fault, UnknownLine, BadMember, then_read, before_space, after_space, both_parts, argument_and_rest, has_byte, unless_fault, id_read, json_read, object_read, or_unknown, parts_read, is_collection, is_field, max_read, name_read, worker_read}
 use Rattle.spec_server.specs.Commands.{put_read, delete_read, id_member, vector_member, put_command, delete_command, typed_command, command_read, commands_read, list_member, commands_of, bulk_read, put_of, put_if_of, delete_if_of}
 use Rattle.spec_server.specs.Reading.{get_of, auto_of, drop_of, pump_of, pump_read, find_of, switch_of, stale_of, by_command, do_read, publish_of, read_of, request_of, told_of, line_of}
-use Rattle.spec_server.specs.Texts.{Asking, asked_by_text, asking_in, asking_of, asking_of_body, beside_in, plain_asking, query_member, defined_by, index_of, map_member, name_member, reduce_member, texts_in, texts_of_body}
+use Rattle.spec_server.specs.Several.{part_name}
+use Rattle.spec_server.specs.Texts.{Asking, SeveralTexts, asked_by_text, asking_in, asking_of, asking_of_body, beside_in, plain_asking, query_member, defined_by, index_of, map_member, map_text, map_texts, masked_by_text, name_member, part_texts, parts_defined, reduce_member, several_in, several_maps, several_name, several_of, several_of_body, several_reduce, texts_in, texts_of_body}
 use Rattle.spec_store.proofs.StoreLemmas.{both_true, either_false}
-use Rattle.raven_reading.specs.Requests.{IsRequestBody, IsCommand, AreCommands, IsValidLine, IsValidRequest}
-use Rattle.raven_lines.specs.Lines.{IsLine}
+use Rattle.raven_reading.specs.Requests.{AreAll, IsByText, IsRequestBody, IsCommand, AreCommands, IsValidLine, IsValidRequest}
+use Rattle.raven_lines.specs.Lines.{IsLine, SayParts, no_part, one_more}
 use Rattle.raven_lines.specs.SaysQuery.{SaysQuery}
 use Rattle.index_lang.specs.Says.{Says}
 use Rattle.raven_reading.proofs.AskedLemmas.{query-asked}
 use Rattle.raven_reading.proofs.ByKind.{holds-by-kind}
+use Rattle.raven_reading.proofs.PartNames.{part-fit}
 use Rattle.raven_reading.proofs.TextLemmas.{said-by}
 use Rattle.raven_json.proofs.PairLemmas.{member-sound, member-depth}
 use Rattle.raven_json.proofs.SoundLemmas.{AreFine, IsFine, reading-fine}
@@ -394,7 +396,7 @@ plain-asked (b ∷ bs) =
       | false ↦ λ e. tt
     ] refl
 
--- LINES WITH ONE, AND QUERIES
+-- LINES WITH ONE
 
 -- the name and the texts that a line gives
 record AreTexts (given : List ℕ × Texts) : Type 0 where
@@ -486,6 +488,134 @@ defined-asked name texts (Err refusal) t says = tt
 defined-asked name texts (Ok d) t says =
     record { commands = tt; indexing = record { fit = t.fit; texts = texts; utf8 = t.utf8; reduce_utf8 = t.reduce_utf8; by_texts = said-by texts d says; says = says } }
 
+-- SEVERAL MAPS INTO ONE REDUCE
+
+-- what a line gives of an index of several maps
+record AreSeveral (given : SeveralTexts) : Type 0 where
+  pub fit : is_fit max_name (part_name given.name 1) ≡ true
+  pub few : length given.maps ≤ 8
+  pub utf8 : AreAll IsUtf8 given.maps
+  pub reduce_utf8 : IsUtf8 given.reduce
+
+read-fit : (name out : List ℕ) → name_read name ≡ Ok out → is_fit max_name name ≡ true
+read-fit name out h = elim (fault_of max_name name) as (λ o. fault_of max_name name ≡ o → unless_name_fault o name ≡ Ok out → is_fit max_name name ≡ true) [
+  | None ↦ λ e g. ap is_none e
+  | Some fault ↦ λ e g. absurd cc
+] refl h
+
+several-name : (o : Option Data) (name : List ℕ) → several_name o ≡ Ok name → is_fit max_name (part_name name 1) ≡ true
+several-name None name h = absurd cc
+several-name (Some null) name h = absurd cc
+several-name (Some (flag b)) name h = absurd cc
+several-name (Some (num n)) name h = absurd cc
+several-name (Some (array ds)) name h = absurd cc
+several-name (Some (object ms)) name h = absurd cc
+several-name (Some (text s)) name h =
+    let p = then-ok (name_read (part_name s 1)) (λ part. Ok s) name h in
+    subst (λ x. is_fit max_name (part_name x 1) ≡ true) (same_ok s name p.2) (read-fit (part_name s 1) p.0 p.1)
+
+map-text : (d : Data) (map : List ℕ) → IsFine 100 d → map_text d ≡ Ok map → IsUtf8 map
+map-text null map f h = absurd cc
+map-text (flag b) map f h = absurd cc
+map-text (num n) map f h = absurd cc
+map-text (array ds) map f h = absurd cc
+map-text (object ms) map f h = absurd cc
+map-text (text s) map f h = subst IsUtf8 (same_ok s map h) f.0
+
+-- they are UTF-8, and as many as the items
+abbrev AreMaps : List Data → List (List ℕ) → Type 0
+AreMaps ds maps = AreAll IsUtf8 maps × (length maps ≡ length ds)
+
+map-texts : (ds : List Data) (maps : List (List ℕ)) → AreFine 100 ds → map_texts ds ≡ Ok maps → AreMaps ds maps
+map-texts [] maps f h = subst (AreMaps []) (same_ok {A = List (List ℕ)} [] maps h) (tt, refl)
+map-texts (d ∷ ds) maps f h =
+    let m = then-ok (map_text d) (λ map. then_read (map_texts ds) (λ maps. Ok (map ∷ maps))) maps h in
+    let r = then-ok (map_texts ds) (λ maps. Ok (m.0 ∷ maps)) maps m.2 in
+    let behind = map-texts ds r.0 f.1 r.1 in
+    subst (AreMaps (d ∷ ds)) (same_ok {A = List (List ℕ)} (m.0 ∷ r.0) maps r.2) ((map-text d m.0 f.0 m.1, behind.0), ap ℕ.suc behind.1)
+
+several-maps : (o : Option Data) (maps : List (List ℕ)) → ((d : Data) → o ≡ Some d → IsFine 100 d) → several_maps o ≡ Ok maps → AreAll IsUtf8 maps × (length maps ≤ 8)
+several-maps None maps f h = absurd cc
+several-maps (Some null) maps f h = absurd cc
+several-maps (Some (flag b)) maps f h = absurd cc
+several-maps (Some (num n)) maps f h = absurd cc
+several-maps (Some (text s)) maps f h = absurd cc
+several-maps (Some (object ms)) maps f h = absurd cc
+several-maps (Some (array ds)) maps f h =
+    let items = list_of ds in
+    elim (nat_le 2 (length items) && nat_le (length items) 8) as (λ b. nat_le 2 (length items) && nat_le (length items) 8 ≡ b
+    → cond b (map_texts items) (Err (BadMember (codes "Maps"))) ≡ Ok maps → AreAll IsUtf8 maps × (length maps ≤ 8)) [
+      | true ↦ λ e g.
+          let fine = f (array ds) refl in
+          let deep = fine.1 in
+          let are = map-texts items maps (items-fine 100 ds fine.0 (omega arith)) g in
+          let many = are.1 in
+          let few = leb-true (length items) 8 (both_true (nat_le 2 (length items)) (nat_le (length items) 8) e).1 in
+          (are.0, omega arith)
+      | false ↦ λ e g. absurd cc
+    ] refl h
+
+several-reduce : (o : Option Data) (reduce : List ℕ) → ((d : Data) → o ≡ Some d → IsFine 100 d) → several_reduce o ≡ Ok reduce → IsUtf8 reduce
+several-reduce None reduce f h = absurd cc
+several-reduce (Some null) reduce f h = absurd cc
+several-reduce (Some (flag b)) reduce f h = absurd cc
+several-reduce (Some (num n)) reduce f h = absurd cc
+several-reduce (Some (array ds)) reduce f h = absurd cc
+several-reduce (Some (object ms)) reduce f h = absurd cc
+several-reduce (Some (text s)) reduce f h = subst IsUtf8 (same_ok s reduce h) (f (text s) refl).0
+
+several-in : (ms : Entries) (given : SeveralTexts) → IsFine 100 (object ms) → several_in ms ≡ Ok given → AreSeveral given
+several-in ms given f h =
+    let all = several_maps (member (codes "Maps") ms) in
+    let reduces = several_reduce (member (codes "Reduce") ms) in
+    let n = then-ok (several_name (member (codes "Name") ms)) (λ name. then_read all (λ maps. then_read reduces (λ reduce. Ok (record { name = name; maps = maps; reduce = reduce })))) given h in
+    let m = then-ok all (λ maps. then_read reduces (λ reduce. Ok (record { name = n.0; maps = maps; reduce = reduce }))) given n.2 in
+    let r = then-ok reduces (λ reduce. Ok (record { name = n.0; maps = m.0; reduce = reduce })) given m.2 in
+    let maps = several-maps (member (codes "Maps") ms) m.0 (λ d e. member-fine (codes "Maps") ms d f e) m.1 in
+    subst AreSeveral (same_ok {A = SeveralTexts} (record { name = n.0; maps = m.0; reduce = r.0 }) given r.2) (record {
+      fit = several-name (member (codes "Name") ms) n.0 n.1;
+      few = maps.1;
+      utf8 = maps.0;
+      reduce_utf8 = several-reduce (member (codes "Reduce") ms) r.0 (λ d e. member-fine (codes "Reduce") ms d f e) r.1;
+    })
+
+body-several : (d : Data) (given : SeveralTexts) → IsFine 100 d → several_of_body d ≡ Ok given → AreSeveral given
+body-several null given f h = absurd cc
+body-several (flag b) given f h = absurd cc
+body-several (num n) given f h = absurd cc
+body-several (text s) given f h = absurd cc
+body-several (array ds) given f h = absurd cc
+body-several (object ms) given f h = several-in ms given f h
+
+several-texts : (words : List ℕ) (given : SeveralTexts) → several_of words ≡ Ok given → AreSeveral given
+several-texts words given h =
+    let v = then-ok (json_read (reading words)) several_of_body given h in body-several v.0 given (reading-fine words v.0 (json-ok (reading words) v.0 v.1)) v.2
+
+-- the name of a part, and the text of its map
+abbrev IsPartText : List ℕ × List ℕ → Type 0
+IsPartText t = (is_fit max_name t.0 ≡ true) × IsUtf8 t.1
+
+part-texts : (n : ℕ) (name : List ℕ) (maps : List (List ℕ)) → n + length maps < 10 → is_fit max_name (part_name name 1) ≡ true → AreAll IsUtf8 maps → AreAll IsPartText (part_texts n name maps)
+part-texts n name [] few fit utf8 = tt
+part-texts n name (map ∷ maps) few fit utf8 = ((part-fit name n (omega arith) fit, utf8.0), part-texts (n + 1) name maps (omega arith) fit utf8.1)
+
+parts-asked : (reduce : List ℕ) (texts : List (List ℕ × List ℕ)) (parts : List (List ℕ × Definition)) → IsUtf8 reduce → AreAll IsPartText texts → SayParts reduce texts (Ok parts)
+    → AreAll (λ part. IsByText part.0 part.1) parts
+parts-asked reduce texts parts u are no_part = tt
+parts-asked reduce ((name, map) ∷ texts) ((own, d) ∷ parts) u are (one_more says more) =
+    (record { fit = are.0.0; texts = (map, Some reduce); utf8 = are.0.1; reduce_utf8 = u; by_texts = said-by (map, Some reduce) d says; says = says }, parts-asked reduce texts parts u are.1 more)
+
+-- a line that defines what the texts of several maps say
+several-asked : (texts : SeveralTexts) (answer : Result (List (List ℕ × Definition)) LangRefusal) → AreSeveral texts → SayParts texts.reduce (part_texts 1 texts.name texts.maps) answer
+    → CanBeKept (parts_defined answer)
+several-asked texts (Err refusal) t say = tt
+several-asked texts (Ok parts) t say = record {
+  commands = tt;
+  indexing = parts-asked texts.reduce _ parts t.reduce_utf8 (part-texts 1 texts.name texts.maps (let few = t.few in omega arith) t.fit t.utf8) say;
+}
+
+-- QUERIES
+
 -- the text of a query in a line
 query-text : (o : Option Data) (query : List ℕ) → ((d : Data) → o ≡ Some d → IsFine 100 d) → query_member o ≡ Ok query → IsUtf8 query
 query-text None query f h = absurd cc
@@ -519,6 +649,11 @@ queried-asked : (words : List ℕ) (asking : Asking) (answer : Result Query Quer
 queried-asked words asking (Err refusal) u says = tt
 queried-asked words asking (Ok q) u says = record { commands = tt; indexing = query-asked words q u says }
 
+-- one of an index of several maps writes nothing, and makes none
+masked-asked : (asking : Asking) (answer : Result Query QueryRefusal) → CanBeKept (masked_by_text asking answer)
+masked-asked asking (Err refusal) = tt
+masked-asked asking (Ok q) = record { commands = tt; indexing = tt }
+
 -- what a line asks to write can be stored
 pub line-asked : (line : List ℕ) (read : LineRead) → IsLine line read → CanBeKept read
 line-asked line read is = holds-by-kind CanBeKept line (record {
@@ -527,4 +662,6 @@ line-asked line read is = holds-by-kind CanBeKept line (record {
   defined = λ rest given answer e says. defined-asked given.0 given.1 answer (index-texts rest given e) says;
   queried = λ parts answer u e says. queried-asked parts.1 plain_asking answer (let w = words-of line (IsUtf8-from_is_utf8 line u) in both-parts (before_space line) (after_space line) parts w.front w.rest e).second says;
   asked = λ rest given answer e says. queried-asked given.0 given.1 answer (asking-text rest given e) says;
+  defined_several = λ rest texts answer e say. several-asked texts answer (several-texts rest texts e) say;
+  asked_several = λ rest given answer e says. masked-asked given.1 answer;
 }) read is

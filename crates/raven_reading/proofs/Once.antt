@@ -12,7 +12,7 @@ use Rattle.spec_index.specs.World.{Slot}
 use Rattle.spec_query.specs.Query.{Query}
 use Rattle.spec_query.specs.Refusals.{QueryRefusal}
 use Rattle.spec_server.specs.Words.{LineRead}
-use Rattle.spec_server.specs.Texts.{Asked, Plain, Defining, Querying, asked_by_text, asked_of, defined_by}
+use Rattle.spec_server.specs.Texts.{Asked, Plain, Defining, Querying, DefiningSeveral, QueryingSeveral, asked_by_text, asked_of, defined_by, masked_by_text, parts_defined}
 use Rattle.index_definition.specs.DefinitionView.{definition_view}
 use Rattle.index_definition.specs.declared.definition.Definition as program
 use Rattle.index_definition.specs.declared.refusal.LangRefusal.TheVariants.{At}
@@ -20,7 +20,7 @@ use Rattle.index_definition.specs.declared.refusal.LangRefusal.{LangRefusal}
 use Rattle.index_lang.specs.declared.reading.Trees.{Trees}
 use Rattle.index_lang.specs.Parse.{AreRead, IsParsed, causes, definition, first_cause, is_long, judged_if, lengths, unless}
 use Rattle.index_lang.proofs.Once.{parsed_once}
-use Rattle.raven_lines.specs.Lines.{Comes, IsLine}
+use Rattle.raven_lines.specs.Lines.{Comes, IsLine, SayParts, no_part, one_more, refused, refused_later}
 use Rattle.raven_lines.specs.SaysQuery.{SaysQuery}
 use Rattle.rql_grammar.specs.Kinds.{query_refusal}
 use Rattle.rql_parser.specs.declared.refusal.RqlRefusal.{RqlRefusal}
@@ -72,6 +72,32 @@ says_once texts (Err e) (Err f) x y =
     let kinds : x.kind ≡ y.kind = cc in
     ap Err (x.seen ∙ (λ i. refusal_view (parts i) (places i) (kinds i)) ∙ sym y.seen)
 
+-- PARTS OF AN INDEX OF SEVERAL MAPS
+
+same_said : (d e : Definition) → (let r : Result Definition is.LangRefusal = Ok d in r) ≡ Ok e → d ≡ e
+same_said d e h = cc
+
+same_refusal : {A : Type 0} (x y : is.LangRefusal) → (let r : Result A is.LangRefusal = Err x in r) ≡ Err y → x ≡ y
+same_refusal x y h = cc
+
+same_list : {A : Type 0} (xs ys : List A) → (let r : Result (List A) is.LangRefusal = Ok xs in r) ≡ Ok ys → xs ≡ ys
+same_list xs ys h = cc
+
+pub parts_once : (reduce : List ℕ) (texts : List (List ℕ × List ℕ)) (a b : Result (List (List ℕ × Definition)) is.LangRefusal) → SayParts reduce texts a → SayParts reduce texts b → a ≡ b
+parts_once reduce texts a b no_part no_part = refl
+parts_once reduce ((name, map) ∷ texts) a b (one_more {d = d} {parts = ps} x xs) (one_more {d = e} {parts = qs} y ys) =
+    let one = same_said d e (says_once (map, Some reduce) (Ok d) (Ok e) x y) in
+    let more = same_list ps qs (parts_once reduce texts (Ok ps) (Ok qs) xs ys) in
+    λ i. Ok ((name, one i) ∷ more i)
+parts_once reduce ((name, map) ∷ texts) a b (one_more {d = d} x xs) (refused {refusal = r} y) = absurd (let told = says_once (map, Some reduce) (Ok d) (Err r) x y in cc)
+parts_once reduce ((name, map) ∷ texts) a b (one_more {parts = ps} x xs) (refused_later {refusal = r} y ys) = absurd (let told = parts_once reduce texts (Ok ps) (Err r) xs ys in cc)
+parts_once reduce ((name, map) ∷ texts) a b (refused {refusal = r} x) (one_more {d = e} y ys) = absurd (let told = says_once (map, Some reduce) (Err r) (Ok e) x y in cc)
+parts_once reduce ((name, map) ∷ texts) a b (refused {refusal = r} x) (refused {refusal = s} y) = ap Err (same_refusal r s (says_once (map, Some reduce) (Err r) (Err s) x y))
+parts_once reduce ((name, map) ∷ texts) a b (refused {refusal = r} x) (refused_later {d = e} y ys) = absurd (let told = says_once (map, Some reduce) (Err r) (Ok e) x y in cc)
+parts_once reduce ((name, map) ∷ texts) a b (refused_later {refusal = r} x xs) (one_more {parts = qs} y ys) = absurd (let told = parts_once reduce texts (Err r) (Ok qs) xs ys in cc)
+parts_once reduce ((name, map) ∷ texts) a b (refused_later {d = d} x xs) (refused {refusal = s} y) = absurd (let told = says_once (map, Some reduce) (Ok d) (Err s) x y in cc)
+parts_once reduce ((name, map) ∷ texts) a b (refused_later {refusal = r} x xs) (refused_later {refusal = s} y ys) = parts_once reduce texts (Err r) (Err s) xs ys
+
 -- QUERIES
 
 same_query : (a b : Query) → (let r : Result Query RqlRefusal = Ok a in r) ≡ Ok b → a ≡ b
@@ -89,10 +115,12 @@ query_once text (Err e) (Err f) x y =
 
 -- LINES
 
-comes_once : (asked : Asked) (a b : LineRead) → Comes asked a → Comes asked b → a ≡ b
+pub comes_once : (asked : Asked) (a b : LineRead) → Comes asked a → Comes asked b → a ≡ b
 comes_once (Plain told) a b x y = x ∙ sym y
 comes_once (Defining name texts) a b x y = x.read ∙ ap (defined_by name) (says_once texts x.answer y.answer x.says y.says) ∙ sym y.read
 comes_once (Querying text asking) a b x y = x.read ∙ ap (asked_by_text asking) (query_once text x.answer y.answer x.says y.says) ∙ sym y.read
+comes_once (DefiningSeveral texts) a b x y = x.read ∙ ap parts_defined (parts_once texts.reduce _ x.answer y.answer x.says y.says) ∙ sym y.read
+comes_once (QueryingSeveral text asking) a b x y = x.read ∙ ap (masked_by_text asking) (query_once text x.answer y.answer x.says y.says) ∙ sym y.read
 
 pub line_once : (line : List ℕ) (a b : LineRead) → IsLine line a → IsLine line b → a ≡ b
 line_once line a b x y = comes_once (asked_of line) a b x y

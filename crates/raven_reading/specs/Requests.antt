@@ -8,7 +8,7 @@ use Rattle.spec_store.specs.Commit.{Command, Put, Delete}
 use Rattle.index_tree.specs.Definitions.{Definition, Texts}
 use Rattle.spec_query.specs.Fields.{cond_fields}
 use Rattle.spec_query.specs.Query.{Field, At, Count, Sum, Origin, OfIndex, OfCollection, Query}
-use Rattle.spec_server.specs.Requests.{Line, Do, Request, Ask, Define, Auto, commands_in}
+use Rattle.spec_server.specs.Requests.{Line, Do, Request, Ask, Define, Multi, Auto, commands_in}
 use Rattle.spec_server.specs.Opening.{is_part}
 use Rattle.raven_laws.specs.Opened.{AgreesWithTexts}
 use Rattle.index_lang.specs.Says.{Says}
@@ -73,11 +73,12 @@ pub record IsByText (name : List ℕ) (d : Definition) : Type 0 where
   pub by_texts : AgreesWithTexts texts d
   pub says : Says texts (Ok d)
 
--- the field of an Auto can be a part of a path; the definition of a Define is by texts; the paths of a query can be those of an index
+-- the field of an Auto can be a part of a path; definitions are by texts; the paths of a query for which an index may be made can be those of an index
 abbrev pub IsIndexing : Request → Type 0
 IsIndexing (Ask ask) = IsAsked ask.query
 IsIndexing (Auto collection field) = IsUtf8 collection × (IsUtf8 field × IsTrue (is_part field))
 IsIndexing (Define name definition) = IsByText name definition
+IsIndexing (Multi parts) = AreAll (λ part. IsByText part.0 part.1) parts
 IsIndexing other = Unit {0}
 
 -- what the request asks to write can be stored and read again

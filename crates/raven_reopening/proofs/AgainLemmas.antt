@@ -16,13 +16,13 @@ use Rattle.spec_server.specs.Asking.{unless_refused as answered_unless}
 use Rattle.spec_server.specs.Shapes.{shape_asked}
 use Rattle.spec_index.specs.Cleaning.{clean_upto}
 use Rattle.spec_index.specs.World.{Slot, SlotChange, World, is_automatic, index_id, numbered, serving, SlotRefusal, added, added_if_room, added_to, define, define_at, define_beside, define_named, dropped, is_reserved_name, removed, switch, taken_out, unchanged, unless_refused, without}
-use Rattle.spec_server.specs.Requests.{Request, Define, Line, Do, Read, Publish, IsFromClient, AreFromClients, Event, Keeping, commands_in}
+use Rattle.spec_server.specs.Requests.{Request, Define, Multi, Line, Do, Read, Publish, IsFromClient, AreFromClients, Event, Keeping, commands_in}
 use Rattle.spec_server.specs.Courses.{Machine, Change, Held, Course, changed, in_world, settled, with_slots}
 use Rattle.spec_server.specs.Indexing.{made_name, make, one_field}
 use Rattle.spec_server.specs.Workers.{Passed, Cleaned, PublishRefusal, put_in, was_cleaned, held_by, publish_by, publish_to, published, published_in, published_reply, with_version}
 use Rattle.spec_server.specs.Machine.{after, course_of, run, step}
 use Rattle.spec_server.specs.Sound.{Has, IsHeld, IsMachine, Sound}
-use Rattle.raven_laws.proofs.Acts.{AllLeave, IsAct, IsReslot, Makes, advanced_by, all-acts, all-along, all-leave, course-acts}
+use Rattle.raven_laws.proofs.Acts.{AllLeave, Defines, IsAct, IsReslot, Makes, advanced_by, all-acts, all-along, all-leave, course-acts}
 use Rattle.raven_laws.proofs.MachineLemmas.{read-world, settled-leaves, step-Steps}
 use Rattle.raven_laws.proofs.Moving.{Keeps, act-Moves}
 use Rattle.raven_laws.proofs.QueryLemmas.{answer_by_origin}
@@ -30,11 +30,12 @@ use Rattle.spec_store.proofs.CleanLemmas.{clean-rows}
 use Rattle.raven_laws.proofs.SlotLemmas.{Has-filter, Has-map, Has-without, find-Has, replacing-no-auto, served}
 use Rattle.raven_laws.proofs.WorldLemmas.{found-Replaces, one_number, past_test, reserved-other, same_change, switch-Switches}
 use Rattle.raven_reading.specs.Requests.{IsAsked, IsByText, AreCommands, IsIndexing, IsOrigin, IsValidLine}
+use Rattle.raven_reading.proofs.Formed.{parts-formed}
 use Rattle.raven_reopening.specs.Form.{AreEvents, IsKept}
 use Rattle.raven_reopening.proofs.FitLemmas.{few_slots, given-static, name_of-auto, named-fit, static-fit}
 use Rattle.raven_reopening.proofs.LastLemmas.{AllLast, AreServed, Stays, clients-Stay, deletes, puts, servers-Stay}
 use Rattle.raven_reopening.proofs.RightLemmas.{AllRight, IsNew, IsRight, added-right, filter-right, kept-right, made-new, advanced-right, renamed-right, replacement-new, static-new}
-use Rattle.raven_reopening.proofs.ShapeLemmas.{IsKeptShape, asked-kept, one-kept, widened-kept}
+use Rattle.raven_reopening.proofs.ShapeLemmas.{IsKeptShape, all-has, asked-kept, one-kept, widened-kept}
 
 -- its rows can be read again, and those of its indexes are read as their definitions
 pub record Again (W : World) : Type 0 where
@@ -144,6 +145,11 @@ makes-kept r W shape index a (Makes.for_ask ask is e) = subst MakesKept e (asked
 by_text-static : (name : List ℕ) (d : Definition) → IsByText name d → is_automatic d ≡ false
 by_text-static name d x = ap is_automatic x.by_texts.by_texts
 
+-- so is each definition of a request by texts
+defines-by_text : (r : Request) (name : List ℕ) (d : Definition) → IsIndexing r → Defines r name d → IsByText name d
+defines-by_text r name d index (Defines.alone is) = subst IsIndexing is index
+defines-by_text r name d index (Defines.among parts is at) = all-has (λ (part : List ℕ × Definition). IsByText part.0 part.1) parts (name, d) (subst IsIndexing is index) at
+
 -- if there is room
 room-fit : (W : World) (name : List ℕ) (d : Definition) (c : SlotChange) → IsNew name d → Again W → added_if_room W name d ≡ Ok c → IsFitChange c
 room-fit W name d c new a e =
@@ -235,7 +241,7 @@ retirement-fit W a = record { commands = by (retired W.slots); slots = filter-ri
 
 -- each change of the indexes
 reslot-fit : (r : Request) (W : World) (c : SlotChange) → IsIndexing r → Sound W → Again W → IsReslot r W c → IsFitChange c
-reslot-fit r W c index o a (IsReslot.defined name d is e) = define_named-fit W name d c (subst IsIndexing is index) a e
+reslot-fit r W c index o a (IsReslot.defined name d is e) = define_named-fit W name d c (defines-by_text r name d index is) a e
 reslot-fit r W c index o a (IsReslot.made shape by e) = made-fit W shape c (makes-kept r W shape index a by) o a e
 reslot-fit r W c index o a (IsReslot.removed name is e) = remove-fit W (serving W.slots name) c a e
 reslot-fit r W c index o a (IsReslot.switched name is e) = switch-fit W name c o a e
@@ -323,6 +329,7 @@ publish-Again M worker (Some h) i e a = by (published M.world h.number h.version
 
 valid-client : (line : Line) → IsValidLine line → IsFromClient line
 valid-client (Do (Define name d)) valid = by_text-static name d valid.indexing
+valid-client (Do (Multi parts)) valid = parts-formed parts valid.indexing
 valid-client other valid = tt
 
 step-Again : (M : Machine) (k : Keeping) (now : ℕ) (line : Line) → IsValidLine line → now < moments_end → IsMachine M → Again M.world → Again (step M k now line).machine.world

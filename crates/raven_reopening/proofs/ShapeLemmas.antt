@@ -99,7 +99,7 @@ in-order-rising [] o h = refl
 in-order-rising (p ∷ []) o h = refl
 in-order-rising (p ∷ q ∷ ps) o h = λ i. below-next p q h.0 h.1.0 o.0 i && in-order-rising (q ∷ ps) o.1 h.1 i
 
-all-has : {A : Type 0} (P : A → Type 0) (xs : List A) (x : A) → AreAll P xs → Has xs x → P x
+pub all-has : {A : Type 0} (P : A → Type 0) (xs : List A) (x : A) → AreAll P xs → Has xs x → P x
 all-has P [] x h at = absurd at
 all-has P (y ∷ xs) x h (inl e) = subst P e h.0
 all-has P (y ∷ xs) x h (inr at) = all-has P xs x h.1 at

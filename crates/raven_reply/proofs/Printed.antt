@@ -3,7 +3,7 @@ use Rattle.std.proofs.Common.{◌≡◌, ℕ, List, ◌++◌, ◌∷◌, [], Boo
 use Rattle.std.proofs.lemmas.List.{append-nil}
 use Rattle.spec_data.specs.Data.{Entries, Items, array, object, text, items_of, flag}
 use Rattle.spec_data.specs.Written.{quoted, text_of, items_text, entries_text}
-use Rattle.spec_server.specs.Replies.{Bulk, Found, Indexes, Listing, Pumped, Pumping, Result, listing_data, number, pumping_data, result_data, reply_data, Tidied}
+use Rattle.spec_server.specs.Replies.{Bulk, Defined, Found, Indexes, Listing, Pumped, Pumping, Result, listing_data, number, pumping_data, result_data, reply_data, Tidied}
 
 pub printed-object : (old : List ℕ) (ms : Entries) → ((old ++ 123 ∷ []) ++ entries_text false ms) ++ 125 ∷ [] ≡ old ++ text_of (object ms)
 printed-object old ms = simp (append_assoc)
@@ -23,6 +23,9 @@ printed-Indexes old results = simp (append_assoc, append-nil)
 pub printed-Bulk : (old : List ℕ) (results : List Result) → ((old ++ codes "{\"Results\":[") ++ items_text false (items_of (map result_data results))) ++ codes "]}" ≡ old ++ text_of (reply_data (Bulk results))
 printed-Bulk old results = simp (append_assoc, append-nil)
 
+pub printed-Defined : (old : List ℕ) (names : List (List ℕ)) → ((old ++ codes "{\"Indexes\":[") ++ items_text false (items_of (map text names))) ++ codes "]}" ≡ old ++ text_of (reply_data (Defined names))
+printed-Defined old names = simp (append_assoc, append-nil)
+
 pub printed-Found : (old : List ℕ) (ids : List (List ℕ)) (etag : ℕ) (is_stale : Bool)
     → (((((old ++ codes "{\"Ids\":[") ++ items_text false (items_of (map text ids))) ++ codes "],\"IndexEtag\":") ++ text_of (number etag)) ++ codes ",\"IsStale\":") ++ text_of (flag is_stale) ++ codes "}"
     ≡ old ++ text_of (reply_data (Found ids etag is_stale))
@@ -33,4 +36,4 @@ pub printed-Tidied : (old : List ℕ) (retired switched : List (List ℕ))
     ≡ old ++ text_of (reply_data (Tidied retired switched))
 printed-Tidied old retired switched = simp (append_assoc, append-nil)
 
-pub ruleset printed = (printed-object, printed-array, printed-member, printed-Pumped, printed-Indexes, printed-Bulk, printed-Found)
+pub ruleset printed = (printed-object, printed-array, printed-member, printed-Pumped, printed-Indexes, printed-Bulk, printed-Defined, printed-Found)

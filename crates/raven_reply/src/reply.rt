@@ -111,6 +111,11 @@ pub enum Reply {
         name: Name,
     },
 
+    /// The indexes that serve, or that were made, one for each part of an index of several maps.
+    Defined {
+        names: IndexNames,
+    },
+
     /// The index of this name is removed.
     Removed {
         name: Name,
@@ -232,6 +237,11 @@ pub enum Reply {
     /// No index of this name is live.
     NoIndex {
         name: Text,
+    },
+
+    /// The index of this number, a part of an index of several maps, has another reduce than the first part.
+    NotOneReduce {
+        number: u64,
     },
 
     /// The text of the query is refused for the byte at this place, and why.
@@ -376,6 +386,7 @@ impl Drop for Reply {
                 metadata: _metadata,
             } => {}
             Reply::Index { name: _name } | Reply::Removed { name: _name } => {}
+            Reply::Defined { names: _names } => {}
             Reply::Pumped { pumped: _pumped } => {}
             Reply::Found {
                 ids: _ids,
@@ -423,6 +434,7 @@ impl Drop for Reply {
                 index_etag: _,
                 newest: _,
             } => {}
+            Reply::NotOneReduce { number: _ } => {}
             Reply::Gone { number: _ } | Reply::Passed { now: _ } | Reply::Cleaned { upto: _ } => {}
             Reply::CleanDone {
                 cleaned: _,

@@ -2,7 +2,7 @@
 ghost use Rattle.std.specs.Prelude.{◌≡◌, ◌++◌, IfOk, OnOk, false, map};
 ghost use Rattle.spec_data.specs.Data.{items_of, text as spec_text};
 ghost use Rattle.spec_data.specs.Written.{items_text, text_of};
-ghost use Rattle.spec_server.specs.Replies.{Bulk, CleanDone, Deleted, Found as FoundIds, Held, Index, Indexes as IndexesAll, Published, Pumped as PumpedAll, Put as PutOne, Removed, Stale, Stats, Switched, Tidied, listing_data, pumping_data, reply_data, result_data};
+ghost use Rattle.spec_server.specs.Replies.{Bulk, CleanDone, Defined, Deleted, Found as FoundIds, Held, Index, Indexes as IndexesAll, Published, Pumped as PumpedAll, Put as PutOne, Removed, Stale, Stats, Switched, Tidied, listing_data, pumping_data, reply_data, result_data};
 ghost use Rattle.raven_reply.specs.ReplyView.{reply_view, result_view};
 
 use crate::error::{
@@ -183,6 +183,15 @@ fn write_pumped(alloc: Global, out: &mut Vec<u8>, pumped: &[Pumping]) -> Result<
     write_bytes(out, b"]}")
 }
 
+#[tactic(auto, using(crate::proofs::Printed::printed))]
+fn write_defined(out: &mut Vec<u8>, names: &[Name]) -> Result<(), NoMemory>
+    ensures { OnOk result (out.new.items ≡ out.old.items ++ text_of (reply_data (Defined names.now))) }
+{
+    write_bytes(out, b"{\"Indexes\":[")?;
+    write_names(out, names)?;
+    write_bytes(out, b"]}")
+}
+
 fn write_tidied(out: &mut Vec<u8>, retired: &[Name], switched: &[Name]) -> Result<(), NoMemory>
     ensures { OnOk result (out.new.items ≡ out.old.items ++ text_of (reply_data (Tidied retired.now switched.now))) }
 {
@@ -347,6 +356,7 @@ fn write_reply(alloc: Global, out: &mut Vec<u8>, reply: &Reply) -> Result<(), No
         Reply::Bulk { results } => write_bulk(alloc, out, results.as_slice()),
         Reply::Document { document, metadata } => write_shown(alloc, out, document, metadata),
         Reply::Index { name } => write_index(alloc, out, name.as_str()),
+        Reply::Defined { names } => write_defined(out, names.as_slice()),
         Reply::Removed { name } => write_removed(alloc, out, name.as_str()),
         Reply::Pumped { pumped } => write_pumped(alloc, out, pumped.as_slice()),
         Reply::Found {
@@ -418,6 +428,9 @@ fn write_reply(alloc: Global, out: &mut Vec<u8>, reply: &Reply) -> Result<(), No
         }
         Reply::NoIndex { name } => {
             write_error_with(alloc, out, "NoIndex", "Name", Piece::Text(name.as_str()))
+        }
+        Reply::NotOneReduce { number } => {
+            write_error_with(alloc, out, "NotOneReduce", "Number", Piece::Number(*number))
         }
         Reply::Rql { at, kind } => write_rql(alloc, out, *at, *kind),
         Reply::NoParameter { name } => {

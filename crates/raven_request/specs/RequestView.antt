@@ -21,16 +21,22 @@ use Rattle.raven_request.specs.declared.request.ReadRefusal.TheVariants as refus
 abbrev pub define_view : Named → is.Request
 define_view d = is.Define d.name d.definition
 
+-- the request to define the parts of an index of several maps
+abbrev pub multi_view : List Named → is.Request
+multi_view parts = is.Multi (map (λ d. (d.name, d.definition)) parts)
+
 abbrev pub request_view : Request → is.Request
 request_view (r.Put id expected body) = is.Put id (expect_view expected) (data_of body)
 request_view (r.Delete id expected) = is.Delete id (expect_view expected)
 request_view (r.Bulk commands) = is.Bulk (map command_view commands)
 request_view (r.Get id) = is.Get id
 request_view (r.Define definition) = define_view definition
+request_view (r.Multi parts) = multi_view parts.items
 request_view (r.Remove name) = is.Remove name
 request_view (r.Auto collection field) = is.Auto collection field
 request_view (r.Find index field words) = is.Find index field words
 request_view (r.Ask ask) = is.Ask ask
+request_view (r.Mask ask) = is.Mask ask
 request_view (r.Pump max index) = is.Pump max index
 request_view (r.Switch name) = is.Switch name
 request_view r.Tidy = is.Tidy

@@ -51,6 +51,12 @@ pub enum Request {
         definition: TextDefinition,
     },
 
+    /// Define the parts of an index of several maps, one after another.
+    Multi {
+        /// The name of each part, and what it says.
+        parts: Vec<TextDefinition>,
+    },
+
     /// Remove the index of this name.
     Remove {
         /// The name of the index.
@@ -77,6 +83,12 @@ pub enum Request {
 
     /// Answer a query.
     Ask {
+        /// The query, its parameters and its page.
+        ask: QueryAsk,
+    },
+
+    /// Answer a query of an index of several maps.
+    Mask {
         /// The query, its parameters and its page.
         ask: QueryAsk,
     },

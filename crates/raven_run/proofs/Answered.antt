@@ -2,7 +2,7 @@
 use Rattle.std.proofs.Common.{◌≡◌, ℕ, List, [], Option, Some, None, Ok, Err, inl, inr, refl, ap, ◌∙◌, subst}
 use Rattle.std.specs.Prelude.{option_map}
 use Rattle.spec_data.specs.Kept.{KeptRow}
-use Rattle.spec_server.specs.Requests.{Do, Line as LineIs, Tidy}
+use Rattle.spec_server.specs.Requests.{Do, Line as LineIs, Request}
 use Rattle.spec_server.specs.Courses.{Machine}
 use Rattle.spec_server.specs.Replies.{Reply, printed}
 use Rattle.spec_server.specs.Words.{LineRead}
@@ -59,9 +59,15 @@ answers-as line now before after M N text found one is h done = record {
 
 -- or memory ran out
 pub cut-as : (line : List ℕ) (now : ℕ) (M : Machine) (keeper : KeeperState) (N : Machine) (held : Option (List KeptRow)) (found : Option Line) (one : Line) → found ≡ Some one
-    → Answers (asked_of line) (Ok found) → IsCut (line_view one ≡ Do Tidy) now M keeper N held → IsCutAt line now M keeper N held
+    → Answers (asked_of line) (Ok found) → IsCut (λ (q : Request). line_view one ≡ Do q) now M keeper N held → IsCutAt line now M keeper N held
 cut-as line now M keeper N held found one is h (inl same) = inl same
 cut-as line now M keeper N held found one is h (inr part) =
-    inr (record { tidies = subst (λ (l : LineIs). IsLine line (Ok (Some l))) part.tidies (asks line found one is h); part = part.part; workers = part.workers })
+    inr (record {
+      request = part.request;
+      asked = subst (λ (l : LineIs). IsLine line (Ok (Some l))) part.asked (asks line found one is h);
+      several = part.several;
+      part = part.part;
+      workers = part.workers;
+    })
 
 pub ruleset answers = (answers-refused, answers-none)

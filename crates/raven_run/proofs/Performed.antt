@@ -1,14 +1,14 @@
 -- What a request leaves once its changes were settled.
-use Rattle.std.proofs.Common.{◌≡◌, ℕ, ◌⊎◌, inl, inr, List, Result, Ok, Err, IfOk, OnErr, OnOk, refl, sym, ap, ◌∙◌, subst}
+use Rattle.std.proofs.Common.{◌≡◌, ℕ, Bool, true, false, ◌⊎◌, inl, inr, List, Result, Ok, Err, IfOk, OnErr, OnOk, refl, sym, ap, ◌∙◌, subst}
 use Rattle.spec_index.specs.World.{World}
-use Rattle.spec_server.specs.Requests.{Do, Request, Tidy}
+use Rattle.spec_server.specs.Requests.{Do, Request, makes_several}
 use Rattle.spec_server.specs.Courses.{Course, Held, Machine, Replied}
 use Rattle.spec_server.specs.Machine.{course_of, step}
 use Rattle.spec_server.specs.Replies.{printed}
 use Rattle.spec_desk.specs.Keepers.{keeping}
 use Rattle.spec_desk.specs.Lived.{Lived, machine_in, machine_with}
 use Rattle.spec_desk.specs.Stepped.{IsMadeInPart, Makes, Settled, Settles, Stays, reply_after}
-use Rattle.spec_desk.proofs.Few.{one_at_most}
+use Rattle.raven_laws.proofs.Acts.{one-at-most}
 use Rattle.spec_desk.proofs.Making.{stepped}
 use Rattle.spec_desk.proofs.Parts.{alone, holding, made_held}
 use Rattle.raven_run.specs.Answering.{IsCut, IsHandled, IsPerformed, IsSettled}
@@ -42,23 +42,23 @@ handled now request x y held text p =
 
 -- MEMORY RAN OUT
 
-pub untouched : (IsTidy : Type 0) (now : ℕ) (x y : Lived) (held : List Held) → Stays x y → IsCut IsTidy now (machine_with x held) x.keeper (machine_with y held) y.keeper.held
-untouched IsTidy now x y held s = inl (ap (λ (V : World). (let M : Machine = record { world = V; held = held } in M)) s.0, s.1)
+pub untouched : (WasAsked : Request → Type 0) (now : ℕ) (x y : Lived) (held : List Held) → Stays x y → IsCut WasAsked now (machine_with x held) x.keeper (machine_with y held) y.keeper.held
+untouched WasAsked now x y held s = inl (ap (λ (V : World). (let M : Machine = record { world = V; held = held } in M)) s.0, s.1)
 
 -- and workers hold what they held
-pub untouched_by : (IsTidy : Type 0) (now : ℕ) (x y : Lived) (old new : List NamedBatch) → new ≡ old → Stays x y
-    → IsCut IsTidy now (machine_with x (all_held old)) x.keeper (machine_with y (all_held new)) y.keeper.held
-untouched_by IsTidy now x y old new e s =
-    subst (λ (l : List NamedBatch). IsCut IsTidy now (machine_with x (all_held old)) x.keeper (machine_with y (all_held l)) y.keeper.held) (sym e) (untouched IsTidy now x y (all_held old) s)
+pub untouched_by : (WasAsked : Request → Type 0) (now : ℕ) (x y : Lived) (old new : List NamedBatch) → new ≡ old → Stays x y
+    → IsCut WasAsked now (machine_with x (all_held old)) x.keeper (machine_with y (all_held new)) y.keeper.held
+untouched_by WasAsked now x y old new e s =
+    subst (λ (l : List NamedBatch). IsCut WasAsked now (machine_with x (all_held old)) x.keeper (machine_with y (all_held l)) y.keeper.held) (sym e) (untouched WasAsked now x y (all_held old) s)
 
 pub cut : (now : ℕ) (request : Request) (x y : Lived) (held : List Held) → Stays x y ⊎ IsMadeInPart (course_of x.world now request).changes x y
-    → IsCut (Do request ≡ Do Tidy) now (machine_with x held) x.keeper (machine_with y held) y.keeper.held
-cut now request x y held (inl s) = untouched (Do request ≡ Do Tidy) now x y held s
-cut now request x y held (inr part) = by request part
+    → IsCut (λ (q : Request). Do request ≡ Do q) now (machine_with x held) x.keeper (machine_with y held) y.keeper.held
+cut now request x y held (inl s) = untouched (λ (q : Request). Do request ≡ Do q) now x y held s
+cut now request x y held (inr part) = by (makes_several request) refl
   where
-    by : (q : Request) → IsMadeInPart (course_of x.world now q).changes x y → IsCut (Do q ≡ Do Tidy) now (machine_with x held) x.keeper (machine_with y held) y.keeper.held
-    by Tidy p = inr (record { tidies = refl; part = p; workers = refl })
-    by other p = untouched (Do other ≡ Do Tidy) now x y held (alone (course_of x.world now other).changes x y (one_at_most x.world now other (λ e. cc)) p)
+    by : (b : Bool) → makes_several request ≡ b → IsCut (λ (q : Request). Do request ≡ Do q) now (machine_with x held) x.keeper (machine_with y held) y.keeper.held
+    by true e = inr (record { request = request; asked = refl; several = e; part = part; workers = refl })
+    by false e = untouched (λ (q : Request). Do request ≡ Do q) now x y held (alone (course_of x.world now request).changes x y (one-at-most x.world now request e) part)
 
 -- RESULTS
 

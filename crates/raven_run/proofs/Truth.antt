@@ -4,7 +4,7 @@ use Rattle.std.proofs.lemmas.List.{append-nil}
 use Rattle.spec_data.specs.Kept.{KeptRow}
 use Rattle.spec_data.specs.Moments.{moments_end}
 use Rattle.spec_store.specs.Commit.{Setting}
-use Rattle.spec_server.specs.Requests.{AreFromClients, Do, Tidy}
+use Rattle.spec_server.specs.Requests.{AreFromClients, Do, Request}
 use Rattle.spec_server.specs.Courses.{Held, Machine, Replied}
 use Rattle.spec_server.specs.Machine.{course_of}
 use Rattle.spec_server.specs.Options.{setting_with}
@@ -24,7 +24,7 @@ use Rattle.raven_reading.proofs.TextLemmas.{opened-told}
 use Rattle.raven_reopening.specs.Form.{AreTimely}
 use Rattle.raven_reopening.proofs.LineLemmas.{lines-open}
 use Rattle.spec_desk.proofs.Parts.{cut_step, cut_takes}
-use Rattle.raven_run.specs.Answering.{IsCutAt, TidiesInPart}
+use Rattle.raven_run.specs.Answering.{IsCutAt, IsDoneInPart}
 use Rattle.raven_run.specs.Devices.{AreGiven, IsGiven}
 use Rattle.raven_run.specs.Runs.{Run}
 use Rattle.raven_run.specs.Truth.{AnswersTruly, AreTrue, IsTrueBetween, LeadsTruly, RunsTruly}
@@ -94,7 +94,7 @@ are-true : (setting : Setting) (held : List KeptRow) (M : Machine) (clock : Opti
     → AreGiven clock before after M lines → AreTrue setting M lines
 are-true setting held M clock before after lines opened given = lawful-true setting held M lines opened (given-lawful clock before after M lines given)
 
--- A TIDY THAT WAS CUT, as if the keeper had not taken the rows of the next change
+-- A REQUEST THAT WAS CUT, as if the keeper had not taken the rows of the next change
 
 one-more : (done : List Given) (g : Given) → AreLawful done → IsLine g.line g.read → g.circumstance.now < moments_end → AreLawful (done ++ g ∷ [])
 one-more [] g h is soon = record { read = (is, tt); timely = (soon, tt) }
@@ -110,19 +110,19 @@ no-more : (done : List Given) (M : Machine) → after_lines (done ++ []) M ≡ a
 no-more done M = ap (λ (ls : List Given). after_lines ls M) (append-nil done)
 
 module _ (M : Machine) (done : List Given) (line : List ℕ) (now : ℕ) (keeper : KeeperState) (N : Machine) (kept : Option (List KeptRow))
-    (tidied : TidiesInPart (IsLine line (Ok (Some (Do Tidy)))) now (after_lines done M) keeper N kept) where
+    (part : IsDoneInPart (λ (q : Request). IsLine line (Ok (Some (Do q)))) now (after_lines done M) keeper N kept) where
   abbrev between : Machine
   between = after_lines done M
 
   abbrev takes : List Bool
-  takes = cut_takes (course_of between.world now Tidy).changes between.world keeper N.world kept tidied.part
+  takes = cut_takes (course_of between.world now part.request).changes between.world keeper N.world kept part.part
 
   abbrev as_given : Given
-  as_given = record { line = line; read = Ok (Some (Do Tidy)); circumstance = record { now = now; keeping = record { takes = takes; before = 0; after = 0 } } }
+  as_given = record { line = line; read = Ok (Some (Do part.request)); circumstance = record { now = now; keeping = record { takes = takes; before = 0; after = 0 } } }
 
   cut-after : N ≡ after_line as_given between
-  cut-after = ap (λ (h : List Held). (let x : Machine = record { world = N.world; held = h } in x)) tidied.workers
-      ∙ sym (ap (λ (r : Replied). r.machine) (cut_step between now 0 0 Tidy keeper N.world kept tidied.part))
+  cut-after = ap (λ (h : List Held). (let x : Machine = record { world = N.world; held = h } in x)) part.workers
+      ∙ sym (ap (λ (r : Replied). r.machine) (cut_step between now 0 0 part.request keeper N.world kept part.part))
 
 leads-truly : (setting : Setting) (held : List KeptRow) (M : Machine) (done : List Given) (line : List ℕ) (now : ℕ) (keeper : KeeperState) (N : Machine) (kept : Option (List KeptRow))
     → IsOpened setting held (Ok M) → AreLawful done → now < moments_end → IsCutAt line now (after_lines done M) keeper N kept → LeadsTruly setting M done N
@@ -132,13 +132,13 @@ leads-truly setting held M done line now keeper N kept opened lawful soon (inl s
   left = same.0 ∙ sym (no-more done M);
   truly = subst (AreTrue setting M) (sym (append-nil done)) (lawful-true setting held M done opened lawful);
 }
-leads-truly setting held M done line now keeper N kept opened lawful soon (inr tidied) =
-    let g : Given = as_given M done line now keeper N kept tidied in
+leads-truly setting held M done line now keeper N kept opened lawful soon (inr part) =
+    let g : Given = as_given M done line now keeper N kept part in
     record {
       more = g ∷ [];
       one = omega arith;
-      left = cut-after M done line now keeper N kept tidied ∙ sym (one-after done g M);
-      truly = lawful-true setting held M (done ++ g ∷ []) opened (one-more done g lawful tidied.tidies soon);
+      left = cut-after M done line now keeper N kept part ∙ sym (one-after done g M);
+      truly = lawful-true setting held M (done ++ g ∷ []) opened (one-more done g lawful part.asked soon);
     }
 
 -- EVERY RUN

@@ -1,9 +1,9 @@
 -- What is answered to a line.
-use Rattle.std.specs.Prelude.{◌≡◌, ℕ, List, Bool, Option, Some, Ok, ◌⊎◌}
+use Rattle.std.specs.Prelude.{◌≡◌, ℕ, List, Bool, true, Option, Some, Ok, ◌⊎◌}
 use Rattle.spec_data.specs.Kept.{KeptRow}
 use Rattle.raven_ports.specs.Asking.{Asked}
 use Rattle.raven_ports.specs.States.{KeeperState}
-use Rattle.spec_server.specs.Requests.{Do, Line, Request, Tidy}
+use Rattle.spec_server.specs.Requests.{Do, Line, Request, makes_several}
 use Rattle.spec_server.specs.Courses.{Course, Machine}
 use Rattle.spec_server.specs.Machine.{course_of, step}
 use Rattle.spec_server.specs.Replies.{Reply, printed}
@@ -45,16 +45,18 @@ pub record IsSettled (course : Course) (x y : Lived) (text : List ℕ) : Type 0 
 
 -- WITHOUT A REPLY, since memory ran out
 
--- it is a TIDY, and only the first of its changes were made: they stand, and the keeper holds their rows
-pub record TidiesInPart (IsTidy : Type 0) (now : ℕ) (M : Machine) (keeper : KeeperState) (N : Machine) (held : Option (List KeptRow)) : Type 0 where
-  pub tidies : IsTidy
-  pub part : MadeInPart (course_of M.world now Tidy).changes M.world keeper N.world held
+-- the request that was asked makes several changes, and only the first of them were made: they stand, and the keeper holds their rows
+pub record IsDoneInPart (WasAsked : Request → Type 0) (now : ℕ) (M : Machine) (keeper : KeeperState) (N : Machine) (held : Option (List KeptRow)) : Type 0 where
+  pub request : Request
+  pub asked : WasAsked request
+  pub several : makes_several request ≡ true
+  pub part : MadeInPart (course_of M.world now request).changes M.world keeper N.world held
   pub workers : N.held ≡ M.held
 
--- The machine is as it was and the keeper holds what it held, unless it is a TIDY: of that a part may have been made.
-abbrev pub IsCut : Type 0 → ℕ → Machine → KeeperState → Machine → Option (List KeptRow) → Type 0
-IsCut IsTidy now M keeper N held = ((N ≡ M) × (held ≡ keeper.held)) ⊎ TidiesInPart IsTidy now M keeper N held
+-- The machine is as it was and the keeper holds what it held, unless the request makes several changes: of those the first may have been made.
+abbrev pub IsCut : (Request → Type 0) → ℕ → Machine → KeeperState → Machine → Option (List KeptRow) → Type 0
+IsCut WasAsked now M keeper N held = ((N ≡ M) × (held ≡ keeper.held)) ⊎ IsDoneInPart WasAsked now M keeper N held
 
 -- so of a line
 abbrev pub IsCutAt : List ℕ → ℕ → Machine → KeeperState → Machine → Option (List KeptRow) → Type 0
-IsCutAt line now M keeper N held = IsCut (IsLine line (Ok (Some (Do Tidy)))) now M keeper N held
+IsCutAt line now M keeper N held = IsCut (λ request. IsLine line (Ok (Some (Do request)))) now M keeper N held

@@ -1,7 +1,7 @@
 //! What is answered to the lines of a script.
 ghost use Rattle.std.specs.Prelude.{◌≡◌, ◌<◌, ◌≤◌, ◌⊎◌, IfOk, OnErr, OnOk, IsErrOf};
 ghost use Rattle.spec_data.specs.Moments.{moments_end};
-ghost use Rattle.spec_server.specs.Requests.{Do, Tidy};
+ghost use Rattle.spec_server.specs.Requests.{Do};
 ghost use Rattle.spec_server.specs.Machine.{course_of};
 ghost use Rattle.spec_server.specs.WellFormed.{IsWellFormed};
 ghost use Rattle.raven_ports.specs.Faults.{Rose};
@@ -42,7 +42,7 @@ fn perform<R: Threads + Sync, K: Keeper>(
     settled(alloc, live, course)
 }
 
-// The step of what a line asks. If memory runs out, nothing changes, but the first changes of a TIDY may stand.
+// The step of what a line asks. If memory runs out, nothing changes, but the first changes of a TIDY or a MULTI may stand.
 fn handle<R: Threads + Sync, K: Keeper>(
     rt: &R,
     alloc: Global,
@@ -55,7 +55,7 @@ fn handle<R: Threads + Sync, K: Keeper>(
     requires waits { MayAllWait live.old.world workers.old }
     ensures handled { IfOk result (λ text. IsHandled (line_view asks) now live.old.keeper live.new.keeper
         (machine_with live.old (all_held workers.old)) (machine_with live.new (all_held workers.new)) text.items) }
-    ensures cut { OnErr result (IsCut (line_view asks ≡ Do Tidy) now (machine_with live.old (all_held workers.old)) live.old.keeper
+    ensures cut { OnErr result (IsCut (λ request. line_view asks ≡ Do request) now (machine_with live.old (all_held workers.old)) live.old.keeper
         (machine_with live.new (all_held workers.new)) live.new.keeper.held) }
     ensures waits { MayAllWait live.new.world workers.new }
 {
@@ -69,7 +69,7 @@ fn handle<R: Threads + Sync, K: Keeper>(
 }
 
 // What is written for a line at this moment, in microseconds since 1970: the reply with its line end, or nothing for a line without bytes.
-// If the keeper fails or memory runs out, nothing changes, but the first changes of a TIDY may stand.
+// If the keeper fails or memory runs out, nothing changes, but the first changes of a TIDY or a MULTI may stand.
 #[tactic(auto, using(crate::proofs::Answered::answers))]
 fn answer<R: Threads + Sync, K: Keeper>(
     rt: &R,

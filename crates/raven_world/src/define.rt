@@ -1,25 +1,23 @@
 //! Indexes that are defined and removed.
 ghost use Rattle.std.specs.Prelude.{◌≡◌, ◌+◌, ℕ, IfOk, IfSome, length, map, nat_le};
-ghost use Rattle.spec_store.specs.Commit.{Server, commit as spec_commit};
 ghost use Rattle.spec_server.specs.Requests.{Define, Remove};
-ghost use Rattle.spec_server.specs.Indexing.{rewrote};
 ghost use Rattle.spec_server.specs.Machine.{course_of};
-ghost use Rattle.spec_server.specs.Replies.{Index as IndexOf, Removed as RemovedOf};
+ghost use Rattle.spec_server.specs.Replies.{Removed as RemovedOf};
 ghost use Rattle.spec_store.specs.Store.{last};
 ghost use Rattle.doc_txn.specs.CommandView.{command_view, writer_view};
 ghost use Rattle.index_definition.specs.DefinitionView.{definition_view};
 ghost use Rattle.raven_reply.specs.ReplyView.{reply_view};
-ghost use Rattle.side_by_side.specs.Changes.{MayDefine, change_view as slot_change, define_by as spec_define_by};
+ghost use Rattle.side_by_side.specs.Changes.{MayDefine, define_by as spec_define_by};
 ghost use Rattle.raven_world.specs.Slotting.{HasNumbers, Reslots};
-ghost use Rattle.raven_world.specs.WorldView.{answer_view};
+ghost use Rattle.raven_world.specs.WorldView.{answer_view, made_view, named};
 
 use crate::rewrite::slots_refused;
-use crate::world::{Change, World, WorldFault};
+use crate::world::{Change, Made, Rewritten, World, WorldFault};
 use doc_txn::Writer;
 use index_definition::Definition;
 use index_lang::TextDefinition;
 use raven_base::NoMemory;
-use raven_reply::{Reply, index_reply};
+use raven_reply::Reply;
 use raven_value::Name;
 use side_by_side::SlotChange;
 use std::alloc::Global;
@@ -62,25 +60,6 @@ impl World {
         self.store.last() + 1
     }
 
-    /// The world after an index is defined.
-    pub(crate) fn defined(
-        &self,
-        alloc: Global,
-        change: SlotChange,
-        now: u64,
-    ) -> Result<Change, WorldFault>
-        requires { HasNumbers self.now now (map command_view change.commands) change.slots.slots }
-        ensures { IfSome (answer_view result) (λ course. course ≡ rewrote self.now (IndexOf change.name) (slot_change change) (spec_commit self.now.setting Server now (map command_view change.commands) self.now.store)) }
-    {
-        let SlotChange {
-            slots,
-            commands,
-            name,
-        } = change;
-        let reply = index_reply(&name)?;
-        self.rewrite(alloc, slots, commands, reply, now)
-    }
-
     /// The indexes after one is defined under the name of its definition.
     pub(crate) fn with_index(
         &self,
@@ -110,11 +89,16 @@ impl World {
         alloc: Global,
         definition: TextDefinition,
         now: u64,
-    ) -> Result<Change, WorldFault>
-        ensures { IfSome (answer_view result) (λ course. course ≡ course_of self.now now (Define definition.name definition.definition)) }
+    ) -> Result<Made, WorldFault>
+        ensures { IfSome (made_view named result) (λ course. course ≡ course_of self.now now (Define definition.name definition.definition)) }
     {
-        let change = self.with_index(alloc, definition.into_shared(), Writer::Client)?;
-        self.defined(alloc, change, now)
+        let SlotChange {
+            slots,
+            commands,
+            name,
+        } = self.with_index(alloc, definition.into_shared(), Writer::Client)?;
+        let Rewritten { world, rows } = self.rewritten(alloc, slots, commands, now)?;
+        Ok(Made { world, rows, name })
     }
 
     /// Removes the index of a name, and its replacement if it has one. The rows of their definitions are deleted.

@@ -71,7 +71,7 @@ pub struct Rewritten {
     pub rows: Rows,
 }
 
-/// A world after an automatic index is made, the rows that its keeper is to take, and the name of the index.
+/// A world after an index is defined or made, the rows that its keeper is to take, and the name of the index.
 #[derive(Drop)]
 pub struct Made {
     pub world: World,

@@ -57,6 +57,16 @@ impl Cells {
     {
         self.cells.get().as_slice()
     }
+
+    /// These cells and others together, cell by cell, as their fold merges them.
+    pub fn together(&self, alloc: Global, others: &Cells) -> Result<Cells, NoMemory>
+        ensures { IfOk result (λ cells. cells ≡ merged_row self.now others.now) }
+    {
+        let cells = merged_row(alloc, self.as_slice(), others.as_slice())?;
+        Ok(Cells {
+            cells: Shared::of(alloc, cells)?,
+        })
+    }
 }
 
 impl Clone for Cells {
@@ -153,9 +163,6 @@ impl<E: HasFields> Fold<E> for RowFold {
         steps: &mut Steps<L>,
     ) -> Result<Cells, NoMemory> {
         steps.merge_done();
-        let cells = merged_row(alloc, a.as_slice(), b.as_slice())?;
-        Ok(Cells {
-            cells: Shared::of(alloc, cells)?,
-        })
+        a.together(alloc, b)
     }
 }

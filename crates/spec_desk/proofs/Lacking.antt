@@ -1,5 +1,5 @@
 -- Where memory ran out.
-use Rattle.std.proofs.Common.{◌≡◌, ◌≢◌, ℕ, ◌-◌, ◌==◌, List, [], ◌∷◌, false, refl, subst, arith, inl, inr}
+use Rattle.std.proofs.Common.{◌≡◌, ◌≢◌, ℕ, ◌==◌, List, [], ◌∷◌, false, refl, subst, arith, inl, inr}
 use Rattle.std.specs.Prelude.{◌⊎◌, None, Option}
 use Rattle.spec_server.specs.Requests.{Pump, Request, Tidy}
 use Rattle.spec_server.specs.Courses.{Change}

@@ -2,7 +2,7 @@
 use Rattle.std.proofs.Common.{◌≡◌, ◌≢◌, ℕ, ◌≤◌, List, [], ◌∷◌, Bool, true, false, refl, sym, ap, ◌∙◌, subst, arith, inl, inr}
 use Rattle.spec_data.specs.Rows.{Row}
 use Rattle.spec_index.specs.World.{World}
-use Rattle.spec_server.specs.Requests.{Auto, Ask, Bulk, Define, Delete, Do, Find, Get, Indexes, IsFromClient, Pump, Put, Remove, Request, Stale, Stats, Switch, Tidy, Clean}
+use Rattle.spec_server.specs.Requests.{Auto, Ask, Bulk, Define, Delete, Do, Find, Get, Indexes, IsFromClient, Mask, Multi, Pump, Put, Remove, Request, Stale, Stats, Switch, Tidy, Clean}
 use Rattle.spec_server.specs.Courses.{Change, Replied, is_taken, made}
 use Rattle.spec_server.specs.Machine.{course_of, machine_of}
 use Rattle.spec_server.specs.Replies.{KeeperFault, Reply}
@@ -82,10 +82,12 @@ from_client (Delete id expected) h = tt
 from_client (Bulk commands) h = tt
 from_client (Get id) h = tt
 from_client (Define name definition) h = h
+from_client (Multi parts) h = h
 from_client (Remove name) h = tt
 from_client (Auto collection field) h = tt
 from_client (Find index field words) h = tt
 from_client (Ask ask) h = tt
+from_client (Mask ask) h = tt
 from_client (Pump max index) h = tt
 from_client (Switch name) h = tt
 from_client Tidy h = tt

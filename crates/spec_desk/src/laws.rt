@@ -1,9 +1,9 @@
 //! The laws of steps and of desks.
-ghost use Rattle.std.specs.Prelude.{◌≡◌, ◌≢◌, ◌≤◌, ℕ, Bool, List, Option, Some, length};
+ghost use Rattle.std.specs.Prelude.{◌≡◌, ◌≤◌, ℕ, Bool, List, Option, Some, false, length};
 ghost use Rattle.spec_data.specs.Kept.{KeptRow};
 ghost use Rattle.raven_ports.specs.States.{KeeperState};
 ghost use Rattle.spec_index.specs.World.{World};
-ghost use Rattle.spec_server.specs.Requests.{Do, Keeping, Publish, Request, Tidy};
+ghost use Rattle.spec_server.specs.Requests.{Do, Keeping, Publish, Request, makes_several};
 ghost use Rattle.spec_server.specs.Courses.{Change, Held, Machine, settled, with_world};
 ghost use Rattle.spec_server.specs.Workers.{held_by, let_go};
 ghost use Rattle.spec_server.specs.Machine.{course_of, step};
@@ -43,9 +43,9 @@ pub fn one_change_is_made_or_not()
     ensures { (changes : List Change) (x y : Lived) → length changes ≤ 1 → IsMadeInPart changes x y → Stays x y }
 {}
 
-/// Each request but a TIDY makes one change at most.
-pub fn only_a_tidy_makes_several_changes()
-    ensures { (W : World) (now : ℕ) (q : Request) → q ≢ Tidy → length (course_of W now q).changes ≤ 1 }
+/// Each request makes one change at most, but those that make several.
+pub fn only_some_requests_make_several_changes()
+    ensures { (W : World) (now : ℕ) (q : Request) → makes_several q ≡ false → length (course_of W now q).changes ≤ 1 }
 {}
 
 /// If a course was made in part, the world is the one that the step of the request leaves if the keeper does not take the rows of the next change.

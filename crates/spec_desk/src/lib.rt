@@ -6,6 +6,6 @@ mod laws;
 
 pub use laws::{
     asking_goes_on, courses_may_be_made, one_change_is_made_or_not,
-    only_a_tidy_makes_several_changes, parts_are_left_by_steps, publications_may_be_made,
+    only_some_requests_make_several_changes, parts_are_left_by_steps, publications_may_be_made,
     settled_courses_are_steps, settled_publications_are_steps, to_follow_is_an_order,
 };

@@ -10,14 +10,15 @@ use Rattle.http_read.specs.declared.end.HttpEnd.TheVariants as end
 
 -- THE STATUS
 
--- the status of the response with this reply. Found, Pumped, Switched, Tidied, CleanDone, Held, Published, NothingHeld,
--- Gone, Passed and Cleaned are replies to lines alone.
+-- the status of the response with this reply. Found, Pumped, Switched, Tidied, CleanDone, Defined, NotOneReduce, Held, Published,
+-- NothingHeld, Gone, Passed and Cleaned are replies to lines alone.
 abbrev pub status_of : Reply → ℕ
 status_of (reply.Put vector id) = 201
 status_of (reply.Deleted deleted id) = 204
 status_of (reply.Bulk results) = 201
 status_of (reply.Document document) = 200
 status_of (reply.Index name) = 201
+status_of (reply.Defined names) = 200
 status_of (reply.Removed name) = 204
 status_of (reply.Found ids etag is_stale) = 200
 status_of (reply.Answer answer) = 200
@@ -40,6 +41,7 @@ status_of (reply.Control at) = 400
 status_of (reply.BadMember name) = 400
 status_of (reply.NoDocument id) = 404
 status_of (reply.NoIndex name) = 404
+status_of (reply.NotOneReduce number) = 400
 status_of (reply.BadQuery refusal) = 400
 status_of (reply.BadPlan refusal) = 400
 status_of (reply.Lang refusal) = 400

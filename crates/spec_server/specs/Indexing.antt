@@ -4,13 +4,14 @@ use Rattle.std.specs.Ordering.{on}
 use Rattle.spec_data.specs.Faults.{replacement_of}
 use Rattle.spec_data.specs.Folding.{folded, key_cmp}
 use Rattle.spec_store.specs.Store.{last}
+use Rattle.index_tree.specs.Definitions.{Definition}
 use Rattle.spec_query.specs.Query as query
 use Rattle.spec_query.specs.Sorting.{sorted}
 use Rattle.spec_store.specs.Commit.{Server, Written, Refused, commit}
 use Rattle.spec_index.specs.Optimiser.{Shape, Choice, Use, Make, definition_of, name_of, retired, retirement}
 use Rattle.spec_server.specs.Replies.{Reply, Index, NoIndex, Tidied, UnknownLine}
 use Rattle.spec_server.specs.Replies as replies
-use Rattle.spec_index.specs.World.{Slot, World, serving, SlotChange, SlotRefusal, define, switch}
+use Rattle.spec_index.specs.World.{Slot, World, serving, SlotChange, SlotRefusal, define, define_named, switch}
 use Rattle.spec_server.specs.Asking.{Answered, MustMake, Ready, answer_from_index}
 use Rattle.spec_server.specs.Courses.{storing, Course, then_course, only_reply, one_change, changed}
 use Rattle.spec_server.specs.Writes.{write_refused}
@@ -82,7 +83,7 @@ tidied W switched = Tidied (map (λ s. s.name) (retired W.slots)) switched
 abbrev pub retire : World → ℕ → List (List ℕ) → Course
 retire W now switched = let c = retirement W in rewrote W (tidied W switched) c (commit W.setting Server now c.commands W.store)
 
--- a switch, and what comes after it
+-- a change, and what comes after it
 abbrev pub switch_and : World → SlotChange → (World → Course) → Result Written Refused → Course
 switch_and W c more (Err refused) = only_reply (write_refused refused)
 switch_and W c more (Ok w) = then_course (storing w.rows (changed W w.store c)) (more (changed W w.store c))
@@ -96,3 +97,15 @@ try_switch W now switched more (Ok c) = switch_and W c (λ V. more V (switched +
 abbrev pub tidy : ℕ → List (List ℕ) → World → List (List ℕ) → Course
 tidy now [] W switched = retire W now switched
 tidy now (name ∷ names) W switched = try_switch W now switched (λ V done. tidy now names V done) (switch W name)
+
+-- SEVERAL MAPS
+
+-- a definition, and what comes after it
+abbrev pub define_then : World → ℕ → List ℕ → (World → List ℕ → Course) → Result SlotChange SlotRefusal → Course
+define_then W now name more (Err refusal) = only_reply (slot_refused name refusal)
+define_then W now name more (Ok c) = switch_and W c (λ V. more V c.name) (commit W.setting Server now c.commands W.store)
+
+-- the parts are defined one after another, each in the world that those before it leave, up to the first that is refused
+abbrev pub define_parts : ℕ → List (List ℕ × Definition) → World → List (List ℕ) → Course
+define_parts now [] W names = only_reply (replies.Defined names)
+define_parts now (p ∷ parts) W names = define_then W now p.0 (λ V name. define_parts now parts V (names ++ name ∷ [])) (define_named W p.0 p.1)

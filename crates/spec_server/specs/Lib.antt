@@ -9,6 +9,7 @@ pub mod Indexing
 pub mod Batches
 pub mod Answers
 pub mod Workers
+pub mod Several
 pub mod Machine
 pub mod Sound
 pub mod Lines

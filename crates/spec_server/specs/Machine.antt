@@ -7,13 +7,14 @@ use Rattle.spec_server.specs.Replies.{Index, Removed, Switched}
 use Rattle.spec_server.specs.Replies as replies
 use Rattle.spec_index.specs.World.{World, serving, define_named, remove, switch}
 use Rattle.spec_server.specs.Asking.{answer_ask}
-use Rattle.spec_server.specs.Requests.{Request, Put, Delete, Bulk, Get, Define, Remove, Auto, Find, Ask, Pump, Switch, Tidy, Clean, Stale, Indexes, Stats, Line, Do, Read, Publish, Keeping, Event}
+use Rattle.spec_server.specs.Requests.{Request, Put, Delete, Bulk, Get, Define, Remove, Auto, Find, Ask, Multi, Mask, Pump, Switch, Tidy, Clean, Stale, Indexes, Stats, Line, Do, Read, Publish, Keeping, Event}
 use Rattle.spec_server.specs.Courses.{Machine, Replied, Change, Course, only_reply, settled}
 use Rattle.spec_server.specs.Writes.{single_reply, write}
-use Rattle.spec_server.specs.Indexing.{change_of_slots, use_or_make, ask_course, one_field, replaced_names, tidy}
+use Rattle.spec_server.specs.Indexing.{change_of_slots, use_or_make, ask_course, one_field, replaced_names, tidy, define_parts}
 use Rattle.spec_server.specs.Batches.{pump_for, clean_course}
 use Rattle.spec_server.specs.Answers.{answer_find, answer_stale, answer_indexes, answer_get, answer_stats}
 use Rattle.spec_server.specs.Workers.{held_by, read_at, publish_by}
+use Rattle.spec_server.specs.Several.{answer_several}
 
 -- what a request does to a world
 abbrev pub course_of : World → ℕ → Request → Course
@@ -22,10 +23,12 @@ course_of W now (Delete id expected) = write W single_reply now (Command.Delete 
 course_of W now (Bulk commands) = write W replies.Bulk now commands
 course_of W now (Get id) = only_reply (answer_get W id)
 course_of W now (Define name definition) = change_of_slots W now Index name (define_named W name definition)
+course_of W now (Multi parts) = define_parts now parts W []
 course_of W now (Remove name) = change_of_slots W now Removed name (remove W name)
 course_of W now (Auto collection field) = use_or_make W now (pick (one_field collection field) W.store W.slots)
 course_of W now (Find index field ws) = only_reply (answer_find W index field ws (serving W.slots index))
 course_of W now (Ask ask) = ask_course W now ask (answer_ask W ask)
+course_of W now (Mask ask) = only_reply (answer_several W ask)
 course_of W now (Pump max index) = pump_for W max index
 course_of W now (Switch name) = change_of_slots W now (Switched (last W.store + 1)) name (switch W name)
 course_of W now Tidy = tidy now (replaced_names W) W []

@@ -43,6 +43,8 @@ pub data Reply : Type 0 where
   Bulk : (results : List Result) → Reply
   Document : (document : Data) → Reply
   Index : (name : List ℕ) → Reply
+  -- several indexes were defined
+  Defined : (names : List (List ℕ)) → Reply
   Removed : (name : List ℕ) → Reply
   Found : (ids : List (List ℕ)) (index_etag : ℕ) (is_stale : Bool) → Reply
   Answer : QueryAnswer → Reply
@@ -70,6 +72,8 @@ pub data Reply : Type 0 where
   -- the document or the index is not there
   NoDocument : (id : List ℕ) → Reply
   NoIndex : (name : List ℕ) → Reply
+  -- the index of this number, a part of an index of several maps, has another reduce than its first part
+  NotOneReduce : (number : ℕ) → Reply
   -- refusals of a query: of its text, and of what it asks
   BadQuery : QueryRefusal → Reply
   BadPlan : PlanRefusal → Reply
@@ -152,6 +156,7 @@ reply_data (Deleted deleted id) = members ((codes "Deleted", flag deleted) ∷ (
 reply_data (Bulk results) = members ((codes "Results", array (items_of (map result_data results))) ∷ [])
 reply_data (Document document) = document
 reply_data (Index name) = members ((codes "Index", text name) ∷ [])
+reply_data (Defined names) = members ((codes "Indexes", texts names) ∷ [])
 reply_data (Removed name) = members ((codes "Removed", text name) ∷ [])
 reply_data (Found ids etag is_stale) = members ((codes "Ids", texts ids) ∷ (codes "IndexEtag", number etag) ∷ (codes "IsStale", flag is_stale) ∷ [])
 reply_data (Answer answer) = answer_data answer
@@ -175,6 +180,7 @@ reply_data (Control at) = error_at at (codes "Control") []
 reply_data (BadMember name) = error (codes "BadMember") ((codes "Name", text name) ∷ [])
 reply_data (NoDocument id) = error (codes "NoDocument") ((codes "Id", text id) ∷ [])
 reply_data (NoIndex name) = error (codes "NoIndex") ((codes "Name", text name) ∷ [])
+reply_data (NotOneReduce number) = error (codes "NotOneReduce") ((codes "Number", num (pos number)) ∷ [])
 reply_data (BadQuery refusal) = error_at refusal.at (query.kind_name refusal.kind) []
 reply_data (BadPlan refusal) = plan_refusal_data refusal
 reply_data (Lang refusal) = members ((codes "At", number refusal.at) ∷ (codes "Error", text (kind_name refusal.kind)) ∷ (codes "Part", text (part_name refusal.part)) ∷ [])

@@ -1,5 +1,6 @@
 -- What clients and workers may ask, and the events of a run.
-use Rattle.std.specs.Prelude.{◌≡◌, ℕ, List, [], ◌∷◌, Bool, false, Option}
+use Rattle.std.specs.Prelude.{◌≡◌, ℕ, List, [], ◌∷◌, Bool, true, false, Option}
+use Rattle.std.specs.List.{list_any}
 use Rattle.spec_data.specs.Data.{Data}
 use Rattle.index_tree.specs.Definitions.{Definition}
 use Rattle.spec_query.specs.Query as query
@@ -12,10 +13,14 @@ pub data Request : Type 0 where
   Bulk : (commands : List Command) → Request
   Get : (id : List ℕ) → Request
   Define : (name : List ℕ) (definition : Definition) → Request
+  -- the parts of an index of several maps are defined, one after another
+  Multi : (parts : List (List ℕ × Definition)) → Request
   Remove : (name : List ℕ) → Request
   Auto : (collection field : List ℕ) → Request
   Find : (index field words : List ℕ) → Request
   Ask : (ask : query.Ask) → Request
+  -- a query of an index of several maps
+  Mask : (ask : query.Ask) → Request
   -- one batch for each index, or for the one of this name
   Pump : (max : ℕ) (index : Option (List ℕ)) → Request
   -- the replacement of the index of this name takes the name
@@ -34,6 +39,12 @@ pub data Line : Type 0 where
   Read : (worker max : ℕ) (index : List ℕ) → Line
   -- the worker publishes the batch that it holds
   Publish : (worker : ℕ) → Line
+
+-- whether it may store rows more than once, one change after another
+abbrev pub makes_several : Request → Bool
+makes_several (Multi parts) = true
+makes_several Tidy = true
+makes_several other = false
 
 -- the commands that a client's request asks to write
 abbrev pub commands_in : Request → List Command
@@ -69,6 +80,7 @@ pub record Event : Type 0 where
 -- what a client may send: it defines no automatic index, since the server makes those
 abbrev pub IsFromClient : Line → Type 0
 IsFromClient (Do (Define name definition)) = is_automatic definition ≡ false
+IsFromClient (Do (Multi parts)) = list_any (λ p. is_automatic p.1) parts ≡ false
 IsFromClient other = Unit {0}
 
 abbrev pub AreFromClients : List Event → Type 0

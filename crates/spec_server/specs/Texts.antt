@@ -1,7 +1,7 @@
 -- The lines that have texts: the definition of an index, and a query.
-use Rattle.std.specs.Prelude.{ℕ, ℤ, pos, List, [], Bool, false, ◌&&◌, nat_le, if◌then◌else◌, Option, Some, None, Result, Ok, Err, codes}
+use Rattle.std.specs.Prelude.{ℕ, ℤ, pos, ◌+◌, List, [], ◌∷◌, Bool, false, ◌&&◌, nat_le, if◌then◌else◌, Option, Some, None, Result, Ok, Err, codes, length}
 use Rattle.std.specs.Str.{bytes_eq, is_utf8}
-use Rattle.spec_data.specs.Data.{Data, Entries, pairs_of}
+use Rattle.spec_data.specs.Data.{Data, Entries, list_of, pairs_of}
 use Rattle.spec_data.specs.Data as json
 use Rattle.spec_data.specs.Json.{reading}
 use Rattle.spec_data.specs.Members.{member}
@@ -11,9 +11,10 @@ use Rattle.index_tree.specs.Definitions.{Definition, Texts}
 use Rattle.spec_query.specs.Query.{Query}
 use Rattle.spec_query.specs.Query as query
 use Rattle.spec_query.specs.Refusals.{QueryRefusal}
-use Rattle.spec_server.specs.Requests.{Define, Ask, Do}
+use Rattle.spec_server.specs.Requests.{Define, Ask, Do, Multi, Mask}
 use Rattle.spec_server.specs.Words.{ReadRefusal, BadMember, BadDefinition, BadQuery, LineRead, then_read, argument_and_rest, json_read, name_read}
 use Rattle.spec_server.specs.Reading.{line_of}
+use Rattle.spec_server.specs.Several.{part_name}
 
 -- THE DEFINITION OF AN INDEX, in JSON
 
@@ -46,6 +47,50 @@ texts_in ms =
 abbrev pub texts_of_body : Data → Result (List ℕ × Texts) ReadRefusal
 texts_of_body (json.object ms) = texts_in ms
 texts_of_body other = Err (BadMember (codes "body"))
+
+-- SEVERAL MAPS INTO ONE REDUCE, in JSON
+
+-- the name, the texts of the maps, and that of the reduce
+pub record SeveralTexts : Type 0 where
+  pub name : List ℕ
+  pub maps : List (List ℕ)
+  pub reduce : List ℕ
+
+-- the names of the parts have to be valid, and are all as long
+abbrev pub several_name : Option Data → Result (List ℕ) ReadRefusal
+several_name (Some (json.text name)) = then_read (name_read (part_name name 1)) (λ part. Ok name)
+several_name other = Err (BadMember (codes "Name"))
+
+abbrev pub map_text : Data → Result (List ℕ) ReadRefusal
+map_text (json.text map) = Ok map
+map_text other = Err (BadMember (codes "Maps"))
+
+abbrev pub map_texts : List Data → Result (List (List ℕ)) ReadRefusal
+map_texts [] = Ok []
+map_texts (d ∷ ds) = then_read (map_text d) (λ map. then_read (map_texts ds) (λ maps. Ok (map ∷ maps)))
+
+-- two to eight
+abbrev pub several_maps : Option Data → Result (List (List ℕ)) ReadRefusal
+several_maps (Some (json.array ds)) = if nat_le 2 (length (list_of ds)) && nat_le (length (list_of ds)) 8 then map_texts (list_of ds) else Err (BadMember (codes "Maps"))
+several_maps other = Err (BadMember (codes "Maps"))
+
+abbrev pub several_reduce : Option Data → Result (List ℕ) ReadRefusal
+several_reduce (Some (json.text reduce)) = Ok reduce
+several_reduce other = Err (BadMember (codes "Reduce"))
+
+abbrev pub several_in : Entries → Result SeveralTexts ReadRefusal
+several_in ms =
+    then_read (several_name (member (codes "Name") ms)) (λ name.
+    then_read (several_maps (member (codes "Maps") ms)) (λ maps.
+    then_read (several_reduce (member (codes "Reduce") ms)) (λ reduce. Ok (record { name = name; maps = maps; reduce = reduce }))))
+
+abbrev pub several_of_body : Data → Result SeveralTexts ReadRefusal
+several_of_body (json.object ms) = several_in ms
+several_of_body other = Err (BadMember (codes "body"))
+
+-- MULTI <definition>
+abbrev pub several_of : List ℕ → Result SeveralTexts ReadRefusal
+several_of rest = then_read (json_read (reading rest)) several_of_body
 
 -- INDEX <definition>
 abbrev pub index_of : List ℕ → Result (List ℕ × Texts) ReadRefusal
@@ -134,6 +179,10 @@ pub data Asked : Type 0 where
   Defining : (name : List ℕ) (texts : Texts) → Asked
   -- to answer the query of this text
   Querying : (text : List ℕ) (asking : Asking) → Asked
+  -- to define the parts of an index of several maps by these texts
+  DefiningSeveral : (texts : SeveralTexts) → Asked
+  -- to answer the query of this text by an index of several maps
+  QueryingSeveral : (text : List ℕ) (asking : Asking) → Asked
 
 abbrev pub asked_to_define : Result (List ℕ × Texts) ReadRefusal → Asked
 asked_to_define (Err refusal) = Plain (Err refusal)
@@ -143,12 +192,22 @@ abbrev pub asked_to_query : Result (List ℕ × Asking) ReadRefusal → Asked
 asked_to_query (Err refusal) = Plain (Err refusal)
 asked_to_query (Ok asked) = Querying asked.0 asked.1
 
--- INDEX <definition>, QUERY <text>, ASK <query>, or another line
+abbrev pub asked_to_define_several : Result SeveralTexts ReadRefusal → Asked
+asked_to_define_several (Err refusal) = Plain (Err refusal)
+asked_to_define_several (Ok texts) = DefiningSeveral texts
+
+abbrev pub asked_to_query_several : Result (List ℕ × Asking) ReadRefusal → Asked
+asked_to_query_several (Err refusal) = Plain (Err refusal)
+asked_to_query_several (Ok asked) = QueryingSeveral asked.0 asked.1
+
+-- INDEX <definition>, QUERY <text>, ASK <query>, MULTI <definition>, MASK <query>, or another line
 abbrev pub asked_with : List ℕ → List ℕ → List ℕ → Asked
 asked_with line word rest =
     if bytes_eq word (codes "INDEX") then asked_to_define (index_of rest) else (
     if bytes_eq word (codes "QUERY") then Querying rest plain_asking else (
-    if bytes_eq word (codes "ASK") then asked_to_query (asking_of rest) else Plain (line_of line)))
+    if bytes_eq word (codes "ASK") then asked_to_query (asking_of rest) else (
+    if bytes_eq word (codes "MULTI") then asked_to_define_several (several_of rest) else (
+    if bytes_eq word (codes "MASK") then asked_to_query_several (asking_of rest) else Plain (line_of line)))))
 
 abbrev pub asked_by : List ℕ → Option (List ℕ × List ℕ) → Asked
 asked_by line None = Plain (line_of line)
@@ -179,3 +238,16 @@ whole_ask asking q = record {
 abbrev pub asked_by_text : Asking → Result Query QueryRefusal → LineRead
 asked_by_text asking (Ok q) = Ok (Some (Do (Ask (whole_ask asking q))))
 asked_by_text asking (Err refusal) = Err (BadQuery refusal)
+
+-- the names of the parts and their maps, each of which is read with the reduce
+abbrev pub part_texts : ℕ → List ℕ → List (List ℕ) → List (List ℕ × List ℕ)
+part_texts n name [] = []
+part_texts n name (map ∷ maps) = (part_name name n, map) ∷ part_texts (n + 1) name maps
+
+abbrev pub parts_defined : Result (List (List ℕ × Definition)) LangRefusal → LineRead
+parts_defined (Ok parts) = Ok (Some (Do (Multi parts)))
+parts_defined (Err refusal) = Err (BadDefinition refusal)
+
+abbrev pub masked_by_text : Asking → Result Query QueryRefusal → LineRead
+masked_by_text asking (Ok q) = Ok (Some (Do (Mask (whole_ask asking q))))
+masked_by_text asking (Err refusal) = Err (BadQuery refusal)

@@ -1,13 +1,13 @@
 -- What a request has to be for what it writes to open again.
 use Rattle.std.specs.Prelude.{◌≡◌, List, ◌++◌, Bool, true, false, ◌&&◌, nat_le}
-use Rattle.std.specs.List.{list_all}
+use Rattle.std.specs.List.{list_all, list_any}
 use Rattle.spec_data.specs.Data.{Data, object, depth}
 use Rattle.spec_data.specs.Limits.{max_depth}
 use Rattle.spec_store.specs.Commit.{Command}
 use Rattle.spec_index.specs.World.{is_automatic}
 use Rattle.spec_query.specs.Fields.{asked_fields, selected_fields}
 use Rattle.spec_query.specs.Query.{Field, At, Count, Sum, Query}
-use Rattle.spec_server.specs.Requests.{Line, Do, Put, Bulk, Define, Auto, Ask}
+use Rattle.spec_server.specs.Requests.{Line, Do, Put, Bulk, Define, Multi, Auto, Ask}
 use Rattle.spec_server.specs.Opening.{is_part, is_path}
 
 -- a document as JSON can have it: an object at most a hundred deep
@@ -41,4 +41,5 @@ IsWellFormed (Do (Bulk commands)) = put_bodies commands ≡ true
 IsWellFormed (Do (Define name definition)) = is_automatic definition ≡ false
 IsWellFormed (Do (Auto collection field)) = is_part field ≡ true
 IsWellFormed (Do (Ask ask)) = has_valid_paths ask.query ≡ true
+IsWellFormed (Do (Multi parts)) = list_any (λ p. is_automatic p.1) parts ≡ false
 IsWellFormed other = Unit {0}

@@ -3,7 +3,7 @@ use Rattle.std.proofs.Common.{◌≡◌, ℕ, ◌+◌, ◌-◌, [], ◌∷◌, t
 use Rattle.spec_query.specs.Query as query
 use Rattle.spec_index.specs.World.{World}
 use Rattle.spec_server.specs.Asking.{Ready, answer_ask}
-use Rattle.spec_server.specs.Requests.{Ask, Auto, Bulk, Clean, Define, Delete, Find, Get, Indexes, Pump, Put, Remove, Request, Stale, Stats, Switch, Tidy}
+use Rattle.spec_server.specs.Requests.{Ask, Auto, Bulk, Clean, Define, Delete, Find, Get, Indexes, Mask, Multi, Pump, Put, Remove, Request, Stale, Stats, Switch, Tidy}
 use Rattle.spec_server.specs.Courses.{Course, only_reply}
 use Rattle.spec_server.specs.Indexing.{ask_course}
 use Rattle.spec_server.specs.Machine.{course_of}
@@ -26,6 +26,7 @@ use Rattle.turn_desk.specs.Reading.{changes_nothing}
 pub makes_nothing : (W : World) (now : ℕ) (q : Request) → changes_nothing q ≡ true → (course_of W now q).changes ≡ []
 makes_nothing W now (Get id) e = refl
 makes_nothing W now (Find index field words) e = refl
+makes_nothing W now (Mask ask) e = refl
 makes_nothing W now (Stale name cutoff) e = refl
 makes_nothing W now Indexes e = refl
 makes_nothing W now Stats e = refl
@@ -33,6 +34,7 @@ makes_nothing W now (Put id expected body) e = absurd cc
 makes_nothing W now (Delete id expected) e = absurd cc
 makes_nothing W now (Bulk commands) e = absurd cc
 makes_nothing W now (Define name definition) e = absurd cc
+makes_nothing W now (Multi parts) e = absurd cc
 makes_nothing W now (Remove name) e = absurd cc
 makes_nothing W now (Auto collection field) e = absurd cc
 makes_nothing W now (Ask ask) e = absurd cc

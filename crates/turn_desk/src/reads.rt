@@ -16,8 +16,8 @@ use raven_base::{NoMemory, Steps};
 use raven_desk::{Course, Live, Shot, course_of};
 use raven_ports::{Clock, Keeper};
 use raven_request::Request;
-use raven_turn::{Pass, Turn};
 use raven_snapshot::{Answered, Snapshot};
+use raven_turn::{Pass, Turn};
 use raven_world::{Reply, World};
 use rql_plan::QueryAsk;
 use std::alloc::Global;
@@ -33,6 +33,7 @@ pub(crate) fn changes_nothing(request: &Request) -> bool
     match request {
         Request::Get { .. }
         | Request::Find { .. }
+        | Request::Mask { .. }
         | Request::Stale { .. }
         | Request::Indexes
         | Request::Stats => true,

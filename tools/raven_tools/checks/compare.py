@@ -11,7 +11,7 @@ import tempfile
 
 from raven_tools import model, programs
 from raven_tools.checks.outside import outside
-from raven_tools.making import MAKERS, case_scripts, http_rounds, limit_scripts, worked_choices, worked_slots
+from raven_tools.making import MAKERS, case_scripts, http_rounds, limit_scripts, worked_choices, worked_multi, worked_slots
 from raven_tools.model import keeping, messages, running
 from raven_tools.places import PROGRAM
 from raven_tools.programs import Given
@@ -119,7 +119,8 @@ def seeds_of(given: argparse.Namespace) -> list[tuple[str, int]]:
 
 
 def worked_scripts() -> Runs:
-    for scripts in (limit_scripts.at_the_limits(), case_scripts.at_the_limits(), worked_slots.scripts(), worked_choices.scripts()):
+    worked = (worked_slots.scripts(), worked_choices.scripts(), worked_multi.scripts())
+    for scripts in (limit_scripts.at_the_limits(), case_scripts.at_the_limits(), *worked):
         for name, script in scripts:
             yield Given(name, script)
 

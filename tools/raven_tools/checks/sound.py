@@ -3,12 +3,13 @@
 It is said of stores and tables anew, and not by how the model makes them.
 """
 
-from raven_tools import model
-from raven_tools.model.asking import Ask, in_json, of_index, read_query, values_in
+from raven_tools import language, model
+from raven_tools.model import multi
+from raven_tools.model.asking import Ask, found_in_rows, in_json, of_index, read_query, reply_of, values_in
 from raven_tools.model.definitions import Definition, Document, Entry, scalar_at
-from raven_tools.model.indexes import is_replacement
+from raven_tools.model.indexes import REPLACEMENT, is_replacement
 from raven_tools.model.json import read_json
-from raven_tools.model.lines import ask_of
+from raven_tools.model.lines import ask_of, parts_of
 from raven_tools.queries import answers, binding
 from raven_tools.queries.trees import COUNT, Path, Query, in_order, joined, sum_name
 from raven_tools.scalars import is_number, place_of
@@ -257,8 +258,25 @@ def check_retired(before: model.Database, after: model.Database, reply: dict) ->
     assert not any(after.numbered(index.number) for index in retired), reply
 
 
+def check_several(before: model.Database, after: model.Database, line: bytes, reply: dict) -> None:
+    """Each index that the reply names has the definition of its part. If a part was refused, what is new is of the parts before it."""
+    new = [index.name for index in after.indexes if index.number > before.store.last]
+    if "Error" in reply and not new:
+        return
+    parts = parts_of(read_json(line.removeprefix(b"MULTI ")))
+    own = [model.folded(name) for name, _ in parts]
+    places = [own.index(model.folded(name.removeprefix(REPLACEMENT))) for name in new]
+    assert places == sorted(places), new
+    assert "Error" not in reply or own[-1] not in map(own.__getitem__, places), reply
+    for (_, definition), name in zip(parts, reply.get("Indexes", ())):
+        assert after.serving(name).definition.is_same(definition), name
+
+
 def check_line(before: model.Database, after: model.Database, line: bytes, reply: dict) -> None:
+    is_several = line.startswith(b"MULTI ")
     check_alone(after)
+    if is_several:
+        check_several(before, after, line, reply)
     check_choice(before, after, line, reply)
     if "Retired" in reply:
         check_retired(before, after, reply)
@@ -269,7 +287,7 @@ def check_line(before: model.Database, after: model.Database, line: bytes, reply
     check_tables(before, after)
     check_store(before.store, after.store)
     check_definitions(before, after)
-    assert "Error" not in reply or line == b"TIDY" or state(before) == state(after), reply
+    assert "Error" not in reply or line == b"TIDY" or is_several or state(before) == state(after), reply
     assert before.held == after.held or line.startswith((b"READ ", b"PUBLISH ")), line
 
 
@@ -316,8 +334,27 @@ def directly(database: model.Database, ask: Ask) -> tuple[int, list[Document]]:
     return len(found), [answers.selected(query, lambda path: answers.at_path(row.body, path)) for row in on_page]
 
 
+def check_of_several(database: model.Database, ask: Ask, reply: dict) -> bool:
+    """The flag, the etag and the rows of several maps. The rows of the parts' rows are those of their entries, and, if no part is stale, those
+    of all documents."""
+    parts = multi.parts_of(database, ask.query.origin[1])
+    reduce = parts[0].definition.reduce
+    unseen = [row.etag for part in parts for row in in_scope(database, part.definition).values() if row.etag > part.etag]
+    assert reply["IsStale"] is any(ask.cutoff is None or etag <= ask.cutoff for etag in unseen), reply
+    entries = [list(part.mapped()[0].values()) for part in parts]
+    rows = language.rows_of(reduce, [row for some in entries for row in language.rows_of(reduce, some)])
+    assert rows == language.rows_of(reduce, [entry for some in entries for entry in some]), rows
+    if not unseen:
+        assert rows == language.rows_of(reduce, [entry for part in parts for entry in scratch(database, part)[0].values()]), rows
+    expected = reply_of(database, found_in_rows(ask, rows), ask.query.origin[1], min(part.etag for part in parts), reply["IsStale"])
+    assert model.write_json(reply) == model.write_json(expected), reply
+    return not unseen
+
+
 def check_answer(database: model.Database, line: bytes, reply: dict) -> bool:
-    """Whether the reply is one of an index that is fresh without a cutoff. Then it is what all documents give."""
+    """Whether the reply is one of an index, or of several maps, that is fresh without a cutoff. Then it is what all documents give."""
+    if line.startswith(b"MASK ") and "IndexName" in reply:
+        return check_of_several(database, ask_in(line), reply)
     if reply.get("IsStale") is not False or "IndexName" not in reply:
         return False
     ask = ask_in(line)

@@ -45,9 +45,9 @@ class Questions(Chance):
         self.has_rows = False  # those of a reduce
         self.parameters: dict[str, object] | None = None
 
-    def about(self, index: model.Index) -> None:
-        """The rows that the index has, by whose fields its queries ask."""
-        entries = list(index.mapped()[0].values())
+    def about(self, index: model.Index, others: collections.abc.Sequence[model.Index] = ()) -> None:
+        """The rows that the index has, by whose fields its queries ask. If there are others, those of all their entries."""
+        entries = [entry for one in (index, *others) for entry in one.mapped()[0].values()]
         reduce = index.definition.reduce
         self.fields = index.definition.fields()
         self.has_rows = bool(reduce)
@@ -232,8 +232,8 @@ class Questions(Chance):
                 tokens = self.replaced(tokens)
         return self.joined(tokens)
 
-    def of_index(self, index: model.Index, name: str, broken: int = 12) -> str:
-        self.about(index)
+    def of_index(self, index: model.Index, name: str, broken: int = 12, others: collections.abc.Sequence[model.Index] = ()) -> str:
+        self.about(index, others)
         selected = 35 if self.has_rows else 60
         return self.text(["index", self.quoted(name)], self.tail(True, selected), broken)
 

@@ -6,13 +6,14 @@ import random
 import re
 
 from raven_tools import programs
-from raven_tools.making import choice_scripts, http_rounds, kept_rows, lines, map_scripts, query_scripts, slot_scripts
+from raven_tools.making import choice_scripts, http_rounds, kept_rows, lines, map_scripts, multi_scripts, query_scripts, slot_scripts
 from raven_tools.making.chance import Chance
 
 LINES = 40
 # The bytes that a session may not have.
 LONG = 50_000
 MAKERS = [slot_scripts.SlotMaker] * 3 + [map_scripts.LagMaker, query_scripts.QueryMaker] + [choice_scripts.ChoiceMaker] * 3
+MAKERS += [multi_scripts.MultiMaker] * 2
 NAMES = ["U", "V", "w", "É", "_"]
 # Bytes that a line of a case may have as they are.
 PLAIN = frozenset(range(0x20, 0x7F))

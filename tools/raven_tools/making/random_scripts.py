@@ -402,8 +402,12 @@ class RandomMaker(Maker):
         return self.one_of(["0", "1", "1", "2", "3", "5", "9", "2147483647"] if self.chance(96) else ["-1", "2147483648"])
 
     def ask(self):
+        return self.asked("ASK", self.question)
+
+    def asked(self, word, question):
+        """A line of this word with the members of a question."""
         self.questions.parameters = {}
-        parts = [self.member("Query", self.text(self.question()), NO_TEXTS)]
+        parts = [self.member("Query", self.text(question()), NO_TEXTS)]
         given = model.write_json(self.questions.parameters)
         parts += [self.member("QueryParameters", given, NO_OBJECTS)] if given != "{}" and self.chance(97) else []
         parts += [self.member("Start", self.page(), NO_NUMBERS)] if self.chance(35) else []
@@ -413,7 +417,7 @@ class RandomMaker(Maker):
         looks = self.one_of(["1", "2", "7", "64"] if self.chance(93) else ["0", "65", "-1"])
         parts += [self.member("Looks", looks, NO_NUMBERS)] if self.chance(10) else []
         self.random.shuffle(parts)
-        return "ASK {" + ",".join(self.space() + part for part in parts) + "}"
+        return word + " {" + ",".join(self.space() + part for part in parts) + "}"
 
     def other(self):
         return self.one_of(OTHERS)

@@ -1,6 +1,7 @@
 """Questions: what they ask, and the answer of a database."""
 
 import collections.abc
+import contextlib
 import dataclasses
 
 from raven_tools import language, queries
@@ -43,15 +44,21 @@ def read_query(text: str) -> queries.Query:
         raise Refused(refusal.kind, At=refusal.at) from None
 
 
-def answer_to(database: Database, ask: Ask) -> Reply:
+@contextlib.contextmanager
+def unless_unbound() -> collections.abc.Iterator[None]:
     try:
+        yield
+    except binding.Unbound as unbound:
+        raise Refused(unbound.error, **({} if unbound.name is None else {"Name": unbound.name})) from None
+
+
+def answer_to(database: Database, ask: Ask) -> Reply:
+    with unless_unbound():
         binding.check(ask.query, ask.parameters, ask.start, ask.size)
         kind, name = ask.query.origin
         if binding.is_dynamic(ask.query):
             return of_index(database, ask, optimiser.index_for(database, optimiser.shape_of(ask.query)))
         return of_index(database, ask, database.live(name)) if kind == "index" else of_collection(database, ask, name)
-    except binding.Unbound as unbound:
-        raise Refused(unbound.error, **({} if unbound.name is None else {"Name": unbound.name})) from None
 
 
 def of_collection(database: Database, ask: Ask, name: str) -> Reply:
@@ -66,9 +73,13 @@ def of_index(database: Database, ask: Ask, index: Index) -> Reply:
     reduce = index.definition.reduce
     binding.check_fields(ask.query, index.definition.fields(), bool(reduce))
     found = of_rows(ask, index, reduce) if reduce else of_entries(database, ask, index)
+    return reply_of(database, found, index.name, index.etag, is_stale_for(database, ask, index))
+
+
+def is_stale_for(database: Database, ask: Ask, index: Index) -> bool:
+    """Up to the cutoff of the question."""
     cutoff = database.store.last if ask.cutoff is None else ask.cutoff
-    is_stale = any(row.etag <= cutoff for row in database.unseen(index))
-    return reply_of(database, found, index.name, index.etag, is_stale)
+    return any(row.etag <= cutoff for row in database.unseen(index))
 
 
 def values_in(fields: dict[str, Json]) -> collections.abc.Callable[[Path], Json]:
@@ -97,7 +108,11 @@ def of_documents(database: Database, ask: Ask, total: int, rows: list[Row]) -> F
 def of_rows(ask: Ask, index: Index, reduce: Reduce) -> Found:
     """The rows of a reduce, in order of their keys."""
     entries, _ = index.mapped()
-    rows = answers.found(ask.query, language.rows_of(reduce, list(entries.values())), values_in, ask.parameters)
+    return found_in_rows(ask, language.rows_of(reduce, list(entries.values())))
+
+
+def found_in_rows(ask: Ask, every: list[dict[str, Json]]) -> Found:
+    rows = answers.found(ask.query, every, values_in, ask.parameters)
     on_page = answers.page(rows, ask.start, ask.size)
     shows_whole = not answers.columns_of(ask.query)
     columns = [row if shows_whole else answers.selected(ask.query, values_in(row)) for row in on_page]

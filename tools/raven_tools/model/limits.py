@@ -15,6 +15,8 @@ MAX_ETAG = 9_007_199_254_740_991
 MAX_BATCH = 65_536
 MAX_WORKER = 15
 MAX_LOOKS = 64
+# The maps of one MULTI.
+MAX_PARTS = 8
 # Of an automatic index that is made wider: its fields, and the bytes of their joined paths.
 MAX_FIELDS = 64
 MAX_PATHS = 65_536

@@ -3,13 +3,13 @@
 import collections.abc
 import re
 
-from raven_tools.model import answers, batches, cleaning, optimiser, slots, tidying
+from raven_tools.model import answers, batches, cleaning, multi, optimiser, slots, tidying
 from raven_tools.model.asking import Ask, answer_to, read_query
 from raven_tools.model.database import Database, Reply
 from raven_tools.model.definitions import Static
 from raven_tools.model.documents import fault_of
 from raven_tools.model.json import Json, read_json, write_json
-from raven_tools.model.limits import MAX_BATCH, MAX_ID, MAX_LOOKS, MAX_NAME, MAX_WORKER
+from raven_tools.model.limits import MAX_BATCH, MAX_ID, MAX_LOOKS, MAX_NAME, MAX_PARTS, MAX_WORKER
 from raven_tools.model.refused import Refused
 from raven_tools.model.transactions import Command
 from raven_tools.scalars import is_number
@@ -157,6 +157,27 @@ def index_line(database: Database, rest: str) -> Reply:
     return slots.define(database, *definition_of(object_of(read_json(rest.encode()), "body")))
 
 
+def maps_of(members: dict[str, Json]) -> list[str]:
+    """Two to eight texts."""
+    maps = members.get("Maps")
+    if not isinstance(maps, list) or not 2 <= len(maps) <= MAX_PARTS:
+        raise Refused("BadMember", Name="Maps")
+    return [text_of(text, "Maps") for text in maps]
+
+
+def parts_of(members: dict[str, Json]) -> list[tuple[str, Static]]:
+    """The names and the definitions of several maps into one reduce. All texts are read before an index is defined."""
+    name = text_of(members.get("Name"), "Name")
+    name_of(multi.name_of(name, 1))
+    maps = maps_of(members)
+    reduce = text_of(members.get("Reduce"), "Reduce")
+    return [(multi.name_of(name, number), Static(text, reduce)) for number, text in enumerate(maps, 1)]
+
+
+def multi_line(database: Database, rest: str) -> Reply:
+    return multi.define(database, parts_of(object_of(read_json(rest.encode()), "body")))
+
+
 def drop_line(database: Database, rest: str) -> Reply:
     return slots.remove(database, name_of(rest))
 
@@ -224,6 +245,10 @@ def ask_line(database: Database, rest: str) -> Reply:
     return answer_to(database, ask_of(read_json(rest.encode())))
 
 
+def mask_line(database: Database, rest: str) -> Reply:
+    return multi.answer_to(database, ask_of(read_json(rest.encode())))
+
+
 COMMANDS: dict[str, collections.abc.Callable[[Database, str], Reply]] = {
     "PUT": put_line,
     "PUTIF": put_if_line,
@@ -242,6 +267,8 @@ COMMANDS: dict[str, collections.abc.Callable[[Database, str], Reply]] = {
     "STALE": stale_line,
     "QUERY": query_line,
     "ASK": ask_line,
+    "MULTI": multi_line,
+    "MASK": mask_line,
 }
 # Lines without arguments.
 ALONE: dict[str, collections.abc.Callable[[Database], Reply]] = {

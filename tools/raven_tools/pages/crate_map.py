@@ -11,7 +11,7 @@ from raven_tools.places import TOP
 CRATES_FILE = TOP / "crates.txt"
 # The pages in the order in which to read them, by why they are read.
 READING = {
-    "To use it": "tour serving http queries index-language replacing operating studio messages script reliability measure",
+    "To use it": "tour serving http documents queries index-language replacing operating studio messages script reliability measure",
     "To judge it": "glossary guarantees definitions values json query-language index-text http-rules server-inside keeping laws believed performance DECISIONS",
     "To change it": "map adding desk turn indexes paged-map exact-parsing cases gate",
 }
