@@ -4,5 +4,6 @@ pub mod GroupScans
 pub mod Once
 pub mod Forms
 pub mod Texts
+pub mod Alike
 mod ReadPaths
 mod Reducing

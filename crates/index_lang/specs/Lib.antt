@@ -9,3 +9,4 @@ pub mod Openings
 pub mod Bodies
 pub mod ByTexts
 pub mod Reducing
+pub mod Alike

@@ -1,10 +1,10 @@
 //! Names that no index has.
-ghost use Rattle.std.specs.Prelude.{◌≡◌, ◌++◌, ◌<◌, ◌^◌, IfOk, codes, decimal, is_some, length, string_bytes};
+ghost use Rattle.std.specs.Prelude.{◌≡◌, ◌<◌, ◌^◌, IfOk, is_some, length, string_bytes};
 ghost use Rattle.spec_index.specs.Optimiser.{first_free as spec_first_free};
 ghost use Rattle.spec_index.specs.World.{serving as spec_serving};
 
 use raven_base::NoMemory;
-use side_by_side::{Slot, serving_in};
+use side_by_side::{Slot, serving_in, with_number};
 use std::alloc::Global;
 
 // Whether some index serves the name.
@@ -12,15 +12,6 @@ fn is_served(slots: &[Slot], name: &str) -> bool
     ensures { result ≡ is_some (spec_serving slots.now name.now) }
 {
     serving_in(slots, name).is_some()
-}
-
-fn with_number(alloc: Global, name: &str, number: u64) -> Result<String, NoMemory>
-    ensures { IfOk result (λ text. string_bytes text ≡ name.now ++ (codes "/" ++ decimal number)) }
-{
-    let mut text = String::from_str(alloc, name)?;
-    text.push_str("/")?;
-    text.push_str(number.to_string(alloc)?.as_str())?;
-    Ok(text)
 }
 
 /// The name, or with the least number from 2 on behind it that no index serves.

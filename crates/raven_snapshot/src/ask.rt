@@ -38,7 +38,8 @@ use side_by_side::{Slot, serving_in};
 use std::alloc::Global;
 use std::sync::ledger::Ledger;
 
-fn answer_of(found: Found, index_etag: u64, index_name: Text, is_stale: bool) -> Reply
+/// The reply of what is found.
+pub fn answer_of(found: Found, index_etag: u64, index_name: Text, is_stale: bool) -> Reply
     ensures { reply_view result ≡ spec_answer_of (found_view found) index_etag index_name is_stale }
 {
     let Found {
@@ -57,9 +58,9 @@ fn answer_of(found: Found, index_etag: u64, index_name: Text, is_stale: bool) ->
     }
 }
 
-// The reply to a query that is refused.
+/// The reply to a query that is refused.
 #[tactic(auto, using(crate::proofs::Asking::refusals))]
-fn refused(refusal: PlanRefusal) -> Result<Reply, NoMemory>
+pub fn refused(refusal: PlanRefusal) -> Result<Reply, NoMemory>
     ensures { IfOk result (λ reply. (other : AnsweredIs) (cause : Option is.PlanRefusal) → Refuses refusal cause → Ready (reply_view reply) ≡ unless_refused other cause) }
 {
     match refusal {

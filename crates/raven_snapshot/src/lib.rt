@@ -12,4 +12,7 @@ mod snapshot;
 mod stale;
 
 pub use answered::Answered;
+pub use ask::{answer_of, refused};
+pub use documents::{ShownBy, StoreRows};
 pub use snapshot::Snapshot;
+pub use stale::is_stale;

@@ -17,7 +17,7 @@ mod waiting;
 
 pub use change::{SlotChange, SlotRefusal};
 pub use lists::serving_in;
-pub use naming::{index_id, is_reserved_name};
+pub use naming::{index_id, is_reserved_name, with_number};
 pub use note::Note;
 pub use parts::Parts;
 pub use retire::Retirement;

@@ -1,5 +1,5 @@
 //! Names of indexes, and the rows of their definitions.
-ghost use Rattle.std.specs.Prelude.{◌≡◌, IfOk};
+ghost use Rattle.std.specs.Prelude.{◌≡◌, ◌++◌, IfOk, codes, decimal, string_bytes};
 ghost use Rattle.spec_store.specs.Commit.{AnyVector, Delete, Put};
 ghost use Rattle.spec_index.specs.World.{index_id as spec_index_id, is_reserved_name as spec_is_reserved_name, row_body as spec_row_body};
 ghost use Rattle.doc_txn.specs.CommandView.{command_view};
@@ -16,6 +16,16 @@ pub fn is_reserved_name(name: &str) -> bool
     ensures { result ≡ spec_is_reserved_name name.now }
 {
     starts_folded(name.as_bytes(), b"auto/") || starts_folded(name.as_bytes(), b"replacementof/")
+}
+
+/// The name with a slash and a number behind it.
+pub fn with_number(alloc: Global, name: &str, number: u64) -> Result<String, NoMemory>
+    ensures { IfOk result (λ text. string_bytes text ≡ name.now ++ (codes "/" ++ decimal number)) }
+{
+    let mut text = String::from_str(alloc, name)?;
+    text.push_str("/")?;
+    text.push_str(number.to_string(alloc)?.as_str())?;
+    Ok(text)
 }
 
 /// The id of the row of the definition of this name.
