@@ -6,7 +6,7 @@ use doc_store::Store;
 use index_lang::same_reduce;
 use index_version::IndexVersion;
 use raven_base::NoMemory;
-use raven_snapshot::is_stale;
+use query_replies::is_stale;
 use side_by_side::{Slot, serving_in, with_number};
 use std::alloc::Global;
 

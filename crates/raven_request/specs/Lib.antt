@@ -1,3 +1,4 @@
 pub mod Lists
 pub mod RequestView
 pub mod RequestRead
+pub mod Several

@@ -10,6 +10,7 @@ use Rattle.spec_server.specs.Texts as read_texts
 use Rattle.doc_txn.specs.CommandView.{command_view, expect_view}
 use Rattle.index_definition.specs.RefusalView.{refusal_view}
 use Rattle.index_lang.specs.ByTexts.{Named}
+use Rattle.index_tree.specs.Definitions.{Definition}
 use Rattle.rql_grammar.specs.Kinds.{query_refusal}
 use Rattle.raven_request.specs.declared.query.Asking.{Asking}
 use Rattle.raven_request.specs.declared.request.Request.{Request}
@@ -21,9 +22,13 @@ use Rattle.raven_request.specs.declared.request.ReadRefusal.TheVariants as refus
 abbrev pub define_view : Named → is.Request
 define_view d = is.Define d.name d.definition
 
--- the request to define the parts of an index of several maps
+-- a part of an index of several maps: its name, and its definition
+abbrev pub part_view : Named → List ℕ × Definition
+part_view d = (d.name, d.definition)
+
+-- the request to define these parts
 abbrev pub multi_view : List Named → is.Request
-multi_view parts = is.Multi (map (λ d. (d.name, d.definition)) parts)
+multi_view parts = is.Multi (map part_view parts)
 
 abbrev pub request_view : Request → is.Request
 request_view (r.Put id expected body) = is.Put id (expect_view expected) (data_of body)

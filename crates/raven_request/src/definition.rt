@@ -16,7 +16,7 @@ use raven_value::{Members, Name, Text, Value};
 use std::alloc::Global;
 
 /// The text of the map, and that of the reduce, if there is one.
-type Texts<'a> = (&'a str, Option<&'a str>);
+pub type Texts<'a> = (&'a str, Option<&'a str>);
 
 #[tactic(auto, using(crate::proofs::Readings::members))]
 fn name_member(alloc: Global, value: Option<&Value>) -> Result<Name, ReadRefusal>
@@ -106,9 +106,9 @@ fn texts_of_body(alloc: Global, value: &Value) -> Result<(Name, Texts<'_>), Read
     }
 }
 
-// The definition that the texts say.
+/// The definition that the texts say, under this name.
 #[tactic(auto, using(crate::proofs::Requesting::requesting))]
-fn define_by(alloc: Global, name: Name, texts: Texts<'_>) -> Result<TextDefinition, ReadRefusal>
+pub fn define_by(alloc: Global, name: Name, texts: Texts<'_>) -> Result<TextDefinition, ReadRefusal>
     ensures { AsksBy define_view (Defining name (texts_behind texts.entry)) result }
 {
     let (map, reduce) = texts;

@@ -3,7 +3,7 @@ ghost use Rattle.std.specs.Prelude.{◌≡◌, option_map};
 ghost use Rattle.spec_data.specs.Data.{entries_of};
 ghost use Rattle.raven_value.specs.View.{data_of};
 ghost use Rattle.spec_server.specs.Requests.{Ask};
-ghost use Rattle.spec_server.specs.Texts.{Querying, asked_to_query, asking_in as spec_asking_in, asking_of, asking_of_body as spec_asking_of_body, asking_with as spec_asking_with, beside_in as spec_beside_in, cutoff_member as spec_cutoff_member, looks_member as spec_looks_member, parameters_member as spec_parameters_member, plain_asking, query_member as spec_query_member, size_member as spec_size_member, start_member as spec_start_member, wait_member as spec_wait_member, whole_ask};
+ghost use Rattle.spec_server.specs.Texts.{Querying, asked_to_query, asked_to_query_several, asking_in as spec_asking_in, asking_of, asking_of_body as spec_asking_of_body, asking_with as spec_asking_with, beside_in as spec_beside_in, cutoff_member as spec_cutoff_member, looks_member as spec_looks_member, parameters_member as spec_parameters_member, plain_asking, query_member as spec_query_member, size_member as spec_size_member, start_member as spec_start_member, wait_member as spec_wait_member, whole_ask};
 ghost use Rattle.raven_request.specs.RequestRead.{Asks, AsksBy};
 ghost use Rattle.raven_request.specs.RequestView.{Reads, asking_view};
 
@@ -223,4 +223,14 @@ pub fn query_of_json(alloc: Global, json: &[u8]) -> Result<Request, ReadRefusal>
     let value = json_of(alloc, json)?;
     let ask = ask_of(alloc, value)?;
     Ok(Request::Ask { ask })
+}
+
+/// The request to answer the query of this JSON by an index of several maps.
+#[tactic(auto, using(crate::proofs::Masking::masking))]
+pub fn mask_of_json(alloc: Global, json: &[u8]) -> Result<Request, ReadRefusal>
+    ensures { Asks (asked_to_query_several (asking_of json.now)) result }
+{
+    let value = json_of(alloc, json)?;
+    let ask = ask_of(alloc, value)?;
+    Ok(Request::Mask { ask })
 }

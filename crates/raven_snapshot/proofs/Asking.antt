@@ -43,13 +43,6 @@ use Rattle.rql_plan.specs.Shapes.{shape_if_any}
 use Rattle.raven_snapshot.specs.AnsweredView.{name_of_choice}
 use Rattle.raven_snapshot.specs.Asked.{ReadsToAnswer, counted}
 
--- REFUSALS
-
-pub by_cause : (other : Answered) (cause : Option PlanRefusal) (refusal : PlanRefusal) → cause ≡ Some refusal → Ready (BadPlan refusal) ≡ unless_refused other cause
-by_cause other cause refusal h = ap (unless_refused other) (sym h)
-
-pub ruleset refusals = (by_cause)
-
 -- IN AN INDEX
 
 -- an automatic index with groups groups its entries

@@ -1,4 +1,2 @@
-pub mod Pairs
-pub mod Shown
 pub mod Asking
 pub mod Collections

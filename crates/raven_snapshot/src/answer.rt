@@ -5,11 +5,10 @@ ghost use Rattle.spec_index.specs.World.{serving as spec_serving};
 ghost use Rattle.spec_server.specs.Replies.{Document as DocumentOf};
 ghost use Rattle.raven_reply.specs.ReplyView.{reply_view};
 
-use crate::documents::shown_metadata;
 use crate::listing::listings;
 use crate::snapshot::Snapshot;
-use crate::stale::is_stale;
 use doc_txn::{BaseId, spelling};
+use query_replies::{is_stale, shown_metadata};
 use raven_base::NoMemory;
 use raven_reply::{Listings, Reply, no_index};
 use raven_value::{Body, Document, Id, Name, Row};

@@ -18,16 +18,15 @@ ghost use Rattle.raven_snapshot.specs.AnsweredView.{answered_view};
 ghost use Rattle.raven_snapshot.specs.Asked.{ReadsToAnswer, ReadsWhatItCounts};
 
 use crate::answered::Answered;
-use crate::documents::{ShownBy, StoreRows};
 use crate::entries::IndexEntries;
 use crate::find::has_reduce;
 use crate::snapshot::Snapshot;
-use crate::stale::is_stale;
 use doc_store::Store;
 use doc_txn::BaseId;
 use index_definition::Shape;
 use index_version::IndexVersion;
 use query_optimizer::{Choice, pick};
+use query_replies::{ShownBy, StoreRows, answer_of, is_stale, refused};
 use raven_base::{NoMemory, Steps};
 use raven_reply::{Reply, no_index};
 use raven_value::{Name, Text};
@@ -37,40 +36,6 @@ use rql_tree::Origin;
 use side_by_side::{Slot, serving_in};
 use std::alloc::Global;
 use std::sync::ledger::Ledger;
-
-/// The reply of what is found.
-pub fn answer_of(found: Found, index_etag: u64, index_name: Text, is_stale: bool) -> Reply
-    ensures { reply_view result ≡ spec_answer_of (found_view found) index_etag index_name is_stale }
-{
-    let Found {
-        total,
-        results,
-        includes,
-        ..
-    } = found;
-    Reply::Answer {
-        includes,
-        index_etag,
-        index_name,
-        is_stale,
-        results,
-        total_results: total,
-    }
-}
-
-/// The reply to a query that is refused.
-#[tactic(auto, using(crate::proofs::Asking::refusals))]
-pub fn refused(refusal: PlanRefusal) -> Result<Reply, NoMemory>
-    ensures { IfOk result (λ reply. (other : AnsweredIs) (cause : Option is.PlanRefusal) → Refuses refusal cause → Ready (reply_view reply) ≡ unless_refused other cause) }
-{
-    match refusal {
-        PlanRefusal::NoParameter { name } => Ok(Reply::NoParameter { name }),
-        PlanRefusal::NotGrouped { name } => Ok(Reply::NotGrouped { name }),
-        PlanRefusal::BadPage => Ok(Reply::BadPage),
-        PlanRefusal::NoField { name } => Ok(Reply::NoField { name }),
-        PlanRefusal::NoMemory => Err(NoMemory),
-    }
-}
 
 // The answer, unless the query is refused whatever it is about.
 fn unless(alloc: Global, ask: &QueryAsk, answered: Answered) -> Result<Answered, NoMemory>

@@ -10,10 +10,10 @@ ghost use Rattle.raven_snapshot.specs.Asked.{ReadsWhatItCounts};
 
 use crate::entries::IndexEntries;
 use crate::snapshot::Snapshot;
-use crate::stale::is_stale;
 use doc_store::Store;
 use index_definition::{DefBody, Definition};
 use index_version::IndexVersion;
+use query_replies::is_stale;
 use raven_base::{NoMemory, Steps};
 use raven_reply::{Reply, no_index};
 use raven_value::{Ids, Name, Scalar, Test, Text};

@@ -3,8 +3,8 @@ ghost use Rattle.std.specs.Prelude.{◌≡◌, IfOk, map, option_copied};
 ghost use Rattle.raven_value.specs.View.{data_of};
 ghost use Rattle.spec_server.specs.Answers.{body_shown as spec_body_shown, definition_shown as spec_definition_shown, listing as spec_listing, without_metadata as spec_without_metadata};
 
-use crate::stale::is_stale;
 use doc_store::Store;
+use query_replies::is_stale;
 use raven_base::NoMemory;
 use raven_json::value_of;
 use raven_reply::Listing;
