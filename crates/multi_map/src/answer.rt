@@ -11,9 +11,9 @@ ghost use Rattle.rql_eval.specs.FoundView.{found_view};
 
 use crate::parts::{is_one_stale, least_etag, other_part, parts_of, versions_of};
 use index_version::rows_together;
+use query_replies::{ShownBy, StoreRows, answer_of, refused};
 use raven_base::NoMemory;
 use raven_reply::Reply;
-use query_replies::{ShownBy, StoreRows, answer_of, refused};
 use raven_value::Text;
 use rql_eval::{Found, find_in_rows};
 use rql_plan::{Plan, QueryAsk, bind, check};

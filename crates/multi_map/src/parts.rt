@@ -5,8 +5,8 @@ ghost use Rattle.spec_server.specs.Several.{is_one_stale as spec_is_one_stale, l
 use doc_store::Store;
 use index_lang::same_reduce;
 use index_version::IndexVersion;
-use raven_base::NoMemory;
 use query_replies::is_stale;
+use raven_base::NoMemory;
 use side_by_side::{Slot, serving_in, with_number};
 use std::alloc::Global;
 
