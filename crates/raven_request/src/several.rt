@@ -84,7 +84,10 @@ fn map_texts<'a>(alloc: Global, values: &'a [Value]) -> Result<Vec<&'a str>, Rea
 {
     let mut maps = Vec::new(alloc);
     for value in values {
-        maps.push(map_text(alloc, value)?)?;
+        let map = map_text(alloc, value)?;
+        if maps.push(map).is_err() {
+            return Err(ReadRefusal::NoMemory);
+        }
     }
     Ok(maps)
 }
@@ -170,7 +173,10 @@ fn parts_by(alloc: Global, texts: &SeveralTexts<'_>) -> Result<Vec<TextDefinitio
     let mut parts = Vec::new(alloc);
     for map in texts.maps.as_slice() {
         let number = parts.len() as u64 + 1;
-        parts.push(part_by(alloc, texts, number, map)?)?;
+        let part = part_by(alloc, texts, number, map)?;
+        if parts.push(part).is_err() {
+            return Err(ReadRefusal::NoMemory);
+        }
     }
     Ok(parts)
 }
