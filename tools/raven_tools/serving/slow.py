@@ -1,6 +1,7 @@
 """Clients that send nothing, little or too much, or take nothing, beside those that go on being served."""
 
 import collections.abc
+import concurrent.futures
 import contextlib
 import http.client
 import json
@@ -139,36 +140,46 @@ def slow(command: Command) -> list[str]:
 
 # Connections that are kept
 
-# How many clients keep a connection, and how long a request may take behind them, in seconds. If each held a worker for as long as a
-# client may do nothing, it would take 80 seconds, so a client waits for longer than is right.
-KEEPERS, BEHIND, AT_MOST = 16, 30, 60
+# So many clients keep a connection, of a server with so few workers. Before such connections gave way, a request behind those that sent nothing took
+# 36 seconds, and the writes at once, by clients which keep theirs for 4 seconds, took 57: so neither may take so many.
+WORKERS, SILENT, WRITERS, AT_MOST = 4, 12, 50, 30
 
 
-def idle(command: Command) -> list[str]:
+def idle(command: Command) -> tuple[list[str], str]:
     """Clients that keep connections which they do not use hold up no other client, and find their connections closed, not a fault."""
-    wrong = []
-    with Server(command, "--workers", "2") as server:
-        with contextlib.ExitStack() as kept:
-            for _ in range(KEEPERS):
-                kept.enter_context(opened(server.port))
-            wrong += late(server.port, "that sent nothing")
-        with contextlib.ExitStack() as kept:
-            clients = [kept.enter_context(Client(server.port, AT_MOST)) for _ in range(KEEPERS)]
-            for _ in range(2):
-                for client in clients:
-                    client.stats()
-            wrong += late(server.port, "between two requests")
-        wrong += all_at_once(server.port, 2)
-    return wrong
+    with Server(command, "--workers", str(WORKERS)) as server:
+        behind = behind_silent(server.port)
+        writing = written_at_once(server.port)
+        wrong = all_at_once(server.port, WORKERS)
+    took = {
+        f"a request behind {SILENT} connections that sent nothing": behind,
+        f"{WRITERS} writes at once": writing,
+    }
+    wrong += [f"{what} took {seconds:.1f} s" for what, seconds in took.items() if seconds > AT_MOST]
+    return wrong, ": " + ", ".join(f"{what} {seconds:.1f} s" for what, seconds in took.items())
 
 
-def late(port: int, which: str) -> list[str]:
-    """What is wrong if a request takes too long behind connections of this kind."""
-    began = time.monotonic()
-    with Client(port, AT_MOST) as client:
-        client.stats()
-    took = time.monotonic() - began
-    return [f"a request behind {KEEPERS} connections {which} took {took:.1f} s"] if took > BEHIND else []
+def behind_silent(port: int) -> float:
+    with contextlib.ExitStack() as kept:
+        for _ in range(SILENT):
+            kept.enter_context(opened(port))
+        began = time.monotonic()
+        with Client(port, 2 * AT_MOST) as client:
+            client.stats()
+        return time.monotonic() - began
+
+
+def written_at_once(port: int) -> float:
+    """Until all are answered. Then each client asks again, over a connection that may have been closed."""
+    with contextlib.ExitStack() as kept, concurrent.futures.ThreadPoolExecutor(WRITERS) as threads:
+        clients = [kept.enter_context(Client(port, 2 * AT_MOST)) for _ in range(WRITERS)]
+        began = time.monotonic()
+        list(threads.map(lambda number: clients[number].put(f"kept/{number}", {}), range(WRITERS)))
+        took = time.monotonic() - began
+        counts = list(threads.map(Client.stats, clients))
+    if any(count["CountOfDocuments"] != WRITERS for count in counts):
+        raise Wrong(f"{WRITERS} writes at once are counted as {counts}")
+    return took
 
 
 # Large bodies
