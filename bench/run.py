@@ -1,9 +1,9 @@
 #!/usr/bin/env python3
 """Measures the program, and makes the table of docs/performance.md again.
 
-    bench/run.py [PROGRAM] [--only NAME]... [--write] [--part N]
+    bench/run.py [--program PATH] [--only NAME]... [--write] [--part N]
 
-PROGRAM is the built program, by default that of crates/raven. Each figure is a ratio of two things that are measured in the
+The program is that of crates/raven if none is named. Each figure is a ratio of two things that are measured in the
 same run. The part of the page with the table is printed, with what was measured, and the other figures as the page has them.
 With --write it takes the place of that part of the page.
 --only measures one group of figures, and may be given several times: puts, file, memory, batches, idle, finds, queries,
@@ -33,7 +33,7 @@ PAGE = TOP / "docs/performance.md"
 
 def options() -> argparse.Namespace:
     given = argparse.ArgumentParser(description="Measures the program, and makes the table of docs/performance.md again.")
-    given.add_argument("program", nargs="?", default=str(PROGRAM), type=os.path.abspath)
+    given.add_argument("--program", default=str(PROGRAM), type=os.path.abspath)
     given.add_argument("--only", action="append", choices=list(GROUPS), metavar="NAME", help=", ".join(GROUPS))
     given.add_argument("--write", action="store_true", help="write the table into the page")
     given.add_argument("--part", type=int, default=1, metavar="N", help="divide all sizes by N, to try the command")

@@ -3,9 +3,9 @@
 byte for byte but for line ends and moments. Those of a page run one after another over one database, which `raven serve` serves on a free port,
 and whose indexes have caught up before each. `http.client` asks too: over one connection, in chunks, and with large bodies.
 
-    tools/curl.py              the built program of crates/raven
-    tools/curl.py PROGRAM      this program
-    tools/curl.py --model      the model in Python
+    tools/curl.py                   the built program of crates/raven
+    tools/curl.py --program PATH    this program
+    tools/curl.py --model           the model in Python
 
 The status is 1 if one differs, and 2 if there is no program. Without curl it is 1 too, unless the variable RAVEN_WITHOUT_CURL is 1.
 """

@@ -1,8 +1,7 @@
 #!/usr/bin/env python3
 """Starts `raven serve` on free ports, in memory and over files, and looks at what its clients see.
 
-    tools/serve.py [PROGRAM] [--rounds N] [--seed N]
-    tools/serve.py --model [--rounds N] [--seed N]
+    tools/serve.py [--program PATH | --model] [--rounds N] [--seed N]
 
 - Up to 100 clients write, delete, read and query at once, over connections that stay open for some requests; indexes are defined,
   replaced and removed meanwhile. Each client reads its own writes. Then all is compared with the writes that were acknowledged, in order

@@ -173,7 +173,7 @@ def has_curl() -> bool:
 def main() -> int:
     sys.setrecursionlimit(10_000)
     given = argparse.ArgumentParser(description="Runs each command of docs/http.md and docs/tour.md.")
-    given.add_argument("program", nargs="?", default=str(PROGRAM))
+    given.add_argument("--program", default=str(PROGRAM))
     given.add_argument("--model", action="store_true", help="the model in Python, not the program")
     given = given.parse_args()
     program = None if given.model else os.path.abspath(given.program)

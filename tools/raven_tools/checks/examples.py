@@ -25,7 +25,7 @@ def by_program(path: str, examples: list[Example]) -> tuple[dict[str, bytes], st
 def main() -> int:
     sys.setrecursionlimit(10_000)
     given = argparse.ArgumentParser(description="Compares the scripts of examples/ and of pages of docs/ with what is expected.")
-    given.add_argument("program", nargs="?", default=str(PROGRAM))
+    given.add_argument("--program", default=str(PROGRAM))
     given.add_argument("--model", action="store_true", help="the model in Python, not the program")
     given = given.parse_args()
     examples = sorted(every(), key=lambda example: example.name)

@@ -10,7 +10,7 @@ from raven_tools.servers import MODEL, Wrong, takes_serve
 
 def main() -> int:
     given = argparse.ArgumentParser(description="How long a new index waits for its first batch beside a client that deletes.")
-    given.add_argument("program", nargs="?", default=str(PROGRAM))
+    given.add_argument("--program", default=str(PROGRAM))
     given.add_argument("--model", action="store_true", help="the model in Python")
     given.add_argument("--documents", type=int, default=100_000)
     given.add_argument("--pumps", type=int, default=2)

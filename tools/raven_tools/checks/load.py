@@ -66,7 +66,7 @@ def is_takable(options: argparse.Namespace) -> bool:
 
 def main() -> int:
     parser = argparse.ArgumentParser(description="Ages one file, by scripts or by clients of a server.")
-    parser.add_argument("program", nargs="?", default=str(PROGRAM))
+    parser.add_argument("--program", default=str(PROGRAM))
     parser.add_argument("--model", action="store_true", help="with --age: the model in Python, which stores nothing")
     parser.add_argument("--age", type=int, default=0, metavar="ROUNDS", help="so many rounds of a server, of as many deletions as writes")
     parser.add_argument("--rounds", type=int, default=10)

@@ -91,7 +91,7 @@ def all_checks(checks: Checks, rounds: int, seed: int, is_model: bool) -> None:
 def main() -> int:
     sys.setrecursionlimit(10_000)
     given = argparse.ArgumentParser(description="Checks the command serve.")
-    given.add_argument("program", nargs="?", default=str(PROGRAM))
+    given.add_argument("--program", default=str(PROGRAM))
     given.add_argument("--model", action="store_true", help="the model in Python, which stores nothing, and with fewer clients")
     given.add_argument("--rounds", type=int, default=1)
     given.add_argument("--seed", type=int, default=1)
