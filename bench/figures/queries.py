@@ -21,8 +21,8 @@ DOCUMENTS, PAGE, ROUNDS = 100_000, 20, 3
 INDEX = "Users/All"
 FIELDS = ["Amount", "Hundred", "Many", "Name", "One"]
 MAP = "from u in docs.Users select new { " + ", ".join(f"u.{field}" for field in FIELDS) + " }"
-BESIDE = f"PostgreSQL {postgres.VERSION}, `jsonb` and an index on an expression"
-WITH_TOTAL = f"{BESIDE}, asked for the page and for the total"
+BESIDE = f"PostgreSQL {postgres.VERSION}"
+WITH_TOTAL = f"{BESIDE}, for page and total"
 AT_MOST_ITS, AT_MOST_TWICE = Aim("at most", 1), Aim("at most", 2)
 # So many queries of a kind are asked at most in a round, and so many to see how long they take.
 MOST, FIRST = 10_000, 5

@@ -21,13 +21,13 @@ TABLES = (pathlib.Path(__file__).resolve().parents[1] / "totals.sql").read_text(
 ROWS = "select company, year, month, total, count from totals;"
 # How PostgreSQL is given the orders, and what does it.
 WAYS = {
-    "asked by `psql`": lambda count: statements(count),
-    "in a procedure of the server": lambda count: [f"call fill({SEED}, {count});"],
+    "by `psql`": lambda count: statements(count),
+    "by a procedure": lambda count: [f"call fill({SEED}, {count});"],
 }
 
 
 def rate_line(size: int, way: str) -> Line:
-    beside = f"PostgreSQL {postgres.VERSION}, `jsonb` and totals kept by a trigger, {way}"
+    beside = f"PostgreSQL {postgres.VERSION}, {way}"
     return Line(f"Orders a second by `raven measure --docs {size}`", beside, Aim("at least", 3))
 
 
