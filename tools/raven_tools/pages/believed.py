@@ -10,18 +10,18 @@ TOP_CALL = CRATES / "raven_console/src/program.rt"
 IMPORT = re.compile(r"\buse Rattle\.([a-z_0-9]+)\.specs\.(\w+)")
 HEAD = """# What has to be believed
 
-The definitions that the clauses of `raven` rest on, with their lines: what is proved is worth as much as they are. They are what is
-reached from the file of the top call by imports, without those of the toolchain. [definitions.md](definitions.md) is the way through them.
-`tools/pages.py --write` makes this page."""
+The definitions that the clauses of `raven` rest on: what is proved is worth as much as they are. They are the files of `specs/` that are reached from
+the file of the top call by imports, without those of the toolchain. What each is about stands in its first line, as `head -n 1
+crates/spec_server/specs/*.antt` prints it; [definitions.md](definitions.md) is the way through them. Beside each name are its lines. `tools/pages.py --write`
+makes this page."""
 
 
 @dataclasses.dataclass(frozen=True)
 class Module:
-    """A file of `specs/`: its name, its lines, and what its first comment says."""
+    """A file of `specs/`: its name and its lines."""
 
     name: str
     lines: int
-    about: str
 
 
 def file_of(crate: str, module: str) -> pathlib.Path:
@@ -38,9 +38,7 @@ def reached(start: pathlib.Path) -> dict[str, list[Module]]:
             left += IMPORT.findall(file_of(*one).read_text())
     found: dict[str, list[Module]] = {}
     for crate, name in sorted(seen):
-        lines = file_of(crate, name).read_text().splitlines()
-        about = lines[0].removeprefix("--").strip().rstrip(".") if lines[0].startswith("--") else ""
-        found.setdefault(crate, []).append(Module(name, len(lines), about))
+        found.setdefault(crate, []).append(Module(name, len(file_of(crate, name).read_text().splitlines())))
     return found
 
 
@@ -48,12 +46,16 @@ def lines_in(modules: list[Module]) -> int:
     return sum(module.lines for module in modules)
 
 
+def row_of(crate: str, modules: list[Module]) -> str:
+    files = ", ".join(f"`{module.name}` {module.lines}" for module in modules)
+    return f"| `{crate}` | {lines_in(modules):,} | {files} |"
+
+
 def page(_: str) -> str:
-    """For each crate, the one with most lines first, its files with their lines and what they are about."""
+    """For each crate, the one with most lines first, its files with their lines."""
     found = reached(TOP_CALL)
     files = sum(map(len, found.values()))
-    out = [HEAD, f"All together {files} files, {sum(map(lines_in, found.values())):,} lines."]
-    for crate, modules in sorted(found.items(), key=lambda pair: (-lines_in(pair[1]), pair[0])):
-        out.append(f"## `{crate}`: {lines_in(modules):,} lines")
-        out.append("\n".join(f"- `{module.name}`, {module.lines}: {module.about}".removesuffix(": ") for module in modules))
-    return "\n\n".join(out) + "\n"
+    ordered = sorted(found.items(), key=lambda pair: (-lines_in(pair[1]), pair[0]))
+    table = ["| Crate | Lines | Files |", "|---|---:|---|", *(row_of(crate, modules) for crate, modules in ordered)]
+    sums = f"All together {files} files, {sum(map(lines_in, found.values())):,} lines."
+    return "\n\n".join([HEAD, sums, "\n".join(table)]) + "\n"
