@@ -17,6 +17,7 @@ import tempfile
 TOOL = pathlib.Path(__file__).resolve().parent / "release"
 PROGRAM = "#!/bin/sh\necho raven 0.1.0\n"
 PASSED = f"#!/bin/sh\nmkdir -p crates/raven/out\nprintf '%s' '{PROGRAM}' >crates/raven/out/raven\nchmod +x crates/raven/out/raven\n"
+TOOLS = [*(f"tools/{name}.py" for name in ("model", "studio", "shell", "metrics", "explain")), "tools/studio/main.js", "tools/raven_tools/places.py"]
 FILES = {
     ".gitignore": "out/\n",
     "README.md": "# raven\n",
@@ -24,6 +25,8 @@ FILES = {
     "examples/nothing.raven": "\n",
     "crates/raven/src/main.rt": "//! The program.\n",
     "tools/release": TOOL.read_text(),
+    "tools/test_model.py": "\n",
+    **dict.fromkeys(TOOLS, "\n"),
 }
 
 
@@ -64,7 +67,7 @@ class Room:
 
 
 def test_passed(folder: str) -> None:
-    """What the gate has built is packed with its pages and checksums, in the same bytes each time, and nothing is left in the repository."""
+    """What the gate has built is packed with its pages, some tools and checksums, in the same bytes each time, and nothing is left in the repository."""
     room = Room(folder, PASSED)
     status, said = room.release()
     assert status == 0, said
@@ -74,7 +77,8 @@ def test_passed(folder: str) -> None:
     with tarfile.open(archive) as packed:
         names = {entry.name.removeprefix(f"{name}/") for entry in packed if entry.isfile()}
         packed.extractall(room.folder / "unpacked", filter="data")
-    assert names == {"raven", "README.md", "docs/map.md", "examples/nothing.raven", "VERSION", "KIT", "COMMIT", "SHA256SUMS"}, names
+    pages = {"README.md", "docs/map.md", "examples/nothing.raven"}
+    assert names == {"raven", *pages, *TOOLS, "VERSION", "KIT", "COMMIT", "SHA256SUMS"}, names
     unpacked = room.folder / "unpacked" / name
     found = [(unpacked / file).read_text() for file in ("raven", "VERSION", "KIT", "COMMIT")]
     assert found == [PROGRAM, "raven 0.1.0\n", "a kit\n", f"{commit}\n"], found
