@@ -5,7 +5,7 @@ use Rattle.spec_server.specs.Requests as is
 use Rattle.spec_server.specs.Words as read
 use Rattle.spec_server.specs.Words.{LineRead, then_read}
 use Rattle.spec_server.specs.Reading.{by_command, do_read, publish_of, read_of}
-use Rattle.spec_server.specs.Texts.{Asked, Plain, Querying, asked_to_define, asked_to_query, asking_of, index_of, plain_asking}
+use Rattle.spec_server.specs.Texts.{Asked, Plain, Querying, asked_to_define, asked_to_define_several, asked_to_query, asked_to_query_several, asking_of, index_of, plain_asking, several_of}
 use Rattle.raven_lines.specs.Lines.{Comes}
 use Rattle.raven_request.specs.RequestRead.{IsRefusedFor}
 use Rattle.raven_request.specs.RequestView.{request_view}
@@ -43,4 +43,6 @@ abbrev pub word_asked : (word rest : List ℕ) → Asked
 word_asked word rest =
     if bytes_eq word (codes "INDEX") then asked_to_define (index_of rest) else (
     if bytes_eq word (codes "QUERY") then Querying rest plain_asking else (
-    if bytes_eq word (codes "ASK") then asked_to_query (asking_of rest) else Plain (line_told (word_told word rest))))
+    if bytes_eq word (codes "ASK") then asked_to_query (asking_of rest) else (
+    if bytes_eq word (codes "MULTI") then asked_to_define_several (several_of rest) else (
+    if bytes_eq word (codes "MASK") then asked_to_query_several (asking_of rest) else Plain (line_told (word_told word rest))))))

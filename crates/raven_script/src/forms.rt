@@ -14,8 +14,8 @@ use crate::words::{is_collection, is_field, max_of, parts, word_and_rest};
 use crate::workers::{publish, read};
 use doc_txn::Expect;
 use raven_request::{
-    ReadRefusal, Request, bulk_of, define_of, delete_of, id_of, name_of, put_of, query_of,
-    query_of_json,
+    ReadRefusal, Request, bulk_of, define_of, delete_of, id_of, mask_of_json, multi_of, name_of,
+    put_of, query_of, query_of_json,
 };
 use raven_value::Text;
 use std::alloc::Global;
@@ -216,6 +216,8 @@ fn by_word(alloc: Global, word: &str, rest: &str) -> Result<Line, ReadRefusal>
         "INDEX" => asking(define_of(alloc, rest.as_bytes())),
         "QUERY" => asking(query_of(alloc, rest)),
         "ASK" => asking(query_of_json(alloc, rest.as_bytes())),
+        "MULTI" => asking(multi_of(alloc, rest.as_bytes())),
+        "MASK" => asking(mask_of_json(alloc, rest.as_bytes())),
         "READ" => read(alloc, rest),
         "PUBLISH" => publish(rest),
         _ => asking(request_of(alloc, word, rest)),
