@@ -5,6 +5,8 @@ use Rattle.std.proofs.lemmas.Fmt.{decimal_digit}
 use Rattle.std.proofs.lemmas.List.{length-append, map-append}
 use Rattle.std.specs.Fmt.{decimal}
 use Rattle.std.specs.List.{position_from}
+use Rattle.raven_value.specs.View.{data_of}
+use Rattle.raven_value.specs.declared.value.Value.{Value}
 use Rattle.spec_data.specs.Data.{Data, null, flag, num, text, array, object, Entries, items_of, list_of}
 use Rattle.spec_data.specs.Faults.{Fault, control, empty, fault_of, is_control, max_name, too_long}
 use Rattle.spec_data.specs.Members.{member}
@@ -21,10 +23,11 @@ use Rattle.spec_server.specs.Several.{part_name}
 use Rattle.spec_server.specs.Words as read
 use Rattle.spec_server.specs.Words.{BadMember, LineRead, name_read, then_read, unless_name_fault}
 use Rattle.spec_server.specs.Texts.{Asked, Defining, DefiningSeveral, SeveralTexts, asked_to_define_several, defined_by, map_text, map_texts, part_texts, several_in, several_maps, several_name, several_of_body, several_reduce}
+use Rattle.raven_request.proofs.Maps.{length-map}
 use Rattle.raven_request.proofs.Readings.{bad_member, list_of-items_of, refused_on}
 use Rattle.raven_request.proofs.Requesting.{comes-then, not_refused, plainly-refused, refused-as, refused-then, told-refused}
 use Rattle.raven_request.specs.RequestRead.{AsksBy, IsRefusedFor}
-use Rattle.raven_request.specs.RequestView.{Refuses, define_view, multi_view, part_view}
+use Rattle.raven_request.specs.RequestView.{IsBadMember, Reads, Refuses, define_view, multi_view, part_view}
 use Rattle.raven_request.specs.Several.{AreFit}
 use Rattle.raven_request.specs.declared.request.ReadRefusal.{ReadRefusal}
 
@@ -47,12 +50,22 @@ pub ruleset map_lists = (no-text-before, one-text-before, refused_on, append-nil
 
 -- TWO TO EIGHT
 
-pub counted-maps : (ds : List Data) (r : Result (List (List ℕ)) read.ReadRefusal) → (nat_le 2 (length ds) && nat_le (length ds) 8) ≡ true → map_texts ds ≡ r → several_maps (Some (array (items_of ds))) ≡ r
-counted-maps ds r few h =
-    ap (λ xs. cond (nat_le 2 (length xs) && nat_le (length xs) 8) (map_texts xs) (Err (BadMember (codes "Maps")))) (list_of-items_of ds)
-    ∙ ap (λ b. cond b (map_texts ds) (Err (BadMember (codes "Maps")))) few ∙ h
+-- of so many texts
+module _ (vs : List Value) where
+  abbrev are_few : Bool
+  are_few = nat_le 2 (length vs) && nat_le (length vs) 8
 
-pub ruleset counted = (counted-maps, bad_member)
+  by-count : (b : Bool) → are_few ≡ b → several_maps (Some (array (items_of (map data_of vs)))) ≡ cond b (map_texts (map data_of vs)) (Err (BadMember (codes "Maps")))
+  by-count b is =
+      ap (λ ds. cond (nat_le 2 (length ds) && nat_le (length ds) 8) (map_texts ds) (Err (BadMember (codes "Maps")))) (list_of-items_of (map data_of vs))
+      ∙ ap (λ few. cond few (map_texts (map data_of vs)) (Err (BadMember (codes "Maps")))) (ap (λ n. nat_le 2 n && nat_le n 8) (length-map vs) ∙ is)
+
+  pub too-few : (why : ReadRefusal) → are_few ≡ false → IsBadMember (codes "Maps") why → Refuses why (several_maps (Some (array (items_of (map data_of vs)))))
+  too-few why is bad = bad_member (codes "Maps") why (several_maps (Some (array (items_of (map data_of vs))))) bad (by-count false is)
+
+  pub few-enough : {A : Type 0} (view : A → List (List ℕ)) (result : Result A ReadRefusal) → are_few ≡ true → Reads view result (map_texts (map data_of vs))
+      → Reads view result (several_maps (Some (array (items_of (map data_of vs)))))
+  few-enough view result is h = subst (Reads view result) (sym (by-count true is)) h
 
 -- NAMES OF PARTS
 
@@ -77,8 +90,8 @@ part-fault name n small =
     let first_digit = ap length one in
     let long : length (part_name name n) ≡ length (part_name name 1) = omega arith in
     let place : position_from is_control 0 (part_name name n) ≡ position_from is_control 0 (part_name name 1) =
-        ap (λ ds. position_from is_control 0 (name ++ (codes "/" ++ ds))) digit ∙ same-control 0 name (48 + n) 49 clean refl
-        ∙ sym (ap (λ ds. position_from is_control 0 (name ++ (codes "/" ++ ds))) one) in
+    ap (λ ds. position_from is_control 0 (name ++ (codes "/" ++ ds))) digit ∙ same-control 0 name (48 + n) 49 clean refl
+    ∙ sym (ap (λ ds. position_from is_control 0 (name ++ (codes "/" ++ ds))) one) in
     ap (λ l. name_fault l (position_from is_control 0 (part_name name n))) long ∙ ap (name_fault (length (part_name name 1))) place
 
 -- so if the first is valid, each is
@@ -123,55 +136,55 @@ defined-as name texts d (Ok e) says h =
     (called, subst (λ x. Says texts (Ok x)) definition says)
 defined-as name texts d (Err why) says h = absurd cc
 
-module _ (t : SeveralTexts) (n k : ℕ) (left : List (List ℕ)) (number : n ≡ k + 1) where
-  -- none is left
-  pub all-said : (parts : List Named) → left ≡ [] → SayLater t.reduce (map part_view parts) (part_texts (k + 1) t.name left) (part_texts 1 t.name t.maps)
-      → Comes (DefiningSeveral t) (Ok (Some (Do (multi_view parts))))
-  all-said parts none later =
-      let said = subst (λ maps. SayLater t.reduce (map part_view parts) (part_texts (k + 1) t.name maps) (part_texts 1 t.name t.maps)) none later in
-      record {
-        answer = Ok (map part_view parts);
-        says = subst (λ ps. SayParts t.reduce (part_texts 1 t.name t.maps) (Ok ps)) (append-nil (map part_view parts)) (said (Ok []) no_part);
-        read = refl;
-      }
+-- none is left
+pub all-said : (t : SeveralTexts) (k : ℕ) (left : List (List ℕ)) (parts : List Named) → left ≡ [] → SayLater t.reduce (map part_view parts) (part_texts (k + 1) t.name left) (part_texts 1 t.name t.maps)
+    → Comes (DefiningSeveral t) (Ok (Some (Do (multi_view parts))))
+all-said t k left parts none later =
+    let said = subst (λ maps. SayLater t.reduce (map part_view parts) (part_texts (k + 1) t.name maps) (part_texts 1 t.name t.maps)) none later in
+    record {
+      answer = Ok (map part_view parts);
+      says = subst (λ ps. SayParts t.reduce (part_texts 1 t.name t.maps) (Ok ps)) (append-nil (map part_view parts)) (said (Ok []) no_part);
+      read = refl;
+    }
 
-  module _ (m : List ℕ) (rest : List (List ℕ)) (split : left ≡ m ∷ rest) where
-    abbrev here : List (List ℕ × Definition) → Type 0
-    here done = SayLater t.reduce done (part_texts (k + 1) t.name left) (part_texts 1 t.name t.maps)
+-- these are left, of which the first has this number
+module _ (t : SeveralTexts) (n k : ℕ) (left : List (List ℕ)) (m : List ℕ) (rest : List (List ℕ)) (number : n ≡ k + 1) (split : left ≡ m ∷ rest) where
+  abbrev here : List (List ℕ × Definition) → Type 0
+  here done = SayLater t.reduce done (part_texts (k + 1) t.name left) (part_texts 1 t.name t.maps)
 
-    first : (done : List (List ℕ × Definition)) → here done → SayLater t.reduce done ((part_name t.name n, m) ∷ part_texts (k + 1 + 1) t.name rest) (part_texts 1 t.name t.maps)
-    first done later =
-        subst (λ i. SayLater t.reduce done ((part_name t.name i, m) ∷ part_texts (k + 1 + 1) t.name rest) (part_texts 1 t.name t.maps)) (sym number)
-        (subst (λ maps. SayLater t.reduce done (part_texts (k + 1) t.name maps) (part_texts 1 t.name t.maps)) split later)
+  first : (done : List (List ℕ × Definition)) → here done → SayLater t.reduce done ((part_name t.name n, m) ∷ part_texts (k + 1 + 1) t.name rest) (part_texts 1 t.name t.maps)
+  first done later =
+      subst (λ i. SayLater t.reduce done ((part_name t.name i, m) ∷ part_texts (k + 1 + 1) t.name rest) (part_texts 1 t.name t.maps)) (sym number)
+      (subst (λ maps. SayLater t.reduce done (part_texts (k + 1) t.name maps) (part_texts 1 t.name t.maps)) split later)
 
-    -- one more is read
-    pub part-said : (done new : List Named) (d : Named) → new ≡ done ++ d ∷ [] → Comes (Defining (part_name t.name n) (m, Some t.reduce)) (Ok (Some (Do (define_view d))))
-        → here (map part_view done) → SayLater t.reduce (map part_view new) (part_texts (k + 1 + 1) t.name rest) (part_texts 1 t.name t.maps)
-    part-said done new d is comes later =
-        let own = defined-as (part_name t.name n) (m, Some t.reduce) d comes.answer comes.says comes.read in
-        subst (λ ps. SayLater t.reduce ps (part_texts (k + 1 + 1) t.name rest) (part_texts 1 t.name t.maps)) (sym (ap (λ ds. map part_view ds) is ∙ map-append part_view done (d ∷ []))) (by own)
-      where
-        by : (d.name ≡ part_name t.name n) × Says (m, Some t.reduce) (Ok d.definition)
-            → SayLater t.reduce (map part_view done ++ part_view d ∷ []) (part_texts (k + 1 + 1) t.name rest) (part_texts 1 t.name t.maps)
-        by own (Ok parts) h =
-            subst (λ ps. SayParts t.reduce (part_texts 1 t.name t.maps) (Ok ps))
-            (ap (λ name. map part_view done ++ (name, d.definition) ∷ parts) (sym own.0) ∙ sym (append_assoc (map part_view done) (part_view d ∷ []) parts))
-            (first (map part_view done) later (Ok ((part_name t.name n, d.definition) ∷ parts)) (one_more own.1 h))
-        by own (Err why) h = first (map part_view done) later (Err why) (refused_later own.1 h)
+  -- one more is read
+  pub part-said : (done new : List Named) (d : Named) → new ≡ done ++ d ∷ [] → Comes (Defining (part_name t.name n) (m, Some t.reduce)) (Ok (Some (Do (define_view d))))
+      → here (map part_view done) → SayLater t.reduce (map part_view new) (part_texts (k + 1 + 1) t.name rest) (part_texts 1 t.name t.maps)
+  part-said done new d is comes later =
+      let own = defined-as (part_name t.name n) (m, Some t.reduce) d comes.answer comes.says comes.read in
+      subst (λ ps. SayLater t.reduce ps (part_texts (k + 1 + 1) t.name rest) (part_texts 1 t.name t.maps)) (sym (ap (λ ds. map part_view ds) is ∙ map-append part_view done (d ∷ []))) (by own)
+    where
+      by : (d.name ≡ part_name t.name n) × Says (m, Some t.reduce) (Ok d.definition)
+          → SayLater t.reduce (map part_view done ++ part_view d ∷ []) (part_texts (k + 1 + 1) t.name rest) (part_texts 1 t.name t.maps)
+      by own (Ok parts) h =
+          subst (λ ps. SayParts t.reduce (part_texts 1 t.name t.maps) (Ok ps))
+          (ap (λ name. map part_view done ++ (name, d.definition) ∷ parts) (sym own.0) ∙ sym (append_assoc (map part_view done) (part_view d ∷ []) parts))
+          (first (map part_view done) later (Ok ((part_name t.name n, d.definition) ∷ parts)) (one_more own.1 h))
+      by own (Err why) h = first (map part_view done) later (Err why) (refused_later own.1 h)
 
-    -- the first refusal counts
-    pub part-refused : (done : List (List ℕ × Definition)) (why : ReadRefusal) → IsRefusedFor (Defining (part_name t.name n) (m, Some t.reduce)) why → here done → IsRefusedFor (DefiningSeveral t) why
-    part-refused done why h later = refused-as (Defining (part_name t.name n) (m, Some t.reduce)) (DefiningSeveral t) why (λ r. by r.read r.comes.answer r.comes.says r.comes.read r.told) h
-      where
-        by : (told : LineRead) (answer : Result Definition LangRefusal) → Says (m, Some t.reduce) answer → told ≡ defined_by (part_name t.name n) answer → Refuses why told → IsRefusedFor (DefiningSeveral t) why
-        by told (Ok d) says is refuses = not_refused (DefiningSeveral t) (Some (Do (Define (part_name t.name n) d))) why (subst (Refuses why) is refuses)
-        by told (Err cause) says is refuses = told-refused (DefiningSeveral t) why (record {
-          read = told;
-          comes = record { answer = Err cause; says = first done later (Err cause) (refused says); read = is };
-          told = refuses;
-        })
+  -- the first refusal counts
+  pub part-refused : (done : List (List ℕ × Definition)) (why : ReadRefusal) → IsRefusedFor (Defining (part_name t.name n) (m, Some t.reduce)) why → here done → IsRefusedFor (DefiningSeveral t) why
+  part-refused done why h later = refused-as (Defining (part_name t.name n) (m, Some t.reduce)) (DefiningSeveral t) why (λ r. by r.read r.comes.answer r.comes.says r.comes.read r.told) h
+    where
+      by : (told : LineRead) (answer : Result Definition LangRefusal) → Says (m, Some t.reduce) answer → told ≡ defined_by (part_name t.name n) answer → Refuses why told → IsRefusedFor (DefiningSeveral t) why
+      by told (Ok d) says is refuses = not_refused (DefiningSeveral t) (Some (Do (Define (part_name t.name n) d))) why (subst (Refuses why) is refuses)
+      by told (Err cause) says is refuses = told-refused (DefiningSeveral t) why (record {
+        read = told;
+        comes = record { answer = Err cause; says = first done later (Err cause) (refused says); read = is };
+        told = refuses;
+      })
 
-pub ruleset parting = (no-part-said, all-said, part-said, part-refused)
+pub ruleset parting = (no-part-said)
 
 -- WHAT IS ASKED
 
@@ -260,4 +273,4 @@ several-fits (text s) t h = absurd cc
 several-fits (array ds) t h = absurd cc
 several-fits (object ms) t h = fits-in ms t h
 
-pub ruleset asking = (several-unread, several-read, several-then, several-refused, several-fits, refused_on)
+pub ruleset asking = (several-unread, several-read, several-then, several-refused, refused_on)

@@ -99,7 +99,6 @@ fn are_so_many(values: &[Value]) -> bool
 }
 
 // The texts of a list of two to eight.
-#[tactic(auto, using(crate::proofs::SeveralMaps::counted))]
 fn listed_maps<'a>(alloc: Global, values: &'a [Value]) -> Result<Vec<&'a str>, ReadRefusal>
     ensures { Reads (λ maps. map (λ m. m.now) maps.items) result (spec_several_maps (Some (array (items_of (map data_of values.now))))) }
 {
