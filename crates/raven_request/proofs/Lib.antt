@@ -4,3 +4,5 @@ pub mod Querying
 pub mod Requesting
 pub mod Refused
 pub mod Depths
+pub mod SeveralMaps
+pub mod Masking

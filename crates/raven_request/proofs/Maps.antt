@@ -22,7 +22,7 @@ none_or_more (text t ∷ e ∷ ds) h = refl
 none_or_more (array xs ∷ e ∷ ds) h = refl
 none_or_more (object ms ∷ e ∷ ds) h = refl
 
-length-map : (vs : List Value) → length (map data_of vs) ≡ length vs
+pub length-map : (vs : List Value) → length (map data_of vs) ≡ length vs
 length-map [] = refl
 length-map (v ∷ vs) = ap ℕ.suc (length-map vs)
 

@@ -31,21 +31,34 @@ use Rattle.raven_request.specs.declared.request.ReadRefusal.TheVariants as refus
 -- REFUSALS
 
 -- what has come to a refusal may as well have run out of memory
-refused : (asked : Asked) (why : ReadRefusal) → ComesToRefusal asked why → IsRefusedFor asked why
-refused asked refusal.UnknownLine h = h
-refused asked refusal.NotJson h = h
-refused asked refusal.NumberNotWhole h = h
-refused asked refusal.TooDeep h = h
-refused asked (refusal.BadId why) h = h
-refused asked (refusal.BadName why) h = h
-refused asked (refusal.BadMember name) h = h
-refused asked (refusal.BadDefinition part at kind) h = h
-refused asked (refusal.BadQuery at kind) h = h
-refused asked refusal.NoMemory h = tt
+pub told-refused : (asked : Asked) (why : ReadRefusal) → ComesToRefusal asked why → IsRefusedFor asked why
+told-refused asked refusal.UnknownLine h = h
+told-refused asked refusal.NotJson h = h
+told-refused asked refusal.NumberNotWhole h = h
+told-refused asked refusal.TooDeep h = h
+told-refused asked (refusal.BadId why) h = h
+told-refused asked (refusal.BadName why) h = h
+told-refused asked (refusal.BadMember name) h = h
+told-refused asked (refusal.BadDefinition part at kind) h = h
+told-refused asked (refusal.BadQuery at kind) h = h
+told-refused asked refusal.NoMemory h = tt
+
+-- what is refused for a cause of one asking may be refused for it in another
+pub refused-as : (a b : Asked) (why : ReadRefusal) → (ComesToRefusal a why → IsRefusedFor b why) → IsRefusedFor a why → IsRefusedFor b why
+refused-as a b refusal.UnknownLine f h = f h
+refused-as a b refusal.NotJson f h = f h
+refused-as a b refusal.NumberNotWhole f h = f h
+refused-as a b refusal.TooDeep f h = f h
+refused-as a b (refusal.BadId why) f h = f h
+refused-as a b (refusal.BadName why) f h = f h
+refused-as a b (refusal.BadMember name) f h = f h
+refused-as a b (refusal.BadDefinition part at kind) f h = f h
+refused-as a b (refusal.BadQuery at kind) f h = f h
+refused-as a b refusal.NoMemory f h = tt
 
 -- no texts are to be read
 pub plainly-refused : (told : LineRead) (why : ReadRefusal) → Refuses why told → IsRefusedFor (Plain told) why
-plainly-refused told why h = refused (Plain told) why (record { read = told; comes = refl; told = h })
+plainly-refused told why h = told-refused (Plain told) why (record { read = told; comes = refl; told = h })
 
 -- what is read is not refused
 module _ {A : Type 0} (asked : Asked) (given : A) where
@@ -124,10 +137,10 @@ asks-no-query text asking at kind parsed = record {
 -- JSON THAT IS READ FIRST
 
 module _ {A : Type 0} (asked_to : Result A read.ReadRefusal → Asked) (more : Data → Result A read.ReadRefusal) (json : Result Data read.ReadRefusal) (d : Data) (is : json ≡ Ok d) where
-  comes-then : (told : LineRead) → Comes (asked_to (more d)) told → Comes (asked_to (then_read json more)) told
+  pub comes-then : (told : LineRead) → Comes (asked_to (more d)) told → Comes (asked_to (then_read json more)) told
   comes-then told h = subst (λ r. Comes (asked_to (then_read r more)) told) (sym is) h
 
-  refused-then : (why : ReadRefusal) → IsRefusedFor (asked_to (more d)) why → IsRefusedFor (asked_to (then_read json more)) why
+  pub refused-then : (why : ReadRefusal) → IsRefusedFor (asked_to (more d)) why → IsRefusedFor (asked_to (then_read json more)) why
   refused-then why h = subst (λ r. IsRefusedFor (asked_to (then_read r more)) why) (sym is) h
 
 module _ (json : Result Data read.ReadRefusal) (d : Data) where

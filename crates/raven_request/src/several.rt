@@ -78,7 +78,7 @@ fn map_text(alloc: Global, value: &Value) -> Result<&str, ReadRefusal>
     }
 }
 
-#[tactic(auto, using(crate::proofs::Several::map_lists))]
+#[tactic(auto, using(crate::proofs::SeveralMaps::map_lists))]
 fn map_texts<'a>(alloc: Global, values: &'a [Value]) -> Result<Vec<&'a str>, ReadRefusal>
     ensures { Reads (λ maps. map (λ m. m.now) maps.items) result (spec_map_texts (map data_of values.now)) }
 {
@@ -99,7 +99,6 @@ fn are_so_many(values: &[Value]) -> bool
 }
 
 // The texts of a list of two to eight.
-#[tactic(auto, using(crate::proofs::Several::counted))]
 fn listed_maps<'a>(alloc: Global, values: &'a [Value]) -> Result<Vec<&'a str>, ReadRefusal>
     ensures { Reads (λ maps. map (λ m. m.now) maps.items) result (spec_several_maps (Some (array (items_of (map data_of values.now))))) }
 {
@@ -150,7 +149,7 @@ fn several_of_body(alloc: Global, value: &Value) -> Result<SeveralTexts<'_>, Rea
 }
 
 // The part of this number, by its map and the reduce. Its name is valid, as that of the first part is.
-#[tactic(auto, using(crate::proofs::Several::naming))]
+#[tactic(auto, using(crate::proofs::SeveralMaps::naming))]
 fn part_by(
     alloc: Global,
     texts: &SeveralTexts<'_>,
@@ -165,7 +164,7 @@ fn part_by(
 }
 
 // The parts that the texts say, up to the first that is refused.
-#[tactic(auto, using(crate::proofs::Several::parting))]
+#[tactic(auto, using(crate::proofs::SeveralMaps::parting))]
 fn parts_by(alloc: Global, texts: &SeveralTexts<'_>) -> Result<Vec<TextDefinition>, ReadRefusal>
     requires { AreFit (several_view texts.now) }
     ensures { AsksBy (λ parts. multi_view parts.items) (DefiningSeveral (several_view texts.now)) result }
@@ -183,7 +182,7 @@ fn parts_by(alloc: Global, texts: &SeveralTexts<'_>) -> Result<Vec<TextDefinitio
 
 /// The parts of the index of several maps that this object says. Its members are read first, and then the texts of each part by the grammar, up
 /// to the first that is refused.
-#[tactic(auto, using(crate::proofs::Several::asking))]
+#[tactic(auto, using(crate::proofs::SeveralMaps::asking))]
 pub fn parts_of(alloc: Global, value: &Value) -> Result<Vec<TextDefinition>, ReadRefusal>
     ensures { AsksBy (λ parts. multi_view parts.items) (asked_to_define_several (spec_several_of_body (data_of value.now))) result }
 {
@@ -192,7 +191,7 @@ pub fn parts_of(alloc: Global, value: &Value) -> Result<Vec<TextDefinition>, Rea
 }
 
 /// The request to define the parts of the index of several maps of this JSON.
-#[tactic(auto, using(crate::proofs::Several::asking))]
+#[tactic(auto, using(crate::proofs::SeveralMaps::asking))]
 pub fn multi_of(alloc: Global, json: &[u8]) -> Result<Request, ReadRefusal>
     ensures { Asks (asked_to_define_several (spec_several_of json.now)) result }
 {
