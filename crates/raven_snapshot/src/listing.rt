@@ -12,7 +12,7 @@ use raven_value::{Body, Row, Text, Value};
 use side_by_side::{Slot, index_id};
 use std::alloc::Global;
 
-#[tactic(auto, using(crate::proofs::Pairs::pairs))]
+#[tactic(auto, using(query_replies::proofs::Pairs::pairs))]
 fn without_metadata(alloc: Global, body: Value) -> Result<Value, NoMemory>
     ensures { IfOk result (λ shown. data_of shown ≡ spec_without_metadata (data_of body)) }
 {

@@ -4,7 +4,7 @@ use doc_txn::{BaseId, Limits};
 use index_lang::parse_texts;
 use raven_reply::Reply;
 use raven_value::{Name, Rows};
-use raven_world::{Change, World, WorldFault};
+use raven_world::{Made, World, WorldFault};
 use std::alloc::Global;
 use std::test::Fail;
 
@@ -28,10 +28,10 @@ fn defined(alloc: Global, world: &World, map: &str) -> Result<World, Fail> {
     let definition = parse_texts(alloc, Name::new(alloc, "U")?, map, None)?;
     match world.define(alloc, definition, 0) {
         Ok(
-            Change {
+            Made {
                 world,
                 rows: _rows,
-                reply: _reply,
+                name: _name,
             },
         ) => Ok(world),
         Err(_) => Err(Fail::new("the definition is refused")),
