@@ -1,5 +1,5 @@
 -- A query of an index of several maps, which is read as one of an index.
-use Rattle.std.proofs.Common.{◌≡◌, ℕ, List, Some, None, Result, Ok, Err, ap, subst, sym, ◌∙◌}
+use Rattle.std.proofs.Common.{◌≡◌, ℕ, List, Some, None, Result, Ok, Err, ap, subst}
 use Rattle.spec_data.specs.Data.{Data}
 use Rattle.spec_query.specs.Query as query
 use Rattle.spec_query.specs.Query.{Query}
@@ -7,12 +7,12 @@ use Rattle.spec_query.specs.Refusals.{QueryRefusal}
 use Rattle.spec_server.specs.Requests.{Ask, Do, Mask}
 use Rattle.spec_server.specs.Words as read
 use Rattle.spec_server.specs.Words.{LineRead, then_read}
-use Rattle.spec_server.specs.Texts.{Asking, Querying, QueryingSeveral, asked_by_text, asked_to_query, asked_to_query_several, asking_of_body, masked_by_text, whole_ask}
+use Rattle.spec_server.specs.Texts.{Asking, Querying, QueryingSeveral, asked_by_text, asked_to_query, asked_to_query_several, asking_of_body, whole_ask}
 use Rattle.raven_lines.specs.Lines.{Comes}
 use Rattle.raven_lines.specs.SaysQuery.{SaysQuery}
 use Rattle.raven_request.proofs.Readings.{refused_on}
 use Rattle.raven_request.proofs.Requesting.{comes-then, not_refused, plainly-refused, refused-as, refused-then, told-refused}
-use Rattle.raven_request.specs.RequestRead.{ComesToRefusal, IsRefusedFor}
+use Rattle.raven_request.specs.RequestRead.{IsRefusedFor}
 use Rattle.raven_request.specs.RequestView.{Refuses}
 use Rattle.raven_request.specs.declared.request.ReadRefusal.{ReadRefusal}
 

@@ -1,5 +1,5 @@
 //! The definition of an index of several maps, in JSON.
-ghost use Rattle.std.specs.Prelude.{◌≡◌, ◌&&◌, ◌≤◌, ◌<◌, IfOk, None, Ok, Some, length, map, nat_le, option_map, string_bytes};
+ghost use Rattle.std.specs.Prelude.{◌≡◌, ◌&&◌, ◌<◌, IfOk, None, Ok, Some, length, map, nat_le, option_map, string_bytes};
 ghost use Rattle.raven_value.specs.View.{data_of};
 ghost use Rattle.raven_request.specs.RequestRead.{Asks, AsksBy};
 ghost use Rattle.raven_request.specs.RequestView.{Reads, define_view, multi_view};
