@@ -1,11 +1,13 @@
 -- The changes of several definitions, one after another.
 use Rattle.std.proofs.Common.{◌≡◌, ℕ, List, [], ◌∷◌, ◌++◌, Result, Ok, Err, IfSome, length, map, refl, sym, ap, ◌∙◌, subst, arith}
 use Rattle.std.proofs.lemmas.List.{append-nil}
+use Rattle.spec_data.specs.Rows.{Row}
 use Rattle.spec_store.specs.Commit.{Server, Written, Refused, commit}
 use Rattle.index_tree.specs.Definitions.{Definition}
 use Rattle.spec_index.specs.World.{SlotChange, SlotRefusal, World, define_named}
-use Rattle.spec_server.specs.Courses.{Change, Course, one_change, only_reply, storing, then_course}
-use Rattle.spec_server.specs.Indexing.{change_of_slots, changed, define_parts, define_then, rewrote, switch_and}
+use Rattle.spec_server.specs.Courses.{Change, Course, changed, one_change, only_reply, storing, then_course}
+use Rattle.spec_server.specs.Indexing.{change_of_slots, define_parts, define_then, rewrote, slot_refused, switch_and}
+use Rattle.spec_server.specs.Writes.{write_refused}
 use Rattle.spec_server.specs.Machine.{course_of}
 use Rattle.spec_server.specs.Replies.{Defined, Index, Reply}
 use Rattle.spec_server.specs.Requests.{Define}
@@ -22,6 +24,19 @@ use Rattle.raven_desk.proofs.Courses.{after_changes-push, world_after-push}
 
 -- ONE DEFINITION
 
+none_is : {A : Type 0} (x : A) → (let l : List A = [] in l) ≡ x ∷ [] → ⊥
+none_is x e = absurd cc
+
+alone : {A : Type 0} (x y : A) → x ∷ [] ≡ y ∷ [] → x ≡ y
+alone x y e = cc
+
+called_same : (a b : List ℕ) → Index a ≡ Index b → a ≡ b
+called_same a b e = cc
+
+-- a course without a change has none
+changes_none : (reply told : Reply) (rows : List Row) (X : World) → only_reply reply ≡ one_change told rows X → ⊥
+changes_none reply told rows X e = none_is (storing rows X) (ap (λ (o : Course). o.changes) e)
+
 -- what comes after a definition that was made
 made_then : (V : World) (now : ℕ) (name : List ℕ) (d : Definition) (more : World → List ℕ → Course) (m : Made) → one_change (Index m.name) m.rows m.world ≡ course_of V now (Define name d)
     → define_then V now name more (define_named V name d) ≡ then_course (storing m.rows m.world) (more m.world m.name)
@@ -29,18 +44,16 @@ made_then V now name d more m h = by (define_named V name d) h
   where
     committed : (c : SlotChange) (r : Result Written Refused) → one_change (Index m.name) m.rows m.world ≡ rewrote V (Index c.name) c r
         → switch_and V c (λ X. more X c.name) r ≡ then_course (storing m.rows m.world) (more m.world m.name)
-    committed c (Err refused) e = absurd cc
+    committed c (Err refused) e = absurd (changes_none (write_refused refused) (Index m.name) m.rows m.world (sym e))
     committed c (Ok w) e =
-        let all = ap (λ (o : Course). o.changes) e in
-        let told = ap (λ (o : Course). o.reply) e in
-        let same : storing m.rows m.world ≡ storing w.rows (changed V w.store c) = cc in
-        let called : m.name ≡ c.name = cc in
+        let same = alone (storing m.rows m.world) (storing w.rows (changed V w.store c)) (ap (λ (o : Course). o.changes) e) in
+        let called = called_same m.name c.name (ap (λ (o : Course). o.reply) e) in
         let left = ap (λ (x : Change). x.world) same in
         λ i. then_course (sym same i) (more (sym left i) (sym called i))
 
     by : (r : Result SlotChange SlotRefusal) → one_change (Index m.name) m.rows m.world ≡ change_of_slots V now Index name r
         → define_then V now name more r ≡ then_course (storing m.rows m.world) (more m.world m.name)
-    by (Err refusal) e = absurd cc
+    by (Err refusal) e = absurd (changes_none (slot_refused name refusal) (Index m.name) m.rows m.world (sym e))
     by (Ok c) e = committed c (commit V.setting Server now c.commands V.store) e
 
 -- nothing comes after one that was refused
@@ -50,7 +63,7 @@ refused_then V now name d more reply h = by (define_named V name d) h
   where
     committed : (c : SlotChange) (r : Result Written Refused) → only_reply reply ≡ rewrote V (Index c.name) c r → only_reply reply ≡ switch_and V c (λ X. more X c.name) r
     committed c (Err refused) e = e
-    committed c (Ok w) e = absurd cc
+    committed c (Ok w) e = absurd (changes_none reply (Index c.name) w.rows (changed V w.store c) e)
 
     by : (r : Result SlotChange SlotRefusal) → only_reply reply ≡ change_of_slots V now Index name r → only_reply reply ≡ define_then V now name more r
     by (Err refusal) e = e

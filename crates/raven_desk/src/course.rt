@@ -324,7 +324,10 @@ pub fn course_of<R: Threads + Sync>(
         }
         Request::Multi { parts } => define_parts(alloc, world, parts, now),
         Request::Remove { name } => changed_or_refused(alloc, world.remove(alloc, &name, now)),
-        Request::Mask { ask: question } => Ok(unchanged(alloc, ask(alloc, &world.parts(), &question)?)),
+        Request::Mask { ask: question } => Ok(unchanged(
+            alloc,
+            ask(alloc, &world.parts(), &question)?,
+        )),
         Request::Pump { max, index } => {
             pumped::<R, Brand>(rt, alloc, world, max, index, Blank::new(3))
         }

@@ -1,5 +1,5 @@
 //! What requests do that define indexes.
-ghost use Rattle.std.specs.Prelude.{◌≡◌, [], IfOk, IfSome, OnOk};
+ghost use Rattle.std.specs.Prelude.{◌≡◌, ◌++◌, ◌∷◌, [], IfOk, IfSome, OnOk};
 ghost use Rattle.spec_server.specs.Requests.{Define};
 ghost use Rattle.spec_server.specs.Machine.{course_of as spec_course_of};
 ghost use Rattle.raven_request.specs.RequestView.{multi_view};

@@ -11,7 +11,7 @@ pub loop-part-init : goal.loop-part-init
 loop-part-init c =
     let same = c.into_iter-part-iterator.ensures.into_iter_gives.0 in
     record {
-      going = begins_as c.args.now c.args.parts.items c.args.world.now _ _ _ c.new-changes.ensures.0 same c.new-names.ensures;
+      going = begins_as c.args.now c.args.parts.items c.args.world.now _ _ _ c.new-changes.ensures.items same c.new-names.ensures;
       left = c.into_iter-part-iterator.ensures.into_iter_gives.1 ∙ c.args.parts.ok.0 ∙ ap length (sym same);
     }
 
