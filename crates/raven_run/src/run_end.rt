@@ -25,6 +25,6 @@ pub enum RunEnd {
     InputTooLarge,
 
     /// Memory ran out, which ends the run. The replies to all earlier lines are whole. The line that found none did nothing, but the first changes
-    /// of a TIDY may stand. A PUBLISH that found none published nothing.
+    /// of a TIDY or a MULTI may stand. A PUBLISH that found none published nothing.
     NoMemory,
 }
