@@ -1,6 +1,6 @@
 //! One request, answered on one value.
-ghost use Rattle.std.specs.Prelude.{◌≡◌, ◌≢◌, ◌⊎◌, IfOk, OnErr};
-ghost use Rattle.spec_server.specs.Requests.{Ask, Do, Tidy};
+ghost use Rattle.std.specs.Prelude.{◌≡◌, ◌⊎◌, IfOk, OnErr, false};
+ghost use Rattle.spec_server.specs.Requests.{Ask, Do, makes_several};
 ghost use Rattle.spec_server.specs.Machine.{course_of as spec_course_of};
 ghost use Rattle.spec_server.specs.WellFormed.{IsWellFormed};
 ghost use Rattle.raven_reply.specs.ReplyView.{reply_view};
@@ -62,7 +62,7 @@ impl<K: Keeper> Live<K> {
         Ok(reply_after(settled, reply))
     }
 
-    /// The step of the machine: `course`, and then `settle`. If the keeper fails or memory runs out, nothing changes. Of a TIDY, which makes
+    /// The step of the machine: `course`, and then `settle`. If the keeper fails or memory runs out, nothing changes. Of a request that makes
     /// several changes, those before stand: `lacks` says so, and what the reply for a failed keeper leaves is in `IsStep`.
     pub fn step<R: Threads + Sync>(
         &mut self,
@@ -76,7 +76,7 @@ impl<K: Keeper> Live<K> {
         ensures later { Follows self.old self.new }
         ensures lacks { OnErr result
             (Stays self.old self.new ⊎ IsMadeInPart (spec_course_of self.old.world now (request_view request)).changes self.old self.new) }
-        ensures alone { OnErr result (request_view request ≢ Tidy → Stays self.old self.new) }
+        ensures alone { OnErr result (makes_several (request_view request) ≡ false → Stays self.old self.new) }
         ensures fronts { self.new.fronts ≡ self.old.fronts }
     {
         let course = self.course(rt, alloc, now, request)?;

@@ -1,3 +1,4 @@
+use Rattle.std.proofs.Common.{refl}
 use Rattle.spec_desk.proofs.Few.{few}
 use Rattle.spec_desk.proofs.Parts.{alone}
 use Rattle.spec_desk.proofs.Later.{Follows-itself}
@@ -18,5 +19,5 @@ pub returns-clause-err : goal.returns-clause-err
 returns-clause-err g c =
     if_err c.finish.result _ _
     (λ part. alone (course_view c.in_ok-course.course).changes c.args.self.now c.finish.new.self
-    (few (course_view c.in_ok-course.course) c.args.self.now.world c.args.now (Ask c.args.ask.now) (λ e. cc) c.in_ok-course.ensures.course) part)
+    (few (course_view c.in_ok-course.course) c.args.self.now.world c.args.now (Ask c.args.ask.now) refl c.in_ok-course.ensures.course) part)
     c.finish.ensures.lacks
